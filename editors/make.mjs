@@ -1,9 +1,9 @@
-// Makes the grammars of editors out of the words that the page knows: `node editors/make.mjs [FOLDER]`. Into the folder (this one where none
-// is named) go those of Visual Studio Code (TextMate, which GitHub reads too), Vim, Emacs and Kate, for programs and for boards. Of Emacs'
-// modes the words alone are made.
+// Makes the grammars of editors from the words that the page knows: `node editors/make.mjs [FOLDER]`. It writes to the folder (this one if
+// none is named) the grammars for Visual Studio Code (TextMate, which GitHub reads too), Vim, Emacs and Kate, for programs and for boards.
+// Of Emacs' modes it makes only the words.
 //
 // Programs: a label or a name that is defined, the instruction of the statement or a directive, registers, numbers, names. Boards: tables,
-// keys, texts, numbers, and comments, in which the lines of the face are told apart. checks/grammars compares them with the page.
+// keys, texts, numbers, and comments, in which the lines of the front panel are distinguished. checks/grammars compares them with the page.
 import { mkdirSync, readFileSync, writeFileSync } from "node:fs";
 import { dirname } from "node:path";
 import { fileURLToPath } from "node:url";
@@ -23,11 +23,11 @@ const NUMBER = "(?:0x[0-9A-Fa-f]+|[0-9]+)";
 const REGISTER = "(?:[Rr](?:1[0-5]|[0-9])|[Pp][0-7])";
 const STRING = "(?:\"(?:\\\\.|[^\"\\\\])*\"|'[^']*')";
 const KEY = "[A-Za-z0-9_-]+";
-/** Where a word of an operand ends. */
+/** The position where a word of an operand ends. */
 const AFTER = "(?![A-Za-z0-9_])";
 const BEFORE = "(?<![A-Za-z0-9_])";
 
-/** A word in whatever case. */
+/** A word in any case. */
 const inAnyCase = (word) => [...word].map((letter) => (/[A-Z]/.test(letter) ? `[${letter}${letter.toLowerCase()}]` : letter)).join("");
 const anyOf = (words, written = (word) => word) => words.map(written).join("|");
 const WARNING = "Made by editors/make.mjs out of the words that the page knows; edits here are lost.";
@@ -147,7 +147,7 @@ autocmd BufRead,BufNewFile *.4004 setfiletype mcs4
 
 // --- Emacs
 
-/** The modes as they stand, with these words in the place of theirs. */
+/** The modes as they are, with these words in place of theirs. */
 function modesOfEmacs() {
   const lists = { instructions: INSTRUCTIONS, directives: DIRECTIVES, face: FACE, tables: TABLES };
   return Object.entries(lists).reduce(

@@ -92,9 +92,9 @@ void rattle_dealloc(void *block) { give_back(block); }
 
 // ---- for the page
 
-void *page_buffer(Word count) { return take(count); }
+void *bench_buffer(Word count) { return take(count); }
 
-void page_buffer_back(void *block) { give_back(block); }
+void bench_buffer_back(void *block) { give_back(block); }
 
 // ---- by the names that clang calls where the processor has no instruction
 

@@ -6,8 +6,8 @@ import re
 PAGE = pathlib.Path(__file__).resolve().parent
 # The sections whose tables the page shows, in the order of its help.
 SECTIONS = ("The 45 instructions", "The form of a program", "The sixteen conditions of JCN", "The keys of the text", "The names of lines",
-            "The face of a board", "Commands", "Places", "Queries", "The keyboard", "What the cells show",
-            "Conditions", "The lines of a test", "What may change", "What must hold")
+            "The front panel of a board", "Commands", "Places", "Queries", "The keyboard", "What the cells show",
+            "Conditions", "The lines of a test", "Inputs", "Properties")
 
 
 def section_of(manual, title):

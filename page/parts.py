@@ -38,12 +38,12 @@ def esbuild():
 def sums():
     """By the names of the files of CodeMirror and pako, their sums (SHA-256)."""
     lines = (EDITOR / "SUMS").read_text().splitlines()
-    return {name: told for told, name in (line.split("  ", 1) for line in lines)}
+    return {name: checksum for checksum, name in (line.split("  ", 1) for line in lines)}
 
 
 def editor():
     """The folder of CodeMirror's modules, each file of which is the one that it has to be."""
-    other = [name for name, told in sums().items() if hashlib.sha256((EDITOR / name).read_bytes()).hexdigest() != told]
+    other = [name for name, checksum in sums().items() if hashlib.sha256((EDITOR / name).read_bytes()).hexdigest() != checksum]
     if other:
         raise MissingPart(f"page/codemirror/{other[0]} is not the one of SUMS; page/codemirror/fetch brings it")
     return EDITOR
@@ -74,5 +74,5 @@ def other_parts():
 
 def editor_licence():
     """The authors and licences of CodeMirror and pako, which the page must contain."""
-    told = (EDITOR / "LICENCE").read_text().strip()
-    return f"CodeMirror 6, of which the editors of this page are made, and pako, which unpacks its module.\n\n{told}"
+    licence = (EDITOR / "LICENCE").read_text().strip()
+    return f"CodeMirror 6, of which the editors of this page are made, and pako, which unpacks its module.\n\n{licence}"

@@ -1,6 +1,6 @@
 // Tries a module of the bench that page/wasm made: `node try_module.mjs MODULE SHORT`. SHORT is the same module with a stack that is too
-// short for any call. Looked at are what no compiler tells: MODULE has one memory, of 32-bit addresses and at most 256 MiB; where that cannot
-// grow, calls answer `no 90` and leave the file, and they do their work once there is memory again; the prover answers, and also a question
+// short for any call. It checks what no compiler reports: MODULE has one memory, of 32-bit addresses and at most 256 MiB; if that cannot
+// grow, calls answer `no 90` and leave the file as it was, and work again once there is memory; the prover answers, and also a question
 // with more states than there is memory for; and the stack of SHORT ends in a trap.
 import { readFileSync } from "node:fs";
 
@@ -8,10 +8,10 @@ const MEMORY_SECTION = 5;
 const HAS_MOST = 1;
 const MOST_PAGES = 4096;
 const BLOCK = 16n << 20n;
-const TOLD_SIZE = 16;
+const REPORT_SIZE = 16;
 const NO_MEMORY = 90;
 
-// An unsigned number in LEB128, and the place after it.
+// Reads an unsigned number in LEB128; returns it with the index after it.
 function numberAt(bytes, at) {
   let value = 0;
   let shift = 0;
@@ -46,25 +46,25 @@ function start(path) {
   return new WebAssembly.Instance(new WebAssembly.Module(readFileSync(path)), {}).exports;
 }
 
-// The buffers of a call: a file, an input, answers, and what is told.
+// The buffers of a call: a file, an input, answers, and the report.
 function desk(calls, input) {
-  const size = calls.page_file_size();
-  const file = calls.page_buffer(size);
-  const lines = calls.page_buffer(64n);
-  const answers = calls.page_buffer(4096n);
-  const told = calls.page_buffer(BigInt(TOLD_SIZE));
+  const size = calls.bench_file_size();
+  const file = calls.bench_buffer(size);
+  const lines = calls.bench_buffer(64n);
+  const answers = calls.bench_buffer(4096n);
+  const report = calls.bench_buffer(BigInt(REPORT_SIZE));
   new Uint8Array(calls.memory.buffer, Number(lines)).set(input);
-  return { size, file, lines, count: BigInt(input.length), answers, told };
+  return { size, file, lines, count: BigInt(input.length), answers, report };
 }
 
 function fileOf(calls, { file, size }) {
   return Buffer.from(new Uint8Array(calls.memory.buffer, Number(file), Number(size)).slice());
 }
 
-// Serves the input: 0 where it was served, else the number of the refusal.
-function serve(calls, name, { file, size, lines, count, answers, told }) {
-  const served = calls[name](file, size, lines, count, answers, 4096n, told);
-  return served ? 0 : new DataView(calls.memory.buffer, Number(told)).getUint32(0, true);
+// Serves the input: returns 0 if it was served, otherwise the number of the refusal.
+function serve(calls, name, { file, size, lines, count, answers, report }) {
+  const served = calls[name](file, size, lines, count, answers, 4096n, report);
+  return served ? 0 : new DataView(calls.memory.buffer, Number(report)).getUint32(0, true);
 }
 
 const faults = [];
@@ -81,42 +81,42 @@ function tryMemory(bytes) {
 
 function tryWithoutMemory(calls) {
   const own = desk(calls, Buffer.from("poke r5 9\nregs\n"));
-  expect("begin", calls.page_begin(own.file, own.size) !== 0, true);
+  expect("begin", calls.bench_begin(own.file, own.size) !== 0, true);
   // The blocks that a call takes are lent to no one from then on, and can be lent again.
-  expect("serve", serve(calls, "page_serve_and_settle", own), 0);
+  expect("serve", serve(calls, "bench_serve_and_settle", own), 0);
   const blocks = [];
   for (let size = BLOCK; size >= 16n; size /= 2n) {
-    for (let block = calls.page_buffer(size); block !== 0n; block = calls.page_buffer(size)) blocks.push(block);
+    for (let block = calls.bench_buffer(size); block !== 0n; block = calls.bench_buffer(size)) blocks.push(block);
   }
   const before = fileOf(calls, own);
-  for (const name of ["page_serve", "page_serve_and_settle", "page_ask"]) {
+  for (const name of ["bench_serve", "bench_serve_and_settle", "bench_ask"]) {
     expect(`${name} without memory`, serve(calls, name, own), NO_MEMORY);
   }
-  expect("settle without memory", calls.page_settle(own.file, own.size), 0);
-  expect("begin without memory", calls.page_begin(own.file, own.size), 0);
+  expect("settle without memory", calls.bench_settle(own.file, own.size), 0);
+  expect("begin without memory", calls.bench_begin(own.file, own.size), 0);
   expect("the file without memory is as it was", fileOf(calls, own).equals(before), true);
-  for (const block of blocks) calls.page_buffer_back(block);
-  expect("serve with memory again", serve(calls, "page_serve", own), 0);
+  for (const block of blocks) calls.bench_buffer_back(block);
+  expect("serve with memory again", serve(calls, "bench_serve", own), 0);
   expect("the file has changed then", fileOf(calls, own).equals(before), false);
 }
 
-// A program that counts in some registers, and turns the lamp on while TEST is 0; never are the comparisons of the second RAM line met.
+// A program that counts in some registers, and turns the lamp on while TEST is 0; the comparisons of the second RAM line never hold.
 function question(most, registers, never) {
   const counts = [...Array(registers).keys()].map((register) => `ISZ R${register}, look\n`).join("");
   return `most ${most}\nwire\n[[rom]]\nchip = 0\nport = "0000"\n[[ram]]\nbank = 0\nchips = 1\n.\nasm\n`
     + `look: JCN 1, on\nLDM 0\nWMP\n${counts}JUN look\non: LDM 1\nWMP\n${counts}JUN look\n.\nnever\nin ramport 0 ${never}\nprove\n`;
 }
 
-// The line of the answer; if there is none, the number and the count that the call gives.
+// The line of the answer; if there is none, the number and the count that the call returns.
 function prove(calls, text, room = 4096n) {
   const input = Buffer.from(text);
-  const [lines, answers, told] = [BigInt(input.length), room, BigInt(TOLD_SIZE)].map((size) => calls.page_buffer(size));
+  const [lines, answers, report] = [BigInt(input.length), room, BigInt(REPORT_SIZE)].map((size) => calls.bench_buffer(size));
   new Uint8Array(calls.memory.buffer, Number(lines)).set(input);
-  const isAnswered = calls.page_prove(lines, BigInt(input.length), answers, room, told);
-  const words = new DataView(calls.memory.buffer, Number(told));
+  const isAnswered = calls.bench_prove(lines, BigInt(input.length), answers, room, report);
+  const words = new DataView(calls.memory.buffer, Number(report));
   const [number, count] = [words.getUint32(0, true), Number(words.getBigUint64(8, true))];
   const answer = Buffer.from(new Uint8Array(calls.memory.buffer, Number(answers), isAnswered ? count : 0)).toString();
-  for (const block of [lines, answers, told]) calls.page_buffer_back(block);
+  for (const block of [lines, answers, report]) calls.bench_buffer_back(block);
   return isAnswered ? `${number} ${answer}` : `nothing: ${number} ${count}`;
 }
 
@@ -128,7 +128,7 @@ function tryProver(calls) {
   expect("no question", prove(calls, "most 3\n"), "2 no question");
   expect("no board", prove(calls, "wire\nrom = 5\n.\nasm\n.\nprove\n"), "3 no 23");
   expect("bytes that are no text", prove(calls, Buffer.from([255])), "2 no question");
-  expect("states without memory", prove(calls, question(4000000000, 16, "line1 1 1")), "nothing: 90 0");
+  expect("states without memory", prove(calls, question(4000000000, 16, "line1 1 1")).replace(/\d{4,}$/, "N"), "0 no room N");
   expect("a proof with memory again", prove(calls, question(1000, 1, "line1 1 1")), "0 holds 32");
 }
 
@@ -136,7 +136,7 @@ function tryShortStack(calls) {
   const own = desk(calls, Buffer.from("seq\n"));
   let stopped = "no trap";
   try {
-    calls.page_begin(own.file, own.size);
+    calls.bench_begin(own.file, own.size);
   } catch (fault) {
     stopped = fault.constructor.name;
   }

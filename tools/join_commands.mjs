@@ -1,6 +1,7 @@
-// Joins the modules of each command, or of some, to one file: `node join_commands.mjs FOLDER [NAME ..]`. For each command there is then FOLDER/NAME.cjs, which is
-// NAME's own part of js/node/command_line.mjs, and FOLDER/sources/NAME: a checksum, and below it the files that it is of, those of the sources
-// and the joined one. js/node/joined.cjs compares them before it takes a joined file. tools/ship calls it; it needs esbuild.
+// Joins the modules of each command, or of some, into one file: `node join_commands.mjs FOLDER [NAME ..]`. For each command it makes
+// FOLDER/NAME.cjs, the command's own part of js/node/command_line.mjs, and FOLDER/sources/NAME: a checksum, and below it the list of files
+// that it covers, the sources and the joined file. js/node/joined.cjs compares them before it uses a joined file. tools/ship calls it; it
+// needs esbuild.
 import { execFileSync } from "node:child_process";
 import { mkdirSync, readFileSync, rmSync, writeFileSync } from "node:fs";
 import { join, resolve } from "node:path";
@@ -11,14 +12,15 @@ import { TOP } from "../js/node/top.mjs";
 const folder = resolve(process.argv[2]);
 const names = process.argv.length > 3 ? process.argv.slice(3) : Object.keys(COMMANDS);
 const ESBUILD = ["--bundle", "--platform=node", "--format=cjs", "--target=node18", "--minify", "--legal-comments=none", "--log-level=error",
+  // Modules that are imported lazily are required lazily: Node's loader of modules takes longer.
+  "--supported:dynamic-import=false",
   // CommonJS has no import.meta.
   "--define:import.meta.url=ownUrl", '--banner:js=const ownUrl=require("node:url").pathToFileURL(__filename).href;'];
 const META = join(folder, "meta.json");
 
-/** Returns the module that runs one command. */
+/** Returns the module that runs one command. The command's own modules begin only after its arguments are read. */
 const entryOf = (name) => `import { runCommand } from "./js/node/command_line.mjs";
-import * as command from "./js/node/commands/${name}.mjs";
-export const run = (words) => runCommand("${name}", words, async () => command);
+export const run = (words) => runCommand("${name}", words, () => import("./js/node/commands/${name}.mjs"));
 `;
 
 mkdirSync(join(folder, "sources"), { recursive: true });

@@ -17,7 +17,7 @@ MOST_OF_MUTANTS, PAUSE_OF_MUTANTS = 120, 1000
 
 
 def texts_of(props: str) -> tuple[list[str], list[str]]:
-    """The board and the program of a file of properties."""
+    """Returns the board and the program of a file of properties."""
     path = EXAMPLE_FILES / props
     if path.with_name("board.toml").exists():
         texts = path.with_name("board.toml"), path.with_name(f"{path.parent.name}.asm")
@@ -33,7 +33,7 @@ def texts_of(props: str) -> tuple[list[str], list[str]]:
 
 
 def comparisons_of(words: str, names: dict[str, int]) -> list[Comparison]:
-    """Comparisons that `&` joins; `@label` is the counter's, between two instructions."""
+    """Returns the comparisons that `&` joins; `@label` is the counter's, between two instructions."""
     rows: list[Comparison] = []
     for each in words.split(" & "):
         if each.startswith("@"):
@@ -46,7 +46,7 @@ def comparisons_of(words: str, names: dict[str, int]) -> list[Comparison]:
 
 
 def question_of(props: str, nevers: list[str], most: int, pause: int) -> Question:
-    """A question about an example."""
+    """Returns a question about an example."""
     board, program = texts_of(props)
     names = assemble(program)[2]
     return Question(board, program, [comparisons_of(never, names) for never in nevers], most, pause)
@@ -59,8 +59,8 @@ GREEN, AMBER, WALK = "in ramport 0 line2 1 1", "in ramport 0 line1 1 1", "in ram
 
 @dataclass
 class Example:
-    """The nevers of a file of properties, as they stand there, each with its comparisons; the answer to all of them together; where the search ends,
-    and where a stretch is cut."""
+    """The nevers of a file of properties, as they are there, each with its comparisons. It also has the answer to all of them together,
+    the end of the search, and the cut of a stretch."""
 
     props: str
     answer: str
@@ -103,7 +103,7 @@ EXAMPLES = [
 ]
 # The answer at the end of a longer search, which takes a gigabyte of memory. (That of the clock takes minutes of a processor.)
 LONGER = {"counter.props": "holds 2240113"}
-# What the ports of RAM chips show, by their index, in those whose mutants are searched. The lock, the traffic light and the three lamps show no more,
+# The outputs of RAM chips, by their index, in the examples whose mutants are searched. The lock, the traffic light and the three lamps show no more,
 # whatever is pressed.
 SHOWN = {
     "die.props": {0: (0, 1, 3, 7, 8, 9, 11)},
@@ -115,7 +115,7 @@ SHOWN = {
 
 
 def nevers_in(props: str) -> list[str]:
-    """The nevers of a file of properties, but for those of a time and those behind a guard."""
+    """Returns the nevers of a file of properties, except those of a time and those behind a guard."""
     lines = (EXAMPLE_FILES / props).read_text().splitlines()
     return [line.removeprefix("never ") for line in lines if line.startswith("never ") and " for " not in line]
 
@@ -126,20 +126,20 @@ MOST_OF_PROGRAMS, PAUSE_OF_PROGRAMS = 60, 1000
 
 
 def programs() -> list[str]:
-    """The examples with a program, as files or folders."""
+    """Returns the examples with a program, as files or folders."""
     texts = [path.name for path in EXAMPLE_FILES.glob("*") if path.suffix in (".txt", ".mcsp") and "asm" in path.read_text().splitlines()]
     return sorted([*texts, *(path.parent.name for path in EXAMPLE_FILES.glob("*/board.toml"))])
 
 
 def mistakes_of(name: str, asked: tuple[str, ...] = MISTAKES) -> Question:
-    """The question whether the program of an example makes one of these mistakes."""
+    """Returns the question whether the program of an example makes one of these mistakes."""
     path = EXAMPLE_FILES / name
     board, program = texts_of(f"{name}/{name}.props" if path.is_dir() else str(path.with_suffix(".props").name))
     return Question(board, program, [[("mistake", *asked)]], MOST_OF_PROGRAMS, PAUSE_OF_PROGRAMS)
 
 
 def program_of(image: dict[int, int]) -> list[str]:
-    """A program's text that gives these bytes."""
+    """Returns a program's text that gives these bytes."""
     lines: list[str] = []
     for at in sorted(image):
         if at - 1 not in image or at % 16 == 0:
@@ -149,7 +149,7 @@ def program_of(image: dict[int, int]) -> list[str]:
 
 
 def mutant(seed: int) -> tuple[str, Question]:
-    """An example in which one instruction is another one of the same size."""
+    """Returns an example in which one instruction is another one of the same size."""
     chance = random.Random(seed)
     props, ports = chance.choice([*SHOWN.items()])
     others = [" & ".join(f"out ramport {port} whole {value} {value}" for value in values) for port, values in ports.items()]

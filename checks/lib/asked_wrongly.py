@@ -5,12 +5,12 @@ from __future__ import annotations
 BOARD = ["wire", "[[rom]]", "chip = 0", 'port = "0000"', "."]
 PROGRAM = ["asm", "next: RDR", " JUN next", "."]
 BEGUN = ["most 9", "pause 9", *BOARD, *PROGRAM]
-# Lines that are none, behind BEGUN.
+# Lines that are no questions, after BEGUN.
 NO_LINES = [
     "most", "most x", "most -1", "most 1 2", "most 4000000001", f"most {'9' * 5000}", "most 0x", "most 1.5", "Most 1", "pause", "pause 0", "pause 1000000001",
-    "pause 0x", "wire", "wire x", "asm", "asm x", ".", "[[rom]]", "never x", "nevermore", "prove it", "proved", "\0", "most 1\0", "\x7f", "x" * 100000,
-    "in register 0 whole 0 0", "out register 0 whole 0 0", "mistake code"]
-# Comparisons that are none.
+    "pause 0x", "memory", "memory x", "memory 1000001", "wire", "wire x", "asm", "asm x", ".", "[[rom]]", "never x", "nevermore", "prove it", "proved",
+    "\0", "most 1\0", "\x7f", "x" * 100000, "in register 0 whole 0 0", "out register 0 whole 0 0", "mistake code"]
+# Texts that are no comparisons.
 NO_COMPARISONS = [
     "in", "in register 0 whole 0", "in register 0 whole 0 0 0", "at register 0 whole 0 0", "In register 0 whole 0 0", "in registers 0 whole 0 0",
     "in register 16 whole 0 0", "in character 2048 whole 0 0", "in status 512 whole 0 0", "in ramport 32 whole 0 0", "in romport 16 whole 0 0",
@@ -29,6 +29,8 @@ ANSWERS: list[tuple[list[str], int, str]] = [
     *(([*BEGUN, "never", line, "prove"], 2, f"wrong line {len(BEGUN) + 2}") for line in NO_COMPARISONS),
     ([*BEGUN, "prove"], 0, "holds 1"), ([*BEGUN, "", "\tmost  0x1 ", "most 2", "prove"], 0, "holds 1"), ([*BEGUN, "never", "prove"], 0, "may fail"),
     ([*BOARD, *PROGRAM, "prove"], 0, "too many"), ([*BEGUN, "most 0", "prove"], 0, "too many"), (["prove", *BEGUN], 2, "wrong line 2"),
+    ([*BEGUN, "memory 1", "prove"], 0, "holds 1"), ([*BEGUN, "memory 0", "prove"], 0, "no room 0"),
+    ([*BEGUN, "most 0", "memory 1", "prove"], 0, "too many"),
     ([*BEGUN, "never", "in register 0 whole 9 3", "prove"], 0, "holds 1"), ([*BEGUN, "never", "out register 0 whole 9 3", "prove"], 0, "may fail"),
     ([*BEGUN, "never", "in chain3 255 line3 0x0 0xFF", "in character 2047 whole 0 0", "prove"], 0, "may fail"),
     *(([*BEGUN, "never", f"mistake {kind}", "prove"], 0, "holds 1") for kind in ("code", "call", "return", "ram", "rom", "wrr", "code code")),

@@ -7,7 +7,7 @@ ALONE = {"NOP": 0x00, "WRM": 0xE0, "WMP": 0xE1, "WRR": 0xE2, "WR0": 0xE4, "WR1":
          "CMA": 0xF4, "RAL": 0xF5, "RAR": 0xF6, "TCC": 0xF7, "DAC": 0xF8, "TCS": 0xF9, "STC": 0xFA, "DAA": 0xFB, "KBP": 0xFC, "DCL": 0xFD}
 ON_REGISTER = {"INC": 0x60, "ADD": 0x80, "SUB": 0x90, "LD": 0xA0, "XCH": 0xB0}
 ON_PAIR = {"SRC": 0x21, "FIN": 0x30, "JIN": 0x31}
-# What an instruction with values takes before them, its code, and the greatest value of each.
+# The words that precede the values of an instruction, its code, and the greatest value of each.
 WITH_VALUES = {"LDM": ("", 0xD0, [15]), "BBL": ("", 0xC0, [15]), "JUN": ("", 0x40, [4095]), "JMS": ("", 0x50, [4095]),
                "FIM": ("P", 0x20, [255]), "ISZ": ("R", 0x70, [4095]), "JCN": ("", 0x10, [15, 4095])}
 REGISTERS = {f"R{k}": k for k in range(16)}
@@ -15,6 +15,8 @@ PAIRS = {f"P{k}": k for k in range(8)}
 RESERVED = {*ALONE, *ON_REGISTER, *ON_PAIR, *WITH_VALUES, "WPM", "ORG", "DB", *REGISTERS, *PAIRS}
 ADDRESSES = 4096
 NAMES = 512
+# So many errors are shown.
+MOST_ERRORS = 100
 
 
 class Refused(Exception):
@@ -32,18 +34,18 @@ def is_name(word):
 
 
 def tokens(line):
-    """Words, the three signs, and `?` for each other character."""
+    """Returns words, the three signs, and `?` for each other character."""
     return [token if re.match("[A-Za-z0-9_,:=]", token) else "?" for token in re.findall(r"[A-Za-z0-9_]+|[^ \t]", line.split(";")[0])]
 
 
 def values_of(words):
-    """Numbers, and names as they are; None where a word is neither."""
+    """Returns numbers, and names as they are; None if a word is neither."""
     values = [number if (number := number_of(word)) is not None else word if is_name(word) else None for word in words]
     return None if None in values else values
 
 
 def statement(words):
-    """A statement by its kind, `ORG`, `DB`, a row of WITH_VALUES or `CODE`; None where it has no form."""
+    """Returns a statement by its kind, `ORG`, `DB`, a row of WITH_VALUES or `CODE`; None if it has no form."""
     name, rest = words[0].upper(), words[1:]
     if name in ALONE:
         return ("CODE", ALONE[name]) if not rest else None
@@ -74,7 +76,8 @@ def statement(words):
 
 
 def said(line):
-    """What a line says: a name with a number, or a label and a statement, each of which may be None; None where it has no form."""
+    """Returns the contents of a line: a name with a number, or a label and a statement, each of which may be None. It returns None if
+    the line has no form."""
     words = tokens(line)
     if len(words) == 3 and words[1] == "=":
         return ("=", words[0], number_of(words[2])) if is_name(words[0]) and number_of(words[2]) is not None else None
@@ -85,62 +88,70 @@ def said(line):
         label, words = words[0], words[2:]
     if not words:
         return (":", label, None)
-    told = statement(words)
-    return (":", label, told) if told else None
+    parsed = statement(words)
+    return (":", label, parsed) if parsed else None
 
 
-def size_of(told):
-    if told is None or told[0] == "ORG":
+def size_of(parsed):
+    if parsed is None or parsed[0] == "ORG":
         return 0
-    if told[0] == "DB":
-        return len(told[1])
-    return 1 if told[0] in ("CODE", "LDM", "BBL") else 2
+    if parsed[0] == "DB":
+        return len(parsed[1])
+    return 1 if parsed[0] in ("CODE", "LDM", "BBL") else 2
 
 
-def places(lines):
-    """The address and the statement of each line, and the names, where no line is refused by itself and those before it."""
-    at, rows, names = 0, [], {}
-    for number, line in enumerate(lines, 1):
+class Places:
+    """The address and the statement of each line, and the names, of the lines up to one."""
+
+    def __init__(self):
+        self.at, self.rows, self.names = 0, [], {}
+
+    def take(self, line):
+        """Takes the next line, unless it is rejected by itself or for the lines before it."""
+        number = len(self.rows) + 1
         whole = said(line)
         if whole is None:
             raise Refused(30, number)
-        sign, name, told = whole
-        target = told if sign == "=" else told[1] if told and told[0] == "ORG" else 0
+        sign, name, parsed = whole
+        target = parsed if sign == "=" else parsed[1] if parsed and parsed[0] == "ORG" else 0
         if target >= ADDRESSES:
             raise Refused(33, number)
-        if name in names:
+        if name in self.names:
             raise Refused(31, number)
-        if name is not None and len(names) == NAMES:
+        if name is not None and len(self.names) == NAMES:
             raise Refused(37, number)
         if sign == "=":
-            names[name] = told
-            rows.append((at, None))
-            continue
-        if name is not None and at == ADDRESSES or at + size_of(told) > ADDRESSES:
+            self.names[name] = parsed
+            self.rows.append((self.at, None))
+            return
+        if name is not None and self.at == ADDRESSES or self.at + size_of(parsed) > ADDRESSES:
             raise Refused(36, number)
         if name is not None:
-            names[name] = at
-        rows.append((at, told))
-        at = told[1] if told and told[0] == "ORG" else at + size_of(told)
-    return rows, names
+            self.names[name] = self.at
+        self.rows.append((self.at, parsed))
+        self.at = parsed[1] if parsed and parsed[0] == "ORG" else self.at + size_of(parsed)
+
+    def skip(self):
+        """Takes the next line as an empty one."""
+        self.rows.append((self.at, None))
 
 
-def bytes_of(at, told, names, number):
-    if told is None or told[0] == "ORG":
+def bytes_of(at, parsed, names, number):
+    if parsed is None or parsed[0] == "ORG":
         return []
-    if told[0] == "CODE":
-        return [told[1]]
+    if parsed[0] == "CODE":
+        return [parsed[1]]
     values = []
-    for value in told[-1]:
+    for value in parsed[-1]:
         if isinstance(value, str) and value not in names:
             raise Refused(32, number)
         values.append(names[value] if isinstance(value, str) else value)
-    most = [255] * len(values) if told[0] == "DB" else WITH_VALUES[told[0]][2]
+    most = [255] * len(values) if parsed[0] == "DB" else WITH_VALUES[parsed[0]][2]
     if any(value > limit for value, limit in zip(values, most)):
         raise Refused(33, number)
-    if told[0] == "DB":
+    if parsed[0] == "DB":
         return values
-    name, code, last = told[0], told[1], values[-1]
+    name, code, last = parsed[0], parsed[1], values[-1]
     if name in ("JCN", "ISZ") and last // 256 != (at + 2) % ADDRESSES // 256:
         raise Refused(34, number)
     if name in ("LDM", "BBL"):
@@ -150,21 +161,56 @@ def bytes_of(at, told, names, number):
     return [code + values[0] if name == "JCN" else code, last % 256]
 
 
-def assemble(lines):
-    """The addresses with their bytes, of each line its address and how many bytes it has, and the names with their values."""
-    rows, names = places(lines)
-    image, spans = {}, []
-    for number, (at, told) in enumerate(rows, 1):
-        held = bytes_of(at, told, names, number)
-        if any(at + i in image for i in range(len(held))):
+class Image:
+    """The addresses with their bytes, and of each line its address and how many bytes it has."""
+
+    def __init__(self, names):
+        self.bytes, self.spans, self.names = {}, [], names
+
+    def take(self, at, statement):
+        """Takes the statement of the next line."""
+        number = len(self.spans) + 1
+        held = bytes_of(at, statement, self.names, number)
+        if any(at + i in self.bytes for i in range(len(held))):
             raise Refused(35, number)
-        image.update({at + i: byte for i, byte in enumerate(held)})
-        spans.append((at, len(held)))
-    return image, spans, names
+        self.bytes.update({at + i: byte for i, byte in enumerate(held)})
+        self.spans.append((at, len(held)))
+
+
+def assemble(lines):
+    """Returns the addresses with their bytes, the address of each line and the number of its bytes, and the names with their values."""
+    places = Places()
+    for line in lines:
+        places.take(line)
+    image = Image(places.names)
+    for at, parsed in places.rows:
+        image.take(at, parsed)
+    return image.bytes, image.spans, image.names
+
+
+def errors_of(lines):
+    """Returns the number and the line of each error: those of lines by themselves and those before them, or, if there are none, of their bytes."""
+    places, found = Places(), []
+    for line in lines:
+        try:
+            places.take(line)
+        except Refused as refused:
+            found.append(refused.args)
+            places.skip()
+    if found:
+        return found
+    image = Image(places.names)
+    for at, parsed in places.rows:
+        try:
+            image.take(at, parsed)
+        except Refused as refused:
+            found.append(refused.args)
+            image.spans.append((at, 0))
+    return found
 
 
 def judge(lines):
-    """The refusals of a text whatever its lines say."""
+    """Rejects a text for what holds whatever its lines say."""
     if sum(len(line) + 1 for line in lines) > 16384:
         raise Refused(13, 0)
     if any(len(line) > 255 for line in lines):
@@ -174,15 +220,25 @@ def judge(lines):
 
 
 def map_of(lines):
-    """The answer to `map`, line by line."""
+    """Returns the answer to `map`, line by line."""
     try:
         judge(lines)
         _image, spans, names = assemble(lines)
     except Refused as refused:
         return [refusal(refused)]
-    told = [f"map lines {len(spans)} names {len(names)}"]
-    told += [f"line {number} {at:03X} {size}" for number, (at, size) in enumerate(spans, 1)]
-    return told + [f"name {name} {value:03X}" for name, value in names.items()]
+    answer_lines = [f"map lines {len(spans)} names {len(names)}"]
+    answer_lines += [f"line {number} {at:03X} {size}" for number, (at, size) in enumerate(spans, 1)]
+    return answer_lines + [f"name {name} {value:03X}" for name, value in names.items()]
+
+
+def errors_answer(lines):
+    """The answer to `errors`, line by line."""
+    try:
+        judge(lines)
+    except Refused as refused:
+        return [refusal(refused)]
+    found = errors_of(lines)[:MOST_ERRORS]
+    return [f"errors {len(found)}", *(f"error {line} {number}" for number, line in found)]
 
 
 def refusal(refused):

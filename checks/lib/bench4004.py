@@ -15,7 +15,7 @@ from board4004 import CODES, TWO_WORDS, Board, line_of
 
 # The instructions that may jump.
 BRANCHES = ("JCN", "ISZ")
-# What `trace` looks at, by the form of its word, told in one word.
+# The value of a place of `trace` in one word, by the form of the place.
 PLACES: list[tuple[str, Callable[..., str]]] = [
     (r"acc", lambda board: f"{board.acc:X}"),
     (r"cy", lambda board: f"{board.cy}"),
@@ -35,24 +35,25 @@ PLACES: list[tuple[str, Callable[..., str]]] = [
 
 
 def number(word: str) -> int:
-    """A number as lines have it."""
+    """Returns a number as lines have it."""
     return int(word, 16 if word.startswith("0x") else 10)
 
 
 def reader_of(place: str) -> Callable[[Board], str]:
-    """What tells of a place, or of a line of the board."""
+    """Returns the function that reads a place, or a line of the board."""
     if re.fullmatch(r"(rom|chain)\w+\.\w+|ram\w+\.\w+\.\w+", place):
         line = line_of(place)
         return lambda board: str(board.chips.level(line))
-    for form, tell in PLACES:
+    for form, reader in PLACES:
         if found := re.fullmatch(form, place):
             numbers = [number(word) for word in found.groups()]
-            return lambda board: tell(board, *numbers)
+            return lambda board: reader(board, *numbers)
     raise ValueError(place)
 
 
 def counted(board: Board, most: int) -> tuple[Counter[int], Counter[int], int, str]:
-    """A run: how often each address was begun at, and how often the counter went on elsewhere than behind two words; its cycles and end."""
+    """Returns how often a run began an instruction at each address, how often the counter then continued elsewhere than after two
+    words, and the cycles and the end of the run."""
     runs: Counter[int] = Counter()
     jumps: Counter[int] = Counter()
 
@@ -64,19 +65,21 @@ def counted(board: Board, most: int) -> tuple[Counter[int], Counter[int], int, s
 
 
 def count_answer(board: Board, most: int) -> list[str]:
-    """`count n`: at which addresses a run would begin instructions, how often, and how often JCN and ISZ would jump."""
+    """Returns the answer to `count n`: the addresses at which a run would begin instructions, how often, and how often JCN and ISZ would
+    jump."""
     runs, jumps, done, stop = counted(board.copy(), most)
     lines = [f"{at:03X} {runs[at]}" + (f" {jumps[at]}" if CODES[board.rom[at]][0] in BRANCHES else "") for at in sorted(runs)]
     return [f"count ran {done} {stop} lines {len(lines)}", *lines]
 
 
 def trace_answer(board: Board, most: int, places: list[str]) -> list[str]:
-    """`trace n PLACE ..`: the instructions that a run would begin and that would change a row of places; without places, all of them."""
+    """Returns the answer to `trace n PLACE ..`: the instructions that a run would begin and that would change a row of places; without
+    places, all of them."""
     ahead, readers = board.copy(), [reader_of(place) for place in places]
     lines: list[str] = []
 
     def row() -> str:
-        return "".join(f" {tell(ahead)}" for tell in readers)
+        return "".join(f" {reader(ahead)}" for reader in readers)
 
     first = last = row()
 
@@ -91,19 +94,19 @@ def trace_answer(board: Board, most: int, places: list[str]) -> list[str]:
 
 
 def ram_answer(board: Board, bank: int) -> list[str]:
-    """`ram b`."""
+    """Returns the answer to `ram b`."""
     chips = board.chips
-    told = [f"ram {bank} chips {chips.chips.get(bank, 0)}"]
+    lines = [f"ram {bank} chips {chips.chips.get(bank, 0)}"]
     for chip in range(chips.chips.get(bank, 0)):
         for register in range(4 * chip, 4 * chip + 4):
             characters = "".join(f"{value:X}" for value in chips.ram[bank][16 * register:16 * register + 16])
-            told.append(f"{bank}.{chip}.{register % 4} {characters} " + "".join(f"{value:X}" for value in chips.status[bank][register]))
-        told.append(f"{bank}.{chip} out {chips.ram_latch[bank, chip]:X}")
-    return told
+            lines.append(f"{bank}.{chip}.{register % 4} {characters} " + "".join(f"{value:X}" for value in chips.status[bank][register]))
+        lines.append(f"{bank}.{chip} out {chips.ram_latch[bank, chip]:X}")
+    return lines
 
 
 def instruction_text(board: Board, at: int) -> str:
-    """An instruction as `list` shows it: address, bytes and text."""
+    """Returns an instruction as `list` shows it: address, bytes and text."""
     byte, second = board.rom[at], board.rom[(at + 1) % ADDRESSES]
     if byte not in CODES:
         return f"{at:03X} {byte:02X}    DB 0x{byte:02X}"
@@ -116,7 +119,7 @@ def instruction_text(board: Board, at: int) -> str:
 
 
 def list_answer(board: Board, at: int, most: int) -> list[str]:
-    """`list a n`. (The instruction of two words at FFF is not its business.)"""
+    """Returns the answer to `list a n`. (The instruction of two words at FFF is not its business.)"""
     lines: list[str] = []
     while at < ADDRESSES and len(lines) < most:
         lines.append(instruction_text(board, at))
@@ -125,14 +128,14 @@ def list_answer(board: Board, at: int, most: int) -> list[str]:
 
 
 def registers(board: Board, separator: str) -> str:
-    """What `regs` tells, and `state` of the same."""
+    """Returns the answer to `regs`, and the same part of `state`."""
     ret = separator.join(f"{at:03X}" for at in board.ret)
     return (f"acc {board.acc:X} cy {board.cy} pc {board.pc:03X} owed {board.owed} dcl {board.dcl} test {board.test} "
             f"r {''.join(f'{value:X}' for value in board.r)} ret {ret}")
 
 
 def state_answer(board: Board, seq: int) -> str:
-    """`state`."""
+    """Returns the answer to `state`."""
     chips = board.chips
     lists = {
         "banks": [f"{bank}.{chips.bank_src[bank]:02X}" for bank in sorted(chips.chips)],
@@ -144,19 +147,19 @@ def state_answer(board: Board, seq: int) -> str:
         "breaks": [f"{at:03X}" for at in sorted(board.breaks)],
         "watches": [f"{bank}.{src:02X}" for bank, src in sorted(board.watches)],
     }
-    told = " ".join(f"{name} {','.join(items) or '-'}" for name, items in lists.items())
-    return f"state seq {seq} {registers(board, ',')} src {chips.rom_src:02X} {told}"
+    listed = " ".join(f"{name} {','.join(items) or '-'}" for name, items in lists.items())
+    return f"state seq {seq} {registers(board, ',')} src {chips.rom_src:02X} {listed}"
 
 
 class Bench:
-    """A session: a board, and how many commands it has accepted."""
+    """A session: a board, and the number of commands it has accepted."""
 
     def __init__(self) -> None:
         self.board = Board()
         self.seq = 0
 
     def dialogue(self, script: Iterable[str]) -> Iterator[tuple[str, list[str]]]:
-        """The lines of a script that are answered, each with its answer, from `session` on."""
+        """Yields the lines of a script that are answered, each with its answer, from `session` on."""
         yield "", [f"session {self.seq}"]
         lines = iter(script)
         for line in lines:
@@ -167,14 +170,14 @@ class Bench:
                 yield line, self.answer(*words)
 
     def answer(self, word: str, *rest: object) -> list[str]:
-        """The answer to a line, or to a word with a text."""
+        """Returns the answer to a line, or to a word with a text."""
         if word in QUERIES:
             return QUERIES[word](self, *rest)
-        told = COMMANDS[word](self.board, *rest)
-        if told.startswith("no "):
-            return [told]
+        reply = COMMANDS[word](self.board, *rest)
+        if reply.startswith("no "):
+            return [reply]
         self.seq += 1
-        return [f"ok {self.seq}{told}"]
+        return [f"ok {self.seq}{reply}"]
 
 
 QUERIES: dict[str, Callable[..., list[str]]] = {
@@ -190,16 +193,16 @@ QUERIES: dict[str, Callable[..., list[str]]] = {
 }
 
 
-# ---- commands: what follows `ok N`, or a refusal
+# ---- commands: the words after `ok N`, or a refusal
 
 def wire(board: Board, text: list[str]) -> str:
-    """Another board."""
+    """Wires another board."""
     board.wire("\n".join(text))
     return ""
 
 
 def load(board: Board, text: list[str]) -> str:
-    """A program into ROM."""
+    """Loads a program into ROM."""
     image = assemble(text)[0]
     if any(at >> 8 not in board.chips.masks for at in image):
         return "no 42"
@@ -209,7 +212,7 @@ def load(board: Board, text: list[str]) -> str:
 
 
 def put_key(board: Board, row: str, column: str, is_down: bool) -> str:
-    """A key goes down or up, where the board has it."""
+    """Presses or releases a key, if the board has it."""
     if number(row) >= board.chips.keys["rows"] or number(column) >= len(board.chips.columns):
         return "no 41"
     (board.chips.down.add if is_down else board.chips.down.discard)((number(row), number(column)))
@@ -217,25 +220,25 @@ def put_key(board: Board, row: str, column: str, is_down: bool) -> str:
 
 
 def put(items: set, item: object, is_there: bool) -> str:
-    """A breakpoint or a watch is set or taken away."""
+    """Sets or removes a breakpoint or a watch."""
     (items.add if is_there else items.discard)(item)
     return ""
 
 
 def power_cycle(board: Board) -> str:
-    """`reset`."""
+    """Does `reset`."""
     board.power_on()
     return ""
 
 
 def put_test(board: Board, level: str) -> str:
-    """The TEST pin."""
+    """Sets the TEST pin."""
     board.test = number(level)
     return ""
 
 
 def poke(board: Board, place: str, text: str) -> str:
-    """A place gets a value."""
+    """Sets the value of a place."""
     kind, *words = place.split(".")
     numbers, value = [number(word) for word in words], number(text)
     if kind == "rom":
@@ -258,7 +261,7 @@ def poke(board: Board, place: str, text: str) -> str:
 
 
 def ran(cycles_and_stop: tuple[int, str]) -> str:
-    """What is told of a run or a step."""
+    """Returns the text about a run or a step."""
     return " ran {} {}".format(*cycles_and_stop)
 
 

@@ -1,7 +1,7 @@
 """A board of MCS-4 chips as a second reading, which shares no line with the bench.
 
 The 45 instructions and the chips 4001, 4002, 4003 and 4004 are those of Intel's "MCS-4 Micro Computer Set, Users Manual" and data sheets, in
-the words in which docs/MANUAL.md tells of them again. What Intel leaves open is as told there, too: when a chain is clocked, which codes are
+the words in which docs/MANUAL.md describes them again. What Intel leaves open is as described there, too: when a chain is clocked, which codes are
 not in the table, that an instruction of two cycles does all its work in the first, and what stops a run.
 """
 
@@ -21,7 +21,7 @@ Line = tuple[str, tuple[int, ...]]
 
 
 def table() -> dict[int, tuple[str, int]]:
-    """The instruction of each code that is one, with the number in its lower half: of a register, of a pair, or a value."""
+    """Returns the instruction of each code that is one, with the number in its lower half: of a register, of a pair, or a value."""
     codes = {code: (name, 0) for name, code in ALONE.items()}
     for name, code in [*ON_REGISTER.items(), *((name, WITH_VALUES[name][1]) for name in ("JCN", "JUN", "JMS", "ISZ", "BBL", "LDM"))]:
         codes.update({code + low: (name, low) for low in range(16)})
@@ -34,7 +34,7 @@ CODES = table()
 
 
 def line_of(name: str) -> Line:
-    """A line by its name: `rom0.1`, `ram0.1.3`, `chain0.79`."""
+    """Returns a line by its name: `rom0.1`, `ram0.1.3`, `chain0.79`."""
     numbers = name.lstrip("abcdefghijklmnopqrstuvwxyz")
     return name.removesuffix(numbers), tuple(int(number) for number in numbers.split("."))
 
@@ -57,7 +57,7 @@ class Chips:
         self.power_on()
 
     def power_on(self) -> None:
-        """RAM, latches, SRC bytes and chains are 0."""
+        """Sets RAM, latches, SRC bytes and chains to 0."""
         self.ram = [bytearray(256) for _bank in range(8)]
         self.status = [[bytearray(4) for _register in range(16)] for _bank in range(8)]
         self.ram_latch = {(bank, chip): 0 for bank in sorted(self.chips) for chip in range(self.chips[bank])}
@@ -67,11 +67,11 @@ class Chips:
         self.chains = [[0] * bits for bits in self.chain_bits]
 
     def has_ram(self, bank: int, src: int) -> bool:
-        """Whether the chip that an SRC byte selects in a bank is there: the upper two bits are its number."""
+        """Returns true if the chip that an SRC byte selects in a bank is there: the upper two bits are its number."""
         return src >> 6 < self.chips.get(bank, 0)
 
     def has_line(self, line: Line) -> bool:
-        """Whether the board has a line."""
+        """Returns true if the board has a line."""
         kind, numbers = line
         if kind == "rom":
             return numbers[0] in self.masks
@@ -80,7 +80,7 @@ class Chips:
         return numbers[0] < len(self.chains) and numbers[1] < len(self.chains[numbers[0]])
 
     def level(self, line: Line) -> int:
-        """What a line is at; 0 where the board lacks it."""
+        """Returns the level of a line; 0 if the board lacks it."""
         kind, numbers = line
         if not self.has_line(line):
             return 0
@@ -92,44 +92,44 @@ class Chips:
         return self.is_pulled(line) if self.masks[chip][k] == "i" else self.rom_latch[chip] >> k & 1
 
     def levels(self, kind: str, *chip: int) -> int:
-        """What the four lines of a port are at, line k as bit k."""
+        """Returns the levels of the four lines of a port, line k as bit k."""
         return sum(self.level((kind, (*chip, k))) << k for k in range(4))
 
     def is_pulled(self, line: Line) -> int:
-        """What an input line is at: 1 where it is the column of a key that is down and whose row is driven."""
+        """Returns the level of an input line: 1 if it is the column of a key that is down and whose row is driven."""
         return int(any(self.columns[column] == line and self.chains[self.keys["chain"]][self.keys["first"] + row] for row, column in self.down))
 
     def marks(self) -> str:
-        """A mark for each lamp."""
+        """Returns a mark for each lamp."""
         return "".join("*" if self.level(lamp) else "." for lamp in self.lamps)
 
     # ---- what the processor does with them
 
     def send_src(self, bank: int, byte: int) -> None:
-        """SRC: all ROMs take the byte, and the designated bank, if it has chips."""
+        """SRC: all ROMs store the byte, and so does the designated bank, if it has chips."""
         self.rom_src = byte
         if bank in self.chips:
             self.bank_src[bank] = byte
 
     def read_port(self, chip: int) -> int:
-        """RDR: an input line by its keys, an output line as its mask says."""
+        """RDR: reads an input line by its keys, and an output line as its mask says."""
         mask = self.masks.get(chip, "0000")
         return sum((self.is_pulled(("rom", (chip, k))) if mask[k] == "i" else int(mask[k])) << k for k in range(4))
 
     def write_rom_port(self, value: int) -> None:
-        """WRR: the output lines of the selected ROM."""
+        """WRR: writes the output lines of the selected ROM."""
         chip = self.rom_src >> 4
         if chip in self.masks:
             outputs = sum(1 << k for k in range(4) if self.masks[chip][k] != "i")
             self.write_latch(self.rom_latch, chip, value & outputs)
 
     def write_ram_port(self, bank: int, value: int) -> None:
-        """WMP: the output lines of the selected RAM chip."""
+        """WMP: writes the output lines of the selected RAM chip."""
         if self.has_ram(bank, self.bank_src[bank]):
             self.write_latch(self.ram_latch, (bank, self.bank_src[bank] >> 6), value)
 
     def write_latch(self, latches: dict, port: object, value: int) -> None:
-        """A port write: each chain whose clock goes from 0 to 1 takes in its data line, as it is then."""
+        """Does a port write: each chain whose clock goes from 0 to 1 shifts in its data line, as it is then."""
         before = [self.level(clock) for clock, _data in self.clocks]
         latches[port] = value
         for n, (clock, data) in enumerate(self.clocks):
@@ -137,22 +137,22 @@ class Chips:
                 self.chains[n] = [self.level(data), *self.chains[n][:-1]]
 
     def character(self, bank: int) -> int:
-        """The selected RAM character."""
+        """Returns the selected RAM nibble."""
         return self.ram[bank][self.bank_src[bank]]
 
     def write_character(self, bank: int, src: int, value: int) -> None:
-        """A RAM character; one of an absent chip is lost."""
+        """Writes a RAM nibble; one of an absent chip is lost."""
         if self.has_ram(bank, src):
             self.ram[bank][src] = value
 
     def write_status(self, bank: int, register: int, k: int, value: int) -> None:
-        """A status character; the upper nibble of an SRC byte selects its register."""
+        """Writes a status nibble; the upper half of an SRC byte selects its register."""
         if self.has_ram(bank, register << 4):
             self.status[bank][register][k] = value
 
 
 class Board:
-    """A 4004 on a board, with what stops a run."""
+    """A 4004 on a board, with everything that stops a run."""
 
     def __init__(self) -> None:
         self.chips = Chips()
@@ -163,14 +163,14 @@ class Board:
         self.power_on()
 
     def power_on(self) -> None:
-        """The processor and the chips as after a power cycle."""
+        """Sets the processor and the chips as after a power cycle."""
         self.acc = self.cy = self.pc = self.dcl = self.owed = 0
         self.r = [0] * 16
         self.ret = [0, 0, 0]
         self.chips.power_on()
 
     def wire(self, text: str) -> None:
-        """Another board; ROM bytes of chips that it lacks are 0."""
+        """Wires another board; ROM bytes of chips that it lacks are 0."""
         self.chips = Chips(text)
         self.power_on()
         for page in range(16):
@@ -178,11 +178,11 @@ class Board:
                 self.rom[256 * page:256 * (page + 1)] = bytes(256)
 
     def copy(self) -> Board:
-        """A board that goes on by itself; so it is made much faster than by `copy.deepcopy`."""
+        """Returns a board that continues by itself; this way it is made much faster than by `copy.deepcopy`."""
         return pickle.loads(pickle.dumps(self))
 
     def pair(self, k: int) -> int:
-        """A pair of registers, the even one in the upper half."""
+        """Returns a pair of registers, the even one in the upper half."""
         return 16 * self.r[2 * k] + self.r[2 * k + 1]
 
     def set_pair(self, k: int, byte: int) -> None:
@@ -190,17 +190,17 @@ class Board:
         self.r[2 * k:2 * k + 2] = divmod(byte, 16)
 
     def put_sum(self, total: int) -> None:
-        """A sum goes to the accumulator, what is above 15 to the carry."""
+        """Puts a sum into the accumulator, and the part above 15 into the carry."""
         self.cy, self.acc = divmod(total, 16)
 
     # ---- cycles
 
     def is_outside(self) -> bool:
-        """Whether the code at the counter is in no row of the table."""
+        """Returns true if the code at the counter is in no row of the table."""
         return self.rom[self.pc] not in CODES
 
     def cycle(self) -> None:
-        """One cycle: the work of an instruction, or the second cycle of one."""
+        """Does one cycle: the work of an instruction, or the second cycle of one."""
         if self.owed:
             self.owed = 0
             return
@@ -211,7 +211,7 @@ class Board:
         WORK[name](self, low, second)
 
     def step(self) -> tuple[int, str]:
-        """An instruction, or the second cycle of one: how many cycles, and why no more."""
+        """Does an instruction, or the second cycle of one; returns the number of cycles, and why it stopped."""
         if not self.owed and self.is_outside():
             return 0, "code"
         cycles = 1 if self.owed else 1 + (CODES[self.rom[self.pc]][0] in TWO_CYCLES)
@@ -220,7 +220,7 @@ class Board:
         return cycles, "end"
 
     def stops(self, done: int, most: int, changed: bool) -> str:
-        """Why a run goes no further after so many cycles, the last of which has changed a watched character or not; "" where it does."""
+        """Returns why a run ends after a number of cycles, the last of which has changed a watched nibble or not; "" if it continues."""
         if not self.owed and self.is_outside():
             return "code"
         if done and not self.owed and self.pc in self.breaks:
@@ -230,12 +230,12 @@ class Board:
         return "end" if done == most else ""
 
     def watched(self) -> list[int]:
-        """The watched characters."""
+        """Returns the watched nibbles."""
         return [self.chips.ram[bank][src] for bank, src in self.watches]
 
     def run(self, most: int, begun: Callable[[int, int], None] | None = None) -> tuple[int, str]:
-        """At most so many cycles: how many, and why no more. `begun` hears of each instruction after its work: the cycles that were done
-        before it, and its address."""
+        """Runs at most a number of cycles; returns how many, and why it stopped. `begun` gets each instruction after its work: the
+        cycles that were done before it, and its address."""
         done, changed = 0, False
         while not (stop := self.stops(done, most, changed)):
             at, begins, watched = self.pc, not self.owed, self.watched()
@@ -247,10 +247,10 @@ class Board:
         return done, stop
 
 
-# ---- what an instruction does; the counter stands behind its words already
+# ---- the instructions; the counter is behind their words already
 
 def jump_on_page(board: Board, low: int) -> None:
-    """To a word of the page at which the counter stands."""
+    """Jumps to a word of the page that the counter is in."""
     board.pc = board.pc & 0xF00 | low
 
 
@@ -329,7 +329,7 @@ def xch(board: Board, k: int, _second: int) -> None:
 
 
 def bbl(board: Board, value: int, _second: int) -> None:
-    """Branch back and load; the place that becomes free is left with the address behind BBL."""
+    """Branch back and load; the place that becomes free keeps the address behind BBL."""
     board.acc = value
     board.pc, board.ret = board.ret[0], [*board.ret[1:], board.pc]
 
@@ -340,7 +340,7 @@ def ldm(board: Board, value: int, _second: int) -> None:
 
 
 def wrm(board: Board, _low: int, _second: int) -> None:
-    """Write the RAM character."""
+    """Write the RAM nibble."""
     board.chips.write_character(board.dcl, board.chips.bank_src[board.dcl], board.acc)
 
 
@@ -367,12 +367,12 @@ def read_status(k: int) -> Callable[[Board, int, int], None]:
 
 
 def sbm(board: Board, _low: int, _second: int) -> None:
-    """Subtract the RAM character."""
+    """Subtract the RAM nibble."""
     board.put_sum(board.acc + (15 - board.chips.character(board.dcl)) + (1 - board.cy))
 
 
 def rdm(board: Board, _low: int, _second: int) -> None:
-    """Read the RAM character."""
+    """Read the RAM nibble."""
     board.acc = board.chips.character(board.dcl)
 
 
@@ -382,12 +382,12 @@ def rdr(board: Board, _low: int, _second: int) -> None:
 
 
 def adm(board: Board, _low: int, _second: int) -> None:
-    """Add the RAM character and the carry."""
+    """Add the RAM nibble and the carry."""
     board.put_sum(board.acc + board.chips.character(board.dcl) + board.cy)
 
 
 def accumulator(change: Callable[[int, int], tuple[int, int]]) -> Callable[[Board, int, int], None]:
-    """An instruction of accumulator and carry: what they become, carry first."""
+    """Does an instruction of accumulator and carry: returns their new values, carry first."""
     def work(board: Board, _low: int, _second: int) -> None:
         board.cy, board.acc = change(board.acc, board.cy)
     return work

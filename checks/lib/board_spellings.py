@@ -1,5 +1,7 @@
 """Boards by a generator, the same from the same number, and texts of them in the many spellings that TOML has for one board."""
 
+import re
+
 from session_file import Board, chain_line, ram_line, rom_line
 
 KINDS = ("rom", "ram", "chain", "keys", "lamp")
@@ -7,8 +9,15 @@ EQUALS = (" = ", " = ", "=", "\t= ")
 ENDS = ("\n", "\n", "\n\n", " # one\n", "\t\n# one more\n")
 
 
+class Raw:
+    """A value that has one spelling."""
+
+    def __init__(self, text):
+        self.text = text
+
+
 def seeded_board(chance):
-    """A board: any ROMs and banks, up to four chains, mostly keys where there can be some, up to 64 lamps."""
+    """Returns a board: any ROMs and banks, up to four chains, mostly keys if there can be some, up to 64 lamps."""
     share = chance.choice([0, 0.5, 0.5, 0.5, 1])
     roms = {chip: "".join(chance.choices("i01", k=4)) for chip in range(16) if chance.random() < share}
     banks = {bank: chips for bank in range(8) if share and (chips := chance.randrange(5))}
@@ -29,12 +38,15 @@ def seeded_board(chance):
 
 
 def key_text(chance, key):
-    """A key, bare or in quotes."""
-    return chance.choice([key, key, f'"{key}"', f"'{key}'"])
+    """Returns a key, bare or in quotes."""
+    bare = key if re.fullmatch("[A-Za-z0-9_-]+", key) else f'"{key}"'
+    return chance.choice([bare, bare, f'"{key}"', f"'{key}'"])
 
 
 def value_text(chance, value):
-    """A number in some base, a text in some quotes, or a list of texts, on some lines."""
+    """Returns a number in some base, a text in some quotes, or a list of texts, on some lines."""
+    if isinstance(value, Raw) or isinstance(value, int) and value < 0:
+        return value.text if isinstance(value, Raw) else str(value)
     if isinstance(value, list):
         texts = [value_text(chance, each) for each in value]
         return chance.choice([f"[{', '.join(texts)}]", f"[ {','.join(texts)}, ]", "[ # some\n  {}\n]".format(",\n\t".join(texts))])
@@ -46,19 +58,19 @@ def value_text(chance, value):
 
 
 def pairs_of(chance, table, before=""):
-    """The keys of a table with their values, in any order."""
+    """Returns the keys of a table with their values, in any order."""
     pairs = list(table.items())
     chance.shuffle(pairs)
     return [f"{before}{key_text(chance, key)}{chance.choice(EQUALS)}{value_text(chance, value)}" for key, value in pairs]
 
 
 def inline(chance, table):
-    """A table on one line, but for its lists."""
+    """Returns a table on one line, except for its lists."""
     return f"{{ {', '.join(pairs_of(chance, table))} }}"
 
 
 def top_lines(chance, below, tables):
-    """What stands for some tables before all headers."""
+    """Returns the lines for some tables before all headers."""
     key = key_text(chance, below)
     if below != "keys":
         rows = [f"  {inline(chance, table)},\n" for table in tables]
@@ -69,16 +81,21 @@ def top_lines(chance, below, tables):
 
 
 def headed(chance, below, table):
-    """The lines of a table under its header."""
+    """Returns the lines of a table under its header."""
     key = key_text(chance, below)
     return [f"[{key}]" if below == "keys" else f"[[{key}]]", *pairs_of(chance, table)]
 
 
 def spelled(chance, board):
-    """A text of a board. ROMs and banks may stand in any order, and so may the kinds of tables; chains and lamps are counted."""
+    """Returns a text of a board. ROMs and banks can be in any order, and so can the kinds of tables; chains and lamps are counted."""
     tables = {below: [table for kind, table in board.tables() if kind == below] for below in KINDS}
     chance.shuffle(tables["rom"])
     chance.shuffle(tables["ram"])
+    return spelled_tables(chance, tables)
+
+
+def spelled_tables(chance, tables):
+    """A text of tables, by their kinds."""
     kinds = chance.sample(KINDS, len(KINDS))
     under_headers = [below for below in kinds if chance.random() < 0.5]
     lines = [line for below in kinds if below not in under_headers for line in top_lines(chance, below, tables[below])]

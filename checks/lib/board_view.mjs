@@ -1,7 +1,7 @@
 // The view of lamps and keys of the extension for Visual Studio Code, with stand-ins for the editor: `node board_view.mjs FOLDER`, FOLDER
 // that of the extension, unpacked from its .vsix. It is the extension's own module on the real debug adapter, which debugs the lock in real
-// time. Lines of standard input are JSON: { said } what the view's page says, { ask, args } a request to the adapter, { end }. Lines of
-// standard output: { html } of the view, { post } what its page is told, { asked, body } the answer to a request, { stopped }, { error }.
+// time. Lines of standard input are JSON: { said } a message of the view's page, { ask, args } a request to the adapter, { end }. Lines of
+// standard output: { html } of the view, { post } what its page receives, { asked, body } the answer to a request, { stopped }, { error }.
 import { createRequire } from "node:module";
 import { createInterface } from "node:readline";
 import { Client } from "./dap_client.mjs";

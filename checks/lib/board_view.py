@@ -35,7 +35,7 @@ def verdict(found, wanted, what):
 
 
 class Bridge:
-    """The page in the browser, and the extension in node: what one says is told to the other."""
+    """The page in the browser, and the extension in node; it passes each one's messages to the other."""
 
     def __init__(self, folder, browser):
         self.browser = browser
@@ -43,7 +43,7 @@ class Bridge:
         self.lines = queue.Queue()
         threading.Thread(target=lambda: [self.lines.put(line) for line in self.child.stdout], daemon=True).start()
         self.html = json.loads(self.lines.get(timeout=WAIT))["html"]
-        self.told = []
+        self.messages = []
 
     def send(self, **message):
         self.child.stdin.write(json.dumps(message) + "\n")
@@ -57,10 +57,10 @@ class Bridge:
             if "post" in message:
                 self.browser.script(POST, message["post"])
             else:
-                self.told.append(message)
+                self.messages.append(message)
 
     def until(self, code, wanted, what):
-        """What a script answers comes to be this, while messages go to and fro."""
+        """Waits until the answer of a script is this value, and passes messages on meanwhile."""
         end = time.monotonic() + WAIT
         found = None
         while time.monotonic() < end:
@@ -76,9 +76,9 @@ class Bridge:
         end = time.monotonic() + WAIT
         while time.monotonic() < end:
             self.pump()
-            found = next((each for each in self.told if each.get("asked") == name), None)
+            found = next((each for each in self.messages if each.get("asked") == name), None)
             if found:
-                self.told.remove(found)
+                self.messages.remove(found)
                 return found.get("body")
             time.sleep(0.02)
         return None
@@ -115,7 +115,7 @@ def main():
             bridge.send(end=True)
             bridge.until(HIDDEN, [True, False], "once nothing is debugged it says so")
             bridge.child.wait(WAIT)
-            verdict([each for each in bridge.told if "error" in each], [], "no fault is shown")
+            verdict([each for each in bridge.messages if "error" in each], [], "no fault is shown")
         finally:
             browser.end()
 

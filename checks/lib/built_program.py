@@ -10,14 +10,15 @@ FIND_PROVER = 'top=$0; . "$top/tools/lib/start.sh"; find_prover; printf "%s\\n%s
 
 
 def built_prover():
-    """The program that searches for `mcs4 prove`, which MCS4_PROVE names, or as tools/lib/start.sh finds it; without one, why there is none."""
+    """Returns the program that searches for `mcs4 prove`: the one that MCS4_PROVE names, or that tools/lib/start.sh finds. If there is
+    none, it returns why."""
     if named := os.environ.get("MCS4_PROVE"):
         return named, ""
     return subprocess.run(["/bin/sh", "-c", FIND_PROVER, TOP], stdout=subprocess.PIPE, text=True, check=True).stdout.split("\n")
 
 
 def built_program():
-    """Its name, as checks/lib/program tells it; where there is none, that has told why, and the check ends."""
+    """Returns the program's name, as checks/lib/program prints it. If there is none, that script has printed why, and the check ends."""
     ran = subprocess.run([pathlib.Path(__file__).resolve().parent / "program"], stdout=subprocess.PIPE, text=True, check=False)
     if ran.returncode != 0:
         sys.exit(1)

@@ -1,7 +1,7 @@
-// Compares modules of the bench with one another: `node compare_modules.mjs EXAMPLES COUNT MODULE MODULE..`. The same COUNT seeded sessions run
-// on all of them: what each call tells, its answers, and each byte of the file after it have to be the same, on files that are damaged
+// Compares modules of the bench with one another: `node compare_modules.mjs EXAMPLES COUNT MODULE MODULE..`. The same COUNT seeded sessions
+// run on all of them: the reports of each call, its answers, and each byte of the file after it must be the same, on files that are damaged
 // or have another size too. On the first module also: serving and settling in one call is serving, then settling, to the byte; asking
-// answers as serving does, and leaves the file; and the file of a session settles. EXAMPLES is the folder of the examples.
+// answers as serving does, and does not change the file; and the file of a session settles. EXAMPLES is the folder of the examples.
 import { readFileSync } from "node:fs";
 import { join } from "node:path";
 
@@ -13,10 +13,10 @@ const FILE_ROOM = 1n << 18n;
 class Instance {
   constructor(path) {
     this.calls = new WebAssembly.Instance(new WebAssembly.Module(readFileSync(path)), {}).exports;
-    this.file = this.calls.page_buffer(FILE_ROOM);
-    this.input = this.calls.page_buffer(ROOM);
-    this.answers = this.calls.page_buffer(ROOM);
-    this.told = this.calls.page_buffer(16n);
+    this.file = this.calls.bench_buffer(FILE_ROOM);
+    this.input = this.calls.bench_buffer(ROOM);
+    this.answers = this.calls.bench_buffer(ROOM);
+    this.report = this.calls.bench_buffer(16n);
     this.size = 0;
   }
 
@@ -25,21 +25,21 @@ class Instance {
   }
 
   begin() {
-    this.size = Number(this.calls.page_file_size());
-    return { done: this.calls.page_begin(this.file, BigInt(this.size)) !== 0 };
+    this.size = Number(this.calls.bench_file_size());
+    return { done: this.calls.bench_begin(this.file, BigInt(this.size)) !== 0 };
   }
 
   settle() {
-    return { done: this.calls.page_settle(this.file, BigInt(this.size)) !== 0 };
+    return { done: this.calls.bench_settle(this.file, BigInt(this.size)) !== 0 };
   }
 
   serve(name, text) {
     const input = Buffer.from(text, "latin1");
     this.view(this.input, input.length).set(input);
-    const words = [this.file, BigInt(this.size), this.input, BigInt(input.length), this.answers, ROOM, this.told];
+    const words = [this.file, BigInt(this.size), this.input, BigInt(input.length), this.answers, ROOM, this.report];
     const done = this.calls[name](...words) !== 0;
-    const told = new DataView(this.calls.memory.buffer, Number(this.told), 16);
-    const [number, bytes] = [told.getUint32(0, true), Number(told.getBigUint64(8, true))];
+    const report = new DataView(this.calls.memory.buffer, Number(this.report), 16);
+    const [number, bytes] = [report.getUint32(0, true), Number(report.getBigUint64(8, true))];
     const answers = done ? Buffer.from(this.view(this.answers, bytes)).toString("latin1") : "";
     return { done, number, bytes, answers };
   }
@@ -69,7 +69,7 @@ const BOARDS = [
 ];
 const PROGRAM = readFileSync(join(examples, "calculator/calculator.asm"), "latin1");
 
-// A program: the calculator's, or any bytes, so that each instruction comes up with all that it may find.
+// Returns a program: the calculator's, or random bytes, so that each instruction occurs in all circumstances.
 function program() {
   if (below(3) === 0) return `asm\n${PROGRAM}.\n`;
   const lines = [...Array(1 + below(60))].map(() => `DB ${[...Array(1 + below(16))].map(() => below(256)).join(", ")}`);
@@ -103,7 +103,7 @@ function expect(name, isRight) {
 
 const instances = paths.map((path) => new Instance(path));
 
-// The same on each module. It answers what the first one told.
+// Checks that each module does the same. Returns what the first one reported.
 function onAll(name, act) {
   const found = instances.map((instance) => {
     try {
@@ -117,18 +117,18 @@ function onAll(name, act) {
   return found[0];
 }
 
-// What one call that serves and settles promises, and one that asks.
+// Checks the promises of a call that serves and settles, and of one that asks.
 function tryLaws(name, text) {
   const [instance] = instances;
   const before = instance.get();
-  const served = instance.serve("page_serve", text);
+  const served = instance.serve("bench_serve", text);
   expect(`${name}: its file does not settle`, !served.done || instance.settle().done);
   const settled = instance.get();
   instance.put(before);
-  const asked = instance.serve("page_ask", text);
+  const asked = instance.serve("bench_ask", text);
   expect(`${name}: asking answers otherwise`, JSON.stringify(asked) === JSON.stringify(served));
   expect(`${name}: asking changes the file`, instance.get().equals(before));
-  const both = instance.serve("page_serve_and_settle", text);
+  const both = instance.serve("bench_serve_and_settle", text);
   expect(`${name}: serving and settling answers otherwise`, JSON.stringify(both) === JSON.stringify(served));
   expect(`${name}: serving and settling leaves another file`, instance.get().equals(served.done ? settled : before));
   instance.put(before);
@@ -144,11 +144,11 @@ function damage(file) {
 
 function tryFile(name, file) {
   for (const instance of instances) instance.put(file);
-  onAll(`${name}, served`, (instance) => instance.serve("page_serve", "seq\nregs\nlamps\nram 0\nlist 0 64\nrun 1000\n"));
+  onAll(`${name}, served`, (instance) => instance.serve("bench_serve", "seq\nregs\nlamps\nram 0\nlist 0 64\nrun 1000\n"));
   onAll(`${name}, settled`, (instance) => instance.settle());
 }
 
-const CALLS = ["page_serve", "page_serve_and_settle", "page_ask"];
+const CALLS = ["bench_serve", "bench_serve_and_settle", "bench_ask"];
 for (let number = 1; number <= Number(count); number++) {
   onAll(`session ${number}, begun`, (instance) => instance.begin());
   for (let part = 1 + below(4); part > 0; part--) {

@@ -1,7 +1,7 @@
 // Compares the page's module with the program: `node compare_page.mjs MODULE MCS4 COUNT`. Examples and seeded scripts are served by both:
-// the answers, the exit status and each byte of the session file have to be the same; so have they where a script is cut into two calls,
-// where the file was settled between them or is one of version 1, and where the file is damaged. Lines that are cut as the page cuts long
-// work have to be answered as at once.
+// the answers, the exit status and each byte of the session file must be the same. So must they be if a script is cut into two calls, if
+// the file was settled between them or is one of version 1, and if the file is damaged. Lines that are cut as the page cuts long work must
+// be answered as at once.
 import { spawnSync } from "node:child_process";
 import { closeSync, existsSync, mkdtempSync, openSync, readFileSync, readdirSync, rmSync, writeFileSync } from "node:fs";
 import { tmpdir } from "node:os";
@@ -12,7 +12,7 @@ import { endOfInputs, matchAnswers, readInputs } from "../../js/core/bench/input
 import { sourceOfRom } from "../../js/core/engine/texts_of_file.js";
 
 const [modulePath, mcs4, count] = process.argv.slice(2);
-// In memory, where the host has a place for it: the program waits for its disk after each command.
+// In memory, if the host has a place for it: the program waits for its disk after each command.
 const work = mkdtempSync(join(existsSync("/dev/shm") ? "/dev/shm" : tmpdir(), "compare_page."));
 process.on("exit", () => rmSync(work, { recursive: true, force: true }));
 
@@ -81,11 +81,11 @@ function script() {
 const path = join(work, "s.mcs");
 const inputPath = join(work, "input");
 
-// What the program makes of a script, on a new session (null) or on the bytes of one.
+// Returns the program's result of a script, on a new session (null) or on the bytes of one.
 function byProgram(file, input) {
   rmSync(path, { force: true });
   if (file) writeFileSync(path, file);
-  // From a file, since a program that refuses its session does not read its input.
+  // From a file, because a program that rejects its session does not read its input.
   writeFileSync(inputPath, input);
   const from = openSync(inputPath);
   const ran = spawnSync(mcs4, [file ? "open" : "new", path], { stdio: [from, "pipe", "pipe"], maxBuffer: 1 << 28 });
@@ -94,10 +94,10 @@ function byProgram(file, input) {
   return { output: ran.stdout.toString("latin1"), status: ran.status, file: readFileSync(path) };
 }
 
-// What the page's call makes of it: `page_serve` serves alone, without settling.
-function byPage(engine, file, input, call = "page_serve") {
+// Returns the result of the page's call: `bench_serve` serves alone, without settling.
+function byPage(engine, file, input, call = "bench_serve") {
   try {
-    const { status, opened, answers } = engine.answersOf(call, file || engine.begin(), input);
+    const { status, opened, answers } = engine.callForAnswers(call, file || engine.begin(), input);
     const { instance } = engine;
     const size = file ? file.length : engine.size;
     return { output: [opened, ...answers, ""].join("\n"), status, file: instance.view(instance.file, size).slice() };
@@ -109,24 +109,24 @@ function byPage(engine, file, input, call = "page_serve") {
 function settle(engine, file) {
   const { instance } = engine;
   instance.takeFile(file);
-  if (!engine.call((calls) => calls.page_settle(instance.file.offset, BigInt(file.length)))) return file;
+  if (!engine.call((calls) => calls.bench_settle(instance.file.offset, BigInt(file.length)))) return file;
   return instance.view(instance.file, file.length).slice();
 }
 
-// How the answer to an input may begin.
+// Returns how the answer to an input may begin.
 const BEGINNINGS = {
   regs: /^acc /, list: /^[0-9A-F]{3} /, lamps: /^lamps /, ram: /^ram /, board: /^board$/,
-  map: /^map lines /, breaks: /^breaks /, watches: /^watches /, seq: /^seq /, state: /^state seq /,
+  map: /^map lines /, wiring: /^wiring valid$/, errors: /^errors [0-9]+$/, breaks: /^breaks /, watches: /^watches /, seq: /^seq /, state: /^state seq /,
   count: /^count ran /, trace: /^trace ran /,
 };
 
-// Whether the page tells which answers belong to which input.
+// Returns whether the page knows which answers belong to which input.
 function isSplit(input, output) {
   const answers = output.split("\n").slice(1, -1);
   const inputs = readInputs(Buffer.from(input).toString("latin1"));
   const parts = matchAnswers(inputs, answers);
-  const fits = (part, at) => part.length > 0 && (/^no \d/.test(part[0]) || (BEGINNINGS[inputs[at].kind] || /^ok \d/).test(part[0]));
-  return parts.every(fits) && parts.flat().length === answers.length;
+  const matches = (part, at) => part.length > 0 && (/^no \d/.test(part[0]) || (BEGINNINGS[inputs[at].kind] || /^ok \d/).test(part[0]));
+  return parts.every(matches) && parts.flat().length === answers.length;
 }
 
 let passed = 0;
@@ -158,7 +158,7 @@ function asVersion1(file) {
   return old;
 }
 
-// The board is one that version 1 has: it has no more than two chains, and none of more than four 4003s.
+// The board is one that version 1 has: at most two chains, and none of more than four 4003s.
 function isOfVersion1(engine, file) {
   const chains = answersTo(engine, file, "board\n").join("\n").split("[[").filter((part) => part.startsWith("chain]]"));
   return chains.length <= 2 && chains.every((chain) => !/^chips = [5-8]$/m.test(chain));
@@ -177,7 +177,7 @@ function verdict(name, isRight) {
 
 const answersTo = (engine, file, lines) => engine.ask(file, lines).answers;
 
-// The source text that the page makes of ROM gives the same bytes again, where there were none.
+// The source text that the page makes of ROM gives the same bytes again, in an empty ROM.
 function compareSource(name, engine, file) {
   const board = answersTo(engine, file, "board\n").slice(1).map((line) => `${line}\n`).join("");
   const source = sourceOfRom(engine, file);
@@ -185,15 +185,16 @@ function compareSource(name, engine, file) {
   verdict(`${name}: the source text made of ROM gives other bytes`, again.join() === answersTo(engine, file, ALL_ROM).join());
 }
 
-// What the active slot of a file holds, by docs/FORMAT.md: its snapshot's count of commands and version, and whether records follow.
+// Returns the contents of a file's active slot, by docs/FORMAT.md: its snapshot's count of commands and version, and whether records
+// follow.
 function held(file) {
   const slot = file[8] % 2 === 0 ? 16 : 81936;
   const seq = new DataView(file.buffer, file.byteOffset).getUint32(slot + 4);
   return { seq, version: file[slot + 8], hasRecords: file[slot + 16384] === 1 };
 }
 
-// A file that was settled holds a snapshot of all commands, and no records.
-function verdictSettled(name, file, seq) {
+// A settled file has a snapshot of all commands, and no records.
+function checkSettled(name, file, seq) {
   const found = held(file);
   const isRight = found.version === 2 && !found.hasRecords && found.seq === seq;
   verdict(`${name} has not settled the file: ${JSON.stringify(found)}, where ${seq} commands were accepted`, isRight);
@@ -217,17 +218,17 @@ function compareFiles(name, engine, file) {
   compareSource(name, engine, file);
   compareInPieces(name, engine, file, script());
   const settled = settle(engine, file);
-  verdictSettled(`${name}: settle`, settled, seqOf(engine, file));
+  checkSettled(`${name}: settle`, settled, seqOf(engine, file));
   const both = new Uint8Array(file.length);
   engine.serve(file, "poke acc 1\npoke acc 2\n", both);
-  verdictSettled(`${name}: serving and settling`, both, seqOf(engine, file) + 2);
+  checkSettled(`${name}: serving and settling`, both, seqOf(engine, file) + 2);
   const asked = byPage(engine, file, QUESTIONS).output;
   compare(`${name}, settled`, engine, settled, QUESTIONS);
   verdict(`${name}: settling changed an answer`, byPage(engine, settled, QUESTIONS).output === asked);
   const old = asVersion1(settled);
   if (old && isOfVersion1(engine, settled)) {
     compare(`${name}, of version 1`, engine, old, QUESTIONS);
-    verdictSettled(`${name}: settle of version 1`, settle(engine, Uint8Array.from(old)), seqOf(engine, old));
+    checkSettled(`${name}: settle of version 1`, settle(engine, Uint8Array.from(old)), seqOf(engine, old));
   }
   const damaged = Uint8Array.from(file);
   const place = () => either([() => below(24), () => 16 + below(8000), () => 16400 + below(2000)]);

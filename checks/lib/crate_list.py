@@ -13,7 +13,7 @@ lowest first. What a crate has in it, and where to change what, is in [docs/MAP.
 
 
 def first_sentence(crate):
-    """What the head of a crate's root file says first: `lib.rt`, or `main.rt` of a program."""
+    """Returns the first sentence in the head of a crate's root file: `lib.rt`, or `main.rt` of a program."""
     sources = [TOP / "crates" / crate / "src" / name for name in ("lib.rt", "main.rt")]
     text = next(source for source in sources if source.exists()).read_text()
     said = " ".join(line[4:] for line in text.splitlines() if line.startswith("//! "))
@@ -21,7 +21,7 @@ def first_sentence(crate):
 
 
 def crates_by_heading():
-    """The headings of crates.txt, each with its crates."""
+    """Returns the headings of crates.txt, each with its crates."""
     headings = {}
     # `lines_of` of tools/lib/sums.sh reads the same file, and leaves the headings out. The first two lines say how it is read.
     for line in (TOP / "crates.txt").read_text().splitlines()[2:]:
@@ -33,7 +33,7 @@ def crates_by_heading():
 
 
 def crate_list():
-    """The whole text: for each heading a list of its crates."""
+    """Returns the whole text: for each heading a list of its crates."""
     lines = [HEAD.rstrip("\n")]
     for heading, crates in crates_by_heading().items():
         lines += ["", f"## {heading.capitalize()}", "", *(f"- [{crate}]({crate}/src): {first_sentence(crate)}" for crate in crates)]

@@ -1,16 +1,16 @@
-// A client of debug adapters, as the text of the protocol has them: it starts `mcs4 dap`, asks, and waits for events.
+// A client of debug adapters, as the protocol describes them: it starts `mcs4 dap`, asks, and waits for events.
 import { MessageClient } from "./message_client.mjs";
 
 export class Client extends MessageClient {
-  /** @param {string} command that is mcs4, or starts it by some words and an environment of its own */
+  /** @param {string} command mcs4, or a command that starts it with some words and an environment of its own */
   constructor(command, folder = ".", words = [], { before = [], env = process.env } = {}) {
     super(command, folder, [...before, "dap", ...words], env);
-    /** The faults of what it was sent, by the protocol. */
+    /** The errors of the messages that were sent, by the protocol. */
     this.faults = [];
     this.expected = 0;
   }
 
-  /** What the protocol says of each message that an adapter sends. */
+  /** Returns the protocol's rules for each message that an adapter sends. */
   check(message) {
     this.expected += 1;
     if (message.seq !== this.expected) this.faults.push(`seq ${message.seq}, not ${this.expected}`);
@@ -28,7 +28,7 @@ export class Client extends MessageClient {
     return this.next((message) => message.type === "response" && message.request_seq === seq);
   }
 
-  /** The body of the response; it throws where the request was not done. */
+  /** Returns the body of the response; throws if the request was not done. */
   async ask(command, args) {
     const response = await this.answer(command, args);
     if (!response.success) throw new Error(`${command}: ${response.message}`);
@@ -49,7 +49,7 @@ export class Client extends MessageClient {
     return capabilities;
   }
 
-  /** A move, up to where it stops. */
+  /** Makes a move, up to its stop. */
   async move(command, args = {}) {
     await this.ask(command, { threadId: 1, ...args });
     return (await this.event("stopped")).body;
@@ -67,7 +67,7 @@ export class Client extends MessageClient {
     return { variablesReference, variables, values: Object.fromEntries(variables.map((each) => [each.name, each.value])) };
   }
 
-  /** The words that were put out since this was asked last. */
+  /** Returns the output since the last query. */
   output() {
     const isOutput = (message) => message.type === "event" && message.event === "output";
     const words = this.received.filter(isOutput).map(({ body }) => body.output);

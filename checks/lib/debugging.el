@@ -1,4 +1,4 @@
-;; Drives dap-mode over the lock: what is told goes to standard error, a line for each thing, after "told: ". checks/debugging starts it with
+;; Drives dap-mode over the lock: what is shown goes to standard error, a line for each thing, after "shown: ". checks/debugging starts it with
 ;; the set-up that the manual has, in the folder of the lock.
 (setq dap-breakpoints-file (expand-file-name "breakpoints" (getenv "HOME")) dap-auto-configure-features nil
       dap-print-io nil dap-inhibit-io t)
@@ -12,9 +12,9 @@
       (setq turns (1+ turns)))
     (accept-process-output nil 0.3)))
 (defun where (what)
-  "Tells where it stands."
+  "Reports where it stands."
   (let ((frame (dap--debug-session-active-frame (dap--cur-session))))
-    (message "told: %s at %s line %s" what (gethash "name" frame) (gethash "line" frame))))
+    (message "shown: %s at %s line %s" what (gethash "name" frame) (gethash "line" frame))))
 (find-file "lock.asm")
 (goto-char (point-min))
 (forward-line 80)
@@ -35,10 +35,10 @@
 (until-stopped 5)
 (where "in")
 (let (answer)
-  (dap--send-message (dap--make-request "evaluate" '(:expression "acc" :context "watch")) (lambda (told) (setq answer told)) (dap--cur-session))
+  (dap--send-message (dap--make-request "evaluate" '(:expression "acc" :context "watch")) (lambda (reply) (setq answer reply)) (dap--cur-session))
   (let ((turns 0))
     (while (and (< turns 100) (not answer)) (accept-process-output nil 0.1) (setq turns (1+ turns))))
-  (message "told: acc %s" (gethash "result" (gethash "body" answer))))
+  (message "shown: acc %s" (gethash "result" (gethash "body" answer))))
 (dap-disconnect (dap--cur-session))
 (accept-process-output nil 1)
 (kill-emacs)

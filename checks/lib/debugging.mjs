@@ -1,4 +1,4 @@
-// What checks/debugging tries by a client of its own: `ok WORDS` or `fault: WORDS` for each thing, `speed: WORDS` for what was measured.
+// The trials of checks/debugging by a client of its own: `ok WORDS` or `fault: WORDS` for each thing, `speed: WORDS` for what was measured.
 import { execFileSync, spawn } from "node:child_process";
 import { copyFileSync, readFileSync, readdirSync, writeFileSync } from "node:fs";
 import { Client } from "./dap_client.mjs";
@@ -7,7 +7,7 @@ const TOP = new URL("../..", import.meta.url).pathname;
 const MCS4 = `${TOP}mcs4`;
 const [folder] = process.argv.slice(2);
 const STEPS = 200;
-/** So many cycles does the program do that the speed is measured by. */
+/** The program does this many cycles for a measurement. */
 const FAR = [1, 2, 3, 4, 5].reduce((sum, each) => sum + 2 * 12 * 16 ** (5 - each), 3 * 12 * 16 ** 5);
 
 function verdict(is, wanted, words) {
@@ -15,18 +15,18 @@ function verdict(is, wanted, words) {
   console.log(one === other ? `ok ${words}` : `fault: ${words}: ${one}, not ${other}`);
 }
 
-const fits = (words, pattern, what) => console.log(pattern.test(words) ? `ok ${what}` : `fault: ${what}: ${words}`);
+const matches = (words, pattern, what) => console.log(pattern.test(words) ? `ok ${what}` : `fault: ${what}: ${words}`);
 
-/** The answers of the program to lines on a session file. */
+/** Returns the answers of the program to lines on a session file. */
 const mcs4 = (word, file, input) => execFileSync(process.env.MCS4, [word, file], { input, encoding: "utf8" }).split("\n").slice(1, -1);
 
-/** What a session file holds, by a copy: the one in use cannot be opened. */
+/** Returns the contents of a session file, from a copy: the one in use cannot be opened. */
 function stateIn(file) {
   copyFileSync(file, `${folder}/copy.mcs`);
   return mcs4("open", `${folder}/copy.mcs`, "state\n")[0];
 }
 
-/** Keys and values of an answer to `state`. */
+/** Returns the keys and values of an answer to `state`. */
 function valuesOf(state) {
   const words = state.split(" ").slice(1);
   return Object.fromEntries(words.flatMap((word, at) => (at % 2 === 0 ? [[word, words[at + 1]]] : [])));
@@ -37,7 +37,7 @@ const example = (name) => ({
   board: `${TOP}examples/${name}/board.toml`, program: `${TOP}examples/${name}/${name}.asm`, project: `${TOP}examples/${name}`,
 });
 
-/** A session file of an example, by the program alone. */
+/** Makes a session file of an example, by the program alone. */
 function fileOf(name, lines = "") {
   const file = `${folder}/${name}.mcs`;
   execFileSync("rm", ["-f", file]);
@@ -50,7 +50,7 @@ function fileOf(name, lines = "") {
   return { file, lineAt, names };
 }
 
-/** What the client sees of the machine, in the words of `state`. */
+/** Returns the client's view of the machine, in the words of `state`. */
 async function seen(client) {
   const { values } = await client.scope("Registers");
   const digits = (name) => values[name].replace(/^0x/, "");
@@ -60,19 +60,19 @@ async function seen(client) {
 
 const same = ({ acc, cy, pc, dcl, test, r }) => ({ acc, cy, pc, dcl, test, r });
 
-/** The steps of an example, forward and back, beside those of the program. */
+/** Compares the steps of an example, forward and back, with those of the program. */
 async function trySteps(name) {
   const { lineAt, file } = fileOf(name);
   const wanted = mcs4("open", file, "state\nstep\n".repeat(STEPS)).filter((each) => each.startsWith("state ")).map(valuesOf);
   const client = new Client(MCS4);
   await client.begin({ project: example(name).project });
-  const told = [await client.event("stopped")];
+  const events = [await client.event("stopped")];
   const states = [];
   const lines = [];
   for (let step = 0; step < STEPS; step++) {
     states.push(await seen(client));
     lines.push((await client.frames())[0].line);
-    told.push(await client.move("stepIn"));
+    events.push(await client.move("stepIn"));
   }
   verdict(states, wanted.map(same), `${name}: ${STEPS} steps`);
   verdict(lines, wanted.map(({ pc }) => lineAt.get(parseInt(pc, 16)) || 0), `${name}: their lines`);
@@ -86,7 +86,7 @@ async function trySteps(name) {
   verdict(await client.end(), 0, `${name}: it ends`);
 }
 
-/** Breakpoints at the labels of an example, beside `break` and `run` of the program. */
+/** Compares breakpoints at the labels of an example with `break` and `run` of the program. */
 async function tryBreakpoints(name) {
   const { file, lineAt, names } = fileOf(name);
   const text = readFileSync(example(name).program, "utf8");
@@ -106,11 +106,14 @@ async function tryBreakpoints(name) {
     verdict([stop.reason, await seen(client)], ["function breakpoint", same(valuesOf(answers[3]))], `${name}: a breakpoint at ${label}`);
     await client.ask("setFunctionBreakpoints", { breakpoints: [] });
   }
-  fits(begun.result, /^state seq 2 acc 0 cy 0 pc 000/, `${name}: it begins at power-on`);
+  matches(begun.result, /^state seq 2 acc 0 cy 0 pc 000/, `${name}: it begins at power-on`);
   await client.end();
 }
 
-/** Back from arrival to arrival at a label, beside the stops of the program on its way there; with a condition, those where it holds. */
+/**
+ * Compares going back from arrival to arrival at a label with the program's stops on its way there; with a condition, with those at which
+ * it holds.
+ */
 async function tryArrivals(name, label, register) {
   const { file, names } = fileOf(name);
   const stops = "run 20000\nstate\n".repeat(40);
@@ -146,7 +149,7 @@ async function tryArrivals(name, label, register) {
   await client.end();
 }
 
-/** Values that are set and keys that go down, beside `poke`, `press` and `test`. */
+/** Compares setting values and pressing keys with `poke`, `press` and `test`. */
 async function trySetting() {
   const { file } = fileOf("lock");
   const wanted = valuesOf(mcs4("open", file, "poke r4 7\npoke acc 9\npoke pc 0x2E\npoke ram.0.0x13 5\npress 1 1\ntest 0\nstate\n").pop());
@@ -166,7 +169,7 @@ async function trySetting() {
   await client.end();
 }
 
-/** A session file has at each stop what was told; its breakpoints stay. */
+/** A session file contains at each stop what was reported; its breakpoints stay. */
 async function trySession() {
   const { file } = fileOf("lock", "break 0x031\n");
   const client = new Client(MCS4);
@@ -185,10 +188,10 @@ async function trySession() {
   await client.ask("setFunctionBreakpoints", { breakpoints: [] });
   await client.ask("evaluate", { expression: "press 5", context: "repl" });
   await compare("press 5");
-  verdict(differing, [], "a session file has at each stop what was told");
+  verdict(differing, [], "a session file has at each stop what was reported");
   const other = new Client(MCS4);
   await other.ask("initialize", {});
-  fits((await other.answer("launch", { session: file })).message, /was refused.*in use/s, "a session in use is refused");
+  matches((await other.answer("launch", { session: file })).message, /was rejected.*in use/s, "a session in use is refused");
   await other.end();
   client.child.kill("SIGKILL");
   await client.ended;
@@ -196,14 +199,14 @@ async function trySession() {
   const third = new Client(MCS4);
   await third.begin({ session: file, stopOnEntry: false });
   await third.ask("setFunctionBreakpoints", { breakpoints: [] });
-  fits(left, / keys 1.1 /, "what was told is kept where the adapter is killed");
+  matches(left, / keys 1.1 /, "what was reported is kept where the adapter is killed");
   third.child.stdin.end();
   verdict(await third.ended, 1, "where the client goes away, the adapter ends");
   verdict(mcs4("open", file, "breaks\n"), ["breaks 031"], "the breakpoints of a session stay");
   verdict(readdirSync(folder).filter((name) => name.startsWith("lock.mcs.") || name.startsWith(".")), [], "no other file is left");
 }
 
-/** Files that are no sessions are refused, and stay as they are. */
+/** Files that are not sessions are rejected, and stay as they are. */
 async function tryFiles() {
   const { file } = fileOf("lock");
   const damaged = readFileSync(file);
@@ -212,11 +215,11 @@ async function tryFiles() {
   writeFileSync(`${folder}/none.mcs`, "no session\n");
   const client = new Client(MCS4);
   await client.ask("initialize", {});
-  for (const [name, words] of [["damaged.mcs", /no 5[01]|damaged/], ["none.mcs", /no 50/], ["nothing/x.mcs", /not there/]]) {
-    fits((await client.answer("launch", { session: `${folder}/${name}` })).message, words, `${name} is refused`);
+  for (const [name, words] of [["damaged.mcs", /no 5[01]|damaged/], ["none.mcs", /no 50/], ["nothing/x.mcs", /does not exist/]]) {
+    matches((await client.answer("launch", { session: `${folder}/${name}` })).message, words, `${name} is refused`);
   }
   const wrong = await client.answer("launch", { ...example("lock"), session: `${folder}/nothing/x.mcs` });
-  fits(wrong.message, /was refused/, "a session in a folder that is not there is refused");
+  matches(wrong.message, /was rejected/, "a session in a folder that is not there is refused");
   verdict(readFileSync(`${folder}/none.mcs`, "utf8"), "no session\n", "what is no session stays as it is");
   verdict(Buffer.compare(readFileSync(`${folder}/damaged.mcs`), damaged), 0, "a damaged one stays as it is");
   await client.ask("launch", example("lock"));
@@ -225,31 +228,31 @@ async function tryFiles() {
   await client.end();
 }
 
-/** What is wrong with messages. */
+/** Returns the errors in messages. */
 async function tryMessages() {
   const client = new Client(MCS4);
-  fits((await client.answer("threads")).message, /initialize comes first/, "out of order");
+  matches((await client.answer("threads")).message, /send initialize first/, "out of order");
   await client.ask("initialize", {});
-  fits((await client.answer("next", { threadId: 1 })).message, /configurationDone comes first|nothing is launched/, "a move before launch");
-  fits((await client.answer("frobnicate")).message, /unsupported request: frobnicate/, "an unknown request");
+  matches((await client.answer("next", { threadId: 1 })).message, /send configurationDone first|nothing is launched/, "a move before launch");
+  matches((await client.answer("frobnicate")).message, /unsupported request: frobnicate/, "an unknown request");
   client.raw("Content-Length: 4\r\n\r\n{no}");
-  fits((await client.next(({ request_seq }) => request_seq === 0)).message, /not JSON/, "no JSON");
+  matches((await client.next(({ request_seq }) => request_seq === 0)).message, /not JSON/, "no JSON");
   client.raw(`Content-Length: ${16777217}\r\n\r\n`);
   client.raw(Buffer.alloc(16777217, 32));
-  fits((await client.next(({ request_seq }) => request_seq === 0)).message, /16777217 bytes was not read/, "a message that is too long");
+  matches((await client.next(({ request_seq }) => request_seq === 0)).message, /16777217 bytes was not read/, "a message that is too long");
   await client.ask("launch", example("lock"));
   const long = await client.answer("evaluate", { expression: "x".repeat(16000000), context: "repl" });
-  fits(long.message, /65536 characters/, "16 MB in the console");
+  matches(long.message, /65536 characters/, "16 MB in the console");
   verdict(client.faults, [], "each answer is as the protocol has it");
   verdict(await client.end(), 0, "it ends after all of that");
   const other = new Client(MCS4);
   other.raw("GET / HTTP/1.1\r\n\r\n");
-  verdict([await other.ended, other.told.split(",")[0]], [1, "dap: a message begins with one line Content-Length: N"], "another protocol");
+  verdict([await other.ended, other.stderr.split(",")[0]], [1, "dap: a message begins with one line Content-Length: N"], "another protocol");
   const large = new Client(MCS4);
   large.raw("Content-Length: 99999999999\r\n\r\n");
   const { message } = await large.next(({ request_seq }) => request_seq === 0);
-  verdict([await large.ended, large.told], [1, `dap: ${message}\n`], "a size that no message has");
-  fits(message, /99999999999 is more than a message can have/, "is told");
+  verdict([await large.ended, large.stderr], [1, `dap: ${message}\n`], "a size that no message has");
+  matches(message, /99999999999 is more than a message can have/, "is reported");
   const talking = new Client(MCS4, TOP, ["--stdio"]);
   await talking.ask("initialize", {});
   verdict(await talking.end(), 0, "--stdio is what it does");
@@ -258,7 +261,7 @@ async function tryMessages() {
 }
 
 const middle = (list) => [...list].sort((one, other) => one - other)[Math.floor(list.length / 2)];
-const spoken = (list) => `${middle(list).toFixed(1)} ms in the middle, ${Math.max(...list).toFixed(1)} at most`;
+const describedTimes = (list) => `${middle(list).toFixed(1)} ms in the middle, ${Math.max(...list).toFixed(1)} at most`;
 
 async function timed(count, act) {
   const times = [];
@@ -270,7 +273,7 @@ async function timed(count, act) {
   return times;
 }
 
-/** How long a step takes, a step back after ten million cycles, and how fast a breakpoint comes that is far away. */
+/** Measures how long a step takes, a step back after ten million cycles, and how fast a distant breakpoint is reached. */
 async function trySpeed() {
   const program = `${folder}/far.asm`;
   // R0 counts 12 * 16 ** 5 times, with NOP and ISZ of 3 cycles; each of R1 to R5 after 16 turns of the one before it, by 2.
@@ -279,18 +282,18 @@ async function trySpeed() {
   const client = new Client(MCS4);
   await client.begin({ program, board: example("three_lamps").board });
   await client.event("stopped");
-  console.log(`speed: a step is told in ${spoken(await timed(200, () => client.move("stepIn")))}`);
+  console.log(`speed: a step is reported in ${describedTimes(await timed(200, () => client.move("stepIn")))}`);
   await client.ask("setFunctionBreakpoints", { breakpoints: [{ name: "far" }] });
   const begun = performance.now();
   const stop = await client.move("continue");
   const time = (performance.now() - begun) / 1000;
   const backs = await timed(20, () => client.move("stepBack"));
-  console.log(`speed: a step back after millions of cycles is told in ${spoken(backs)}`);
+  console.log(`speed: a step back after millions of cycles is reported in ${describedTimes(backs)}`);
   for (const breakpoint of [{ name: "count3" }, { name: "turn", condition: "r1 = 0 and r0 = 0" }]) {
     await client.ask("setFunctionBreakpoints", { breakpoints: [breakpoint] });
     const arrivals = await timed(20, () => client.move("reverseContinue"));
     const what = breakpoint.condition ? "a condition that is asked 256 times" : "a breakpoint 12,000 cycles ago";
-    console.log(`speed: back to ${what} is told in ${spoken(arrivals)}`);
+    console.log(`speed: back to ${what} is reported in ${describedTimes(arrivals)}`);
   }
   const { result } = await client.ask("evaluate", { expression: "count 1", context: "repl" });
   verdict([stop.reason, /^count/.test(result)], ["function breakpoint", true], "a breakpoint far away");

@@ -1,5 +1,6 @@
-// What checks/debugging tries of messages that are wrong: frames that lie, requests out of order, unknown ones, and some 2,000 with wrong
-// arguments. Each is answered once, and the adapter goes on; or an error is printed and it ends. `ok WORDS` or `fault: WORDS` for each thing.
+// The trials of checks/debugging of wrong messages: frames with wrong lengths, requests out of order, unknown ones, and some 2,000 with
+// wrong arguments. Each is answered once, and the adapter continues; or an error is printed and it ends. `ok WORDS` or `fault: WORDS` for
+// each thing.
 import { Client } from "./dap_client.mjs";
 
 const TOP = new URL("../..", import.meta.url).pathname;
@@ -13,7 +14,7 @@ function verdict(is, wanted, words) {
   console.log(one === other ? `ok ${words}` : `fault: ${words}: ${one}, not ${other}`);
 }
 
-const fits = (words, pattern, what) => console.log(pattern.test(words) ? `ok ${what}` : `fault: ${what}: ${words}`);
+const matches = (words, pattern, what) => console.log(pattern.test(words) ? `ok ${what}` : `fault: ${what}: ${words}`);
 
 // --- frames ---
 
@@ -21,7 +22,7 @@ const framed = (text, size = Buffer.byteLength(text)) => `Content-Length: ${size
 const request = (seq, command, args) => JSON.stringify({ seq, type: "request", command, arguments: args });
 const INITIALIZE = framed(request(1, "initialize", {}));
 
-/** Bytes after which no message can follow, with what is printed; `isOpen`: no more bytes come, and the stream stays open. */
+/** Bytes after which no message can follow, with the printed error; `isOpen`: no more bytes arrive, and the stream stays open. */
 const LOST = [
   { name: "the rest of a message never comes", bytes: framed("{\"seq\":", 50), words: /^only 7 of the 50 bytes/, isOpen: true },
   { name: "the rest of a head never comes", bytes: "Content-Le", words: /^only a part of the head/, isOpen: true },
@@ -41,14 +42,14 @@ async function tryLost({ name, bytes, words, isOpen = false }) {
   if (!isOpen) client.child.stdin.end();
   const status = await client.ended;
   const last = client.received.filter(({ type, success }) => type === "response" && !success).pop() || { message: "nothing was sent" };
-  verdict([status, client.told], [1, `dap: ${last.message}\n`], name);
-  fits(last.message, words, `${name}: what is said`);
+  verdict([status, client.stderr], [1, `dap: ${last.message}\n`], name);
+  matches(last.message, words, `${name}: what is said`);
 }
 
 // --- requests ---
 
 let state = 20261128;
-/** A number from 0 up to another one, which does not belong to it, by a seed. */
+/** Returns a seeded number from 0 up to another one, which is excluded. */
 function upTo(count) {
   state = (Math.imul(state, 1664525) + 1013904223) >>> 0;
   return Math.floor((state / 2 ** 32) * count);
@@ -79,7 +80,7 @@ function given(depth = 0) {
   return Object.fromEntries(Array.from({ length: upTo(7) }, () => [oneOf(NAMES), value(depth)]));
 }
 
-/** Arguments that are nearly right, so that what is behind the first look at them is reached, too. */
+/** Returns arguments that are nearly right, so that later checks are reached, too. */
 function nearlyRight(command) {
   const right = { threadId: 1, frameId: 1, variablesReference: 1 + upTo(7), name: oneOf(["acc", "R4", "lamp 0"]), value: oneOf(TEXTS), expression: oneOf(TEXTS),
     context: oneOf(["repl", "watch", "hover", "clipboard"]), memoryReference: oneOf(["0x000", "0x10000", "ram.0"]), offset: upTo(300) - 20, count: upTo(5000),
@@ -106,7 +107,7 @@ async function sendAll(client, count) {
       batch.push(client.number);
       client.send({ seq: client.number, type: "request", command, arguments: argumentsFor(command) });
     }
-    // What runs is paused, so that the next batch finds time that stands.
+    // Running time is paused, so that the next batch begins in a paused session.
     await client.answer("pause", { threadId: 1 });
     for (const seq of batch) {
       await client.next((message) => message.type === "response" && message.request_seq === seq);
@@ -122,14 +123,14 @@ async function sendAll(client, count) {
 async function tryRequests() {
   const client = new Client(ADAPTER);
   verdict(await (async () => {
-    const told = new Set();
-    for (const command of COMMANDS.filter((each) => each !== "initialize")) told.add((await client.answer(command, given())).message);
-    return [...told];
-  })(), ["initialize comes first"], "all requests before initialize");
+    const answers = new Set();
+    for (const command of COMMANDS.filter((each) => each !== "initialize")) answers.add((await client.answer(command, given())).message);
+    return [...answers];
+  })(), ["send initialize first"], "all requests before initialize");
   for (const message of [[], 7, "text", null, {}, { type: "request" }, { seq: "1", type: "request", command: "threads" },
     { seq: 5, type: "request", command: 3 }, { seq: 1.5, type: "request", command: "threads" }]) {
     client.send(message);
-    fits((await client.next(({ type, success }) => type === "response" && !success)).message, /^a message has a number seq/, JSON.stringify(message));
+    matches((await client.next(({ type, success }) => type === "response" && !success)).message, /^a message has a number seq/, JSON.stringify(message));
   }
   client.send({ seq: 1, type: "response", request_seq: 1, success: true, command: "runInTerminal" });
   client.send({ seq: 1, type: "event", event: "nothing" });
@@ -141,7 +142,7 @@ async function tryRequests() {
   verdict(await sendAll(client, REQUESTS), [], `${REQUESTS} requests with wrong arguments are answered once`);
   verdict(client.faults, [], "each answer is as the protocol has it");
   verdict((await client.ask("threads")).threads.length, 1, "the adapter goes on");
-  verdict([await client.end(), client.told], [0, ""], "and ends");
+  verdict([await client.end(), client.stderr], [0, ""], "and ends");
 }
 
 await Promise.all(LOST.slice(0, 3).map(tryLost));

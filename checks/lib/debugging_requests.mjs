@@ -1,5 +1,5 @@
-// What checks/debugging tries in the sequence of requests in which Visual Studio Code sends them: `ok WORDS` or `fault: WORDS` for each thing.
-// What the adapter answers is compared with what the program mcs4 answers on a session file of its own.
+// The trials of checks/debugging in the sequence of requests in which Visual Studio Code sends them: `ok WORDS` or `fault: WORDS` for each
+// thing. The adapter's answers are compared with the answers of the program mcs4 on a session file of its own.
 import { execFileSync, spawn } from "node:child_process";
 import { chmodSync, copyFileSync, readFileSync, writeFileSync } from "node:fs";
 import { Client } from "./dap_client.mjs";
@@ -21,16 +21,16 @@ function verdict(is, wanted, words) {
   console.log(one === other ? `ok ${words}` : `fault: ${words}: ${one}, not ${other}`);
 }
 
-const fits = (words, pattern, what) => console.log(pattern.test(words) ? `ok ${what}` : `fault: ${what}: ${words}`);
+const matches = (words, pattern, what) => console.log(pattern.test(words) ? `ok ${what}` : `fault: ${what}: ${words}`);
 
-/** The answers of the program to lines on a copy of a session file. */
+/** Returns the answers of the program to lines on a copy of a session file. */
 function answersOf(file, input) {
   copyFileSync(file, `${folder}/asked.mcs`);
   chmodSync(`${folder}/asked.mcs`, 0o600);
   return execFileSync(process.env.MCS4, ["open", `${folder}/asked.mcs`], { input, encoding: "utf8" }).split("\n").slice(1, -1);
 }
 
-/** A session file of the lock, by the program alone, with some lines done. */
+/** Makes a session file of the lock, by the program alone, with some lines done. */
 function sessionFile(name, lines) {
   const file = `${folder}/${name}.mcs`;
   const bare = (text, mark) => text.split("\n").map((line) => line.replace(new RegExp(`${mark}.*`), "").trimEnd()).join("\n");
@@ -40,7 +40,7 @@ function sessionFile(name, lines) {
   return file;
 }
 
-/** What Visual Studio Code sends up to the first stop. */
+/** Sends the requests of Visual Studio Code up to the first stop. */
 async function begin(client, command, args, { watches = [], filterOptions = [], functions = [] } = {}) {
   const capabilities = await client.ask("initialize", VSCODE);
   const launched = client.answer(command, { name: "MCS-4", type: "mcs4", request: command, __sessionId: "1", ...args });
@@ -54,7 +54,7 @@ async function begin(client, command, args, { watches = [], filterOptions = [], 
   return { capabilities, data, filters, stopped: (await client.event("stopped")).body };
 }
 
-/** What it asks at each stop. */
+/** Sends its requests at each stop. */
 async function look(client) {
   await client.ask("threads");
   const top = await client.ask("stackTrace", { threadId: 1, startFrame: 0, levels: 1 });
@@ -93,14 +93,14 @@ async function tryAttach() {
   const other = new Client(ADAPTER);
   await other.ask("initialize", VSCODE);
   for (const args of [{ session: file }, { session: file, write: true }]) {
-    fits((await other.answer("attach", args)).message, /in use.*mcs4 open attached\.mcs \(process \d+\)/s, "who has the file is said");
+    matches((await other.answer("attach", args)).message, /in use.*mcs4 open attached\.mcs \(process \d+\)/s, "who has the file is said");
   }
   await writer.end();
   await other.ask("attach", { session: file });
   await other.end();
 }
 
-/** A session file that another program has open is refused with that program, and others that are none are refused, too. */
+/** A session file that another program has open is rejected with that program's name, and files that are not sessions are rejected, too. */
 async function tryRefused() {
   const file = sessionFile("held", "");
   const holder = spawn(process.env.MCS4, ["open", file], { stdio: ["pipe", "pipe", "ignore"] });
@@ -109,7 +109,7 @@ async function tryRefused() {
   await client.ask("initialize", VSCODE);
   for (const command of ["attach", "launch"]) {
     const { message } = await client.answer(command, { session: file });
-    fits(message, new RegExp(`in use.*mcs4 open held\\.mcs \\(process ${holder.pid}\\)`, "s"), `${command}: a session in use is refused with its holder`);
+    matches(message, new RegExp(`in use.*mcs4 open held\\.mcs \\(process ${holder.pid}\\)`, "s"), `${command}: a session in use is refused with its holder`);
   }
   holder.stdin.end();
   await new Promise((resume) => holder.on("close", resume));
@@ -123,7 +123,7 @@ async function tryRefused() {
       verdict([success, message.length > 5], [false, true], `${command}, ${key} ${JSON.stringify(name.slice(0, 20))}`);
     }
   }
-  fits((await client.answer("launch", { cwd: folder, program: "program.asm", board: BOARD })).message, /program\.asm/, "a program of 64 KB");
+  matches((await client.answer("launch", { cwd: folder, program: "program.asm", board: BOARD })).message, /program\.asm/, "a program of 64 KB");
   await client.ask("attach", { session: file });
   await client.end();
 }
@@ -154,7 +154,7 @@ async function tryWatches() {
   }
 }
 
-/** Targets, frames, formats, memory and completion, beside the program. */
+/** Compares targets, frames, formats, memory and completion with the program. */
 async function tryRequests() {
   const file = sessionFile("lock", "");
   const client = new Client(ADAPTER);
@@ -184,7 +184,7 @@ async function tryRequests() {
   const address = Number(again.frames[0].instructionPointerReference);
   const call = Number(again.frames[1].instructionPointerReference);
   const [listed] = answersOf(file, `list ${call} 1\n`);
-  fits(listed, new RegExp(`JMS 0x${again.frames[0].instructionPointerReference.slice(2)}$`), `it begins at ${address}, where the JMS leads`);
+  matches(listed, new RegExp(`JMS 0x${again.frames[0].instructionPointerReference.slice(2)}$`), `it begins at ${address}, where the JMS leads`);
   const registers = again.scopes.find(({ name }) => name === "Registers").variablesReference;
   const values = async (format) => (await client.ask("variables", { variablesReference: registers, format })).variables.map(({ value }) => value);
   const [hex, decimal] = [await values({ hex: true }), await values({ hex: false })];
@@ -209,7 +209,7 @@ async function tryRequests() {
   verdict(await client.end(), 0, "it ends");
 }
 
-/** Long work is reported, and ends where the client cancels it. */
+/** Long work is reported, and ends if the client cancels it. */
 async function tryLong() {
   const program = `${folder}/long.asm`;
   writeFileSync(program, " FIM P0, 0\nturn: ISZ R0, turn\n ISZ R1, turn\n JUN turn\n");
@@ -222,7 +222,7 @@ async function tryLong() {
   await client.event("progressEnd");
   verdict((await client.event("stopped")).body.reason, "pause", "a long run is reported, and pauses where it is cancelled");
   const { result: before } = await client.ask("evaluate", { expression: "seq", context: "repl" });
-  // A search for what never was, through all that was done.
+  // A search through the whole past for what never happened.
   await client.ask("evaluate", { expression: "back r9 = 9", context: "repl" });
   verdict((await client.event("stopped")).body.reason !== "", true, "a search in the past ends");
   const lines = `poke r4 7\n${"run 100000\n".repeat(990)}`;
@@ -230,7 +230,7 @@ async function tryLong() {
   const seq = client.number;
   client.send({ seq, type: "request", command: "evaluate", arguments: { expression: lines, context: "repl" } });
   const isAnswer = (message) => message.type === "response" && message.request_seq === seq;
-  // The request has begun where its progress is reported; a fast machine may be done before.
+  // The request has begun when its progress is reported; a fast machine may be done before.
   const first = await client.next((message) => isAnswer(message) || (message.type === "event" && message.event === "progressStart"));
   const isDone = isAnswer(first);
   if (!isDone) await client.ask("cancel", { requestId: seq });

@@ -7,54 +7,54 @@ import pathlib
 import re
 
 CRATES = pathlib.Path(__file__).resolve().parent.parent.parent / "crates"
-# How a source defines a name: an item, a clause, a field, a variant, a trait that a type gets.
+# The ways in which a source defines a name: an item, a clause, a field, a variant, a trait that a type gets.
 IN_SOURCES = (r"\b(?:fn|struct|enum|trait|const|static|mod|type|macro_rules!|ensures|invariant)\s+(\w+)", r"^\s+(?:pub(?:\(\w+\))? |ghost )?(\w+):",
               r"^\s+([A-Z]\w*)", r"\bimpl\b[^{;]*?(\w+)(?:<[^<>]*>)?\s+for\s")
-# How a module of definitions does: at the head of a line, or as a field or a constructor below it.
+# The ways in which a module of definitions does: at the head of a line, or as a field or a constructor below it.
 IN_SPECS = (r"^(?:(?:abbrev|unfoldable|pub|record|data|mod) )*([A-Za-z_]\w*)", r"^  (?:pub )?([A-Za-z_]\w*)(?: \w+)* :")
-# What a name of several words, or of a definition, looks like; an example of a text (`romC.K`) does not.
+# The form of a name of several words, or of a definition; an example of a text (`romC.K`) does not match.
 NAME = r"\b(?:[a-z]\w*_\w+|[A-Z][a-z]\w+)\b"
 
 
 @functools.cache
 def files_of(crate):
-    """The files of a crate's sources and definitions."""
+    """Returns the files of a crate's sources and definitions."""
     return [path for folder, suffix in (("src", "rt"), ("specs", "antt")) for path in sorted((CRATES / crate / folder).rglob(f"*.{suffix}"))]
 
 
 @functools.cache
 def names_of_file(path):
-    """The names that a file defines."""
+    """Returns the names that a file defines."""
     text = path.read_text()
     return {name for form in (IN_SOURCES if path.suffix == ".rt" else IN_SPECS) for name in re.findall(form, text, re.M)}
 
 
 def defined_in(crate, module=None):
-    """The names that a crate defines, its modules among them, or that one of its modules does."""
+    """Returns the names that a crate defines, including its modules, or that one of its modules defines."""
     files = [path for path in files_of(crate) if module in (None, path.stem)]
     own = {path.stem for path in files} if module is None else set()
     return own.union(*(names_of_file(path) for path in files))
 
 
 def functions_of(crate, module=None):
-    """The functions of a crate, or of one of its modules."""
+    """Returns the functions of a crate, or of one of its modules."""
     files = [path for path in files_of(crate) if path.suffix == ".rt" and module in (None, path.stem)]
     return {name for path in files for name in re.findall(r"\bfn (\w+)", path.read_text())}
 
 
 def is_comment(line):
-    """Whether a line of a crate's file is a comment."""
+    """Returns true if a line of a crate's file is a comment."""
     return line.lstrip().startswith(("--", "//"))
 
 
 @functools.cache
 def crate_files():
-    """The sources, definitions and proofs of all crates."""
+    """Returns the sources, definitions and proofs of all crates."""
     return [path for folder in ("src", "specs", "proofs") for path in sorted(CRATES.glob(f"*/{folder}/**/*")) if path.suffix in (".rt", ".antt")]
 
 
 def unknown_in_comments():
-    """Names in backticks in comments of the crates that stand nowhere outside of comments: the file, the line and the name."""
+    """Yields names in backticks in comments of the crates that are nowhere outside of comments: the file, the line and the name."""
     known = {word for path in crate_files() for line in path.read_text().splitlines() if not is_comment(line) for word in re.findall(r"\w+", line)}
     for path in crate_files():
         for number, line in enumerate(path.read_text().splitlines(), 1):

@@ -1,4 +1,4 @@
-"""What can be done to a page in any browser that is driven; web_driver.py and marionette.py say how each is told."""
+"""What can be done to a page in any browser that is driven; web_driver.py and marionette.py say how each is driven."""
 
 import re
 import time
@@ -6,7 +6,7 @@ import time
 ELEMENT = "element-6066-11e4-a52e-4f735466cecf"
 # Between one finger and the next.
 PAUSE = {"type": "pause", "duration": 10}
-# What every script may use: whether an element can be seen. The oldest browsers have no call for it.
+# A function for every script: it returns true if an element can be seen. The oldest browsers have no call for it.
 BEFORE_SCRIPTS = "const isShown = (element) => element.getClientRects().length > 0;\n"
 PLACE_AND_TEXT = """
 const element = document.querySelector(arguments[0]);
@@ -14,11 +14,11 @@ return `${element.getBoundingClientRect().top} ${element.textContent}`"""
 
 
 class Fault(Exception):
-    """What the driver or the page answered instead of a value."""
+    """An error that the driver or the page answered instead of a value."""
 
 
-def fits(found, wanted):
-    """Whether a value is what is wanted; a pattern has to be found in it."""
+def matches(found, wanted):
+    """Returns true if a value is the expected one; a pattern must be found in it."""
     return bool(wanted.search(str(found))) if isinstance(wanted, re.Pattern) else found == wanted
 
 
@@ -30,7 +30,7 @@ class Driven:
     settles = 0
 
     def show(self, selector):
-        """Scrolls an element to the middle, where nothing else lies over it."""
+        """Scrolls an element to the middle, where nothing covers it."""
         self.script("document.querySelector(arguments[0]).scrollIntoView({ block: 'center' })", selector)
 
     def click(self, selector):
@@ -39,7 +39,7 @@ class Driven:
         self.click_element(self.find(selector))
 
     def click_at_rest(self, selector):
-        """Clicks on what moves on for a moment, as the rows of the listing do, once it has stayed for a third of a second."""
+        """Clicks on an element that moves for a moment, as the rows of the listing do, once it has not moved for a third of a second."""
         self.show(selector)
         seen = None
         end = time.monotonic() + 10
@@ -49,7 +49,7 @@ class Driven:
         self.click_element(self.find(selector))
 
     def hold(self, selector, time_down):
-        """The mouse is pressed on an element for so many milliseconds."""
+        """Presses the mouse on an element for a number of milliseconds."""
         self.show(selector)
         time.sleep(self.settles)
         self.actions({
@@ -69,7 +69,8 @@ class Driven:
         return self.script("return document.querySelector(arguments[0]).textContent", selector)
 
     def fingers(self, selectors, time_down):
-        """As many fingers, each on one element: they go down one after the other, are down together for so many milliseconds, and go up."""
+        """Touches with as many fingers, each on one element: they go down one after the other, are down together for a number of
+        milliseconds, and go up."""
         self.show(selectors[0])
         self.actions(*[{
             "type": "pointer", "id": f"finger{number}", "parameters": {"pointerType": "touch"},
@@ -84,7 +85,7 @@ class Driven:
         } for number, selector in enumerate(selectors)])
 
     def keys(self, keys, time_down=70, time_up=60):
-        """Keys of the keyboard, one after the other."""
+        """Types keys of the keyboard, one after the other."""
         steps = []
         for key in keys:
             steps += [{"type": "keyDown", "value": key}, {"type": "pause", "duration": time_down},
@@ -92,19 +93,33 @@ class Driven:
         self.actions({"type": "key", "id": "keyboard", "actions": steps})
 
     def chord(self, held, typed):
-        """A key that is typed while another one is held."""
+        """Types a key while another one is held."""
         self.actions({"type": "key", "id": "keyboard", "actions": [
             {"type": "keyDown", "value": held}, {"type": "keyDown", "value": typed},
             {"type": "keyUp", "value": typed}, {"type": "keyUp", "value": held}]})
 
+    def resize(self, width, height, _mobile=False):
+        """Gives the page a size, whatever the window has around it."""
+        for _ in range(20):
+            found = self.script("return [innerWidth, innerHeight]")
+            if found == [width, height]:
+                return
+            outer = self.window_size()
+            self.set_window_size(width + outer[0] - found[0], height + outer[1] - found[1])
+            time.sleep(0.1)
+        raise Fault(f"the page has {found[0]} x {found[1]} pixels, not {width} x {height}")
+
+    def resize_back(self):
+        self.set_window_size(1280, 900)
+
     def until(self, code, wanted, seconds=30):
-        """Waits until a script answers what is wanted, or a text that has a pattern; gives what it answered last. A script that fails,
-        as one does while the page goes, is tried again."""
+        """Waits until a script answers the expected value, or a text that has a pattern; returns its last answer. A script that fails,
+        as one does while the page is left, is tried again."""
         end = time.monotonic() + seconds
         while True:
             try:
                 found = self.script(code)
-                if fits(found, wanted) or time.monotonic() > end:
+                if matches(found, wanted) or time.monotonic() > end:
                     return found
             except Fault:
                 if time.monotonic() > end:

@@ -1,4 +1,4 @@
-;; Drives eglot over a text with faults: what is told goes to standard error, a line for each thing, after "told: ". checks/editors starts it
+;; Drives eglot over a text with faults: what is shown goes to standard error, a line for each thing, after "shown: ". checks/editors starts it
 ;; with the set-up that the manual has.
 (setq eglot-sync-connect 60 eglot-connect-timeout 60)
 (find-file "wrong.asm")
@@ -9,10 +9,10 @@
     (flymake-start)
     (setq turns (1+ turns))))
 (dolist (each (sort (flymake-diagnostics) (lambda (one other) (< (flymake-diagnostic-beg one) (flymake-diagnostic-beg other)))))
-  (message "told: fault %s %s" (line-number-at-pos (flymake-diagnostic-beg each)) (flymake-diagnostic-text each)))
+  (message "shown: fault %s %s" (line-number-at-pos (flymake-diagnostic-beg each)) (flymake-diagnostic-text each)))
 (goto-char (point-min))
 (search-forward "JCN zero, anew")
 (backward-char 2)
 (let ((found (xref-backend-definitions 'eglot (xref-backend-identifier-at-point 'eglot))))
-  (message "told: definition %s" (xref-location-line (xref-item-location (car found)))))
+  (message "shown: definition %s" (xref-location-line (xref-item-location (car found)))))
 (kill-emacs)

@@ -1,4 +1,4 @@
--- Drives Neovim's language client over the lock, and over a text with faults: what is told goes to standard output, a line for each thing.
+-- Drives Neovim's language client over the lock, and over a text with faults: what is shown goes to standard output, a line for each thing.
 -- checks/editors starts it with the set-up that the manual has.
 local function say(...) io.stdout:write(string.format(...), "\n") io.stdout:flush() end
 local function quit() vim.cmd("qa!") end
@@ -121,13 +121,10 @@ local function main()
         say("cure %s", each.title)
         vim.lsp.util.apply_workspace_edit(each.edit, "utf-16")
     end
-    vim.wait(patience, function()
-        for _, each in ipairs(vim.diagnostic.get(wrong)) do if each.message:match("^entre") then return true end end
-        return false
-    end, 5)
-    diagnostics(wrong, 3)
+    vim.wait(patience, function() return #vim.diagnostic.get(wrong) == 2 end, 5)
+    diagnostics(wrong, 2)
 
-    -- The board: a lamp's line leads to its chip; without its RAM, all three lamps lack their lines.
+    -- The board: a lamp's line leads to its chip; without its RAM, the first lamp lacks its line.
     local board = edit("board.toml")
     diagnostics(board, 0)
     put("ram0.0.2")
@@ -136,10 +133,10 @@ local function main()
     say("definition %s", vim.api.nvim_buf_get_lines(0, place.range.start.line, place.range.start.line + 1, false)[1])
     local line = find("bank = 0")
     vim.api.nvim_buf_set_lines(0, line - 1, line, false, { "bank = 1" })
-    diagnostics(board, 3)
+    diagnostics(board, 1)
     say("end")
 end
 
-local is_right, told = pcall(main)
-if not is_right then say("the check failed: %s", told) end
+local is_right, fault = pcall(main)
+if not is_right then say("the check failed: %s", fault) end
 quit()

@@ -1,4 +1,4 @@
-// What checks/editors tries by a client of its own: `ok WORDS` or `fault: WORDS` for each thing, `speed: WORDS` for what was measured.
+// The trials of checks/editors by a client of its own: `ok WORDS` or `fault: WORDS` for each thing, `speed: WORDS` for what was measured.
 import { execFileSync } from "node:child_process";
 import { readFileSync, readdirSync } from "node:fs";
 import { Client } from "./lsp_client.mjs";
@@ -14,7 +14,7 @@ function verdict(is, wanted, words) {
   console.log(one === other ? `ok ${words}` : `fault: ${words}: ${one}, not ${other}`);
 }
 
-/** What the proved program says of a text: addresses and sizes of its lines, and its names. */
+/** Returns the proved program's report on a text: addresses and sizes of its lines, and its names. */
 function bySession(board, program) {
   const file = `${folder}/session.mcs`;
   const input = `wire\n${board}.\nasm\n${program}.\nmap\n${program}.\n`;
@@ -34,21 +34,21 @@ function examples() {
   return readdirSync(`${TOP}examples`, { withFileTypes: true }).filter((each) => each.isDirectory()).map(({ name }) => name);
 }
 
-/** Addresses, sizes and values of an example, as hovers tell them, beside those that the program tells. */
+/** Compares addresses, sizes and values of an example in hovers with those that the program reports. */
 async function compare(client, name) {
   const uri = `file://${TOP}examples/${name}/${name}.asm`;
   const [text, board] = [read(`examples/${name}/${name}.asm`), read(`examples/${name}/board.toml`)];
   verdict(await client.open(uri, text), [], `${name} has no fault`);
   const bare = text.split("\n").map((line) => line.replace(/;.*/, "").trim()).join("\n");
   const { lines, names } = bySession(board.replace(/^#.*$/gm, ""), bare.endsWith("\n") ? bare : `${bare}\n`);
-  const told = [];
+  const reported = [];
   for (const [line, { address, size }] of lines) {
     const column = text.split("\n")[line - 1].search(/\S/);
     const hover = await client.ask("textDocument/hover", at(uri, line - 1, column));
     const found = new RegExp(`line ${line}: address 0x([0-9A-F]+), ([0-9A-F ]+)`).exec(hover ? hover.contents.value : "");
-    if (!found || parseInt(found[1], 16) !== parseInt(address, 16) || found[2].trim().split(" ").length !== size) told.push(line);
+    if (!found || parseInt(found[1], 16) !== parseInt(address, 16) || found[2].trim().split(" ").length !== size) reported.push(line);
   }
-  verdict(told, [], `${name}: addresses and sizes of ${lines.size} lines`);
+  verdict(reported, [], `${name}: addresses and sizes of ${lines.size} lines`);
   const symbols = await client.ask("textDocument/documentSymbol", { textDocument: { uri } });
   verdict(symbols.map((each) => each.name).sort(), [...names.keys()].sort(), `${name}: its names`);
   const values = symbols.map((each) => parseInt(/0x([0-9A-F]+)/.exec(each.detail)[1], 16));
@@ -60,9 +60,9 @@ async function compare(client, name) {
 }
 
 const middle = (list) => [...list].sort((one, other) => one - other)[Math.floor(list.length / 2)];
-const spoken = (list) => `${middle(list).toFixed(1)} ms in the middle, ${Math.max(...list).toFixed(1)} at most`;
+const describedTimes = (list) => `${middle(list).toFixed(1)} ms in the middle, ${Math.max(...list).toFixed(1)} at most`;
 
-/** How long faults and hovers take in a text that is as long as one can be: each edit adds a fault. */
+/** Measures how long errors and hovers take in a text of maximum length: each edit adds an error. */
 async function trySpeed(client) {
   const uri = "file:///long.asm";
   const text = `start:\n${"LDM 5\n".repeat(2728)}NOP`;
@@ -81,11 +81,11 @@ async function trySpeed(client) {
     verdict((await client.faults(uri)).length, turn, `${turn} faults`);
     faults.push(performance.now() - begun);
   }
-  console.log(`speed: a hover in a text of ${text.length} bytes: ${spoken(hovers)}`);
-  console.log(`speed: 1 to 15 faults of it, after an edit: ${spoken(faults)}`);
+  console.log(`speed: a hover in a text of ${text.length} bytes: ${describedTimes(hovers)}`);
+  console.log(`speed: 1 to 15 faults of it, after an edit: ${describedTimes(faults)}`);
 }
 
-/** What is wrong is told, and the next request is answered. */
+/** An error is reported, and the next request is answered. */
 async function tryWrong() {
   const client = new Client(MCS4);
   verdict((await client.answer("textDocument/hover", {})).error.code, -32002, "a request before initialize");
@@ -122,10 +122,10 @@ async function tryEnds() {
   verdict(await hasty.ended, 1, "exit without shutdown");
   const other = new Client(MCS4);
   other.raw("GET / HTTP/1.1\r\n\r\n");
-  verdict([await other.ended, other.told.split(",")[0]], [1, "lsp: a message begins with one line Content-Length: N"], "another protocol");
+  verdict([await other.ended, other.stderr.split(",")[0]], [1, "lsp: a message begins with one line Content-Length: N"], "another protocol");
 }
 
-/** What a client writes before it has read anything is served in its order. */
+/** Input that a client writes before it has read anything is served in its order. */
 async function tryAtOnce() {
   const hasty = new Client(MCS4);
   const uri = "file:///hasty.asm";
@@ -139,10 +139,12 @@ async function tryAtOnce() {
   const large = new Client(MCS4);
   large.raw("Content-Length: 99999999999\r\n\r\n");
   const { error } = await large.next(({ id }) => id === null);
-  verdict([error.code, await large.ended, large.told], [-32600, 1, `lsp: ${error.message}\n`], "a size that no message has");
+  verdict([error.code, await large.ended, large.stderr], [-32600, 1, `lsp: ${error.message}\n`], "a size that no message has");
 }
 
-/** A size that is not that of the message: an error and an end, where the rest does not come, where it is of the next message, and at the end. */
+/**
+ * A size that is not that of the message: an error and an end, if the rest is missing, if it belongs to the next message, and at the end.
+ */
 async function tryLies() {
   const body = JSON.stringify({ jsonrpc: "2.0", id: 1, method: "initialize", params: {} });
   const lie = (size) => {
@@ -156,10 +158,10 @@ async function tryLies() {
   const words = `only ${body.length} of the ${body.length + 10} bytes that Content-Length announces have arrived`;
   for (const [liar, what] of [[gone, "as the client goes"], [silent, "as the rest does not come"]]) {
     const { error } = await liar.next(({ id }) => id === null);
-    verdict([error.code, error.message, await liar.ended, liar.told], [-32600, words, 1, `lsp: ${words}\n`], `too large a size, ${what}`);
+    verdict([error.code, error.message, await liar.ended, liar.stderr], [-32600, words, 1, `lsp: ${words}\n`], `too large a size, ${what}`);
   }
   const { error } = await short.next(({ id }) => id === null);
-  verdict([error.code, await short.ended, short.told.split(",")[0]], [-32700, 1, "lsp: a message begins with one line Content-Length: N"],
+  verdict([error.code, await short.ended, short.stderr.split(",")[0]], [-32700, 1, "lsp: a message begins with one line Content-Length: N"],
     "too small a size");
 }
 

@@ -1,16 +1,16 @@
-// What checks/editors tries of the layout of programs: seeded ones are formatted by the server, with blanks and with tabs by turns. The bench
-// has to give the same answers to both, byte for byte, and formatting twice has to be the same as once: `ok WORDS` or `fault: WORDS`.
+// The trials of checks/editors of the layout of programs: seeded ones are formatted by the server, with blanks and with tabs by turns. The
+// bench must give the same answers to both, byte for byte, and formatting twice must be the same as once: `ok WORDS` or `fault: WORDS`.
 import { execFileSync } from "node:child_process";
 import { mkdirSync, readFileSync, rmSync } from "node:fs";
 import { Client } from "./lsp_client.mjs";
 
 const TOP = new URL("../..", import.meta.url).pathname;
 const [folder] = process.argv.slice(2);
-/** So many programs have an image; so many more have errors. */
+/** The number of programs with an image, and of those with errors. */
 const ACCEPTED = 500;
 const REFUSED = 60;
 const COUNT = ACCEPTED + REFUSED;
-/** So many programs are tried in one session. */
+/** The number of programs in one session. */
 const AT_ONCE = 50;
 const ALL_ROMS = `wire\n${[...Array(16).keys()].map((chip) => `[[rom]]\nchip = ${chip}\nport = "0000"\n`).join("")}.\n`;
 const LISTS = [...Array(16).keys()].map((page) => `list ${page * 256} 256\n`).join("");
@@ -26,7 +26,7 @@ function edited(text, edits) {
   return lines.join("\n");
 }
 
-/** The answers of the program to texts: the map of each, what its load is answered, and all of ROM after it. */
+/** Returns the program's answers to texts: the map of each, the answer to its load, and all of ROM after it. */
 function answers(texts) {
   const input = ALL_ROMS + texts.map((text) => `map\n${text}.\nasm\n${text}.\n${LISTS}`).join("");
   const file = `${folder}/formatted.mcs`;

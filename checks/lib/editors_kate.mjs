@@ -1,23 +1,23 @@
-// Drives Kate's language client on a display of its own: `node editors_kate.mjs FOLDER`. In FOLDER/home stand Kate's settings, as the manual
-// has them; in FOLDER/bin `mcs4`, which writes all that Kate sends to FOLDER/sent and all that it is told to FOLDER/told. What was seen goes
-// to standard output, a line for each thing. It waits for what stands in these files, and on the screen, for no time of its own.
+// Drives Kate's language client on a display of its own: `node editors_kate.mjs FOLDER`. FOLDER/home has Kate's settings, as the manual
+// gives them; FOLDER/bin has `mcs4`, which writes all that Kate sends to FOLDER/sent and all that it receives to FOLDER/received. The
+// observations go to standard output, a line for each. It waits for the contents of these files, and for the screen, never for a time.
 import { spawn, spawnSync } from "node:child_process";
 import { cpSync, existsSync, mkdirSync, readFileSync, rmSync, writeFileSync } from "node:fs";
 import { MessageClient } from "./message_client.mjs";
 
-/** So many milliseconds it waits for each thing. */
+/** The milliseconds for which it waits for each thing. */
 const PATIENCE = 90000;
-/** So many milliseconds after which a key that did nothing is pressed again, and a command for the display is given up. */
+/** The milliseconds after which a key without effect is pressed again, and a command for the display is given up. */
 const AGAIN = 20000;
 /** The title of Kate's question. */
 const QUESTION = "LSP server start requested";
 const folder = process.argv[2];
-/** What ends the processes that it started. */
+/** Ends the processes that it started. */
 const ends = new Set();
 const say = (line) => process.stdout.write(`${line}\n`);
 const shortly = () => new Promise((resume) => setTimeout(resume, 100));
 
-/** What `look` finds, once that is something. */
+/** Waits until `look` returns something. */
 async function once(what, look) {
   for (const end = Date.now() + PATIENCE; Date.now() < end;) {
     const found = look();
@@ -27,14 +27,14 @@ async function once(what, look) {
   throw new Error(`${what}: not after ${PATIENCE} ms`);
 }
 
-/** The messages in one of both files. */
+/** Returns the messages in one of the two files. */
 function messagesOf(name) {
   const file = `${folder}/${name}`;
   return existsSync(file) ? MessageClient.messagesIn(readFileSync(file)).messages : [];
 }
 
 const sent = (method) => messagesOf("sent").filter((each) => each.method === method);
-const lastFaults = () => messagesOf("told").filter((each) => each.method === "textDocument/publishDiagnostics").at(-1)?.params.diagnostics;
+const lastFaults = () => messagesOf("received").filter((each) => each.method === "textDocument/publishDiagnostics").at(-1)?.params.diagnostics;
 
 // --- a display, and its picture
 
@@ -51,8 +51,10 @@ async function startDisplay() {
   return `:${number.trim()}`;
 }
 
-/** The points of the screen in the colour that Kate's own theme gives to a line with a fault, #FFE5E5 and, where the cursor stands, a shade
-    of it: a picture of XWD, which has its header's length first, and the number of its colours in the twentieth word. */
+/**
+ * Returns the points of the screen in the colour that Kate's own theme gives to a line with an error, #FFE5E5 and, at the cursor, a shade
+ * of it: a picture of XWD, which has its header's length first, and the number of its colours in the twentieth word.
+ */
 function marked() {
   const picture = readFileSync(`${folder}/Xvfb_screen0`);
   const begin = picture.readUInt32BE(0) + 12 * picture.readUInt32BE(19 * 4);
@@ -64,7 +66,7 @@ function marked() {
   return count;
 }
 
-/** A line with a fault is many hundred points broad and some high. */
+/** A line with an error is many hundred points wide and some high. */
 const isMarked = () => marked() > 2000;
 
 // --- Kate
@@ -76,9 +78,9 @@ class Kate {
     for (const name of ["XDG_CONFIG_HOME", "XDG_DATA_HOME", "XDG_STATE_HOME", "XDG_CACHE_HOME", "WAYLAND_DISPLAY", "LC_ALL", "LANGUAGE"]) {
       delete this.environment[name];
     }
-    for (const name of ["sent", "told"]) rmSync(`${folder}/${name}`, { force: true });
+    for (const name of ["sent", "received"]) rmSync(`${folder}/${name}`, { force: true });
     this.file = file;
-    // A group of its own, so that the end takes what it started, too.
+    // A group of its own, so that the end also ends its children.
     this.child = spawn("dbus-run-session", ["--", "kate", "-n", ...more, file],
       { cwd: `${folder}/lock`, env: this.environment, stdio: "ignore", detached: true });
     this.child.on("error", () => {});
@@ -89,22 +91,22 @@ class Kate {
     return spawnSync("xdotool", words, { env: this.environment, encoding: "utf8", timeout: AGAIN }).stdout ?? "";
   }
 
-  /** The window with these words in its title, if it is there. */
+  /** Returns the window with these words in its title, if it exists. */
   window(title) {
     return this.xdotool("search", "--onlyvisible", "--name", title).trim().split("\n").at(-1);
   }
 
-  /** Keys for the window with these words in its title. */
+  /** Sends keys to the window with these words in its title. */
   async keys(title, ...keys) {
     const window = await once(`the window ${title}`, () => this.window(title));
     this.xdotool("windowfocus", window, "key", "--delay", "100", ...keys);
   }
 
-  /** The text's faults; and, where Kate asks whether it may start the server: yes. */
+  /** The text's errors; and, if Kate asks whether it may start the server: yes. */
   async answered() {
     let asked = 0;
     const faults = await once("faults", () => {
-      // One key alone, since a second one would go into the text.
+      // Sends a single key, because a second one would go into the text.
       const window = Date.now() - asked > AGAIN && this.window(QUESTION);
       if (window) {
         asked = Date.now();
@@ -120,17 +122,17 @@ class Kate {
     try {
       process.kill(-this.child.pid, "SIGKILL");
     } catch {
-      // It has gone.
+      // It has disappeared.
     }
   }
 }
 
-function tellFaults(faults) {
+function printFaults(faults) {
   for (const { range, message } of faults) say(`fault ${range.start.line + 1}:${range.start.character}-${range.end.character} ${message}`);
   if (faults.length === 0) say("no fault");
 }
 
-/** A program with a fault is opened; the fault is marked; it is mended by typing, and the mark goes. */
+/** A program with an error is opened; the error is marked; it is corrected by typing, and the mark disappears. */
 async function program(display) {
   const kate = new Kate(display, "wrong.asm", ["-l", "39", "-c", "9"]);
   try {
@@ -139,11 +141,11 @@ async function program(display) {
     const faults = await kate.answered();
     const [{ params: { textDocument: opened } }] = sent("textDocument/didOpen");
     say(`initialize ${sent("initialize").length}, opened ${opened.uri.split("/").at(-1)} as ${opened.languageId}`);
-    tellFaults(faults);
+    printFaults(faults);
     await once("a mark", isMarked);
     say("a line is marked");
     await kate.keys("wrong.asm", "Delete", "Delete", "Delete", "J", "U", "N");
-    tellFaults(await once("no faults", () => lastFaults().length === 0 && lastFaults()));
+    printFaults(await once("no faults", () => lastFaults().length === 0 && lastFaults()));
     const changes = sent("textDocument/didChange").at(-1).params.contentChanges;
     say(`changed to ${changes.at(-1).text.split("\n")[38].trim()}`);
     await once("no mark", () => !isMarked());
@@ -153,7 +155,9 @@ async function program(display) {
   }
 }
 
-/** With the grammars, and a server for their kinds of texts alone, Kate asks for it: so it takes a text to be of its grammar. */
+/**
+ * With the grammars, and a server for their kinds of texts only, Kate asks for the server: so it has recognised the grammar of the text.
+ */
 async function grammar(display, file) {
   const settings = `${folder}/home/.config/kate/lspclient/settings.json`;
   const own = JSON.parse(readFileSync(settings, "utf8"));
@@ -163,7 +167,7 @@ async function grammar(display, file) {
   try {
     const faults = await kate.answered();
     say(`by the grammar: ${file}`);
-    tellFaults(faults);
+    printFaults(faults);
     await kate.keys(file, "ctrl+q");
     await once("the end", () => kate.child.exitCode !== null);
     say(`shutdown ${sent("shutdown").length}, exit ${sent("exit").length}`);

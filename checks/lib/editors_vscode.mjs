@@ -1,5 +1,5 @@
-// What checks/editors tries by Visual Studio Code's own order of requests, over the lock as a project on the disk: `ok WORDS` or
-// `fault: WORDS` for each thing, `speed: WORDS` for what was measured.
+// The trials of checks/editors by Visual Studio Code's own order of requests, over the lock as a project on the disk: `ok WORDS` or `fault:
+// WORDS` for each thing, `speed: WORDS` for what was measured.
 import { copyFileSync, mkdirSync, readFileSync, symlinkSync, writeFileSync } from "node:fs";
 import { execFileSync } from "node:child_process";
 import { Client } from "./lsp_client.mjs";
@@ -17,7 +17,7 @@ function verdict(is, wanted, words) {
   console.log(one === other ? `ok ${words}` : `fault: ${words}: ${one}, not ${other}`);
 }
 
-/** What the editor says it can, as far as a server can look at it. */
+/** The editor's abilities, as far as a server reads them. */
 const CAPABILITIES = {
   workspace: {
     applyEdit: true, configuration: true, workspaceFolders: true, didChangeWatchedFiles: { dynamicRegistration: true },
@@ -56,7 +56,7 @@ async function begin(client) {
 const open = (client, name, languageId) => client.notify("textDocument/didOpen", {
   textDocument: { uri: uriOf(name), languageId, version: 1, text: readFileSync(`${folder}/${name}`, "utf8") } });
 
-/** What the editor asks as a program is shown, in one go. */
+/** The editor's requests when a program is shown, in one go. */
 async function show(client) {
   open(client, "lock.asm", "mcs4");
   const [symbols, folds, actions, links, colours, visible, hints, lenses, marks, diagnostics] = await Promise.all([
@@ -75,7 +75,7 @@ async function show(client) {
   return { colours, resultId: diagnostics.resultId };
 }
 
-/** An edit, and what is asked after it; a request that is cancelled. */
+/** An edit, and the requests after it; a request that is cancelled. */
 async function change(client, { colours, resultId }) {
   const range = { start: { line: 38, character: 8 }, end: { line: 38, character: 11 } };
   client.notify("textDocument/didChange", { textDocument: { uri, version: 2 }, contentChanges: [{ range, rangeLength: 3, text: "JMP" }] });
@@ -119,7 +119,7 @@ async function others(client) {
   verdict((await client.ask("workspace/symbol", { query: "begin" })).length > 0, true, "names of the workspace");
 }
 
-/** Devices and pipes in the place of texts: all is answered. */
+/** Devices and pipes in place of texts: all requests are answered. */
 async function devices(client) {
   const other = `${process.argv[2]}/devices`;
   mkdirSync(other);
@@ -145,7 +145,7 @@ function spent(pid) {
   return (Number(fields[11]) + Number(fields[12])) * 10;
 }
 
-/** How long edits of a program of 16 KB take, with none to 15 errors in it: the answer to `diagnostic` after each. */
+/** Measures how long edits of a program of 16 KB take, with none to 15 errors in it: the answer to `diagnostic` after each. */
 async function speed(client) {
   const long = { uri: uriOf("long.asm") };
   const text = `start:\n${"LDM 5\n".repeat(2728)}NOP`;

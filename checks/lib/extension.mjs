@@ -1,5 +1,5 @@
-// Starts the extension of editors/vscode with a stand-in for the editor's module, on the real `mcs4 lsp`: a text with a fault is opened, and
-// what the providers give is told, `ok WORDS` or `fault: WORDS` for each thing.
+// Starts the extension of editors/vscode with a stand-in for the editor's module, on the real `mcs4 lsp`: a text with an error is opened,
+// and the results of the providers are reported, `ok WORDS` or `fault: WORDS` for each thing.
 import { createRequire } from "node:module";
 import { mkdirSync, mkdtempSync, readFileSync, rmSync, writeFileSync } from "node:fs";
 import { tmpdir } from "node:os";
@@ -38,7 +38,7 @@ const text = "start:  JMP start\n        LDM 3\n";
 const uri = { scheme: "file", text: "file:///tmp/a.asm", fsPath: "/tmp/a.asm", toString: () => "file:///tmp/a.asm" };
 const document = { languageId: "mcs4", fileName: "/tmp/a.asm", uri, version: 1, getText: () => text };
 const factories = {};
-const told = [];
+const messages = [];
 const opened = [];
 const vscode = {
   languages,
@@ -87,7 +87,7 @@ const vscode = {
       return disposable;
     },
     activeTextEditor: { document }, showErrorMessage: (words) => console.log(`fault: ${words}`),
-    showInformationMessage: (words) => told.push(words),
+    showInformationMessage: (words) => messages.push(words),
   },
   Uri: { parse: (words) => ({ text: words, toString: () => words }) },
   DiagnosticSeverity: { Error: 0, Warning: 1, Information: 2 }, CodeActionKind: { QuickFix: "quickfix" },
@@ -103,7 +103,7 @@ const vscode = {
     "DocumentLink", "SymbolInformation", "CallHierarchyItem", "CallHierarchyIncomingCall", "CallHierarchyOutgoingCall"].map((name) => [name, class extends Plain {}])),
 };
 
-/** What is asked beside help, names and errors: the text is `start:  JUN start` and a line below. */
+/** The requests other than help, names and errors: the text is `start:  JUN start` and a line below. */
 async function tryFeatures() {
   const [formatted] = await providers.registerDocumentRangeFormattingEditProvider
     .provideDocumentRangeFormattingEdits(document, { start: { line: 1, character: 0 }, end: { line: 1, character: 3 } }, { tabSize: 4, insertSpaces: true })
@@ -134,8 +134,8 @@ async function tryFeatures() {
   const tokens = providers.registerDocumentSemanticTokensProvider;
   const { given: [, id] } = await tokens.provideDocumentSemanticTokens(document);
   verdict((await tokens.provideDocumentSemanticTokensEdits(document, id)).given[0], [], "no colour has changed");
-  await factories["mcs4.runTest"]("file:///tmp/none.test", "a").catch((fault) => told.push(fault.message));
-  verdict(told, ["file:///tmp/none.test is not open"], "a test that is not open");
+  await factories["mcs4.runTest"]("file:///tmp/none.test", "a").catch((fault) => messages.push(fault.message));
+  verdict(messages, ["file:///tmp/none.test is not open"], "a test that is not open");
 }
 const load = Module._load;
 Module._load = (name, ...more) => (name === "vscode" ? vscode : load(name, ...more));
@@ -162,7 +162,7 @@ verdict(data.length % 5 === 0 && data.length > 0, true, "colours by what a word 
 await tryFeatures();
 verdict(factories.mcs4.createDebugAdapterDescriptor().given, [`${TOP}mcs4`, ["dap"], { env: {} }], "the debug adapter");
 verdict(factories.provider.resolveDebugConfiguration(undefined, {}).program, "/tmp/a.asm", "F5 debugs the program that is shown");
-// An .asm is claimed beside board.toml and below mcs4.toml alone, once each; a program of another kind is not.
+// An .asm is claimed only in a folder with board.toml and below mcs4.toml, once each; a program of another kind is not.
 const folder = mkdtempSync(join(tmpdir(), "extension."));
 for (const name of ["board", "project/deep/er", "other"]) mkdirSync(join(folder, name), { recursive: true });
 for (const name of ["board/board.toml", "project/mcs4.toml"]) writeFileSync(join(folder, name), "");

@@ -1,6 +1,6 @@
-// Starts the extension for Visual Studio Code as it is packed, where nothing else is installed: `node extension_alone.mjs EXTENSION FOLDER`,
-// EXTENSION the unpacked one, FOLDER for a workspace. It goes the editor's own way, with a stand-in for its module: activate, open a text,
-// errors come, a test runs and is debugged, the front panel opens and prints, a task runs. `ok WORDS` or `fault: WORDS` for each thing.
+// Starts the extension for Visual Studio Code as it is packed, with nothing else installed: `node extension_alone.mjs EXTENSION FOLDER`,
+// EXTENSION the unpacked one, FOLDER for a workspace. It does what the editor does, with a stand-in for its module: activate, open a text,
+// errors arrive, a test runs and is debugged, the front panel opens and prints, a task runs. `ok WORDS` or `fault: WORDS` for each thing.
 import { spawnSync } from "node:child_process";
 import { copyFileSync, cpSync, existsSync, mkdirSync, readFileSync, writeFileSync } from "node:fs";
 import Module, { createRequire } from "node:module";
@@ -19,7 +19,7 @@ function verdict(is, wanted, words) {
   console.log(one === other ? `ok ${words}` : `fault: ${words}: ${one}, not ${other}`);
 }
 
-/** Waits until something is there; null if it does not come. */
+/** Waits until something is there; returns null if it does not come. */
 async function until(find) {
   for (const end = Date.now() + PATIENCE; Date.now() < end;) {
     const found = find();
@@ -36,7 +36,7 @@ function makeWorkspace() {
   for (const name of ["board.toml", "printing_calculator.asm", "mcs4.toml"]) copy(`printing_calculator/${name}`, `printer/${name}`);
   for (const name of ["props", "test"]) copy(`printing_calculator/printing_calculator.${name}`, `printer/printing_calculator.${name}`);
   writeFileSync(join(folder, "lock", "wrong.asm"), readFileSync(join(folder, "lock", "lock.asm"), "utf8").replace("JCN zero, enter", "JMP enter"));
-  // A program with the bench's own ending, without a project.
+  // A program with the bench's own extension, without a project.
   copy("three_lamps/board.toml", "lone/board.toml");
   copy("three_lamps/three_lamps.asm", "lone/three_lamps.4004");
   writeFileSync(join(folder, "lone", "three_lamps.test"), "test it begins\n  run 10\n\ntest it fails\n  run 10\n  expect acc 9\n");
@@ -51,7 +51,7 @@ function makeBare() {
   verdict(spawnSync("mcs4", ["version"]).error?.code, "ENOENT", "no mcs4 is there");
 }
 
-const diagnosticsOf = ({ told }, { uri }) => until(() => told.diagnostics.has(uri.toString()) && told.diagnostics.get(uri.toString())
+const diagnosticsOf = ({ shown }, { uri }) => until(() => shown.diagnostics.has(uri.toString()) && shown.diagnostics.get(uri.toString())
   .map(({ given: [range, words] }) => [range.start.line, words.split("\n")[0]]));
 
 async function tryTexts(editor) {
@@ -65,13 +65,13 @@ async function tryTexts(editor) {
 
 /** Runs a profile on items; returns the results. */
 async function runTests(editor, name, include) {
-  const { registered: { tests }, told } = editor;
+  const { registered: { tests }, shown } = editor;
   await tests.profiles[name]({ include, exclude: [] }, { isCancellationRequested: false, onCancellationRequested: () => ({ dispose: () => {} }) });
-  return told.runs[told.runs.length - 1];
+  return shown.runs[shown.runs.length - 1];
 }
 
 async function tryTests(editor) {
-  const { registered: { tests }, told } = editor;
+  const { registered: { tests }, shown } = editor;
   await tests.resolveHandler(undefined);
   const files = [];
   tests.items.forEach((file) => files.push([file.label, file.children.size]));
@@ -92,10 +92,10 @@ async function tryTests(editor) {
   verdict([results[0], kind, uri.fsPath, at.line], [["passed", "it begins"], "failed", join(folder, "lone", "three_lamps.test"), 5], "a test that fails, and where");
   verdict(/^acc is \w+, and has to be 9\n/.test(message.given[0]), true, `why it fails: ${message.given[0].split("\n")[0]}`);
   await runTests(editor, "Debug", [fails]);
-  return told.launched.pop();
+  return shown.launched.pop();
 }
 
-/** Debugs as the editor does: by what the extension gives; returns the client, whose events the extension is told. */
+/** Debugs as the editor does, with what the extension provides; returns the client, whose events the extension receives. */
 async function debug(editor, configuration) {
   const { registered, events } = editor;
   const { given: [command, words, { env }] } = registered["adapter mcs4"].createDebugAdapterDescriptor();
@@ -130,17 +130,17 @@ async function tryDebuggedTest(editor, configuration) {
 }
 
 async function tryPanel(editor) {
-  const { registered, told, vscode } = editor;
+  const { registered, shown, vscode } = editor;
   vscode.window.activeTextEditor = undefined;
   editor.open("printer/printing_calculator.asm", "mcs4");
   await registered["command mcs4.openPanel"]();
-  const [{ webview, title, options }] = told.panels;
+  const [{ webview, title, options }] = shown.panels;
   verdict([title, options.enableScripts, options.localResourceRoots.map(({ fsPath }) => fsPath)], ["Lamps and keys", true, [extensionFolder]], "the front panel");
   const [, policy] = /Content-Security-Policy" content="([^"]*)"/.exec(webview.html);
   verdict(policy, "default-src 'none'; script-src vscode-resource:; style-src vscode-resource:; base-uri 'none'; form-action 'none'", "its policy");
   const sources = [...webview.html.matchAll(/(?:src|href)="([^"]*)"/g)].map(([, each]) => each);
   verdict(sources.map((each) => existsSync(join(extensionFolder, each.replace("vscode-resource:", "")))), [true, true], `what it loads: ${sources.join(", ")}`);
-  const configuration = told.launched.pop();
+  const configuration = shown.launched.pop();
   verdict([configuration.project, configuration.realTime, configuration.stopOnEntry], [join(folder, "printer"), true, false], "what is launched for it");
   await webview.say({ isReady: true });
   const { end } = await debug(editor, { ...configuration, realTime: false });
@@ -173,7 +173,7 @@ function placeOfKey(legend) {
   return `${row} ${keys.indexOf(legend)}`;
 }
 
-/** What a problem matcher of package.json finds in a text. */
+/** Returns the matches of a problem matcher of package.json in a text. */
 function matchesOf(text, matchers) {
   return text.split("\n").flatMap((line) => matchers.flatMap(({ pattern: { regexp, file, line: at, message } }) => {
     const found = new RegExp(regexp).exec(line);
@@ -208,7 +208,7 @@ const own = require(join(extensionFolder, "package.json"));
 const extension = require(join(extensionFolder, own.main));
 const uri = editor.vscode.Uri.file(extensionFolder);
 await extension.activate({ subscriptions: [], extensionPath: extensionFolder, extensionUri: uri });
-verdict(editor.told.errors, [], "nothing is wrong at the start");
+verdict(editor.shown.errors, [], "nothing is wrong at the start");
 verdict(own.contributes.languages.map(({ id, extensions }) => [id, extensions]).filter(([, each]) => each), [["mcs4", [".4004"]]], "the ending of its own");
 await tryTexts(editor);
 await tryDebuggedTest(editor, await tryTests(editor));
@@ -216,13 +216,13 @@ await tryPanel(editor);
 await tryTasks(editor, own);
 await extension.deactivate();
 
-// The command that the setting names is not there: the extension's own takes its place, and that is said.
+// The command in the setting does not exist: the extension's own replaces it, and that is reported.
 const other = standIn(folder, { command: join(place, "none", "mcs4") });
 Module._load = (name, ...more) => (name === "vscode" ? other.vscode : load(name, ...more));
 for (const name of Object.keys(require.cache)) if (name.startsWith(extensionFolder)) delete require.cache[name];
 const again = require(join(extensionFolder, own.main));
 await again.activate({ subscriptions: [], extensionPath: extensionFolder, extensionUri: uri });
-verdict(other.told.errors.map((words) => words.replace(/^The command .* was not started/, "The command was not started")),
+verdict(other.shown.errors.map((words) => words.replace(/^The command .* was not started/, "The command was not started")),
   ["The command was not started; the setting mcs4.command names it. The extension's own commands take its place."], "a command that is not there");
 verdict((await diagnosticsOf(other, other.open("lock/wrong.asm", "mcs4"))).length, 1, "errors of a text, then");
 await again.deactivate();

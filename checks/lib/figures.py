@@ -5,18 +5,18 @@ import pathlib
 import re
 
 from side_by_side import CHECKS
-from wrong_readings import WRONG_BOARDS, WRONG_SEARCHES, WRONG_TOOLS
+from mutant_readings import WRONG_BOARDS, WRONG_SEARCHES, WRONG_TOOLS
 
 TOP = pathlib.Path(__file__).resolve().parent.parent.parent
 
 
 def edits_by_crate():
-    """How many edits each crate has that the proofs have to refuse."""
+    """Returns the number of edits of each crate that the proofs must reject."""
     return collections.Counter(path.parent.parent.name for path in TOP.glob("crates/*/must-fail/*.edit"))
 
 
 def edits():
-    """The edits, and the crates that have some, and none."""
+    """Yields the words for the edits, and for the crates that have none."""
     by_crate = edits_by_crate()
     crates = sorted(path.parent.name for path in TOP.glob("crates/*/src"))
     without = [crate for crate in crates if crate not in by_crate and not re.match("test_|mcs_fixtures", crate)]
@@ -26,17 +26,17 @@ def edits():
 
 
 def sweeps():
-    """How long the checks are, by ./test and by ./test long."""
+    """Yields the words for the extent of the checks, by ./test and by ./test long."""
     words_of = {check.name: (check.words.split(), check.long.split()) for check in CHECKS if check.long}
     for name, place, tried in (("locks", 0, "rounds"), ("assembler", 0, "seeded programs"), ("time", 0, "seeded boards and programs"),
                                ("time", 1, "sessions of tools"), ("prove", 0, "seeded questions"), ("calculator", 0, "seeded chains"),
-                               ("explore", 0, "seconds"), ("page", 1, "seeded scripts")):
+                               ("explore", 0, "seconds"), ("page", 3, "seeded scripts")):
         short, long = (f"{int(each[place]):,}" for each in words_of[name])
         yield f"| `{name}` | {tried} | {short} | {long} |"
 
 
 def checks():
-    """What the checks are, and what they compare."""
+    """Yields the words for the checks, and for what they compare."""
     yield f"{len(WRONG_BOARDS) + len(WRONG_TOOLS)} wrong readings"
     yield f"{len(WRONG_SEARCHES)} wrong searches"
     boards = re.search(r"^BOARDS = (\d+)$", (TOP / "checks/runs").read_text(), re.M)
@@ -47,5 +47,5 @@ def checks():
 
 
 def stated():
-    """All words that PROOF has to have."""
+    """Returns all words that PROOF must have."""
     return [*edits(), *sweeps(), *checks()]

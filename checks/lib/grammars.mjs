@@ -1,6 +1,7 @@
-// The colours of grammars beside those of the page: `node grammars.mjs page|textmate|kate NAME.asm|board.toml` prints, for each line of a
-// text, a letter for each of its characters: what the page, or a grammar that is read here as its editor reads it, makes of it. c comment,
-// l label, k name that is defined by =, i instruction, d directive, r register, n number, v name, t table, p key, s text, . nothing.
+// The colours of grammars, for comparison with the page's: `node grammars.mjs page|textmate|kate NAME.asm|board.toml` prints, for each line
+// of a text, a letter for each of its characters: what the page, or a grammar that is read here as its editor reads it, makes of it.
+// c comment, l label, k name that is defined by =, i instruction, d directive, r register, n number, v name, t table, p key, s text,
+// . nothing.
 import { readFileSync } from "node:fs";
 import { instructionsOf } from "../../js/core/help/manual.js";
 import { BoardLanguage } from "../../js/core/server/board_language.js";
@@ -13,7 +14,7 @@ const isBoard = name.endsWith(".toml");
 const text = readFileSync(name, "utf8");
 const lines = text.split("\n");
 
-/** A line in which stretches have letters. */
+/** Returns a line in which stretches have letters. */
 function marked(line, stretches) {
   const letters = Array(line.length).fill(".");
   for (const { from, to, letter } of stretches) letters.fill(letter, from, to);
@@ -25,7 +26,7 @@ const OF_PAGE = { comment: "c", instruction: "i", directive: "d", register: "r",
 function byPage() {
   if (isBoard) {
     const letters = { comment: "c", class: "t", property: "p", string: "s", number: "n" };
-    const colours = new BoardLanguage({}, new Map(), () => "").colours({ lines, text });
+    const colours = new BoardLanguage({ asked: () => ({}) }, new Map(), () => "").colours({ lines, text });
     return lines.map((line, at) => marked(line, colours.filter((each) => each.line === at).map((each) => ({ ...each, letter: letters[each.type] }))));
   }
   const instructions = instructionsOf(dataOfPage().manual);
@@ -36,7 +37,7 @@ function byPage() {
   });
 }
 
-// --- TextMate: at each place the rule that fits first, and of those the first one.
+// --- TextMate: at each position the earliest match, and of several the first rule.
 
 const OF_TEXTMATE = [[/^comment/, "c"], [/^entity.name.function/, "l"], [/^entity.name.constant/, "k"], [/^keyword.mnemonic/, "i"],
   [/^keyword.control/, "d"], [/^variable.language/, "r"], [/^constant.numeric/, "n"], [/^variable.other/, "v"], [/^entity.name.section/, "t"],
@@ -68,7 +69,7 @@ function byTextMate() {
   });
 }
 
-// --- Kate: at each place the first rule that fits here, in a context that a rule can change.
+// --- Kate: at each position the first rule that fits here, in a context that a rule can change.
 
 const OF_KATE = { Comment: "c", Face: "c", Label: "l", Constant: "k", Instruction: "i", Directive: "d", Register: "r", Number: "n", Name: "v",
   Table: "t", Key: "p", String: "s", Normal: "." };

@@ -4,12 +4,12 @@ let s:letters = {'mcs4Comment': 'c', 'mcs4Label': 'l', 'mcs4Constant': 'k', 'mcs
   \ 'mcs4BoardKey': 'p', 'mcs4BoardString': 's', 'mcs4BoardNumber': 'n'}
 let s:lines = []
 for s:line in range(1, line('$'))
-  let s:told = ''
+  let s:row = ''
   for s:column in range(1, strlen(getline(s:line)))
     let s:letter = get(s:letters, synIDattr(synID(s:line, s:column, 1), 'name'), '.')
-    let s:told .= getline(s:line)[s:column - 1] =~ '\s' && s:letter !~ '[cs]' ? '.' : s:letter
+    let s:row .= getline(s:line)[s:column - 1] =~ '\s' && s:letter !~ '[cs]' ? '.' : s:letter
   endfor
-  call add(s:lines, s:told)
+  call add(s:lines, s:row)
 endfor
 call writefile(s:lines, $OUT)
 qall!

@@ -1,4 +1,4 @@
-// A client of language servers, for what editors lack: it starts `mcs4 lsp`, asks, and waits for what is told.
+// A client of language servers, for requests that editors lack: it starts `mcs4 lsp`, asks, and waits for reports.
 import { MessageClient } from "./message_client.mjs";
 
 export class Client extends MessageClient {
@@ -30,12 +30,12 @@ export class Client extends MessageClient {
   }
 
   async begin() {
-    const told = await this.ask("initialize", { processId: process.pid, rootUri: null, capabilities: {} });
+    const answer = await this.ask("initialize", { processId: process.pid, rootUri: null, capabilities: {} });
     this.notify("initialized", {});
-    return told;
+    return answer;
   }
 
-  /** Opens a text; its faults, once they are told. */
+  /** Opens a text; returns its errors, once they are reported. */
   async open(uri, text, languageId = "asm") {
     this.notify("textDocument/didOpen", { textDocument: { uri, languageId, version: 1, text } });
     return this.faults(uri);

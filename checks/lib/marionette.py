@@ -14,7 +14,7 @@ SECONDS_TO_ANSWER = 120
 
 
 def preferences(downloads):
-    """The preferences of a profile: a free port, and downloads that ask nothing."""
+    """Returns the preferences of a profile: a free port, and downloads that ask nothing."""
     return {
         "marionette.port": 0,
         "browser.download.folderList": 2,
@@ -41,7 +41,7 @@ class Firefox(Driven):
         self.number = 0
         self.line = self._connect(profile / "MarionetteActivePort")
         self.version = self.do("WebDriver:NewSession")["capabilities"]["browserVersion"]
-        self.do("WebDriver:SetWindowRect", width=1280, height=900)
+        self.resize_back()
 
     def _connect(self, port_file):
         end = time.monotonic() + SECONDS_TO_START
@@ -57,7 +57,7 @@ class Firefox(Driven):
         raise Fault("Firefox did not start")
 
     def _read(self):
-        """The next message: its length in digits, a colon, and so many bytes of JSON."""
+        """Returns the next message: its length in digits, a colon, and as many bytes of JSON."""
         digits = b""
         while (digit := self.read_from.read(1)) not in (b":", b""):
             digits += digit
@@ -80,6 +80,9 @@ class Firefox(Driven):
     def reload(self):
         self.do("WebDriver:Refresh")
 
+    def back(self):
+        self.do("WebDriver:Back")
+
     def script(self, code, *words):
         return self.do("WebDriver:ExecuteScript", script=BEFORE_SCRIPTS + code, args=list(words))
 
@@ -94,6 +97,13 @@ class Firefox(Driven):
 
     def actions(self, *sources):
         self.do("WebDriver:PerformActions", actions=list(sources))
+
+    def window_size(self):
+        rect = self.do("WebDriver:GetWindowRect")
+        return rect["width"], rect["height"]
+
+    def set_window_size(self, width, height):
+        self.do("WebDriver:SetWindowRect", width=width, height=height)
 
     def tab(self):
         return self.do("WebDriver:GetWindowHandle")
@@ -115,7 +125,7 @@ class Firefox(Driven):
         return base64.b64decode(self.do("WebDriver:TakeScreenshot", full=False))
 
     def process(self):
-        """The number of the process that started all of it."""
+        """Returns the number of the process that started all of it."""
         return self.program.pid
 
     def end(self):

@@ -9,7 +9,7 @@ EVERY = 2
 
 
 def tree(root):
-    """The processes below one, and itself, by their numbers."""
+    """Returns the processes below one, and itself, by their numbers."""
     parents = {}
     for stat in pathlib.Path("/proc").glob("[0-9]*/stat"):
         try:
@@ -26,7 +26,7 @@ def tree(root):
 
 
 def resident(root):
-    """Bytes that are resident, of all of them together; what they share counts for each."""
+    """Returns the resident bytes of all of them together; shared bytes count for each."""
     total = 0
     for each in tree(root):
         try:
@@ -37,11 +37,11 @@ def resident(root):
 
 
 def grown(root, seconds):
-    """What is there at the end, as a part of what is there at the beginning: medians of a third of the time each."""
-    told = []
+    """Returns the size at the end, as a part of the size at the beginning: medians of a third of the time each."""
+    sizes = []
     end = time.monotonic() + seconds
     while time.monotonic() < end:
-        told.append(resident(root))
+        sizes.append(resident(root))
         time.sleep(EVERY)
-    third = max(1, len(told) // 3)
-    return statistics.median(told[-third:]) / statistics.median(told[:third])
+    third = max(1, len(sizes) // 3)
+    return statistics.median(sizes[-third:]) / statistics.median(sizes[:third])

@@ -1,7 +1,7 @@
-// What clients of language servers and of debug adapters have alike: a process, and messages with a header that says how long they are.
+// The common part of clients of language servers and of debug adapters: a process, and messages with a header that gives their length.
 import { spawn } from "node:child_process";
 
-/** So many milliseconds it waits for an answer. */
+/** The milliseconds for which it waits for an answer. */
 const PATIENCE = 60000;
 
 export class MessageClient {
@@ -10,13 +10,13 @@ export class MessageClient {
     this.child = spawn(command, words, { stdio: ["pipe", "pipe", "pipe"], cwd: folder, env });
     this.input = Buffer.alloc(0);
     this.received = [];
-    this.told = "";
+    this.stderr = "";
     /** The number of the last request. */
     this.number = 0;
     this.wake = () => {};
     this.child.stdout.on("data", (bytes) => this.take(bytes));
     this.child.stderr.on("data", (bytes) => {
-      this.told += bytes;
+      this.stderr += bytes;
     });
     this.child.stdin.on("error", () => {});
     this.ended = new Promise((resume) => {
@@ -24,7 +24,7 @@ export class MessageClient {
     });
   }
 
-  /** The whole messages in bytes, and the bytes behind them. */
+  /** Returns the whole messages in bytes, and the bytes after them. */
   static messagesIn(bytes) {
     const messages = [];
     let rest = bytes;
@@ -49,7 +49,7 @@ export class MessageClient {
     this.wake();
   }
 
-  /** What the protocol says of each message that a server sends. */
+  /** Returns the protocol's rules for each message that a server sends. */
   check() {}
 
   /** Sends bytes as they are. */
@@ -63,13 +63,13 @@ export class MessageClient {
     this.raw(body);
   }
 
-  /** The first message that fits, now or later; it is taken. */
-  async next(fits) {
+  /** Returns the first message that fits, now or later; it is consumed. */
+  async next(matches) {
     const end = Date.now() + PATIENCE;
     for (;;) {
-      const at = this.received.findIndex(fits);
+      const at = this.received.findIndex(matches);
       if (at >= 0) return this.received.splice(at, 1)[0];
-      if (Date.now() > end) throw new Error(`no answer after ${PATIENCE} ms; on standard error: ${this.told}`);
+      if (Date.now() > end) throw new Error(`no answer after ${PATIENCE} ms; on standard error: ${this.stderr}`);
       await new Promise((resume) => {
         const timer = setTimeout(resume, 1000);
         this.wake = () => {

@@ -1,42 +1,42 @@
-"""What checks/page looks at for those who do not see the page, or see it badly: names, roles and states as the browser tells them to a screen
+"""What checks/page looks at for those who do not see the page, or see it badly: names, roles and states as the browser reports them to a screen
 reader (its accessibility tree), the way of the Tab key, and the contrast of all letters, borders, marks and lamps in both colour schemes."""
 
 import re
 
 from page_in_browser import (AT_COUNTER, ESCAPE, PUT_INTO_EDITOR, TAB, TEXT_OF_EDITOR, choose_example, lines_answered, open_anew, show_text,
                              step_with_marks, stop_time)
-from verdicts import comes, verdict
+from verdicts import eventually, verdict
 from web_driver import Chromium
 
-# What can be used, by its role in the tree.
+# The controls, by their role in the tree.
 CONTROLS = {"button", "textbox", "searchbox", "combobox", "checkbox", "slider", "tab", "option", "link", "spinbutton", "DisclosureTriangle",
             "radio", "switch"}
-# What has to have a name so that one knows where one is.
+# Roles that need a name, so that a user knows where they are.
 PLACES = {"region", "group", "tablist", "tabpanel", "dialog", "table", "log", "complementary", "image", "alertdialog"}
-# Signs that say nothing where they are read out.
+# Signs that mean nothing when they are read out.
 SIGNS = re.compile("[\u25b2-\u25cf\u2713]")
 
 
 def check(browser, page, _folder, _mcs4):
     open_anew(browser, page)
-    check_answers_told(browser)
+    check_answers_announced(browser)
     check_tab_key(browser)
     if isinstance(browser, Chromium):
         check_views(browser)
 
 
-def check_answers_told(browser):
-    """The answer to a line that was sent is said, and a refusal with its words; what time does is not."""
+def check_answers_announced(browser):
+    """Checks that the answer to a line that was sent is announced, and a refusal with its words; changes by time are not."""
     choose_example(browser, "three lamps")
     stop_time(browser)
-    told = "return document.getElementById('answer-told').textContent"
+    status = "return document.getElementById('answer-status').textContent"
     lines_answered(browser, "poke acc 5")
-    comes(browser, "an answer is said", told, re.compile(r"^ok \d+$"))
+    eventually(browser, "an answer is said", status, re.compile(r"^ok \d+$"))
     lines_answered(browser, "poke acc 77")
-    comes(browser, "and a refusal in words", told, re.compile(r"^no \d+.*: [a-z]"))
+    eventually(browser, "and a refusal in words", status, re.compile(r"^no \d+.*: [a-z]"))
 
 
-# What the Tab key stops at, from the session's name on, as the panel that it is in; a text is left by Escape and then Tab.
+# The stops of the Tab key, from the session's name on, as the panel that each is in; a text is left by Escape and then Tab.
 PLACE = """
 const at = document.activeElement;
 const place = at.closest("#session-bar, #clock, #tools, #front, #texts, #dock, #side > section, #statusbar, #notice, .splitter");
@@ -48,7 +48,7 @@ ORDER = ["session-bar", "clock", "tools", "front", "front-splitter", "texts", "d
 
 
 def check_tab_key(browser):
-    """Tab goes through the panels in the order in which they stand, and is caught nowhere."""
+    """Checks that Tab goes through the panels in their order, and is caught nowhere."""
     show_text(browser, "program")
     browser.script("document.getElementById('name').focus()")
     seen = []
@@ -77,20 +77,20 @@ def value(node, key):
 
 
 def nodes_of(browser):
-    """What a screen reader is told of, each with its properties."""
+    """Yields the nodes that a screen reader gets, each with its properties."""
     nodes = browser.command("Accessibility.getFullAXTree")["nodes"]
     for node in nodes:
         if not node.get("ignored"):
-            told = {each["name"]: each["value"].get("value") for each in node.get("properties", [])}
-            yield value(node, "role"), str(value(node, "name")).strip(), told
+            properties = {each["name"]: each["value"].get("value") for each in node.get("properties", [])}
+            yield value(node, "role"), str(value(node, "name")).strip(), properties
 
 
 def check_names(browser, view):
-    """All that can be used, and each place, has a name, which is made of words."""
+    """Checks that every control, and each place, has a name made of words."""
     nodes = list(nodes_of(browser))
     without = [role for role, name, _ in nodes if role in CONTROLS and not name]
     verdict(f"{view}: all that can be used has a name", without, [])
-    without = [role for role, name, told in nodes if role in PLACES and not name and role != "group"]
+    without = [role for role, name, properties in nodes if role in PLACES and not name and role != "group"]
     verdict(f"{view}: so has each place", without, [])
     signs = [name for role, name, _ in nodes if role in CONTROLS | PLACES | {"heading"} and SIGNS.search(name)]
     verdict(f"{view}: names are words", signs, [])
@@ -127,19 +127,19 @@ def check_views(browser):
 
 def check_board(browser):
     step_with_marks(browser)
-    comes(browser, "the listing is at the counter", AT_COUNTER, True)
+    eventually(browser, "the listing is at the counter", AT_COUNTER, True)
     browser.click_at_rest("#lines-of-program button.next")
-    comes(browser, "a breakpoint is said as pressed", "return document.querySelector('#lines-of-program .next').getAttribute('aria-pressed')", "true")
+    eventually(browser, "a breakpoint is said as pressed", "return document.querySelector('#lines-of-program .next').getAttribute('aria-pressed')", "true")
     verdict("the line that comes next is said as the current one",
             browser.script("return document.querySelector('#lines-of-program [aria-current]').classList.contains('next')"), True)
     nodes = look_at(browser, "the board and the source")
     roles = [role for role, *_ in nodes]
     verdict("there is one main part, one banner and one foot", [roles.count(each) for each in ("main", "banner", "contentinfo")], [1, 1, 1])
-    levels = [told.get("level") for role, _, told in nodes if role == "heading"]
+    levels = [properties.get("level") for role, _, properties in nodes if role == "heading"]
     verdict("one heading is the page's, all others are of its parts", (levels[0], set(levels[1:])), (1, {2}))
-    folds = [told for role, name, told in nodes if role == "button" and name in ("Registers", "RAM")]
-    verdict("what folds says so", [told.get("expanded") for told in folds], [True, True])
-    verdict("tabs of texts and dock say which one is in front", [told.get("selected") for role, _, told in nodes if role == "tab"].count(True), 2)
+    folds = [properties for role, name, properties in nodes if role == "button" and name in ("Registers", "RAM")]
+    verdict("what folds says so", [properties.get("expanded") for properties in folds], [True, True])
+    verdict("tabs of texts and dock say which one is in front", [properties.get("selected") for role, _, properties in nodes if role == "tab"].count(True), 2)
     lamps = [name for role, name, _ in nodes if role == "image" and re.search(", (lit|dark)$", name)]
     verdict("each lamp says whether it is lit", len(lamps), browser.script("return document.querySelectorAll('.bulb').length"))
 
@@ -154,40 +154,41 @@ def check_other_views(browser):
     check_tests(browser)
     show_text(browser, "program")
     browser.type_into("#step-count", "x\ue007")
-    wrong = [name for role, name, told in nodes_of(browser) if told.get("invalid") == "true"]
-    verdict("a field with a wrong value says so", wrong, ["How many instructions to do"])
+    wrong = [name for role, name, properties in nodes_of(browser) if properties.get("invalid") == "true"]
+    verdict("a field with a wrong value says so", wrong, ["How many instructions to step"])
     show_text(browser, "waves")
     browser.click("#record")
-    comes(browser, "waves are there", "return document.getElementById('waves').hidden", False)
+    eventually(browser, "waves are there", "return document.getElementById('waves').hidden", False)
     browser.script(OPEN_ALL, "#scope")
     look_at(browser, "the waves")
     show_text(browser, "program")
 
 
 def check_tests(browser):
-    """Results of tests, one of which fails, with their counts beside the source."""
+    """Checks results of tests, one of which fails, with their counts beside the source."""
     show_text(browser, "tests")
     browser.script(PUT_INTO_EDITOR, "#tests-editor", "test it is dark\n  expect display 0\n  keys 5\n  expect display 6\n")
     browser.click("#tests-editor .send")
-    comes(browser, "a test fails", "return document.querySelectorAll('#test-list .not-ok').length", 1)
+    eventually(browser, "a test fails", "return document.querySelectorAll('#test-list .not-ok').length", 1)
     browser.script(OPEN_ALL, "#test-results")
     look_at(browser, "the tests")
     check_properties(browser)
     show_text(browser, "program")
     browser.script("document.querySelector('#program-editor .cm-editor').lineEditor.scrollIntoView({ line: 480, ch: 0 }, 0)")
-    comes(browser, "counts stand beside the source", "return document.querySelectorAll('.at-lacking .mark-counts').length > 0", True)
+    eventually(browser, "counts stand beside the source", "return document.querySelectorAll('.at-lacking .mark-counts').length > 0", True)
     look_at(browser, "the source with its counts")
 
 
 def check_properties(browser):
-    """Rows of properties, one of which is broken, with what was run."""
+    """Checks rows of properties, one of which is broken, with what was run."""
     show_text(browser, "properties")
     browser.script(PUT_INTO_EDITOR, "#properties-editor", "press 1\nwait 10 ms to 40 ms\nnever display 1\nreach display 8\n")
-    browser.script("document.getElementById('explore-seconds').value = '4'")
+    browser.script("document.getElementById('explore-seconds').value = '60'")
     browser.click("#explore")
-    comes(browser, "a property is broken", "return document.querySelectorAll('#property-list details').length > 0", True)
+    eventually(browser, "a property is broken", "return document.querySelectorAll('#property-list details').length > 0", True)
     look_at(browser, "properties while they are looked at")
-    comes(browser, "the search ends", "return document.getElementById('explore').textContent", "Search")
+    browser.click("#explore")
+    eventually(browser, "the search ends", "return document.getElementById('explore').textContent", "Search")
     browser.script(OPEN_ALL, "#explore-results")
     look_at(browser, "the properties")
 
@@ -198,18 +199,18 @@ def check_dialogs(browser):
     look_at(browser, "the help")
     browser.click("#help-close")
     browser.click("#sessions-button")
-    comes(browser, "the dialog of sessions is there", "return document.getElementById('sessions').open", True)
+    eventually(browser, "the dialog of sessions is there", "return document.getElementById('sessions').open", True)
     nodes = look_at(browser, "the dialog of sessions")
-    verdict("it is modal", [told.get("modal") for role, _, told in nodes if role == "dialog"], [True])
+    verdict("it is modal", [properties.get("modal") for role, _, properties in nodes if role == "dialog"], [True])
     browser.click("#close-sessions")
     browser.click("#from-rom")
-    comes(browser, "a question is asked", "return document.querySelectorAll('#ask[open]').length", 1)
+    eventually(browser, "a question is asked", "return document.querySelectorAll('#ask[open]').length", 1)
     look_at(browser, "a question")
     browser.keys([ESCAPE])
-    comes(browser, "Escape leaves it", "return document.querySelectorAll('#ask[open]').length", 0)
+    eventually(browser, "Escape leaves it", "return document.querySelectorAll('#ask[open]').length", 0)
 
 
-# The contrast of two colours, as WCAG has it; what is transparent is laid over the ground.
+# The contrast of two colours, as WCAG defines it; a transparent one is laid over the ground.
 CONTRAST = """
 const parts = (text) => (text.match(/[\\d.]+/g) || []).map(Number);
 const over = (text, ground) => {

@@ -1,11 +1,13 @@
 """A page like the one that page/build made, with scripts put in before its own: they make the browser lack something, or the module and
-the worker fail when they are told to. The policy of the page is made to allow them."""
+the worker fail when they are asked to. The policy of the page is made to allow them."""
 
 import base64
 import hashlib
 import re
 
-# The page tells of its worker, for FAULTS to be told to it.
+from page_module import with_worker_code
+
+# The page names its worker, so that FAULTS can be sent to it.
 SHOW_WORKER = """
 const made = Worker;
 window.Worker = function (...words) {
@@ -13,7 +15,7 @@ window.Worker = function (...words) {
   return window.benchWorker;
 };"""
 
-# In the worker: a fault that is told happens at the next call of the module, or at once.
+# In the worker: a fault that is sent happens at the next call of the module, or at once.
 FAULTS = """
 (() => {
   const made = WebAssembly.Instance;
@@ -41,7 +43,7 @@ FAULTS = """
       throw new RangeError("out of memory");
     }
     const { exports } = new made(...words);
-    const calls = ["page_serve_and_settle", "page_ask"].map((name) => [name, failing(exports, name)]);
+    const calls = ["bench_serve_and_settle", "bench_ask"].map((name) => [name, failing(exports, name)]);
     return { exports: { ...exports, ...Object.fromEntries(calls) } };
   };
 })();"""
@@ -54,12 +56,12 @@ def hash_of(script):
 
 
 def altered(page, folder, code="", worker="", replaced=()):
-    """`code` is put before the page's script, `worker` before the worker's; then each pair of texts is replaced."""
+    """Writes a page with `code` before its script and `worker` before the worker's, and then with each pair of texts replaced. Returns the file."""
     text = page.read_text()
     if code:
         text = text.replace("<body>", f"<body><script>{code}</script>", 1)
     if worker:
-        text = text.replace('id="worker">', f'id="worker">{worker}', 1)
+        text = with_worker_code(text, worker)
     for old, new in replaced:
         if old not in text:
             raise ValueError(f"the page has no {old}")

@@ -6,12 +6,12 @@ import re
 from driven import ELEMENT
 from page_access import look_at
 from page_in_browser import (DOWN, ENTER, ESCAPE, READY, STATUS, STEPPED, TAB, TOP, choose_example, open_anew, show_text, stop_time, until_ready)
-from verdicts import comes, verdict
+from verdicts import eventually, verdict
 from web_driver import Chromium
 
 CONTROL, SHIFT, UP = "\ue009", "\ue008", "\ue013"
 F1, F5, F8, F9, F10, F11 = "\ue031", "\ue035", "\ue038", "\ue039", "\ue03a", "\ue03b"
-# Where F5 paused is a matter of time: it may be inside of a subroutine or before a call of one.
+# F5 may pause inside of a subroutine or before a call of one: that is a matter of time.
 STEPPED_OVER = re.compile(f"{STEPPED.pattern}|^Returned to [0-9A-F]{{3}}, after ")
 STEPPED_OUT = re.compile("^Returned to |no call waits for its return here")
 OPEN = "const palette = document.getElementById('palette'); return palette !== null && palette.open"
@@ -35,7 +35,7 @@ OF_WHAT_IS_OPEN = {
 
 
 def chord(browser, *keys):
-    """Keys that go down one after the other, and up."""
+    """Presses keys that go down one after the other, and up."""
     browser.actions({"type": "key", "id": "keyboard", "actions": [
         *({"type": "keyDown", "value": each} for each in keys), *({"type": "keyUp", "value": each} for each in reversed(keys))]})
 
@@ -55,7 +55,7 @@ def do(browser, words):
 
 
 def check_reach(browser):
-    """The palette has each command of the table, and the table each button of the page."""
+    """Checks that the palette has each command of the table, and the table each button of the page."""
     choose_example(browser, "calculator")
     stop_time(browser)
     open_palette(browser)
@@ -81,10 +81,10 @@ def check_reach(browser):
 
 
 def check_listbox(browser):
-    """The pattern of ARIA: the field keeps the focus, and tells which option is chosen."""
+    """Checks the pattern of ARIA: the field keeps the focus, and names the chosen option."""
     browser.script("document.getElementById('name').focus()")
     chord(browser, CONTROL, SHIFT, "p")
-    comes(browser, "Control, Shift and P open the palette", OPEN, True)
+    eventually(browser, "Control, Shift and P open the palette", OPEN, True)
     roles = "return ['input', 'ul', 'li'].map((each) => document.querySelector(`#palette ${each}`).getAttribute('role'))"
     verdict("its roles", browser.script(roles), ["combobox", "listbox", "option"])
     named = "return ['', ' input', ' ul'].map((each) => document.querySelector(`#palette${each}`).getAttribute('aria-label'))"
@@ -96,12 +96,12 @@ def check_listbox(browser):
     last = "return document.querySelectorAll('#palette-list li').length - 1"
     verdict("and go round at the ends", browser.script(ACTIVE), browser.script(last))
     browser.type_into("#palette input", "step ov")
-    comes(browser, "words find a command, which shows its key", FIRST, "Step overTimeF10")
+    eventually(browser, "words find a command, which shows its key", FIRST, "Step overTimeF10")
     verdict("the field has the focus", browser.script("return document.activeElement.getAttribute('role')"), "combobox")
     browser.type_into("#palette input", " qqq")
-    comes(browser, "what nothing has is said", FIRST, "Nothing is called step ov qqq")
+    eventually(browser, "what nothing has is said", FIRST, "Nothing is called step ov qqq")
     browser.keys([ESCAPE])
-    comes(browser, "Escape closes it", OPEN, False)
+    eventually(browser, "Escape closes it", OPEN, False)
     verdict("and the focus is back", browser.script(FOCUS), "name")
     browser.script("document.activeElement.blur()")
 
@@ -116,60 +116,60 @@ def check_disabled(browser):
 
 
 def check_keys(browser):
-    """Each key does its command; the browser's own does not happen."""
+    """Checks that each key does its command, and that the browser's own action does not happen."""
     choose_example(browser, "three lamps")
     browser.until(STATUS, re.compile("^Running"))
     browser.script("document.activeElement.blur()")
     browser.keys([F5])
-    comes(browser, "F5 pauses", STATUS, re.compile("^Paused"))
+    eventually(browser, "F5 pauses", STATUS, re.compile("^Paused"))
     browser.keys([F11])
-    comes(browser, "F11 steps", STATUS, STEPPED)
+    eventually(browser, "F11 steps", STATUS, STEPPED)
     stepped = browser.script(STATUS)
     chord(browser, CONTROL, F11)
-    comes(browser, "Control and F11 step back", f"return document.getElementById('status').textContent !== {stepped!r}", True)
+    eventually(browser, "Control and F11 step back", f"return document.getElementById('status').textContent !== {stepped!r}", True)
     browser.keys([F10])
-    comes(browser, "F10 steps over", STATUS, STEPPED_OVER)
+    eventually(browser, "F10 steps over", STATUS, STEPPED_OVER)
     chord(browser, SHIFT, F11)
-    comes(browser, "Shift and F11 step out, or say that no call waits for its return", STATUS, STEPPED_OUT)
+    eventually(browser, "Shift and F11 step out, or say that no call waits for its return", STATUS, STEPPED_OUT)
     show_text(browser, "program")
     browser.script("document.querySelector('#program-editor .cm-editor').lineEditor.setCursor({ line: 12, ch: 0 })")
     browser.script("document.activeElement.blur()")
     browser.keys([F9])
     breakpoints = "return document.querySelectorAll('#breakpoint-list li').length"
-    comes(browser, "F9 sets a breakpoint at the caret", breakpoints, 1)
+    eventually(browser, "F9 sets a breakpoint at the caret", breakpoints, 1)
     browser.keys([F9])
-    comes(browser, "and clears it", breakpoints, 0)
+    eventually(browser, "and clears it", breakpoints, 0)
     browser.keys([F5])
-    comes(browser, "F5 continues", STATUS, re.compile("^Running"))
+    eventually(browser, "F5 continues", STATUS, re.compile("^Running"))
     browser.keys([F8])
-    comes(browser, "F8 goes on to pause", STATUS, re.compile("^Paused"))
+    eventually(browser, "F8 goes on to pause", STATUS, re.compile("^Paused"))
     browser.keys([F1])
-    comes(browser, "F1 opens the help", "return document.getElementById('help').hidden", False)
+    eventually(browser, "F1 opens the help", "return document.getElementById('help').hidden", False)
     browser.keys([ESCAPE])
 
 
 def check_places(browser):
-    """Control and P: labels, addresses, lines, texts, examples."""
+    """Checks Control and P: labels, addresses, lines, texts, examples."""
     chord(browser, CONTROL, "p")
-    comes(browser, "Control and P open the palette for places", OPEN, True)
+    eventually(browser, "Control and P open the palette for places", OPEN, True)
     verdict("its name", browser.script("return document.getElementById('palette').getAttribute('aria-label')"), "Go to")
     browser.type_into("#palette input", "wiring" + ENTER)
-    comes(browser, "a text comes to the front", FRONT, "wiring-tab")
+    eventually(browser, "a text comes to the front", FRONT, "wiring-tab")
     chord(browser, CONTROL, "p")
     browser.until(OPEN, True)
     browser.type_into("#palette input", ":3" + ENTER)
-    comes(browser, "a line of the source", FRONT, "program-tab")
+    eventually(browser, "a line of the source", FRONT, "program-tab")
     line = "return document.querySelector('#program-editor .cm-editor').lineEditor.getCursor().line"
-    comes(browser, "has the caret", line, 2)
+    eventually(browser, "has the caret", line, 2)
     browser.script("document.activeElement.blur()")
     chord(browser, CONTROL, "p")
     browser.until(OPEN, True)
     browser.type_into("#palette input", "00C" + ENTER)
-    comes(browser, "an address is shown in the listing", "return document.getElementById('lines-of-program').textContent", re.compile("00C"))
+    eventually(browser, "an address is shown in the listing", "return document.getElementById('lines-of-program').textContent", re.compile("00C"))
     chord(browser, CONTROL, "p")
     browser.until(OPEN, True)
     browser.type_into("#palette input", ">stop")
-    comes(browser, "> changes to commands", "return document.getElementById('palette').getAttribute('aria-label')", "Commands")
+    eventually(browser, "> changes to commands", "return document.getElementById('palette').getAttribute('aria-label')", "Commands")
     browser.keys([ESCAPE])
 
 
@@ -178,31 +178,31 @@ KEY_ROWS = "return [...document.querySelectorAll('#help-sections tr')].map((each
 
 
 def check_acts(browser):
-    """Commands of each kind, by the palette."""
+    """Checks commands of each kind, by the palette."""
     do(browser, "show tests")
-    comes(browser, "a text is shown", FRONT, "tests-tab")
+    eventually(browser, "a text is shown", FRONT, "tests-tab")
     size = "return document.getElementById('texts').style.getPropertyValue('--text-size')"
     before = browser.script(size)
     do(browser, "larger text")
-    comes(browser, "a button of a panel is pressed", f"{size} !== {before!r}", True)
+    eventually(browser, "a button of a panel is pressed", f"{size} !== {before!r}", True)
     do(browser, "smaller text")
     do(browser, "find in the text")
-    comes(browser, "something is done in the text in front", "return document.activeElement.closest('#tests-editor') !== null", True)
+    eventually(browser, "something is done in the text in front", "return document.activeElement.closest('#tests-editor') !== null", True)
     do(browser, "add a watch")
-    comes(browser, "a field has the caret", FOCUS, "watched-field")
+    eventually(browser, "a field has the caret", FOCUS, "watched-field")
     do(browser, "speed 1/100")
     speed = browser.script("return document.getElementById('speed').value")
     verdict("a speed is chosen", speed in ("hundredth", "thousandth"), True)
     do(browser, "speed real time")
     do(browser, "close or reopen watch")
-    comes(browser, "a panel is closed", SHOWN, False)
+    eventually(browser, "a panel is closed", SHOWN, False)
     do(browser, "close or reopen watch")
-    comes(browser, "and opened again", SHOWN, True)
+    eventually(browser, "and opened again", SHOWN, True)
     do(browser, "list of keys")
-    comes(browser, "the help lists the keys", KEY_ROWS, re.compile(r"F5, F8Continue\|F10Step over.*Ctrl\+Shift\+P, Ctrl\+KShow all commands"))
+    eventually(browser, "the help lists the keys", KEY_ROWS, re.compile(r"F5, F8Continue\|F10Step over.*Ctrl\+Shift\+P, Ctrl\+KShow all commands"))
     browser.keys([ESCAPE])
     do(browser, "open the example stopwatch")
-    comes(browser, "an example is opened", "return document.title", re.compile("^stopwatch"))
+    eventually(browser, "an example is opened", "return document.title", re.compile("^stopwatch"))
     stop_time(browser)
 
 
@@ -210,46 +210,46 @@ PAPER = "return getComputedStyle(document.body).backgroundColor"
 
 
 def check_theme(browser):
-    """A theme of one's own, also after a reload; as the system, it follows the system."""
+    """Checks a theme of the user's own, also after a reload; the default follows the system."""
     light = browser.script(PAPER)
     do(browser, "theme dark")
-    comes(browser, "the theme is dark", f"{PAPER} !== {light!r}", True)
+    eventually(browser, "the theme is dark", f"{PAPER} !== {light!r}", True)
     dark = browser.script(PAPER)
     scheme = "return getComputedStyle(document.documentElement).colorScheme"
     verdict("so are the browser's own parts", browser.script(scheme), "dark")
     browser.reload()
     until_ready(browser)
-    comes(browser, "it is kept", PAPER, dark)
+    eventually(browser, "it is kept", PAPER, dark)
     browser.command("Emulation.setEmulatedMedia", features=[{"name": "prefers-color-scheme", "value": "dark"}])
     do(browser, "theme light")
-    comes(browser, "the theme is light where the system is dark", PAPER, light)
+    eventually(browser, "the theme is light where the system is dark", PAPER, light)
     do(browser, "theme system")
-    comes(browser, "as the system", PAPER, dark)
+    eventually(browser, "as the system", PAPER, dark)
     browser.command("Emulation.setEmulatedMedia", features=[])
-    comes(browser, "it follows the system", PAPER, light)
+    eventually(browser, "it follows the system", PAPER, light)
 
 
 HOVER = {"type": "pointer", "id": "mouse", "parameters": {"pointerType": "mouse"}}
 
 
 def check_tooltips(browser):
-    """A button's words and its key: where it has the focus, where the pointer rests on it, and where a finger stays."""
+    """Checks a button's words and its key: when it has the focus, when the pointer rests on it, and when a finger stays."""
     browser.script("document.getElementById('back-instruction').focus()")
     browser.keys([TAB, TAB])
-    comes(browser, "it is shown where the focus is", TIP, "Step over: one instruction; a subroutine that it calls runs whole F10")
+    eventually(browser, "it is shown where the focus is", TIP, "Step over: one instruction; a subroutine that it calls runs whole F10")
     browser.keys([ESCAPE])
-    comes(browser, "Escape takes it away", TIP, "")
+    eventually(browser, "Escape takes it away", TIP, "")
     browser.script("document.activeElement.blur()")
     over = {"type": "pointerMove", "duration": 0, "x": 0, "y": 0, "origin": {ELEMENT: browser.find("#step")}}
     browser.actions({**HOVER, "actions": [over]})
-    comes(browser, "where the pointer rests", TIP, re.compile("^Step into.* F11$"))
+    eventually(browser, "where the pointer rests", TIP, re.compile("^Step into.* F11$"))
     browser.actions({**HOVER, "actions": [{"type": "pointerMove", "duration": 0, "x": 300, "y": 300}]})
-    comes(browser, "not once it has gone", TIP, "")
+    eventually(browser, "not once it has gone", TIP, "")
     before = browser.script(STATUS)
     browser.fingers(["#out"], 900)
-    comes(browser, "and where a finger stays", TIP, re.compile("^Step out.* Shift\\+F11$"))
+    eventually(browser, "and where a finger stays", TIP, re.compile("^Step out.* Shift\\+F11$"))
     verdict("which does nothing else", browser.script(STATUS), before)
-    comes(browser, "it leaves after the finger", TIP, "")
+    eventually(browser, "it leaves after the finger", TIP, "")
 
 
 PRIMARY = """
@@ -265,7 +265,8 @@ MENU = "return document.getElementById('menu-button').getAttribute('aria-expande
 
 
 def check_toolbar(browser):
-    """One row of 44 pixels: each button has an icon, a name and 24 pixels at least; exactly one is filled; menus by the keyboard."""
+    """Checks the toolbar: one row of 44 pixels; each button has an icon, a name and 24 pixels at least; exactly one is filled; menus by
+    the keyboard."""
     verdict("the toolbar is one row", browser.script("return document.getElementById('toolbar').offsetHeight"), 44)
     tools = browser.script(TOOLS)
     verdict("each button has an icon", [each["id"] for each in tools if each["icons"] == 0 and each["id"] != "test"], [])
@@ -274,26 +275,26 @@ def check_toolbar(browser):
     verdict("exactly one button is filled", browser.script(PRIMARY), 1)
     browser.script("document.getElementById('menu-button').focus()")
     browser.keys([ENTER])
-    comes(browser, "Enter opens the menu of files", MENU, "true")
+    eventually(browser, "Enter opens the menu of files", MENU, "true")
     verdict("at its first item", browser.script(FOCUS), "open-button")
     roles = "return [...document.querySelectorAll('#menu button')].map((each) => each.getAttribute('role')).join(' ')"
     verdict("its items' roles", set(browser.script(roles).split()), {"menuitem"})
     browser.keys([UP])
     verdict("the arrow goes round", browser.script(FOCUS), "projects-button")
     browser.keys([ESCAPE])
-    comes(browser, "Escape closes it", MENU, "false")
+    eventually(browser, "Escape closes it", MENU, "false")
     verdict("and the focus is at its button", browser.script(FOCUS), "menu-button")
     browser.script("document.activeElement.blur()")
     browser.click("#theme-button")
     checked = "return [...document.querySelectorAll('#theme-menu button')].map((each) => each.getAttribute('aria-checked'))"
-    comes(browser, "the menu of themes tells the one that is chosen", checked, ["true", "false", "false"])
+    eventually(browser, "the menu of themes shows the one that is chosen", checked, ["true", "false", "false"])
     browser.click("#front h2")
     verdict("a click beside a menu closes it", browser.script("return document.getElementById('theme-menu').hidden"), True)
     browser.click("#front h2")
 
 
 def check_looks(browser):
-    """Names, roles and contrast of the palette, of a menu and of the cards, in light and dark."""
+    """Checks names, roles and contrast of the palette, of a menu and of the cards, in light and dark."""
     browser.command("Accessibility.enable")
     open_palette(browser)
     look_at(browser, "the palette")
@@ -312,11 +313,12 @@ LIT = "return document.querySelectorAll('.bulb.lit').length"
 
 
 def check_first_visit(browser, page):
-    """Where nothing is kept yet six cards are shown, the first of which lights a lamp by three clicks in all; afterwards they are not."""
+    """Checks that without anything kept six cards are shown, and that the first one turns a lamp on by three clicks in all; afterwards
+    they are not shown."""
     browser.script("localStorage.clear()")
     browser.go("about:blank")
     browser.go(page.as_uri())
-    comes(browser, "the page is ready", READY, True, 90)
+    eventually(browser, "the page is ready", READY, True, 90)
     if browser.script("return indexedDB.databases === undefined"):
         return
     do_without_cards = "return document.getElementById('welcome').open"
@@ -327,26 +329,26 @@ def check_first_visit(browser, page):
     verdict("six cards", len(cards), 6)
     verdict("the first of them", cards[0], "Light a lamp (3 clicks)")
     browser.click("#welcome li:nth-child(1) button")
-    comes(browser, "the first program begins", "return document.getElementById('tour').hidden", False)
-    comes(browser, "the tour points at the button that inserts its program", RING, "tour-put")
+    eventually(browser, "the first program begins", "return document.getElementById('tour').hidden", False)
+    eventually(browser, "the tour points at the button that inserts its program", RING, "tour-put")
     browser.click("#tour-put")
-    comes(browser, "then at the one that assembles it", RING, "send")
+    eventually(browser, "then at the one that assembles it", RING, "send")
     browser.click("#program-editor .send")
-    comes(browser, "after three clicks a lamp is lit", LIT, 1)
-    comes(browser, "then at what goes on", RING, "tour-next")
+    eventually(browser, "after three clicks a lamp is lit", LIT, 1)
+    eventually(browser, "then at what goes on", RING, "tour-next")
     for number in range(4):
         browser.script("document.getElementById('tour-next').click()")
     browser.click("#tour-put")
-    comes(browser, "what it points at comes into view", SEEN_RAM, True)
+    eventually(browser, "what it points at comes into view", SEEN_RAM, True)
     browser.click("#tour-close")
-    comes(browser, "without the tour there is no ring", "return document.getElementById('tour-ring').hidden", True)
+    eventually(browser, "without the tour there is no ring", "return document.getElementById('tour-ring').hidden", True)
     browser.go("about:blank")
     browser.go(page.as_uri())
     until_ready(browser)
     verdict("the cards were seen", browser.script(do_without_cards), False)
 
 
-# What the ring of the tour is round.
+# The elements that the ring of the tour is round.
 RING = """
 const ring = document.getElementById('tour-ring');
 if (ring.hidden) return '';
@@ -365,20 +367,20 @@ EMPTY = "return isShown(document.querySelector('#watched-list + .empty'))"
 
 
 def check_empty(browser):
-    """An empty panel offers what fills it, until it has something."""
+    """Checks that an empty panel offers what fills it, until it has something."""
     choose_example(browser, "three lamps")
-    comes(browser, "an empty watch says what it is for", EMPTY, True)
+    eventually(browser, "an empty watch says what it is for", EMPTY, True)
     browser.click("#watched-list + .empty button")
-    comes(browser, "and its button enters the field", FOCUS, "watched-field")
+    eventually(browser, "and its button enters the field", FOCUS, "watched-field")
     browser.type_into("#watched-field", "R5" + ENTER)
-    comes(browser, "which fills it", EMPTY, False)
+    eventually(browser, "which fills it", EMPTY, False)
     words = "return [...document.querySelectorAll('.empty')].filter((each) => each.querySelectorAll('button').length !== 1).length"
     verdict("each empty panel offers one action", browser.script(words), 0)
 
 
 def check_examples(browser):
     browser.click("#sessions-button")
-    comes(browser, "each example says what to do with it", TO_DO, 0)
+    eventually(browser, "each example says what to do with it", TO_DO, 0)
     first = "return document.querySelector('#examples li:nth-child(2) button').getAttribute('aria-label')"
     verdict("the short ones stand first", browser.script(first), "new session: three lamps")
     browser.click("#close-sessions")

@@ -9,7 +9,7 @@ import time
 from page_in_browser import ENTER, ESCAPE, NOTICE, TAB, STATUS, WHOLE_STATUS, choose_example, lines_answered, until_ready
 from page_names import CLICK_MARGIN, MARGIN
 from page_texts import UNDO
-from verdicts import comes, verdict
+from verdicts import eventually, verdict
 
 PROGRAM = """        LDM 3
         WRR
@@ -32,7 +32,7 @@ JUN, WMP, INC = (LINES.index(next(line for line in LINES if text in line)) + 1 f
 
 SHOW_PROGRAM = """
 document.querySelector("#program-editor .cm-editor").lineEditor.setValue(arguments[0])"""
-# A line put in before another one, as by a keyboard.
+# A line inserted before another one, as by a keyboard.
 INSERT = """
 const editor = document.querySelector("#program-editor .cm-editor").lineEditor;
 editor.replaceRange(`        ${arguments[1]}\\n`, { line: arguments[0] - 1, ch: 0 }, undefined, "paste")"""
@@ -47,8 +47,8 @@ WORDS = 'return [...document.querySelectorAll("#breakpoint-list .words")].map((e
 LINES_IN_MARGIN = """
 return document.querySelector("#program-editor .cm-editor").lineEditor.marksIn("breakpoints").map((line) => line + 1).join(" ")"""
 UNDO_EDIT = "document.querySelector('#program-editor .cm-editor').lineEditor.undo()"
-# The row of a breakpoint's words below its line: what it says of an error, and what stands in it.
-ROW_TOLD = "const told = document.querySelector('.breakpoint-row .fault'); return told ? told.textContent : 'no row'"
+# The row of a breakpoint's words below its line: its error, and its text.
+ROW_FAULT = "const shown = document.querySelector('.breakpoint-row .fault'); return shown ? shown.textContent : 'no row'"
 ROW_VALUES = "return [...document.querySelectorAll('.breakpoint-row input')].map((each) => each.value).join('; ')"
 # A field of the first breakpoint of the list, by its row: its condition, the hit it stops from, its note.
 FILL = """
@@ -83,12 +83,12 @@ const { x, y } = number.getBoundingClientRect();
 number.dispatchEvent(new MouseEvent("contextmenu", { bubbles: true, cancelable: true, clientX: x + 4, clientY: y + 4 }))"""
 BACKSPACE, UP, DOWN, SHIFT, F9, F10 = "\ue003", "\ue013", "\ue015", "\ue008", "\ue039", "\ue03a"
 RUN_WORD = "return document.getElementById('run').textContent"
-TOLD_AT = "return document.querySelector('.told-at').textContent"
+POPUP = "return document.querySelector('.popup-message').textContent"
 SEND = "#program-editor .send"
 
 
 def begin(browser):
-    """The program on the first board; time stands still."""
+    """Starts the program on the first board, paused."""
     choose_example(browser, "empty bench")
     browser.click("#first-board")
     browser.until("return document.querySelectorAll('#keys button').length", 2)
@@ -100,154 +100,156 @@ def begin(browser):
 
 
 def check_holds(browser):
-    """A breakpoint stays at its line, with a byte before it, and with two; it stops there at once after each assembly."""
+    """Checks that a breakpoint stays at its line, with a byte before it, and with two; it stops there at once after each assembly."""
     browser.script(CLICK_MARGIN, JUN)
-    comes(browser, "a breakpoint in the margin", MARGIN, str(JUN))
+    eventually(browser, "a breakpoint in the margin", MARGIN, str(JUN))
     browser.script(INSERT, 2, "NOP")
-    comes(browser, "it moves with its line", MARGIN, str(JUN + 1))
+    eventually(browser, "it moves with its line", MARGIN, str(JUN + 1))
     browser.click(SEND)
-    comes(browser, "assembled anew it stops there, told by name and line", WHOLE_STATUS,
-          f"Paused at 010 (loop + 7, line {JUN + 1}), at a breakpoint.")
+    eventually(browser, "assembled anew it stops there, reported by name and line", WHOLE_STATUS,
+               f"Paused at 010 (loop + 7, line {JUN + 1}), at a breakpoint.")
     verdict("and is no other one", lines_answered(browser, "breaks"), re.compile("breaks 010$"))
     browser.script(CLICK_MARGIN, WMP + 1)
     browser.script(CLICK_MARGIN, JUN + 1)
-    comes(browser, "another one in its place", MARGIN, str(WMP + 1))
+    eventually(browser, "another one in its place", MARGIN, str(WMP + 1))
     browser.script(INSERT, 3, "FIM P2, 0")
     browser.click(SEND)
-    comes(browser, "two bytes more before it: it stays at WMP", WHOLE_STATUS, f"Paused at 00F (loop + 4, line {WMP + 2}), at a breakpoint.")
+    eventually(browser, "two bytes more before it: it stays at WMP", WHOLE_STATUS, f"Paused at 00F (loop + 4, line {WMP + 2}), at a breakpoint.")
     verdict("the list has it by name and line", browser.script(LISTED), f"\u25cf 00F (loop + 4, line {WMP + 2})")
     browser.script(INSERT, 1, "")
-    comes(browser, "while the source differs from ROM its mark stays", MARGIN, str(WMP + 3))
+    eventually(browser, "while the source differs from ROM its mark stays", MARGIN, str(WMP + 3))
     browser.script(UNDO_EDIT)
-    comes(browser, "undone it is where it was", MARGIN, str(WMP + 2))
+    eventually(browser, "undone it is where it was", MARGIN, str(WMP + 2))
 
 
 def check_no_instruction(browser):
-    """At a line without bytes, and inside an instruction, it goes to the next instruction and says so."""
+    """Checks that a breakpoint at a line without bytes, or inside an instruction, moves to the next instruction and says so."""
     begin(browser)
     browser.script(INSERT, JUN, "; what comes next")
     browser.click(SEND)
     browser.until(STATUS, re.compile("^Running"))
     browser.script(CLICK_MARGIN, JUN)
-    comes(browser, "a line without bytes", TOLD_AT,
-          f"Line {JUN} puts no bytes into ROM: its breakpoint is at the next instruction, line {JUN + 1}.")
-    comes(browser, "it is at the next instruction", MARGIN, str(JUN + 1))
-    comes(browser, "which stops the time that runs", STATUS, "Paused at 00F, at a breakpoint.")
+    eventually(browser, "a line without bytes", POPUP,
+               f"Line {JUN} puts no bytes into ROM: its breakpoint is at the next instruction, line {JUN + 1}.")
+    eventually(browser, "it is at the next instruction", MARGIN, str(JUN + 1))
+    eventually(browser, "which stops the time that runs", STATUS, "Paused at 00F, at a breakpoint.")
     browser.click("#breakpoint-list .bar button[title='removes it']")
-    comes(browser, "it is taken away in the list", MARGIN, "")
+    eventually(browser, "it is taken away in the list", MARGIN, "")
     lines_answered(browser, "break 0x010")
-    comes(browser, "one inside an instruction goes to the next one", MARGIN, str(JUN + 2))
-    verdict("and says so", browser.script(TOLD_AT),
+    eventually(browser, "one inside an instruction goes to the next one", MARGIN, str(JUN + 2))
+    verdict("and says so", browser.script(POPUP),
             f"010 is inside the instruction of line {JUN + 1}: its breakpoint is at the next one, line {JUN + 2}.")
-    comes(browser, "in the bench, too", "return [...document.querySelectorAll('#breakpoint-list .place')].map((each) => each.textContent).join()",
-          f"011 (wait, line {JUN + 2})")
+    eventually(browser, "in the bench, too", "return [...document.querySelectorAll('#breakpoint-list .place')].map((each) => each.textContent).join()",
+               f"011 (wait, line {JUN + 2})")
 
 
 def check_condition(browser):
-    """A condition, a count of hits, a note; what cannot be read; one that is switched off."""
+    """Checks a condition, a count of hits, a note, one that cannot be read, and one that is disabled."""
     begin(browser)
     browser.script(ASK_FOR_WORDS, INC - 1)
-    comes(browser, "Shift and F9 sets one, and the caret is in its condition, below the line", ASKED, ROW_LINE)
+    eventually(browser, "Shift and F9 sets one, and the caret is in its condition, below the line", ASKED, ROW_LINE)
     verdict("at its line", browser.script(MARGIN), str(INC))
     browser.keys([*"r9 = 9", ENTER])
-    comes(browser, "one with a condition has a mark of its own", LISTED, re.compile("^\u25c6 "))
+    eventually(browser, "one with a condition has a mark of its own", LISTED, re.compile("^\u25c6 "))
     browser.click("#run")
-    comes(browser, "it stops where its condition holds", STATUS, "Paused at 011, at a breakpoint, where r9 = 9.")
+    eventually(browser, "it stops where its condition holds", STATUS, "Paused at 011, at a breakpoint, when r9 = 9.")
     verdict("as the bench says", lines_answered(browser, "regs"), re.compile(" r .{9}9.{6} "))
     check_back(browser)
     verdict("it is none of the session's file", lines_answered(browser, "breaks"), re.compile("breaks -$"))
     check_typed(browser)
     browser.script(FILL, CONDITION, "r44 = 9")
-    comes(browser, "a condition that cannot be read says why, in its place", FAULTS,
-          "It stops at each arrival, because of an error: r44: no such place; the registers are r0 to r15 (column 1).")
+    eventually(browser, "a condition that cannot be read says why, in its place", FAULTS,
+               "It stops at each arrival, because of an error: r44: no such place; the registers are r0 to r15 (column 1).")
     browser.click("#run")
-    comes(browser, "and stops at each arrival", STATUS,
-          "Paused at 011, at a breakpoint that has an error, r44: no such place; the registers are r0 to r15 (column 1).")
+    eventually(browser, "and stops at each arrival", STATUS,
+               "Paused at 011, at a breakpoint that has an error, r44: no such place; the registers are r0 to r15 (column 1).")
     browser.script(FILL, CONDITION, "R9 == 3 || (r9 >= 0xF && lamp 1 on)")
-    comes(browser, "once it is mended it is as any other", FAULTS, "")
+    eventually(browser, "once it is mended it is as any other", FAULTS, "")
     browser.script(FILL, CONDITION, "rom3 in 1")
-    comes(browser, "one that names what the board lacks", FAULTS,
-          "It stops at each arrival, because of an error: the board has no ROM 3 (column 1).")
+    eventually(browser, "one that names what the board lacks", FAULTS,
+               "It stops at each arrival, because of an error: the board has no ROM 3 (column 1).")
     browser.script(CHANGE_AND_RUN, "r9 = 7", "", "r9 = 5")
-    comes(browser, "a run right after a change goes by the new condition", STATUS, "Paused at 011, at a breakpoint, where r9 = 5.")
+    eventually(browser, "a run right after a change goes by the new condition", STATUS, "Paused at 011, at a breakpoint, when r9 = 5.")
     browser.script(FILL, CONDITION, "")
-    comes(browser, "none: it is a plain one again", LISTED, re.compile("^\u25cf "))
+    eventually(browser, "none: it is a plain one again", LISTED, re.compile("^\u25cf "))
     browser.click("#breakpoints-hits")
     browser.script(FILL, FROM, "50")
     browser.click("#reset")
     browser.until(STATUS, re.compile("^The board was reset"))
     browser.click("#run")
-    comes(browser, "from the fiftieth hit on", HITS, "50 hits")
-    comes(browser, "it stops", STATUS, "Paused at 011, at a breakpoint, at hit 50.")
+    eventually(browser, "from the fiftieth hit on", HITS, "50 hits")
+    eventually(browser, "it stops", STATUS, "Paused at 011, at a breakpoint, at hit 50.")
     verdict("R9 was counted on 49 times", lines_answered(browser, "regs"), re.compile(" r .{9}1.{6} "))
     browser.script(FILL, FROM, "")
     browser.script(FILL, NOTE, "R9 is {r9}, {lamps}")
-    comes(browser, "one with a note has a mark of its own", LISTED, re.compile("^\u25b8 "))
+    eventually(browser, "one with a note has a mark of its own", LISTED, re.compile("^\u25b8 "))
     browser.click("#reset")
     browser.until(STATUS, re.compile("^The board was reset"))
     browser.click("#run")
-    comes(browser, "the note is logged in place of a stop", NOTES, re.compile(r"^011 \(wait, line \d+\) R9 is [0-9A-F], [*.]{4}; "))
+    eventually(browser, "the note is logged in place of a stop", NOTES, re.compile(r"^011 \(wait, line \d+\) R9 is [0-9A-F], [*.]{4}; "))
     verdict("time runs", browser.script(RUN_WORD), "Pause")
     browser.click("#breakpoints-off")
-    comes(browser, "switched off it is kept", LISTED, re.compile("^\u25cb "))
+    eventually(browser, "switched off it is kept", LISTED, re.compile("^\u25cb "))
     browser.click("#run")
     browser.until(RUN_WORD, "Continue")
 
 
 def check_typed(browser):
-    """A run that is typed ends at it, too, and says so."""
+    """Checks that a run that is typed ends at it too, and says so."""
     browser.script(FILL, CONDITION, "r9 = 9")
     lines_answered(browser, "reset")
     verdict("a line's run ends where the condition holds", lines_answered(browser, "run 100000"), re.compile(r"run (\d+)ok \d+ ran \1 end$"))
-    comes(browser, "and the status says so", WHOLE_STATUS,
-          "Paused at 011 (wait, line 14), at a breakpoint, where r9 = 9. The line run 100000 ended there.")
+    eventually(browser, "and the status says so", WHOLE_STATUS,
+               "Paused at 011 (wait, line 14), at a breakpoint, when r9 = 9. The line run 100000 ended there.")
     verdict("the bench stands there", lines_answered(browser, "regs"), re.compile(" r .{9}9.{6} "))
 
 
 def check_back(browser):
-    """Back to the last arrival where a condition holds, however time went on; and to the beginning, where there is none."""
+    """Checks that back leads to the last arrival at which a condition holds, however time continued; and to the beginning, if there is
+    none."""
     # To the next arrival, and on: R9 is counted 16 times on, by 11 cycles.
     for cycles in (150, 26, 77):
         lines_answered(browser, f"run {cycles}")
     browser.click("#back-breakpoint")
-    comes(browser, "back to the arrival where its condition holds", STATUS,
-          re.compile(r"^Back at 011, 77 cycles, .* before, at a breakpoint, where r9 = 9\.$"))
+    eventually(browser, "back to the arrival where its condition holds", STATUS,
+               re.compile(r"^Back at 011, 77 cycles, .* earlier, at a breakpoint, when r9 = 9\.$"))
     verdict("R9 is what it was", lines_answered(browser, "regs"), re.compile(" r .{9}9.{6} "))
     browser.click("#forward")
     browser.until(STATUS, re.compile("^Forward again"))
     browser.click("#back-breakpoint")
-    browser.until(STATUS, re.compile("at a breakpoint, where r9 = 9"))
+    browser.until(STATUS, re.compile("at a breakpoint, when r9 = 9"))
     browser.click("#back-breakpoint")
-    comes(browser, "and to the one before it", STATUS, re.compile("^Back at 011, 176 cycles, "))
+    eventually(browser, "and to the one before it", STATUS, re.compile("^Back at 011, 176 cycles, "))
     browser.script(FILL, CONDITION, "r9 = 9 and r9 = 8")
     browser.click("#back-breakpoint")
-    comes(browser, "there is none where it never holds", STATUS,
-          re.compile("^Back at ..., .* where what is remembered begins: no breakpoint was passed since"))
+    eventually(browser, "there is none where it never holds", STATUS,
+               re.compile("^Back at ..., .* at the beginning of what is remembered: no breakpoint was passed since"))
     browser.click("#forward")
-    comes(browser, "and forward again", STATUS, re.compile("^Forward again to 011"))
+    eventually(browser, "and forward again", STATUS, re.compile("^Forward again to 011"))
 
 
 def check_kept(browser):
-    """A reload keeps them all, with their words."""
+    """Checks that a reload keeps them all, with their words."""
     listed = browser.script(LISTED)
     browser.script(FILL, CONDITION, "at wait")
     time.sleep(0.3)
     browser.reload()
     until_ready(browser)
-    comes(browser, "a reload keeps the list", LISTED, listed)
-    verdict("and their words", browser.script(WORDS), 'where at wait: logs "R9 is {r9}, {lamps}" and continues')
+    eventually(browser, "a reload keeps the list", LISTED, listed)
+    verdict("and their words", browser.script(WORDS), 'if at wait: logs "R9 is {r9}, {lamps}" and continues')
     browser.click("#breakpoint-list .edit")
     browser.keys([*"r9 ="])
     browser.until(ROW_VALUES, "r9 =; ; R9 is {r9}, {lamps}")
     browser.reload()
     until_ready(browser)
-    comes(browser, "and a condition that is typed and not entered", WORDS, re.compile('^where r9 =: logs "R9 is'))
+    eventually(browser, "and a condition that is typed and not entered", WORDS, re.compile('^if r9 =: logs "R9 is'))
     browser.click("#breakpoints-remove")
-    comes(browser, "all are taken away", MARGIN, "")
+    eventually(browser, "all are taken away", MARGIN, "")
 
 
 def check_replaced(browser, folder):
-    """A source that is replaced has its breakpoints and their words again once it is back, by the notice and by Control and Z."""
+    """Checks that a source that is replaced has its breakpoints and their words again once it is back, by the notice and by Control and
+    Z."""
     begin(browser)
     browser.script(ASK_FOR_WORDS, INC - 1)
     browser.until(ASKED, ROW_LINE)
@@ -262,10 +264,10 @@ def check_replaced(browser, folder):
         for what, undo in (("Undo", lambda: browser.click(UNDO)), ("Control and Z", lambda: browser.script(UNDO_EDIT))):
             browser.type_into("#file", str(other))
             browser.until(NOTICE, re.compile(f"{length}.asm"))
-            comes(browser, f"a {length} source has none of the breakpoints of the one before it", LINES_IN_MARGIN, "")
+            eventually(browser, f"a {length} source has none of the breakpoints of the one before it", LINES_IN_MARGIN, "")
             undo()
-            comes(browser, f"{what} brings back the lines of the breakpoints", LINES_IN_MARGIN, both)
-            comes(browser, "and the list", LISTED, listed[0])
+            eventually(browser, f"{what} brings back the lines of the breakpoints", LINES_IN_MARGIN, both)
+            eventually(browser, "and the list", LISTED, listed[0])
             verdict("with its words", browser.script(WORDS), listed[1])
     browser.script("for (const each of document.querySelectorAll('#notice .dismiss')) each.click()")
     browser.script(CLICK_MARGIN, WMP)
@@ -273,80 +275,81 @@ def check_replaced(browser, folder):
     browser.click("#reset")
     browser.until(STATUS, re.compile("^The board was reset"))
     browser.click("#run")
-    comes(browser, "it stops where its condition holds", STATUS, "Paused at 011, at a breakpoint, where r9 = 9.")
+    eventually(browser, "it stops where its condition holds", STATUS, "Paused at 011, at a breakpoint, when r9 = 9.")
     time.sleep(1)
     browser.reload()
     until_ready(browser)
-    comes(browser, "a reload keeps it", WORDS, "where r9 = 9")
+    eventually(browser, "a reload keeps it", WORDS, "if r9 = 9")
 
 
 def check_row(browser):
-    """The words of a breakpoint are edited below its line: Enter applies them, Escape leaves them, an error stays with its words."""
+    """Checks that the words of a breakpoint are edited below its line: Enter applies them, Escape leaves them, an error stays with its
+    words."""
     begin(browser)
     browser.script(ASK_FOR_WORDS, INC - 1)
     browser.until(ASKED, ROW_LINE)
     browser.keys([*"r44 = 9", ENTER])
-    comes(browser, "an error is said in the row, in the words of conditions", ROW_TOLD,
-          "It stops at each arrival, because of an error: r44: no such place; the registers are r0 to r15 (column 1).")
+    eventually(browser, "an error is said in the row, in the words of conditions", ROW_FAULT,
+               "It stops at each arrival, because of an error: r44: no such place; the registers are r0 to r15 (column 1).")
     verdict("where the caret stays", browser.script(ASKED), ROW_LINE)
     browser.keys([*[BACKSPACE] * 7, *"r9 = 9", TAB, *"0", ENTER])
-    comes(browser, "a count that is none is marked", "return document.activeElement.getAttribute('aria-invalid')", "true")
-    verdict("and nothing is applied", browser.script(WORDS), "where r44 = 9")
+    eventually(browser, "a count that is none is marked", "return document.activeElement.getAttribute('aria-invalid')", "true")
+    verdict("and nothing is applied", browser.script(WORDS), "if r44 = 9")
     browser.keys([BACKSPACE, "2", ENTER])
-    comes(browser, "Enter applies all that is typed", WORDS, "where r9 = 9 from hit 2 on")
+    eventually(browser, "Enter applies all that is typed", WORDS, "if r9 = 9 from hit 2 on")
     verdict("the row goes", browser.script(ROW_VALUES), "")
     verdict("the keyboard is the text's again", browser.script(IN_SOURCE), True)
     browser.chord(SHIFT, F9)
     browser.until(ROW_VALUES, "r9 = 9; 2; ")
     browser.keys([*"at loop", TAB, TAB, *"seen"])
-    verdict("a field that is left counts for itself not yet", browser.script(WORDS), "where r9 = 9 from hit 2 on")
+    verdict("a field that is left counts for itself not yet", browser.script(WORDS), "if r9 = 9 from hit 2 on")
     browser.keys([F10, F10])
-    comes(browser, "steps leave the caret where it is", ROW_VALUES, "at loop; 2; seen")
+    eventually(browser, "steps leave the caret where it is", ROW_VALUES, "at loop; 2; seen")
     verdict("in the row", browser.script(ASKED), ROW_LINE)
     browser.keys([ESCAPE])
-    comes(browser, "Escape leaves it", ROW_VALUES, "")
-    verdict("with the words that it had", browser.script(WORDS), "where r9 = 9 from hit 2 on")
+    eventually(browser, "Escape leaves it", ROW_VALUES, "")
+    verdict("with the words that it had", browser.script(WORDS), "if r9 = 9 from hit 2 on")
     browser.script(ASK_FOR_WORDS, INC - 1)
     browser.until(ASKED, ROW_LINE)
     browser.keys([*"at wait"])
     browser.click("#step")
-    comes(browser, "what is typed counts where the row is left otherwise", WORDS, "where at wait from hit 2 on")
+    eventually(browser, "what is typed counts where the row is left otherwise", WORDS, "if at wait from hit 2 on")
     browser.script("document.querySelector('#program-editor .cm-editor').lineEditor.replaceRange('\\n NOP', { line: arguments[0], ch: Infinity })", INC - 1)
-    comes(browser, "a line that begins at its end goes below the row", ROW_AFTER, ROW_LINE)
+    eventually(browser, "a line that begins at its end goes below the row", ROW_AFTER, ROW_LINE)
     browser.script(INSERT, 1, "NOP")
-    comes(browser, "and it goes with its line", ROW_AFTER, ROW_LINE)
+    eventually(browser, "and it goes with its line", ROW_AFTER, ROW_LINE)
     browser.script("document.querySelector('#program-editor .cm-editor').lineEditor.replaceRange('', { line: arguments[0], ch: 0 }, { line: arguments[0] + 1, ch: 0 })", INC)
-    comes(browser, "with its line it goes for good", ROW_AFTER, "")
+    eventually(browser, "with its line it goes for good", ROW_AFTER, "")
 
 
 def check_menu(browser):
-    """The menu of a line's margin; a breakpoint that has no line is edited in the list."""
+    """Checks the menu of a line's margin; a breakpoint that has no line is edited in the list."""
     begin(browser)
     browser.script(MARGIN_MENU, INC)
-    comes(browser, "the menu of the margin has the keyboard", FOCUSED, "Add breakpointF9")
+    eventually(browser, "the menu of the margin has the keyboard", FOCUSED, "Add breakpointF9")
     browser.keys([DOWN, DOWN, DOWN, ENTER])
-    comes(browser, "Log message sets a breakpoint and edits it", ASKED, ROW_LINE)
+    eventually(browser, "Log message sets a breakpoint and edits it", ASKED, ROW_LINE)
     browser.keys([*"R9 is {r9}", ENTER])
-    comes(browser, "it logs", WORDS, 'logs "R9 is {r9}" and continues')
+    eventually(browser, "it logs", WORDS, 'logs "R9 is {r9}" and continues')
     browser.script(MARGIN_MENU, INC)
     browser.until(FOCUSED, "Remove breakpointF9")
     browser.keys([UP, UP, ENTER])
-    comes(browser, "Disable breakpoint keeps it", LISTED, re.compile("^\u25cb "))
+    eventually(browser, "Disable breakpoint keeps it", LISTED, re.compile("^\u25cb "))
     verdict("the menu is closed", browser.script("return document.getElementById('margin-menu').hidden"), True)
     browser.script(MARGIN_MENU, INC)
     browser.until(FOCUSED, "Remove breakpointF9")
     browser.keys([ESCAPE])
-    comes(browser, "Escape leaves the menu, and the keyboard is the text's", IN_SOURCE, True)
+    eventually(browser, "Escape leaves the menu, and the keyboard is the text's", IN_SOURCE, True)
     browser.click("#breakpoints-remove")
     lines_answered(browser, "break 0x200")
     browser.until(LISTED, re.compile("200"))
     browser.click("#breakpoint-list .edit")
-    comes(browser, "one without a line is edited in the list", "return document.activeElement.closest('#breakpoint-list .breakpoint-row') !== null", True)
+    eventually(browser, "one without a line is edited in the list", "return document.activeElement.closest('#breakpoint-list .breakpoint-row') !== null", True)
     browser.keys([*"r9 = 1", ENTER])
-    comes(browser, "and applied", WORDS, "where r9 = 1")
-    comes(browser, "the keyboard is at its button", FOCUSED, "Edit")
+    eventually(browser, "and applied", WORDS, "if r9 = 1")
+    eventually(browser, "the keyboard is at its button", FOCUSED, "Edit")
     choose_example(browser, "three lamps")
-    comes(browser, "another session has no row", ROW_VALUES, "")
+    eventually(browser, "another session has no row", ROW_VALUES, "")
 
 
 def check(browser, page, folder, *_):

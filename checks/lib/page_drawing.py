@@ -5,16 +5,16 @@ import re
 import time
 
 from page_in_browser import ENTER, ESCAPE, NOTICE, PUT_INTO_EDITOR, STATUS, TAB, TEXT_OF_EDITOR, choose_example, focused, show_text, until_ready
-from verdicts import comes, verdict
+from verdicts import eventually, verdict
 
 CONTROL, SHIFT, DELETE, LEFT, UP, RIGHT, DOWN = "\ue009", "\ue008", "\ue017", "\ue012", "\ue013", "\ue014", "\ue015"
 BOARD = "#board-editor"
-SAID = "return document.getElementById('drawing-told').textContent"
+SAID = "return document.getElementById('drawing-status').textContent"
 STATE = "return document.getElementById('drawing-state').textContent"
 BULBS = "return [...document.querySelectorAll('#front .bulb')].map((bulb) => (bulb.classList.contains('lit') ? '*' : '.')).join('')"
 KEYS = "return document.querySelectorAll('#keys .key').length"
 HIGH = "return document.querySelectorAll('#wiring-picture .high').length"
-# What is written on the button for the sound of a buzzer, where there is one.
+# The label of the button for the sound of a buzzer, if there is one.
 SOUND = "return document.getElementById('sound').hidden ? '' : document.getElementById('sound-button').textContent"
 FOCUS = "return document.activeElement.getAttribute('aria-label')"
 TITLE = "return document.querySelector('#chosen > b').textContent"
@@ -27,7 +27,7 @@ PLACE_OF_KEYS = """
 const box = document.querySelector("#wiring-picture .of-keys rect");
 return [box.getAttribute("x"), box.getAttribute("y")].map(Number)"""
 MIDDLE = "const box = document.querySelector(arguments[0]).getBoundingClientRect(); return [box.x + box.width / 2, box.y + box.height / 2]"
-# What is drawn in the picture, beside what is written in the text.
+# The drawn picture, beside the written text.
 LINES = "return [...document.querySelectorAll('#wiring-words li')].map((each) => each.textContent).join(' ')"
 # It shows on the lamps which keys are down.
 PROGRAM = """        FIM P0, 0x00    ; ROM 0 and RAM chip 0
@@ -79,7 +79,7 @@ line = "ram0.0.3"
 
 
 def pin(label):
-    """The pin of the picture whose label begins so."""
+    """Returns the pin of the picture whose label begins so."""
     return f"#wiring-picture .at-pin[aria-label^='{label}']"
 
 
@@ -88,7 +88,7 @@ def text_of(browser):
 
 
 def drag(browser, one, other, kind="mouse"):
-    """From the middle of one element to that of another, or by so many pixels."""
+    """Drags from the middle of one element to that of another, or by a number of pixels."""
     browser.show("#wiring-picture")
     time.sleep(browser.settles)
     begin = browser.script(MIDDLE, one)
@@ -100,189 +100,190 @@ def drag(browser, one, other, kind="mouse"):
 
 
 def press(browser, selector):
-    """A click at the middle of an element; a driver's own would ask for the one that lies above all others there."""
+    """Clicks at the middle of an element; a driver's own click would ask for the topmost element there."""
     drag(browser, selector, (0, 0))
 
 
 def check_by_mouse(browser):
-    """From nothing to a program that runs, without a word of TOML."""
+    """Checks the way from nothing to a program that runs, without a word of TOML."""
     choose_example(browser, "empty bench")
     browser.click("#first-drawing")
-    comes(browser, "an empty bench leads to the shelf", "return isShown(document.getElementById('shelf'))", True)
-    comes(browser, "and all of it is offered", DISABLED, [])
+    eventually(browser, "an empty bench leads to the shelf", "return isShown(document.getElementById('shelf'))", True)
+    eventually(browser, "and all of it is offered", DISABLED, [])
     browser.click("#shelf-keys")
-    comes(browser, "keys come with what they need", SAID, "The keys were added, with ROM 0, chain 0 and ROM 1.")
+    eventually(browser, "keys come with what they need", SAID, "The keys were added, with ROM 0, chain 0 and ROM 1.")
     for lamp in range(4):
         browser.click("#shelf-lamp")
-        comes(browser, f"lamp {lamp} comes", SAID, re.compile(f"^Lamp {lamp} was added"))
+        eventually(browser, f"lamp {lamp} comes", SAID, re.compile(f"^Lamp {lamp} was added"))
     verdict("the text is as one writes it", text_of(browser), DRAWN)
     verdict("a second matrix is not offered, and says why", browser.script(DISABLED),
             ["Keys: A board has one key matrix: give it more rows and columns."])
     verdict("it is not wired yet, and says so", browser.script(STATE), re.compile("^Not applied yet"))
     browser.type_into("#chosen [aria-label=name]", "fourth one" + ENTER)
-    comes(browser, "a lamp is named", SAID, "Lamp 3 is called fourth one.")
+    eventually(browser, "a lamp is named", SAID, "Lamp 3 is called fourth one.")
     browser.type_into("#chosen [aria-label=colour]", "green")
-    comes(browser, "and coloured", SAID, "Lamp 3 is green.")
+    eventually(browser, "and coloured", SAID, "Lamp 3 is green.")
     verdict("as the face has it", text_of(browser).split("\n")[:3], ["# lamp 3: fourth_one", "# colour 3: green", ""])
     browser.click("#drawing-wire")
-    comes(browser, "it is wired", SAID, "Board applied.")
-    comes(browser, "four keys", KEYS, 4)
-    comes(browser, "and four lamps", BULBS, "....")
+    eventually(browser, "it is wired", SAID, "Board applied.")
+    eventually(browser, "four keys", KEYS, 4)
+    eventually(browser, "and four lamps", BULBS, "....")
     verdict("which is said no more", browser.script(STATE), "")
     show_text(browser, "program")
     browser.script(PUT_INTO_EDITOR, "#program-editor", PROGRAM)
     browser.click("#program-editor .send")
-    comes(browser, "the program runs", STATUS, re.compile("^Running"))
+    eventually(browser, "the program runs", STATUS, re.compile("^Running"))
     time.sleep(0.3)
     browser.script("window.seen = new Set(); new MutationObserver(() => window.seen.add([...document.querySelectorAll('#front .bulb')]"
                    ".map((bulb) => (bulb.classList.contains('lit') ? '*' : '.')).join(''))).observe(document.getElementById('lamps'),"
                    " { subtree: true, attributes: true })")
     browser.keys(["3"], 400)
-    comes(browser, "a key lights its lamp", "return [...window.seen].join(' ')", re.compile(r"\.\.\*\."))
+    eventually(browser, "a key lights its lamp", "return [...window.seen].join(' ')", re.compile(r"\.\.\*\."))
 
 
 def check_wires(browser):
-    """Wires by dragging and by clicks, and what cannot be."""
+    """Checks wires by dragging and by clicks, and those that are impossible."""
     choose_example(browser, "lock")
     show_text(browser, "wiring")
     before = text_of(browser)
-    comes(browser, "lines at 1 are coloured", "return document.querySelectorAll('#wiring-picture .high').length > 0", True)
+    eventually(browser, "lines at 1 are coloured", "return document.querySelectorAll('#wiring-picture .high').length > 0", True)
     drag(browser, f"{pin('ROM 0 · 4001, out 2')} circle", f"{pin('Lamps · 3, open')} circle")
-    comes(browser, "a wire is dragged from pin to pin", SAID, "Line rom0.2 is wired to lamp 1.")
+    eventually(browser, "a wire is dragged from pin to pin", SAID, "Line rom0.2 is wired to lamp 1.")
     verdict("it is one word of the text", text_of(browser), before.replace('"ram0.0.1"', '"rom0.2"'))
-    comes(browser, "the picture has it", LINES, re.compile("open is at rom0.2"))
+    eventually(browser, "the picture has it", LINES, re.compile("open is at rom0.2"))
     verdict("levels of a board that is not wired are not shown", browser.script(HIGH) <= 1, True)
     drag(browser, f"{pin('ROM 1 · 4001, in 0')} circle", f"{pin('Chain 0 · 1 × 4003, clock')} circle")
-    comes(browser, "one from an input to a clock is none", SAID, "No wire was drawn.")
+    eventually(browser, "one from an input to a clock is none", SAID, "No wire was drawn.")
     press(browser, f"{pin('ROM 1 · 4001, in 0')} circle")
-    comes(browser, "nor is it offered", OFFERED, ["Keys · 4 × 3, column 1, at rom1.1", "Keys · 4 × 3, column 2, at rom1.2"])
+    eventually(browser, "nor is it offered", OFFERED, ["Keys · 4 × 3, column 1, at rom1.1", "Keys · 4 × 3, column 2, at rom1.2"])
     press(browser, f"{pin('Keys · 4 × 3, column 2')} circle")
-    comes(browser, "a wire by one click after the other", SAID, "Line rom1.0 is wired to column 2 of the keys.")
+    eventually(browser, "a wire by one click after the other", SAID, "Line rom1.0 is wired to column 2 of the keys.")
     browser.click("#drawing-undo")
-    comes(browser, "it is undone", SAID, "Undone.")
+    eventually(browser, "it is undone", SAID, "Undone.")
     browser.click("#drawing-undo")
-    comes(browser, "and the one before it", LINES, re.compile("open is at ram0.0.1"))
+    eventually(browser, "and the one before it", LINES, re.compile("open is at ram0.0.1"))
     verdict("the text is as it was", text_of(browser), before)
     browser.click("#drawing-redo")
-    comes(browser, "and done again", LINES, re.compile("open is at rom0.2"))
+    eventually(browser, "and done again", LINES, re.compile("open is at rom0.2"))
     browser.click("#shelf-ram")
-    comes(browser, "after a click on the shelf", LINES, re.compile("RAM 0.1"))
+    eventually(browser, "after a click on the shelf", LINES, re.compile("RAM 0.1"))
     browser.chord(CONTROL, "z")
-    comes(browser, "Ctrl Z undoes it, too", SAID, "Undone.")
+    eventually(browser, "Ctrl Z undoes it, too", SAID, "Undone.")
     verdict("and nothing else", browser.script(LINES), re.compile("open is at rom0.2"))
     check_part_is_dragged(browser)
     check_chain_keeps_its_place(browser)
 
 
 def check_buzzer(browser):
-    """A buzzer comes by mouse, is wired, named, deleted and undone, by keys and by fingers, too."""
+    """Checks that a buzzer is added by mouse, wired, named, deleted and undone, also by keys and by fingers."""
     choose_example(browser, "empty bench")
     show_text(browser, "wiring")
     verdict("a board without a buzzer has no sound", browser.script(SOUND), "")
     browser.click("#shelf-buzzer")
-    comes(browser, "a buzzer comes with what it needs", SAID, "The buzzer was added, with ROM 0.")
+    eventually(browser, "a buzzer comes with what it needs", SAID, "The buzzer was added, with ROM 0.")
     verdict("as a line of the face", text_of(browser).split("\n")[0], "# buzzer rom0.0: buzzer")
     verdict("a second one is not offered, and says why", browser.script(DISABLED), ["Buzzer: A board has one buzzer: delete that one first."])
     drag(browser, f"{pin('ROM 0 · 4001, out 3')} circle", f"{pin('Buzzer, buzzer')} circle")
-    comes(browser, "a wire is dragged to it", SAID, "Line rom0.3 is wired to the buzzer.")
-    comes(browser, "the picture has it", LINES, re.compile("buzzer sounds the edges of rom0.3"))
+    eventually(browser, "a wire is dragged to it", SAID, "Line rom0.3 is wired to the buzzer.")
+    eventually(browser, "the picture has it", LINES, re.compile("buzzer sounds the edges of rom0.3"))
     browser.script("const name = document.querySelector('#chosen [aria-label=name]'); name.focus(); name.select()")
     browser.keys([*"the horn", ENTER], 10, 10)
-    comes(browser, "it is named", SAID, "The buzzer is called the horn.")
+    eventually(browser, "it is named", SAID, "The buzzer is called the horn.")
     verdict("in the same line", text_of(browser).split("\n")[0], "# buzzer rom0.3: the horn")
     browser.click("#drawing-wire")
-    comes(browser, "it is wired, and can be heard", SOUND, "Sound of the horn")
+    eventually(browser, "it is wired, and can be heard", SOUND, "Sound of the horn")
     browser.until(SAID, "Board applied.")
     browser.script("document.querySelector('#wiring-picture .of-buzzer').focus()")
     browser.keys([DELETE])
-    comes(browser, "the Delete key deletes it", SAID, "The buzzer was deleted.")
+    eventually(browser, "the Delete key deletes it", SAID, "The buzzer was deleted.")
     browser.chord(CONTROL, "z")
-    comes(browser, "Ctrl Z brings it back", LINES, re.compile("the horn sounds the edges of rom0.3"))
+    eventually(browser, "Ctrl Z brings it back", LINES, re.compile("the horn sounds the edges of rom0.3"))
     browser.script("document.querySelector(arguments[0]).focus()", pin("Buzzer, the horn"))
     browser.keys([ENTER])
-    comes(browser, "Enter begins a wire at it", SAID, "A wire begins at the buzzer: it can end at 3 pins.")
+    eventually(browser, "Enter begins a wire at it", SAID, "Wire from the buzzer: it can end at 3 pins.")
     browser.keys([UP, ENTER])
-    comes(browser, "and ends it at another line", SAID, "Line rom0.2 is wired to the buzzer.")
+    eventually(browser, "and ends it at another line", SAID, "Line rom0.2 is wired to the buzzer.")
     if browser.has_fingers:
         browser.fingers([f"{pin('ROM 0 · 4001, out 1')} circle"], 60)
         browser.fingers([f"{pin('Buzzer, the horn')} circle"], 60)
-        comes(browser, "fingers wire it, too", SAID, "Line rom0.1 is wired to the buzzer.")
+        eventually(browser, "fingers wire it, too", SAID, "Line rom0.1 is wired to the buzzer.")
 
 
 def check_part_is_dragged(browser):
     before = browser.script(PLACE_OF_KEYS)
     drag(browser, "#wiring-picture .of-keys .title", (-30, 90))
-    comes(browser, "a part is dragged", f"{PLACE_OF_KEYS}[1] > {before[1] + 40}", True)
+    eventually(browser, "a part is dragged", f"{PLACE_OF_KEYS}[1] > {before[1] + 40}", True)
     there = browser.script(PLACE_OF_KEYS)
     time.sleep(1)
     browser.reload()
     until_ready(browser)
-    comes(browser, "and stands there after a reload", PLACE_OF_KEYS, there)
+    eventually(browser, "and stands there after a reload", PLACE_OF_KEYS, there)
     browser.click("#drawing-tidy")
-    comes(browser, "until it is tidied", PLACE_OF_KEYS, before)
+    eventually(browser, "until it is tidied", PLACE_OF_KEYS, before)
 
 
 def check_chain_keeps_its_place(browser):
-    """A chain has another number once one before it is deleted; it stays where it was dragged to, as long as the text is so."""
+    """Checks that a chain has another number once one before it is deleted; it stays where it was dragged to, as long as the text is the
+    same."""
     choose_example(browser, "calculator")
     show_text(browser, "wiring")
-    comes(browser, "a board has two chains", LINES, re.compile("Chain 0 .*Chain 1 "))
+    eventually(browser, "a board has two chains", LINES, re.compile("Chain 0 .*Chain 1 "))
     chains = "return [...document.querySelectorAll('#wiring-picture .of-chain rect')].map((box) => Number(box.getAttribute('y')))"
     first, second = browser.script(chains)
     browser.script("document.querySelectorAll('#wiring-picture .of-chain')[1].focus()")
     for _ in range(5):
         browser.chord(SHIFT, DOWN)
-    comes(browser, "Shift and arrows move the second chain", f"{chains}[1] > {second}", True)
+    eventually(browser, "Shift and arrows move the second chain", f"{chains}[1] > {second}", True)
     _, moved = browser.script(chains)
     browser.script("document.querySelector('#wiring-picture .of-chain').focus()")
     browser.keys([DELETE])
-    comes(browser, "the first one is deleted", SAID, re.compile("^Chain 0 was deleted"))
-    comes(browser, "and the second one stays where it is", chains, [moved])
+    eventually(browser, "the first one is deleted", SAID, re.compile("^Chain 0 was deleted"))
+    eventually(browser, "and the second one stays where it is", chains, [moved])
     browser.click("#drawing-undo")
-    comes(browser, "undone, both stand where they stood", chains, [first, moved])
+    eventually(browser, "undone, both stand where they stood", chains, [first, moved])
 
 
 def check_by_keyboard(browser):
-    """The same by keys alone: a part, a wire, its end, a deletion, and back."""
+    """Checks the same by keys alone: a part, a wire, its end, a deletion, and back."""
     choose_example(browser, "lock")
     browser.script("document.getElementById('wiring-tab').click(); document.getElementById('wiring-tab').focus()")
     before = text_of(browser)
     verdict("Tab comes to the shelf", focused(browser, TAB, "e.id === 'shelf-lamp'", 14), True)
     browser.keys([ENTER])
-    comes(browser, "Enter adds a lamp", SAID, "Lamp 3 was added.")
+    eventually(browser, "Enter adds a lamp", SAID, "Lamp 3 was added.")
     verdict("Tab comes to the picture", focused(browser, TAB, "e.closest('#wiring-picture') !== null", 20), True)
-    comes(browser, "at the lamp that is chosen", FOCUS, re.compile("^Lamps · 4, lamp 3"))
+    eventually(browser, "at the lamp that is chosen", FOCUS, re.compile("^Lamps · 4, lamp 3"))
     browser.keys([UP, UP, UP, UP])
-    comes(browser, "arrows go from pin to part", FOCUS, re.compile("^Lamps · 4: locked is at"))
+    eventually(browser, "arrows go from pin to part", FOCUS, re.compile("^Lamps · 4: locked is at"))
     browser.keys([LEFT, LEFT, LEFT])
-    comes(browser, "and from part to part", FOCUS, re.compile("^RAM 0.0 · 4002: line"))
+    eventually(browser, "and from part to part", FOCUS, re.compile("^RAM 0.0 · 4002: line"))
     browser.keys([RIGHT])
-    comes(browser, "and back", FOCUS, re.compile("^Chain 0"))
+    eventually(browser, "and back", FOCUS, re.compile("^Chain 0"))
     browser.keys([DOWN])
-    comes(browser, "to its clock", FOCUS, re.compile("clock, at rom0.0$"))
+    eventually(browser, "to its clock", FOCUS, re.compile("clock, at rom0.0$"))
     browser.keys([ENTER])
-    comes(browser, "Enter begins a wire", SAID, re.compile("^A wire begins at the clock of chain 0: it can end at 8 pins"))
+    eventually(browser, "Enter begins a wire", SAID, re.compile("^Wire from the clock of chain 0: it can end at 8 pins"))
     browser.keys([UP])
-    comes(browser, "arrows go to where it can end", FOCUS, "RAM 0.0 · 4002, out 3, wired to lamp 3")
+    eventually(browser, "arrows go to where it can end", FOCUS, "RAM 0.0 · 4002, out 3, wired to lamp 3")
     browser.keys([ENTER])
-    comes(browser, "Enter ends it", SAID, "Line ram0.0.3 is wired to the clock of chain 0.")
-    comes(browser, "the focus stays", FOCUS, "RAM 0.0 · 4002, out 3, wired to clock 0 and lamp 3")
+    eventually(browser, "Enter ends it", SAID, "Line ram0.0.3 is wired to the clock of chain 0.")
+    eventually(browser, "the focus stays", FOCUS, "RAM 0.0 · 4002, out 3, wired to clock 0 and lamp 3")
     browser.keys([ENTER])
-    comes(browser, "another one is begun", SAID, re.compile("^A wire begins"))
+    eventually(browser, "another one is begun", SAID, re.compile("^Wire from"))
     browser.keys([ESCAPE])
-    comes(browser, "and left by Escape", SAID, "No wire was drawn.")
+    eventually(browser, "and left by Escape", SAID, "No wire was drawn.")
     browser.keys([DELETE])
-    comes(browser, "a line cannot be deleted", SAID, re.compile("is deleted only with its chip"))
+    eventually(browser, "a line cannot be deleted", SAID, re.compile("is deleted only with its chip"))
     browser.chord(CONTROL, "z")
-    comes(browser, "Ctrl Z takes the wire back", SAID, "Undone.")
+    eventually(browser, "Ctrl Z takes the wire back", SAID, "Undone.")
     browser.chord(CONTROL, "z")
-    comes(browser, "and the lamp", LINES, re.compile("Lamps · 3"))
+    eventually(browser, "and the lamp", LINES, re.compile("Lamps · 3"))
     verdict("the text is as it was", text_of(browser), before)
     browser.script("document.querySelector('#wiring-picture .of-chain').focus()")
     browser.keys([DELETE])
-    comes(browser, "what hangs on a part goes with it", SAID, "Chain 0 was deleted, and with it the keys.")
+    eventually(browser, "what hangs on a part goes with it", SAID, "Chain 0 was deleted, and with it the keys.")
     browser.chord(CONTROL, "z")
-    comes(browser, "and comes back with it", LINES, re.compile("Keys · 4 × 3"))
+    eventually(browser, "and comes back with it", LINES, re.compile("Keys · 4 × 3"))
     verdict("nothing is lost", text_of(browser), before)
 
 
@@ -296,7 +297,7 @@ const picture = document.getElementById("wiring-picture");
 const { left, top } = picture.getBoundingClientRect();
 const turn = { ctrlKey: arguments[1], deltaY: arguments[0], clientX: left + 50, clientY: top + 40, bubbles: true, cancelable: true };
 return picture.dispatchEvent(new WheelEvent("wheel", turn))"""
-# The part that stands at a place of the panel.
+# The part that is at a place of the panel.
 AT_PLACE = """
 const { left, top } = document.getElementById("wiring-picture").getBoundingClientRect();
 const found = document.elementFromPoint(left + arguments[0], top + arguments[1]).closest(".part");
@@ -304,8 +305,8 @@ return found && found.getAttribute("class")"""
 
 
 def check_zoom(browser):
-    """The picture is larger and smaller by buttons, keys and the wheel; what is at the pointer stays there, and wires are drawn all the
-    same."""
+    """Checks that the picture is zoomed by buttons, keys and the wheel; the point at the pointer stays there, and wires are drawn all
+    the same."""
     choose_example(browser, "lock")
     browser.script("document.getElementById('wiring-tab').click()")
     browser.show("#wiring-picture")
@@ -324,9 +325,9 @@ def check_zoom(browser):
     browser.keys("--")
     verdict("keys make it smaller", abs(browser.script(WIDTH) - before / 1.25 ** 2) <= 1, True)
     drag(browser, f"{pin('RAM 0.0 · 4002, out 3')} circle", f"{pin('Lamps · 3, alarm')} circle")
-    comes(browser, "a wire is drawn all the same", SAID, "Line ram0.0.3 is wired to lamp 2.")
+    eventually(browser, "a wire is drawn all the same", SAID, "Line ram0.0.3 is wired to lamp 2.")
     browser.click("#drawing-undo")
-    comes(browser, "and undone", SAID, "Undone.")
+    eventually(browser, "and undone", SAID, "Undone.")
     browser.script("document.querySelector('#wiring-picture .of-rom').focus()")
     browser.keys("-" * 20, 2, 2)
     smallest = browser.script(WIDTH)
@@ -351,16 +352,16 @@ def check_zoom(browser):
 
 
 def check_by_fingers(browser):
-    """One pin after the other is touched."""
+    """Checks that one pin after the other can be touched."""
     browser.fingers([f"{pin('RAM 0.0 · 4002, out 3')} circle"], 60)
-    comes(browser, "a finger begins a wire", SAID, re.compile("^A wire begins at line ram0.0.3"))
+    eventually(browser, "a finger begins a wire", SAID, re.compile("^Wire from line ram0.0.3"))
     browser.fingers([f"{pin('Lamps · 3, alarm')} circle"], 60)
-    comes(browser, "and another touch ends it", SAID, "Line ram0.0.3 is wired to lamp 2.")
+    eventually(browser, "and another touch ends it", SAID, "Line ram0.0.3 is wired to lamp 2.")
     browser.fingers(["#drawing-undo"], 60)
-    comes(browser, "a button undoes it", SAID, "Undone.")
+    eventually(browser, "a button undoes it", SAID, "Undone.")
 
 
-# Where a point of the screen is on the sheet, and the middle of the head of a part there.
+# The position of a point of the screen on the sheet, and of the middle of the head of a part there.
 ON_SHEET = """
 const [x, y] = arguments;
 const at = new DOMPoint(x, y).matrixTransform(document.querySelector("#wiring-picture svg").getScreenCTM().inverse());
@@ -374,7 +375,7 @@ SHEET = "const { left, top } = document.getElementById('wiring-picture').getBoun
 
 
 def pull(browser, part, place, kind="mouse", key=""):
-    """A part of the shelf is dragged to a point of the window; a key may be pressed before it is dropped."""
+    """Drags a part of the shelf to a point of the window; a key may be pressed before it is dropped."""
     begin = [round(each) for each in browser.script(MIDDLE, f"#shelf-{part}")]
     places = [[round(begin[each] + step * (place[each] - begin[each])) for each in (0, 1)] for step in (0, 0.3, 0.7, 1)]
     first, *way = [{"type": "pointerMove", "duration": 60, "x": x, "y": y} for x, y in places]
@@ -392,18 +393,18 @@ def is_near(one, other):
 def check_pulled(browser, kind):
     choose_example(browser, "empty bench")
     show_text(browser, "wiring")
-    comes(browser, "the shelf offers all", DISABLED, [])
+    eventually(browser, "the shelf offers all", DISABLED, [])
     left, top = browser.script(SHEET)
     place = [left + 330, top + 20]
     wanted = browser.script(ON_SHEET, *place)
     pull(browser, "rom", place, kind)
-    comes(browser, f"a {kind} drags a chip onto the sheet", SAID, "ROM 0 was added.")
+    eventually(browser, f"a {kind} drags a chip onto the sheet", SAID, "ROM 0 was added.")
     verdict("where it was dropped", is_near(browser.script(HEAD_OF, "ROM 0"), wanted), True)
     verdict("once", text_of(browser), '[[rom]]\nchip = 0\nport = "0000"\n')
     pull(browser, "lamp", [round(each) for each in browser.script(MIDDLE, f"{pin('ROM 0 · 4001, out 3')} circle")], kind)
-    comes(browser, "a lamp that is dropped on a pin is wired to it", LINES, re.compile("lamp 0 is at rom0.3"))
+    eventually(browser, "a lamp that is dropped on a pin is wired to it", LINES, re.compile("lamp 0 is at rom0.3"))
     browser.click("#drawing-undo")
-    comes(browser, "undone in one step", SAID, "Undone.")
+    eventually(browser, "undone in one step", SAID, "Undone.")
     verdict("the chip is as before", text_of(browser), '[[rom]]\nchip = 0\nport = "0000"\n')
     if kind == "mouse":
         pull(browser, "ram", place, kind, ESCAPE)
@@ -412,24 +413,24 @@ def check_pulled(browser, kind):
     pull(browser, "ram", [left, top], kind)
     verdict("nor does one that is dropped elsewhere", "ram" in text_of(browser), False)
     browser.click("#shelf-ram")
-    comes(browser, "a click adds one, as ever", SAID, "RAM 0.0 was added.")
+    eventually(browser, "a click adds one, as ever", SAID, "RAM 0.0 was added.")
 
 
 def check_shelf(browser):
-    """Parts come from the shelf to where they are dropped, by mouse and by finger, and by the keyboard to the sheet."""
+    """Checks that parts go from the shelf to where they are dropped, by mouse and by finger, and by the keyboard to the sheet."""
     for kind in ("mouse", "touch") if browser.has_fingers else ("mouse",):
         check_pulled(browser, kind)
     browser.script("document.getElementById('shelf-chain').focus()")
     browser.chord(SHIFT, ENTER)
-    comes(browser, "Shift and Enter add a part", SAID, re.compile("^Chain 0 was added"))
-    comes(browser, "and go to it on the sheet", FOCUS, re.compile("^Chain 0"))
+    eventually(browser, "Shift and Enter add a part", SAID, re.compile("^Chain 0 was added"))
+    eventually(browser, "and go to it on the sheet", FOCUS, re.compile("^Chain 0"))
     before = browser.script(HEAD_OF, "Chain 0")
     browser.chord(SHIFT, DOWN)
-    comes(browser, "where arrows move it", f"return ((...arguments) => {{{HEAD_OF}}})('Chain 0')[1] > {before[1] + 6}", True)
+    eventually(browser, "where arrows move it", f"return ((...arguments) => {{{HEAD_OF}}})('Chain 0')[1] > {before[1] + 6}", True)
 
 
 def check_scan_at_caret(browser):
-    """With a caret in the source the routine comes behind its line, as one step."""
+    """Checks that with a caret in the source the routine is inserted behind its line, as one step."""
     choose_example(browser, "lock")
     source = browser.script(SOURCE)
     show_text(browser, "program")
@@ -438,58 +439,58 @@ def check_scan_at_caret(browser):
     show_text(browser, "wiring")
     browser.click("#wiring-picture .of-keys text")
     browser.click(f"#chosen [aria-label='{INSERT}']")
-    comes(browser, "the routine is behind the line of the caret", "return document.querySelector('#program-editor .told').textContent",
-          "A routine that scans the keys is at line 4 of the source.")
+    eventually(browser, "the routine is behind the line of the caret", "return document.querySelector('#program-editor .status-text').textContent",
+               "A routine that scans the keys is at line 4 of the source.")
     lines = browser.script(SOURCE).split("\n")
     verdict("between what was before and after it", lines[:3] + lines[-9:], [*source.split("\n")[:2], "", *source.split("\n")[-9:]])
     browser.chord(CONTROL, "z")
-    comes(browser, "one step undoes it", SOURCE, source)
+    eventually(browser, "one step undoes it", SOURCE, source)
 
 
 def check_scan(browser):
-    """A key matrix that was just drawn: its routine comes into the source, which assembles and finds the key."""
+    """Checks a key matrix that was just drawn: its routine goes into the source, which assembles and finds the key."""
     choose_example(browser, "empty bench")
     show_text(browser, "wiring")
     browser.click("#shelf-keys")
-    comes(browser, "the keys are chosen", TITLE, re.compile("^Keys"))
+    eventually(browser, "the keys are chosen", TITLE, re.compile("^Keys"))
     verdict("chips have the numbers of their pins", browser.script(NUMBERS), "16 15 14 13")
     browser.click("#drawing-wire")
-    comes(browser, "wired, there is a front with a key", KEYS, 4)
+    eventually(browser, "wired, there is a front with a key", KEYS, 4)
     browser.click(f"#chosen [aria-label='{INSERT}']")
-    comes(browser, "the routine is in the source", "return document.querySelector('#program-editor .told').textContent",
-          "A routine that scans the keys is at the end of the source.")
+    eventually(browser, "the routine is in the source", "return document.querySelector('#program-editor .status-text').textContent",
+               "A routine that scans the keys is at the end of the source.")
     source = browser.script(TEXT_OF_EDITOR, "#program-editor")
     verdict("with a program that calls it", source.startswith("start:      JMS keys_scan"), True)
     browser.click("#program-editor .send")
-    comes(browser, "it assembles and runs", STATUS, re.compile("^Running"))
+    eventually(browser, "it assembles and runs", STATUS, re.compile("^Running"))
     press(browser, "#keys .key:nth-child(3)")
     show_text(browser, "wiring")
     browser.click("#wiring-picture .of-keys text")
     browser.click(f"#chosen [aria-label='{INSERT}']")
-    comes(browser, "a second routine has labels of its own", SOURCE, re.compile("^keys1_scan:", re.M))
+    eventually(browser, "a second routine has labels of its own", SOURCE, re.compile("^keys1_scan:", re.M))
     verdict("behind the first one", browser.script(SOURCE).startswith(source.rstrip()), True)
 
 
 def check_faults(browser):
-    """A text with faults is not drawn in; the picture stays, and goes on once they are gone."""
+    """Checks that a text with errors is not drawn; the picture stays, and is updated once they are gone."""
     text = text_of(browser)
     browser.script(PUT_INTO_EDITOR, BOARD, f"{text}\n[[lamp]]\n")
-    comes(browser, "a text with faults says so", STATE, re.compile("^The bench rejects the board's text"))
+    eventually(browser, "a text with faults says so", STATE, re.compile("^The bench rejects the board's text"))
     verdict("and nothing can be added", len(browser.script(DISABLED)), 12)
     browser.script(PUT_INTO_EDITOR, BOARD, text.replace("# title: Lock", "# title: Other"))
-    comes(browser, "without them it goes on", STATE, "")
+    eventually(browser, "without them it goes on", STATE, "")
     browser.script("document.querySelector('#wiring-picture [tabindex=\"0\"]').focus()")
     browser.keys([ESCAPE])
-    comes(browser, "what is typed in the text is drawn", "const field = document.querySelector('#chosen [aria-label=title]'); return field && field.value",
-          "Other")
+    eventually(browser, "what is typed in the text is drawn", "const field = document.querySelector('#chosen [aria-label=title]'); return field && field.value",
+               "Other")
 
 
 def check_other_boards(browser):
-    """While the picture is in front, sessions are opened whose boards have more chips, and fewer."""
+    """Checks that, with the picture in front, sessions can be opened whose boards have more chips, and fewer."""
     for example, parts in (("calculator", "ROM 3 · 4001"), ("die", "ROM 0 · 4001"), ("calculator", "ROM 3 · 4001"), ("lock", "Keys · 4 × 3")):
         choose_example(browser, example)
         verdict(f"{example} is opened", "No session was made" in browser.script(NOTICE), False)
-        comes(browser, f"the picture is that of {example}", LINES, re.compile(parts))
+        eventually(browser, f"the picture is that of {example}", LINES, re.compile(parts))
 
 
 def check(browser, page, _folder, _mcs4):

@@ -4,7 +4,7 @@ import re
 import time
 
 from page_in_browser import ALL_NOTICES, PUT_INTO_EDITOR, STATUS, TEXT_OF_EDITOR, choose_example, open_anew, show_text, stop_time
-from verdicts import comes, verdict
+from verdicts import eventually, verdict
 
 CONTROL, SHIFT, ALT, ENTER, ESCAPE, TAB = "\ue009", "\ue008", "\ue00a", "\ue007", "\ue00c", "\ue004"
 END, DOWN, F2, F9, F12, BACKSPACE = "\ue010", "\ue015", "\ue032", "\ue039", "\ue03c", "\ue003"
@@ -16,13 +16,13 @@ SCROLLED = "return document.querySelector('#program-editor .cm-editor').lineEdit
 EDITOR = "const editor = document.querySelector(`${arguments[0]} .cm-editor`).lineEditor; "
 CARET = f"{EDITOR}const at = editor.getCursor(); return [at.line, at.ch, editor.getSelection()]"
 SET_CARET = f"{EDITOR}editor.setCursor({{ line: arguments[1], ch: arguments[2] }}); editor.focus()"
-FAULTS = "return [...document.querySelectorAll('{} .faults-told li')].map((each) => each.textContent).join('|')"
+FAULTS = "return [...document.querySelectorAll('{} .fault-list li')].map((each) => each.textContent).join('|')"
 UNDERLINED = "return [...document.querySelectorAll('{} .fault')].map((each) => each.textContent).join(' ')"
-TOLD = "return document.querySelector('{} .told').textContent"
+STATUS_OF = "return document.querySelector('{} .status-text').textContent"
 MEANING = "return document.querySelector('{} .meaning').textContent"
 LISTING = "return document.querySelector('#lines-of-program').textContent"
 INSIDE = "return document.activeElement.closest('.paper') !== null"
-# How far the numbers of the lines that are shown stand from their lines, at the end of a text that is wider than its box.
+# The distance of the visible line numbers from their lines, at the end of a text that is wider than its box.
 NUMBERS = f"""{EDITOR}
 editor.scrollTo(1e6);
 editor.view.scrollDOM.scrollLeft = 1000;
@@ -32,7 +32,7 @@ const numbers = shown(".cm-lineNumbers .cm-gutterElement");
 const apart = numbers.map((number) => Math.min(...lines.map((line) => Math.abs(number.getBoundingClientRect().top - line))));
 const last = numbers[numbers.length - 1].textContent;
 return [last, editor.getScrollInfo().width > editor.getScrollInfo().clientWidth, Math.max(...apart) < 2]"""
-# How long a key takes, from the key to the end of all that is done for it, in the median.
+# The time of a key, from the key to the end of all that is done for it, in the median.
 KEY_TIMES = f"""{EDITOR}
 editor.setCursor({{ line: arguments[1], ch: 0 }});
 const times = [];
@@ -44,7 +44,7 @@ for (let key = 0; key < 100; key++) {{
 editor.undo();
 times.sort((one, other) => one - other);
 return times[50]"""
-# How much slower the browser is than it would be alone on the machine: the mean time of many short loops beside the least one.
+# The factor by which the browser is slower than it would be alone on the machine: the mean time of many short loops beside the least one.
 SLOWNESS = """
 const times = [];
 let sum = 0;
@@ -65,12 +65,12 @@ input.dispatchEvent(paste)"""
 
 FAULTY = """start:  LDX 5           ; für
         FIM R0, 5
-        JUN strat
-        LDM 16
+        JMP start
+        LDM
 loop:   NOP
 loop:   NOP
 """
-WORDS = re.compile(r"^line 1: LDX is not an instruction; .*\|line 2: FIM takes a pair, P0 to P7\|line 3: strat is not defined; start\?"
+WORDS = re.compile(r"^line 1: LDX is not an instruction; .*\|line 2: FIM takes a pair, P0 to P7\|line 3: JMP is not an instruction; JUN\?"
                    r"\|line 4: LDM takes a value, 0 to 15\|line 6: loop is defined in line 5 already$")
 
 
@@ -79,84 +79,88 @@ def put(browser, editor, text):
 
 
 def check_faults(browser):
-    """All faults of a program while it is typed."""
+    """Checks that all errors of a program are shown while it is typed."""
     put(browser, PROGRAM, "")
     browser.script(SET_CARET, PROGRAM, 0, 0)
     put(browser, PROGRAM, FAULTY)
     browser.script(SET_CARET, PROGRAM, 1, 3)
-    comes(browser, "all faults of a program, in words", FAULTS.format(PROGRAM), WORDS)
-    verdict("with the words at fault underlined", browser.script(UNDERLINED.format(PROGRAM)), "LDX R0 strat 16 loop")
+    eventually(browser, "all faults of a program, in words", FAULTS.format(PROGRAM), WORDS)
+    verdict("with the words at fault underlined", browser.script(UNDERLINED.format(PROGRAM)), "LDX R0 JMP LDM loop")
     verdict("the caret stays, and nothing is selected", browser.script(CARET, PROGRAM), [1, 3, ""])
     verdict("each fault is in the margin of its line",
             browser.script("return document.querySelectorAll('#program-editor .mark-faults').length"), 5)
-    verdict("the tab tells how many", browser.text("#program-tab"), re.compile("5 faults$"))
+    verdict("the tab shows how many", browser.text("#program-tab"), re.compile("5 faults$"))
     browser.click(f"{PROGRAM} .send")
-    comes(browser, "a program with faults is not assembled", TOLD.format(PROGRAM), re.compile("^line 1: LDX is not an instruction.*4 more$"))
-    browser.click(f"{PROGRAM} .faults-told li:nth-child(3) button")
-    verdict("a fault in the list leads to its word", browser.script(CARET, PROGRAM), [2, 12, ""])
-    put(browser, PROGRAM, FAULTY.replace("LDX", "LDM").replace("R0", "P0").replace("strat", "start").replace("16", "1\t; caf\u00e9")
-        .replace("loop:   NOP\nloop:", "loop:   NOP\nmore:"))
-    comes(browser, "mended, no fault is left", FAULTS.format(PROGRAM), "")
+    eventually(browser, "a program with faults is not assembled", STATUS_OF.format(PROGRAM), re.compile("^line 1: LDX is not an instruction.*4 more$"))
+    browser.click(f"{PROGRAM} .fault-list li:nth-child(3) button")
+    verdict("a fault in the list leads to its word", browser.script(CARET, PROGRAM), [2, 8, ""])
+    mended = FAULTY.replace("LDM\n", "LDM 1\t; caf\u00e9\n").replace("LDX", "LDM").replace("R0", "P0").replace("JMP", "JUN")
+    mended = mended.replace("loop:   NOP\nloop:", "loop:   NOP\nmore:")
+    put(browser, PROGRAM, mended.replace("start\n", "strat\n").replace("LDM 1\t", "LDM 16\t"))
+    eventually(browser, "errors of values come when each line has a form", FAULTS.format(PROGRAM),
+          "line 3: strat is not defined; start?|line 4: LDM takes a value, 0 to 15")
+    put(browser, PROGRAM, mended)
+    eventually(browser, "mended, no fault is left", FAULTS.format(PROGRAM), "")
 
 
 def check_typing(browser):
-    """Tab, completion, help, search, undo."""
+    """Checks tab, completion, help, search, undo."""
     put(browser, PROGRAM, "loop:\tNOP\n")
     browser.script(SET_CARET, PROGRAM, 1, 0)
     # A key, so that Tab indents.
     browser.keys([DOWN, TAB, "l", "d"], 5, 5)
     browser.chord(CONTROL, " ")
-    comes(browser, "what begins so can be chosen", "return [...document.querySelectorAll('.cm-tooltip-autocomplete li')]"
-          ".map((each) => each.textContent.slice(0, 3)).join()", "LD ,LDM")
+    eventually(browser, "what begins so can be chosen", "return [...document.querySelectorAll('.cm-tooltip-autocomplete li')]"
+               ".map((each) => each.textContent.slice(0, 3)).join()", "LD ,LDM")
     browser.keys([DOWN, ENTER, " ", "5", ENTER, "J", "U", "N", " ", "l", "o"], 5, 5)
     browser.chord(CONTROL, " ")
     browser.until("return document.querySelectorAll('.cm-tooltip-autocomplete li').length", 1)
     browser.keys([ENTER], 5, 5)
-    comes(browser, "Tab indents, and what was chosen is there", TEXT_OF_EDITOR.replace("arguments[0]", f"'{PROGRAM}'"),
-          "loop:\tNOP\n\tLDM 5\n\tJUN loop")
+    eventually(browser, "Tab indents, and what was chosen is there", TEXT_OF_EDITOR.replace("arguments[0]", f"'{PROGRAM}'"),
+               "loop:\tNOP\n\tLDM 5\n\tJUN loop")
     browser.script(SET_CARET, PROGRAM, 1, 2)
-    comes(browser, "the instruction at the caret is explained", MEANING.format(PROGRAM),
-          re.compile(r"^(acc 0, cy 0\. )?LDM d: 1 word, 1 cycle\. Load immediate: d into ACC\. The carry stays\.$"))
+    eventually(browser, "the instruction at the caret is explained", MEANING.format(PROGRAM),
+               re.compile(r"^(acc 0, cy 0\. )?LDM d: 1 word, 1 cycle\. Load immediate: d into ACC\. The carry stays\.$"))
     browser.chord(CONTROL, "f")
     browser.keys([*"jun", ENTER, ESCAPE], 5, 5)
-    comes(browser, "what is sought is selected", CARET.replace("arguments[0]", f"'{PROGRAM}'"), [2, 4, "JUN"])
+    eventually(browser, "what is sought is selected", CARET.replace("arguments[0]", f"'{PROGRAM}'"), [2, 4, "JUN"])
     browser.keys([ESCAPE, TAB], 5, 5)
     verdict("Escape, then Tab leaves the text", browser.script(INSIDE), False)
     verdict("and the text stays", browser.script(TEXT_OF_EDITOR, PROGRAM), "loop:\tNOP\n\tLDM 5\n\tJUN loop")
 
 
 def check_names(browser):
-    """To where a name is defined, all its places, another name; a line by its number; replacing; comments."""
+    """Checks going to the definition of a name, all its places, another name; a line by its number; replacing; comments."""
     text = TEXT_OF_EDITOR.replace("arguments[0]", f"'{PROGRAM}'")
     caret = CARET.replace("arguments[0]", f"'{PROGRAM}'")
     put(browser, PROGRAM, "loop:\tNOP ; loop\n\tFIM P0, loop\n\tJUN loop")
     browser.script(SET_CARET, PROGRAM, 2, 7)
     browser.keys([F12], 5, 5)
-    comes(browser, "F12 leads to where a name is defined", caret, [0, 4, "loop"])
+    eventually(browser, "F12 leads to where a name is defined", caret, [0, 4, "loop"])
     browser.chord(SHIFT, F12)
-    comes(browser, "its places are listed", "return [...document.querySelectorAll('#program-editor .places li')].map((each) => each.textContent).join('|')",
-          "loop is at 3 places Close|line 1, where it is defined loop:\tNOP ; loop|line 2 FIM P0, loop|line 3 JUN loop")
+    eventually(browser, "its places are listed", "return [...document.querySelectorAll('#program-editor .places li')].map((each) => each.textContent).join('|')",
+               "loop is at 3 places Close|line 1, where it is defined loop:\tNOP ; loop|line 2 FIM P0, loop|line 3 JUN loop")
     browser.click(f"{PROGRAM} .places li:nth-child(3) button")
-    comes(browser, "one of them is shown", caret, [1, 13, "loop"])
+    eventually(browser, "one of them is shown", caret, [1, 13, "loop"])
     browser.keys([F2], 5, 5)
     browser.keys([*"jun", ENTER], 5, 5)
-    comes(browser, "a name that is none is refused in words", "return document.querySelector('#program-editor .search:not([hidden]) p').textContent",
-          "jun is an instruction.")
+    eventually(browser, "a name that is none is refused in words", "return document.querySelector('#program-editor .search:not([hidden]) p').textContent",
+               "jun is an instruction.")
     browser.keys([BACKSPACE, BACKSPACE, BACKSPACE, *"again", ENTER], 5, 5)
-    comes(browser, "another name stands at all places", text, "again:\tNOP ; loop\n\tFIM P0, again\n\tJUN again")
+    eventually(browser, "another name stands at all places", text, "again:\tNOP ; loop\n\tFIM P0, again\n\tJUN again")
     browser.chord(CONTROL, "g")
     browser.keys(["3", ENTER], 5, 5)
-    comes(browser, "a line is gone to by its number", caret, [2, 0, ""])
+    eventually(browser, "a line is gone to by its number", caret, [2, 0, ""])
     browser.chord(CONTROL, "/")
-    comes(browser, "a line becomes a comment", text, "again:\tNOP ; loop\n\tFIM P0, again\n; \tJUN again")
+    eventually(browser, "a line becomes a comment", text, "again:\tNOP ; loop\n\tFIM P0, again\n; \tJUN again")
     browser.chord(CONTROL, "/")
-    comes(browser, "and a line again", text, "again:\tNOP ; loop\n\tFIM P0, again\n\tJUN again")
+    eventually(browser, "and a line again", text, "again:\tNOP ; loop\n\tFIM P0, again\n\tJUN again")
     browser.script(SET_CARET, PROGRAM, 0, 0)
     browser.chord(CONTROL, "h")
     browser.keys([*"again"], 5, 5)
     browser.script(f"document.querySelector('{PROGRAM} [aria-label=\"Replace by\"]').value = 'loop'")
     browser.script(f"[...document.querySelectorAll('{PROGRAM} .search button')].find((each) => each.textContent === 'Replace all').click()")
-    comes(browser, "all are replaced", text, "loop:\tNOP ; loop\n\tFIM P0, loop\n\tJUN loop")
+    eventually(browser, "all are replaced", text, "loop:\tNOP ; loop\n\tFIM P0, loop\n\tJUN loop")
     browser.keys([ESCAPE], 5, 5)
 
 
@@ -174,17 +178,17 @@ other:  NOP
 
 
 def check_folding(browser):
-    """Parts fold by the margin and by keys, what is in them stays, and what is to be seen unfolds."""
+    """Checks that parts fold by the margin and by keys, their contents stay, and a part that must be seen unfolds."""
     put(browser, PROGRAM, FOLDING)
     browser.until("return document.querySelectorAll('#program-editor .fold-open').length", 4)
     browser.click(f"{PROGRAM} .fold-open")
-    comes(browser, "a click in the margin folds lines", FOLDED, "\u2026 1 line")
+    eventually(browser, "a click in the margin folds lines", FOLDED, "\u2026 1 line")
     verdict("and sets no breakpoint", browser.script(f"return document.querySelector('{PROGRAM} .mark-breakpoints') === null"), True)
     browser.script(SET_CARET, PROGRAM, 5, 8)
     keys = [CONTROL, SHIFT, "["]
     browser.actions({"type": "key", "id": "keyboard", "actions": [
         *[{"type": "keyDown", "value": key} for key in keys], *[{"type": "keyUp", "value": key} for key in reversed(keys)]]})
-    comes(browser, "the keys fold the part that the caret is in", FOLDED, "\u2026 1 line,\u2026 1 line")
+    eventually(browser, "the keys fold the part that the caret is in", FOLDED, "\u2026 1 line,\u2026 1 line")
     verdict("the innermost one, whose first line the caret is in", browser.script(CARET, PROGRAM)[:1], [4])
     verdict("the text is what it was", browser.script(TEXT_OF_EDITOR, PROGRAM), FOLDING)
     browser.script(SET_CARET, PROGRAM, 7, 2)
@@ -192,12 +196,12 @@ def check_folding(browser):
     browser.actions({"type": "key", "id": "keyboard", "actions": [
         *[{"type": "keyDown", "value": key} for key in keys], *[{"type": "keyUp", "value": key} for key in reversed(keys)]]})
     browser.script(SET_CARET, PROGRAM, 7, 2)
-    comes(browser, "all of it folds", FOLDED, "\u2026 1 line,\u2026 2 lines,\u2026 1 line")
+    eventually(browser, "all of it folds", FOLDED, "\u2026 1 line,\u2026 2 lines,\u2026 1 line")
     browser.click(f"{PROGRAM} .send")
-    comes(browser, "it is assembled as it is", STATUS, re.compile("^Running"))
+    eventually(browser, "it is assembled as it is", STATUS, re.compile("^Running"))
     stop_time(browser)
     # It stands at the loop's label, below which a line stays folded away, or at the line after it.
-    comes(browser, "and the line at which time stands still is unfolded", FOLDED, re.compile("^\u2026 1 line(,\u2026 1 line){1,2}$"))
+    eventually(browser, "and the line at which time stands still is unfolded", FOLDED, re.compile("^\u2026 1 line(,\u2026 1 line){1,2}$"))
 
 
 def check_numbers(browser):
@@ -210,7 +214,7 @@ def check_numbers(browser):
 
 def check_hidden(browser):
     browser.script(EDITOR + "editor.scrollTo(2500)", "#program-editor")
-    comes(browser, "the source is scrolled", SCROLLED, 2500)
+    eventually(browser, "the source is scrolled", SCROLLED, 2500)
     for name in ("board", "program"):
         show_text(browser, name)
         time.sleep(0.3)
@@ -218,12 +222,13 @@ def check_hidden(browser):
 
 
 def check_opened(browser, page):
-    """A text that is opened begins at its first line, wherever the one before was scrolled, and what is in view has its colours."""
+    """Checks that a text that is opened begins at its first line, wherever the one before was scrolled, and that the visible part has
+    its colours."""
     open_anew(browser, page)
     choose_example(browser, "calculator")
     show_text(browser, "program")
     browser.script(EDITOR + "editor.scrollTo(4000)", PROGRAM)
-    comes(browser, "a text that is scrolled", SCROLLED, 4000)
+    eventually(browser, "a text that is scrolled", SCROLLED, 4000)
     choose_example(browser, "calculator")
     time.sleep(0.5)
     verdict("a text that is opened begins at its first line", browser.script(SCROLLED), 0)
@@ -233,21 +238,21 @@ return lines.length > 20 && lines.every((line) => line.querySelector('span') !==
 
 
 def check_limits(browser):
-    """The longest text: typing stays quick; more is refused in words."""
+    """Checks the longest text: typing stays quick; a longer one is rejected in words."""
     put(browser, PROGRAM, LONGEST)
-    comes(browser, "the counter", f"return document.querySelector('{PROGRAM} .size').textContent", "16,381 of 16,384 bytes")
+    eventually(browser, "the counter", f"return document.querySelector('{PROGRAM} .size').textContent", "16,381 of 16,384 bytes")
     time_of_key, slowness = browser.script(KEY_TIMES, PROGRAM, 120), browser.script(SLOWNESS)
     print(f"a key at the longest text takes {time_of_key:.1f} ms in {browser.name}, which others make {slowness:.1f} times as slow meanwhile")
     verdict("a key takes less than 16 ms", time_of_key / slowness < 16, True)
     put(browser, PROGRAM, "\tNOP\n")
     browser.script(SET_CARET, PROGRAM, 1, 0)
     browser.script(PASTE, PROGRAM, "\tNOP\n", 1_000_000)
-    comes(browser, "5 MB pasted are refused in words", TOLD.format(PROGRAM), re.compile("^It was not put in: the text would have 5,000,005 characters"))
+    eventually(browser, "5 MB pasted are refused in words", STATUS_OF.format(PROGRAM), re.compile("^It was not inserted: the text would have 5,000,005 characters"))
     verdict("and the text is as it was", browser.script(TEXT_OF_EDITOR, PROGRAM), "\tNOP\n")
 
 
 def check_sessions(browser):
-    """A text's undo history is its session's."""
+    """Checks that a text's undo history is its session's."""
     choose_example(browser, "die")
     before = browser.script(TEXT_OF_EDITOR, PROGRAM)
     browser.click("#from-rom")
@@ -256,46 +261,46 @@ def check_sessions(browser):
     time.sleep(0.5)
     browser.script(SET_CARET, PROGRAM, 0, 0)
     browser.chord(CONTROL, "z")
-    comes(browser, "what was taken from ROM is undone by one step", TEXT_OF_EDITOR.replace("arguments[0]", f"'{PROGRAM}'"), before)
+    eventually(browser, "what was taken from ROM is undone by one step", TEXT_OF_EDITOR.replace("arguments[0]", f"'{PROGRAM}'"), before)
     browser.chord(CONTROL, "z")
     verdict("and there is no step before that", browser.script(TEXT_OF_EDITOR, PROGRAM), before)
 
 
 def check_running(browser):
-    """One button assembles and runs; the other one says what it leaves."""
+    """Checks that one button assembles and runs, and that the other one says what it leaves."""
     choose_example(browser, "traffic light")
     browser.until(STATUS, re.compile("^Running"))
     put(browser, PROGRAM, "\tLDM 7\nstop:\tJUN stop\n")
     browser.click("#assemble-only")
-    comes(browser, "assembling alone says what it leaves", TOLD.format(PROGRAM), re.compile(
-        r"^3 bytes assembled\. \d+ bytes of before stay in ROM, from 0x0..? on\. The counter stays at ..., nothing was reset\.$".replace(", n", "; n")))
+    eventually(browser, "assembling alone says what it leaves", STATUS_OF.format(PROGRAM), re.compile(
+        r"^3 bytes assembled\. \d+ bytes from before stay in ROM, from 0x0..? on\. The counter stays at ..., nothing was reset\.$".replace(", n", "; n")))
     browser.script(SET_CARET, PROGRAM, 0, 0)
     browser.chord(CONTROL, ENTER)
-    comes(browser, "Control and Enter assemble and run", TOLD.format(PROGRAM), "3 bytes assembled, the rest of ROM is 0. It runs from 000 on.")
-    comes(browser, "time runs", STATUS, re.compile("^Running"))
+    eventually(browser, "Control and Enter assemble and run", STATUS_OF.format(PROGRAM), "Assembled 3 bytes; running from 000.")
+    eventually(browser, "time runs", STATUS, re.compile("^Running"))
     browser.until("return document.querySelector('#registers').textContent", re.compile("^acc7"))
     stop_time(browser)
-    comes(browser, "the machine is at the program's end", "return document.querySelector('#registers').textContent", re.compile("^acc7.*pc00[12]"))
+    eventually(browser, "the machine is at the program's end", "return document.querySelector('#registers').textContent", re.compile("^acc7.*pc00[12]"))
     browser.script("document.getElementById('lines').value = 'list 3 40'")
     show_text(browser, "console")
     browser.click("#send")
-    comes(browser, "ROM has nothing else", "return document.querySelector('#log').textContent.split('list 3 40').pop().replace(/... 00 +NOP/g, '')", "")
+    eventually(browser, "ROM has nothing else", "return document.querySelector('#log').textContent.split('list 3 40').pop().replace(/... 00 +NOP/g, '')", "")
     lines = browser.script("return document.querySelector('#log').textContent")
     verdict("by one text and a reset", len(re.findall("reset", lines)), 1)
 
 
 def check_empty(browser):
-    """An empty bench offers a board; a program on a bench without its ROM is told at its line."""
+    """Checks that an empty bench offers a board, and that a program on a bench without its ROM has an error at its line."""
     choose_example(browser, "empty bench")
     put(browser, PROGRAM, "; nothing yet\n\tLDM 1\n")
-    comes(browser, "a ROM that is lacking is told at its line", FAULTS.format(PROGRAM), re.compile(r"^line 2: this line is at 000, and the board has no ROM 0: wire a \[\[rom\]\]"))
+    eventually(browser, "a ROM that is lacking is reported at its line", FAULTS.format(PROGRAM), re.compile(r"^line 2: this line is at 000, and the board has no ROM 0: wire a \[\[rom\]\]"))
     show_text(browser, "board")
     browser.click("#first-board")
-    comes(browser, "an empty bench gets a board", TOLD.format(BOARD), "Board applied.")
+    eventually(browser, "an empty bench gets a board", STATUS_OF.format(BOARD), "Board applied.")
     verdict("with lamps", browser.script("return document.querySelectorAll('#lamps li').length"), 4)
     verdict("and it is not offered again", browser.script("return document.getElementById('board-offer').hidden"), True)
     show_text(browser, "program")
-    comes(browser, "then the program has no fault", FAULTS.format(PROGRAM), "")
+    eventually(browser, "then the program has no fault", FAULTS.format(PROGRAM), "")
 
 
 FAULTY_BOARD = """[[rom]]
@@ -306,18 +311,23 @@ size = 3
 [[lamp]]
 lime = "rom0.0"
 """
-WORDS_OF_BOARD = ("line 2: chip is 0 to 15|line 4: size is not a key of rom, which has chip, port|line 6: this lamp lacks line"
-                  "|line 7: lime is not a key of lamp; line?")
+# What mends it, a word after the other, and the error before that, with what is underlined.
+MENDED_BOARD = [("size = 3\n", "", "line 4: size is not a key of rom, which has chip, port", "size"),
+                ("lime", "line", "line 6: lime is not a key of lamp; line?", "lime"),
+                ("77", "7", "line 2: chip must be 0 to 15, no number twice", "77")]
 
 
 def check_board(browser):
-    """All faults of a board while it is typed."""
+    """Checks the error of a board while it is typed."""
     show_text(browser, "board")
-    put(browser, BOARD, FAULTY_BOARD)
-    comes(browser, "all faults of a board, in words", FAULTS.format(BOARD), WORDS_OF_BOARD)
-    verdict("with what is at fault underlined", browser.script(UNDERLINED.format(BOARD)), "77 size [[lamp]] lime")
-    put(browser, BOARD, FAULTY_BOARD.replace("77", "7").replace("size = 3\n", "").replace("lime", "line"))
-    comes(browser, "a lamp at a ROM that the board lacks", FAULTS.format(BOARD), "line 6: rom0.0: the board has no ROM 0")
+    text = FAULTY_BOARD
+    for wrong, right, words, underlined in MENDED_BOARD:
+        put(browser, BOARD, text)
+        eventually(browser, "the error of a board, in words", FAULTS.format(BOARD), words)
+        verdict("with what is wrong underlined", browser.script(UNDERLINED.format(BOARD)), underlined)
+        text = text.replace(wrong, right)
+    put(browser, BOARD, text)
+    eventually(browser, "a lamp at a ROM that the board lacks", FAULTS.format(BOARD), "line 6: the board has no line rom0.0: no [[rom]] has chip = 0")
     put(browser, BOARD, "")
     browser.script(SET_CARET, BOARD, 0, 0)
     for text in ("[[rom]]\nchip = 0\nport = \"0000\"", "[[lamp]]\nline = \"rom0.0\""):
@@ -328,14 +338,14 @@ def check_board(browser):
                        text.split("\n")[0])
         verdict("an empty line becomes a part", browser.script(TEXT_OF_EDITOR, BOARD).endswith(text), True)
         browser.keys([ENTER])
-    comes(browser, "and a board of such parts has no fault", FAULTS.format(BOARD), "")
+    eventually(browser, "and a board of such parts has no fault", FAULTS.format(BOARD), "")
     put(browser, BOARD, "[[rom]]\nchip = 0\nport = 0000\n")
-    comes(browser, "what is no TOML", FAULTS.format(BOARD), 'line 3: a number has no leading zero; a text is in quotes: "0000"')
+    eventually(browser, "what is no TOML", FAULTS.format(BOARD), 'line 3: a number has no leading zero; a text is in quotes: "0000"')
     show_text(browser, "program")
 
 
 def compose(browser, *words, replacing=None):
-    """A word as the keyboard of a phone puts it in: as a composition that grows, in the place of what stands there where that is told."""
+    """Enters a word as the keyboard of a phone does: as a composition that grows, in place of the existing text if it is given."""
     place = {"replacementStart": replacing[0], "replacementEnd": replacing[1]} if replacing else {}
     for word in words:
         browser.command("Input.imeSetComposition", text=word, selectionStart=len(word), selectionEnd=len(word), **place)
@@ -345,7 +355,7 @@ def compose(browser, *words, replacing=None):
 
 
 def check_phone(browser, page):
-    """By Chromium's driver: words that a phone's keyboard composes and puts right, while faults are marked; typing over lines."""
+    """Checks, by Chromium's driver, words that a phone's keyboard composes and corrects, while errors are marked; typing over lines."""
     open_anew(browser, page)
     choose_example(browser, "calculator")
     show_text(browser, "program")
@@ -353,16 +363,16 @@ def check_phone(browser, page):
     put(browser, PROGRAM, "\tLDM \n\tJUN nowhere\n")
     browser.script(SET_CARET, PROGRAM, 0, 5)
     compose(browser, "w", "wo", "wor", "word")
-    comes(browser, "a word that is composed while faults are marked is there", text, "\tLDM word\n\tJUN nowhere\n")
-    comes(browser, "with its fault", FAULTS.format(PROGRAM), re.compile("^line 1: .*word"))
+    eventually(browser, "a word that is composed while faults are marked is there", text, "\tLDM word\n\tJUN nowhere\n")
+    eventually(browser, "with its fault", FAULTS.format(PROGRAM), re.compile("^line 1: .*word"))
     put(browser, PROGRAM, "lable:\tNOP\n")
     browser.script(SET_CARET, PROGRAM, 0, 5)
     compose(browser, "label", replacing=(0, 5))
-    comes(browser, "a word that the keyboard puts right stands once", text, "label:\tNOP\n")
+    eventually(browser, "a word that the keyboard puts right stands once", text, "label:\tNOP\n")
     put(browser, PROGRAM, "one:\tNOP\ntwo:\tNOP\n\tNOP\n")
     browser.script(f"{EDITOR}editor.focus(); editor.setSelection({{ line: 0, ch: 5 }}, {{ line: 1, ch: 8 }})", PROGRAM)
     browser.command("Input.insertText", text="I")
-    comes(browser, "what is typed over lines takes their place", text, "one:\tI\n\tNOP\n")
+    eventually(browser, "what is typed over lines takes their place", text, "one:\tI\n\tNOP\n")
 
 
 def check_editor(browser, page, _folder, _mcs4):
@@ -383,6 +393,6 @@ def check_editor(browser, page, _folder, _mcs4):
     check_running(browser)
     check_board(browser)
     check_empty(browser)
-    told = browser.script(ALL_NOTICES)
-    done = [words for words in told[:len(told) - before] if not words.endswith("is kept, as you left it.")]
-    verdict("no notice but what was done", done, ["The source was taken from ROM."])
+    notices = browser.script(ALL_NOTICES)
+    done = [words for words in notices[:len(notices) - before] if not words.endswith("is saved.")]
+    verdict("no notice but what was done", done, ["The source was disassembled from ROM."])

@@ -8,17 +8,17 @@ import re
 import subprocess
 import time
 
-from page_in_browser import NOTICE, PUT_INTO_EDITOR, READY, TEXT_OF_EDITOR, TOP, choose_example, lines_answered, of_file_menu, show_text
+from page_in_browser import NOTICE, PUT_INTO_EDITOR, READY, TEXT_OF_EDITOR, TOP, choose_example, lines_answered, of_file_menu, open_anew, show_text
 from page_layout import SIDEWAYS, at_size
 from page_tests import FAULTS as TESTS_FAULTS
-from page_tests import TOLD as TESTS_TOLD
+from page_tests import TESTS_STATUS
 from page_tests import WRONG
 from page_texts import NAME, kept_download, rename
-from verdicts import comes, verdict
+from verdicts import eventually, verdict
 from web_driver import Chromium
 
 EDITOR = "#properties-editor"
-TOLD = "return document.querySelector('#properties-editor .told').textContent"
+PROPERTIES_STATUS = "return document.querySelector('#properties-editor .status-text').textContent"
 BUTTON = "return document.getElementById('explore').textContent"
 ROWS = """return [...document.querySelectorAll('#property-list > li')].map((each) => [...each.querySelector('p').children]
   .map((child) => child.textContent).filter(Boolean).join(' | '))"""
@@ -29,7 +29,7 @@ CYCLES = "return Number(document.getElementById('cycles').textContent.match(/[\\
 TEST_OF_FIND = "return document.querySelector('#property-list pre').textContent"
 CONTROL, ENTER = "\ue009", "\ue007"
 LOCK = TOP / "examples/lock"
-# As many seconds for the page as for the tool: a find is made short for a fifth of them.
+# As many seconds for the page as for the tool: minimising a counterexample uses a fifth of them.
 SECONDS = 10
 
 
@@ -54,7 +54,7 @@ def explore(browser, seconds, seed=1):
 
 
 def planted():
-    """The lock's program, which takes any digit for one of the code."""
+    """Returns the lock's program, which accepts any digit for one of the code."""
     program = (LOCK / "lock.asm").read_text()
     changed = re.sub(r"^        JCN nonzero, wrong$", "        NOP", program, flags=re.M)
     verdict("the fault is put into the program", changed == program, False)
@@ -62,7 +62,7 @@ def planted():
 
 
 def found_by_tool(folder, program, mcs4):
-    """mcs4 explore at work on the same texts."""
+    """Returns the result of mcs4 explore on the same texts."""
     path = folder / "planted.asm"
     path.write_text(program)
     asked = ["./mcs4", "explore", LOCK / "board.toml", path, LOCK / "lock.props", "--seconds", str(SECONDS), "--out", folder / "finds.test"]
@@ -75,28 +75,28 @@ def check_found(browser, folder, mcs4):
     verdict("properties come with their example", text_of(browser, "properties"), (LOCK / "lock.props").read_text())
     put(browser, "program", program)
     explore(browser, SECONDS)
-    comes(browser, "the button stops it", BUTTON, "Stop")
-    comes(browser, "steps are counted", FIGURES, re.compile("^[1-9][0-9,]* steps"))
+    eventually(browser, "the button stops it", BUTTON, "Stop")
+    eventually(browser, "steps are counted", FIGURES, re.compile("^[1-9][0-9,]* steps"))
     before = browser.script(CYCLES)
-    comes(browser, "what is broken is told while it looks on", TOLD, "1 property is broken so far.")
+    eventually(browser, "what is broken is reported while it looks on", PROPERTIES_STATUS, "1 property is broken so far.")
     verdict("the tab says so", browser.script(MARK), "1 broken")
-    comes(browser, "the session's time goes on meanwhile", f"{CYCLES.replace('return ', 'return (')}) > {before}", True)
-    comes(browser, "it comes to its end", BUTTON, "Search", SECONDS + 30)
-    verdict("what was found is told", browser.script(TOLD), "1 property is broken.")
+    eventually(browser, "the session's time goes on meanwhile", f"{CYCLES.replace('return ', 'return (')}) > {before}", True)
+    eventually(browser, "it comes to its end", BUTTON, "Search", SECONDS + 30)
+    verdict("what was found is reported", browser.script(PROPERTIES_STATUS), "1 property is broken.")
     tool = found_by_tool(folder, program, mcs4)
-    told, _ = tool.communicate()
+    output, _ = tool.communicate()
     rows = browser.script(ROWS)
     verdict("each property has its row", len(rows), 8)
     verdict("with how it is broken", rows[0], re.compile(r"^not ok \| lamp open on only after press 4, .* \| broken by \d+ steps?, [\d,]+ cycles"))
     verdict("the others hold", rows[1:3], ["ok | never lamp open on and lamp locked on", "ok | never lamp open on and lamp alarm on"])
-    verdict("the tool has found the same one alone", re.findall("^not ok (.*) - ", told, re.M), ["1"])
+    verdict("the tool has found the same one alone", re.findall("^not ok (.*) - ", output, re.M), ["1"])
     finds = (folder / "finds.test").read_text()
     verdict("by the same test, with the same seed", browser.script(TEST_OF_FIND), finds[finds.index("\ntest ") + 1:].rstrip("\n"))
-    verdict("what was run is told", browser.text("#explored-instructions"), re.compile(r"1\d\d of 125 instructions were run"))
+    verdict("what was run is reported", browser.text("#explored-instructions"), re.compile(r"1\d\d of 125 instructions were run"))
 
 
 def check_left(browser):
-    """A line that was never run is shown in the source."""
+    """Checks that a line that was never run is shown in the source."""
     line = browser.script("return Number(document.querySelector('#never-run button').textContent)")
     browser.click("#never-run button")
     verdict("a line that was never run is shown", browser.script("""
@@ -106,27 +106,27 @@ return [isShown(editor.getWrapperElement()), editor.getCursor('from').line + 1]"
 
 
 def check_added(browser):
-    """The find's test goes to the tests, once; there it fails, and it can be taken back."""
+    """Checks that the counterexample's test goes to the tests, once; there it fails, and it can be removed again."""
     add = "#property-list .bar button:nth-of-type(2)"
     before = text_of(browser, "tests")
     test = browser.script(TEST_OF_FIND)
     browser.click(add)
-    verdict("the test is added", browser.script(TOLD), "It is at the end of Tests, where Run tests runs it.")
+    verdict("the test is added", browser.script(PROPERTIES_STATUS), "It is at the end of Tests, where Run tests runs it.")
     verdict("behind those of before", text_of(browser, "tests"), f"{before.rstrip()}\n\n{test}\n")
     browser.click(add)
-    verdict("once", (browser.script(TOLD), text_of(browser, "tests").count(test)), ("Tests has it already.", 1))
+    verdict("once", (browser.script(PROPERTIES_STATUS), text_of(browser, "tests").count(test)), ("Tests has it already.", 1))
     put(browser, "tests", test)
     show_text(browser, "tests")
     browser.click("#tests-editor .send")
-    comes(browser, "it is run there", TESTS_TOLD, re.compile("failed|passed"))
+    eventually(browser, "it is run there", TESTS_STATUS, re.compile("failed|passed"))
     verdict("and fails as it has to", browser.script(WRONG), re.compile(r"^\['line \d+ expect not lamp open on: [^']*'\]$"))
     show_text(browser, "properties")
 
 
 def check_opened(browser):
     browser.click("#property-list .bar button:nth-of-type(1)")
-    comes(browser, "the find is opened as a session", NAME, re.compile("^lamp open on only after press 4"))
-    comes(browser, "the way back is offered", NOTICE, re.compile('The session "lock" is kept'))
+    eventually(browser, "the find is opened as a session", NAME, re.compile("^lamp open on only after press 4"))
+    eventually(browser, "the way back is offered", NOTICE, re.compile('"lock" is saved'))
     verdict("the lamp is lit there", "lamps .*." in lines_answered(browser, "lamps"), True)
     verdict("its texts are there", (text_of(browser, "properties"), text_of(browser, "program") == planted()),
             ((LOCK / "lock.props").read_text(), True))
@@ -134,26 +134,27 @@ def check_opened(browser):
     browser.click("#sessions-button")
     browser.until("return document.getElementById('sessions').open", True)
     browser.click("#kept button[aria-label='open lock']")
-    comes(browser, "back in the session", NAME, "lock")
-    comes(browser, "what was found in it is there", ROWS, re.compile("^.'not ok . lamp open on only after"))
+    eventually(browser, "back in the session", NAME, "lock")
+    eventually(browser, "what was found in it is there", ROWS, re.compile("^.'not ok . lamp open on only after"))
 
 
 def check_stopped(browser):
-    """A search of ten minutes is stopped at once, also by the keyboard."""
+    """Checks that a search of ten minutes is stopped at once, also by the keyboard."""
     explore(browser, 600)
-    comes(browser, "it looks", FIGURES, re.compile("^[1-9][0-9,]* steps"))
+    # A tenth of the time goes to a proof first.
+    eventually(browser, "it looks", FIGURES, re.compile("^[1-9][0-9,]* steps"), 120)
     begun = time.monotonic()
     browser.hold("#explore", 400)
-    comes(browser, "it stops", BUTTON, "Search", 5)
+    eventually(browser, "it stops", BUTTON, "Search", 5)
     verdict("at once", time.monotonic() - begun < 3, True)
-    verdict("and says so", browser.script(TOLD), re.compile("^Stopped. "))
+    verdict("and says so", browser.script(PROPERTIES_STATUS), re.compile("^Stopped. "))
     browser.script("document.querySelector('#properties-editor .cm-editor').lineEditor.focus()")
     browser.chord(CONTROL, ENTER)
-    comes(browser, "Ctrl and Enter begins it", BUTTON, "Stop")
-    comes(browser, "and it looks", FIGURES, re.compile("^[1-9][0-9,]* steps"))
+    eventually(browser, "Ctrl and Enter begins it", BUTTON, "Stop")
+    eventually(browser, "and it looks", FIGURES, re.compile("^[1-9][0-9,]* steps"), 120)
     browser.script("document.getElementById('explore').focus()")
     browser.keys([ENTER])
-    comes(browser, "Enter on the button stops it", BUTTON, "Search", 5)
+    eventually(browser, "Enter on the button stops it", BUTTON, "Search", 5)
     verdict("and the button keeps the focus", browser.script("return document.activeElement.id"), "explore")
     browser.click("#clear-finds")
     verdict("what was found is cleared", browser.script("return isShown(document.getElementById('explore-results'))"), False)
@@ -162,26 +163,26 @@ def check_stopped(browser):
 def check_faults(browser):
     put(browser, "properties", "wait 0 to 5\nnever lamp purple on\npress A\n")
     show_text(browser, "properties")
-    comes(browser, "faults are told while one types", FAULTS,
-          ["line 1: it is written as `wait TIME to TIME`, from 1 cycle to 100,000 (1.08 s), as in: wait 1 ms to 20 ms",
-           "line 2: the board has no lamp purple; it has: locked open alarm (column 7)",
-           "line 3: the board has no key A; it has: 1 2 3 4 5 6 7 8 9 * 0 #"])
-    verdict("the tab tells how many", browser.script(MARK), "3 faults")
+    eventually(browser, "faults are reported while one types", FAULTS,
+               ["line 1: it is written as `wait TIME to TIME`, from 1 cycle to 100,000 (1.08 s), as in: wait 1 ms to 20 ms",
+                "line 2: the board has no lamp purple; it has: locked open alarm (column 7)",
+                "line 3: the board has no key A; it has: 1 2 3 4 5 6 7 8 9 * 0 #"])
+    verdict("the tab shows how many", browser.script(MARK), "3 faults")
     browser.click("#explore")
-    comes(browser, "nothing is looked for then", TOLD, re.compile("^Nothing was run: Properties, line 1: it is written as .* and 2 more.$"))
+    eventually(browser, "nothing is looked for then", PROPERTIES_STATUS, re.compile("^Nothing was run: Properties, line 1: it is written as .* and 2 more.$"))
     for seconds, seed, words in ((0, 1, "The seconds are a number, 1 to 86,400."), ("x", -1, re.compile("^The seconds .* The seed is a number"))):
         explore(browser, seconds, seed)
-        verdict(f"{seconds} seconds are refused", browser.script(TOLD), words)
+        verdict(f"{seconds} seconds are refused", browser.script(PROPERTIES_STATUS), words)
     board = text_of(browser, "board")
     put(browser, "board", f"{board}[rom]\n")
     explore(browser, 5)
-    comes(browser, "a board that is refused is told", TOLD, re.compile("^Nothing was run: Board: no 20: the text is not TOML"))
+    eventually(browser, "a board that is refused is reported", PROPERTIES_STATUS, re.compile("^Nothing was run: Board: no 20: the text is not TOML"))
     put(browser, "board", board)
     put(browser, "properties", "")
-    comes(browser, "a text to begin with is offered", "return isShown(document.getElementById('first-properties'))", True)
+    eventually(browser, "a text to begin with is offered", "return isShown(document.getElementById('first-properties'))", True)
     browser.click("#first-properties")
     explore(browser, 3)
-    comes(browser, "its goals are reached", TOLD, "Nothing was found that breaks a property.", 20)
+    eventually(browser, "its goals are reached", PROPERTIES_STATUS, "Nothing was found that breaks a property.", 20)
     verdict("and say by what", browser.script(ROWS)[0], re.compile(r"^ok \| reach lamp locked on \| reached by \d+ steps?, "))
 
 
@@ -189,31 +190,31 @@ BOARD = 'lamp = [{ line = "ram0.0.0" }, { line = "ram0.0.1" }]\n[[rom]]\nchip = 
 PROGRAM = "look: JCN 1, lit\n LDM 0\n JUN put\nlit: LDM 1\nput: WMP\n JUN look\n"
 
 
-def check_all_states(browser):
-    """A board and a program of one's own, that comes to few states: all of them are seen."""
+def check_proof_first(browser):
+    """Checks a board and a program of the user's own that reach few states: what holds in all of them is proved."""
     choose_example(browser, "empty bench")
     explore(browser, 5)
-    comes(browser, "without a board nothing may change", TOLD, re.compile("^Nothing was run: Properties, line 1: there is nothing that may change"))
+    eventually(browser, "without a board nothing may change", PROPERTIES_STATUS, re.compile("^Nothing was run: Properties, line 1: there is nothing that may change"))
     put(browser, "board", BOARD)
     put(browser, "program", PROGRAM)
     put(browser, "properties", "test\nwait 1 to 20\nnever lamp 1 on\nnever lamp 0 on\nreach lamp 1 on\n")
     explore(browser, 5)
-    comes(browser, "it ends where nothing is left to be looked for", TOLD, "1 property is broken. 1 goal was not reached.", 20)
-    verdict("what holds in all states is told", [row for row in browser.script(ROWS) if "states" in row][:2],
-            ["ok | never lamp 1 on | holds for all 2 states", "not ok | reach lamp 1 on | never, in all 2 states"])
+    eventually(browser, "it ends where nothing is left to be looked for", PROPERTIES_STATUS, "1 property is broken. 1 goal was not reached.", 20)
+    verdict("what is proved is reported", [row for row in browser.script(ROWS) if "states" in row][:2],
+            ["ok | never lamp 1 on | proved for all inputs (2 states)", "not ok | reach lamp 1 on | never reached, for all inputs (2 states)"])
 
 
 def check_from_a_state(browser):
-    """All begins from a state that a test saves; its lines stand before a find."""
+    """Checks that all begins from a state that a test saves; its lines precede a counterexample."""
     put(browser, "tests", "test it is lit\n  set test 1\n  run 40\n  save lit\n")
     put(browser, "properties", "from lit\ntest\nwait 1 to 20\nnever lamp 0 on\nfrom dark\n")
     show_text(browser, "properties")
-    comes(browser, "a second state is a fault", FAULTS, ["line 5: it begins from a state in a line before"])
+    eventually(browser, "a second state is a fault", FAULTS, ["line 5: it begins from a state in a line before"])
     put(browser, "properties", "from dark\ntest\nnever lamp 0 on\n")
-    comes(browser, "and one that no test saves", FAULTS, ["line 1: no test saves a state dark; there is: lit"])
+    eventually(browser, "and one that no test saves", FAULTS, ["line 1: no test saves a state dark; there is: lit"])
     put(browser, "properties", "from lit\ntest\nwait 1 to 20\nnever lamp 0 on\n")
     explore(browser, 5)
-    comes(browser, "a find from a state", TOLD, "1 property is broken.", 20)
+    eventually(browser, "a find from a state", PROPERTIES_STATUS, "1 property is broken.", 20)
     verdict("has its lines", browser.script(TEST_OF_FIND), re.compile("^test never lamp 0 on\n  set test 1\n  run 40\n"))
 
 
@@ -221,22 +222,22 @@ def check_phone(browser):
     at_size(browser, 390, 844, True)
     verdict("on a phone nothing scrolls sideways", browser.script(SIDEWAYS), 0)
     explore(browser, 5)
-    comes(browser, "it looks there, too", BUTTON, "Search", 20)
-    comes(browser, "with its rows", ROWS, re.compile("never lamp 0 on"))
+    eventually(browser, "it looks there, too", BUTTON, "Search", 20)
+    eventually(browser, "with its rows", ROWS, re.compile("never lamp 0 on"))
     verdict("which fit into its width", browser.script("""return [...document.querySelectorAll('#explore-results *')]
       .filter((each) => isShown(each) && each.getBoundingClientRect().right > innerWidth).length"""), 0)
     verdict("and nothing scrolls sideways", browser.script(SIDEWAYS), 0)
-    browser.command("Emulation.clearDeviceMetricsOverride")
+    browser.resize_back()
 
 
 def check_kept(browser, folder):
-    """The text of properties is kept with its session, goes with a project, and comes from a file."""
+    """Checks that the text of properties is kept with its session, is in a project, and can be read from a file."""
     put(browser, "properties", "never lamp 1 on")
     time.sleep(1)
     browser.reload()
     browser.until(READY, True)
     show_text(browser, "properties")
-    comes(browser, "the text is there after a reload", TEXT_OF_EDITOR.replace("arguments[0]", f"'{EDITOR}'"), "never lamp 1 on")
+    eventually(browser, "the text is there after a reload", TEXT_OF_EDITOR.replace("arguments[0]", f"'{EDITOR}'"), "never lamp 1 on")
     rename(browser, "with properties")
     of_file_menu(browser, "#save-button")
     saved = kept_download(folder, "with properties.mcsp")
@@ -244,22 +245,20 @@ def check_kept(browser, folder):
     verdict("a project has it", "\nunended properties\n" in text and "\nproperties\nnever lamp 1 on\n.\n" in text, True)
     browser.click("#sessions-button")
     browser.type_into("#file", str(LOCK / "lock.props"))
-    comes(browser, "a file of properties comes into its tab", TEXT_OF_EDITOR.replace("arguments[0]", f"'{EDITOR}'"),
-          (LOCK / "lock.props").read_text())
-    comes(browser, "and says what to do with it", NOTICE, re.compile("lock.props is in Properties. Search looks for what breaks it"))
+    eventually(browser, "a file of properties comes into its tab", TEXT_OF_EDITOR.replace("arguments[0]", f"'{EDITOR}'"),
+               (LOCK / "lock.props").read_text())
+    eventually(browser, "and says what to do with it", NOTICE, re.compile("lock.props is in Properties. Search looks for what breaks it"))
 
 
 def check(browser, page, folder, mcs4):
-    browser.go("about:blank")
-    browser.go(page.as_uri())
-    browser.until(READY, True)
+    open_anew(browser, page)
     check_found(browser, folder, mcs4)
     check_left(browser)
     check_added(browser)
     check_opened(browser)
     check_stopped(browser)
     check_faults(browser)
-    check_all_states(browser)
+    check_proof_first(browser)
     check_from_a_state(browser)
     if isinstance(browser, Chromium):
         check_phone(browser)

@@ -4,9 +4,9 @@ import base64
 import re
 import time
 
-from page_in_browser import DIGITS, PUT_INTO_EDITOR, STATUS, TOP, choose_example, focused, key, show_text, told_of, until_ready
+from page_in_browser import DIGITS, PUT_INTO_EDITOR, STATUS, TOP, choose_example, focused, key, show_text, status_of, until_ready
 from picture import write_picture
-from verdicts import comes, verdict
+from verdicts import eventually, verdict
 
 TAB = "\ue004"
 # The heading also has the buttons of its panel.
@@ -17,12 +17,12 @@ PRESSED = "return document.querySelector(arguments[0]).getAttribute('aria-presse
 TEST_KEY = "#keys .at-test"
 TEST_PRESSED = f"return document.querySelector('{TEST_KEY}').getAttribute('aria-pressed')"
 FAULTS = "return [...document.querySelectorAll('#face-faults li')].map((line) => line.textContent).join('; ')"
-# What the board's editor tells, up to the first half of a sentence.
+# The message of the board's editor, up to the first half of a sentence.
 AT_LINES = """
-return [...document.querySelectorAll("#board-editor .faults-told li")].map((line) => line.textContent.split(";")[0])
+return [...document.querySelectorAll("#board-editor .fault-list li")].map((line) => line.textContent.split(";")[0])
   .filter((words) => words.includes("colour")).join(" | ");
 """
-# Where the middle of each lamp is, by its name, from the left and from the top.
+# The middle of each lamp, by its name, from the left and from the top.
 PLACES = """
 const places = {};
 for (const bulb of document.querySelectorAll("#front .bulb")) {
@@ -40,15 +40,15 @@ return [...document.querySelectorAll("#front .bulb")].map((bulb) => {
   return filled === bulb.getAttribute("aria-label").endsWith(", lit");
 }).every(Boolean)
 """
-# The digits, and how many segments of each are lit.
+# The digits, and how many segments of each are on.
 SHOWN = """
 return [document.getElementById("digits").textContent,
   [...document.querySelectorAll("#glass svg")].map((digit) => digit.querySelectorAll(".lit").length)];
 """
-# So many segments are lit in each digit.
+# The number of segments that are on in each digit.
 SEGMENTS_OF = {"0": 6, "1": 2, "2": 5, "3": 5, "4": 4, "5": 5, "6": 6, "7": 3, "8": 7, "9": 6}
-# From here on: what is announced, and what was announced although the display had changed less than half a second before. The page
-# announces what stands still for a second; on a busy machine its digits may stand still for that long while the stopwatch runs.
+# From here on: the announcements, and those that were made although the display had changed less than half a second before. The page
+# announces a display that has not changed for a second; on a busy machine its digits may stay for that long while the stopwatch runs.
 WATCH_SAID = """
 const watch = (id, then) => new MutationObserver(then)
   .observe(document.getElementById(id), { childList: true, characterData: true, attributes: true, subtree: true });
@@ -56,8 +56,8 @@ window.said = [];
 window.saidEarly = [];
 let changed = -Infinity;
 watch("digits", () => { changed = performance.now(); });
-watch("display-told", () => {
-  const text = document.getElementById("display-told").textContent;
+watch("display-status", () => {
+  const text = document.getElementById("display-status").textContent;
   window.said.push(text);
   if (performance.now() - changed < 500) window.saidEarly.push(text);
 });
@@ -67,15 +67,15 @@ SAID_EARLY = "return window.saidEarly.join(' ')"
 
 
 def lamps_are(wanted):
-    """A pattern of lamps' names with what they are."""
+    """Returns a pattern of lamps' names with their states."""
     return re.compile("^" + re.escape(wanted) + "$")
 
 
 def check_traffic_light(browser):
     choose_example(browser, "traffic light")
-    comes(browser, "the title", TITLE, "Traffic light")
-    comes(browser, "the lamps have names and say whether they are lit", NAMES,
-          lamps_are("red, dark; amber, dark; stand, lit; green, lit; walk, dark"))
+    eventually(browser, "the title", TITLE, "Traffic light")
+    eventually(browser, "the lamps have names and say whether they are lit", NAMES,
+               lamps_are("red, dark; amber, dark; stand, lit; green, lit; walk, dark"))
     at = browser.script(PLACES)
     verdict("red, amber and green stand below each other", [at["red"][0], at["red"][0]], [at["amber"][0], at["green"][0]])
     verdict("from above to below", at["red"][1] < at["amber"][1] < at["green"][1], True)
@@ -95,35 +95,35 @@ def check_spring_button(browser):
                    ".getAttribute('aria-pressed'))).observe(document.getElementById('keys'), { subtree: true, attributes: true, "
                    "attributeFilter: ['aria-pressed'] })")
     browser.fingers([TEST_KEY], 300)
-    comes(browser, "it is down while a finger holds it, and springs back", "return window.presses.join(' ')", "true false")
-    comes(browser, "the cars have to stop", NAMES, re.compile("red, lit.*stand, lit|amber, lit.*stand, lit"))
-    comes(browser, "and those who walk may go", NAMES, re.compile("red, lit.*walk, lit"))
+    eventually(browser, "it is down while a finger holds it, and springs back", "return window.presses.join(' ')", "true false")
+    eventually(browser, "the cars have to stop", NAMES, re.compile("red, lit.*stand, lit|amber, lit.*stand, lit"))
+    eventually(browser, "and those who walk may go", NAMES, re.compile("red, lit.*walk, lit"))
     browser.keys(["w"], 100)
-    comes(browser, "by its letter", "return window.presses.join(' ')", "true false true false")
+    eventually(browser, "by its letter", "return window.presses.join(' ')", "true false true false")
     browser.script("document.getElementById('run').focus()")
     verdict("Tab comes to it", focused(browser, TAB, f"e.matches('{TEST_KEY}')"), True)
     browser.keys([" "], 100)
-    comes(browser, "by the space bar", "return window.presses.join(' ')", "true false true false true false")
+    eventually(browser, "by the space bar", "return window.presses.join(' ')", "true false true false true false")
     browser.click("#run")
-    comes(browser, "time stands still", STATUS, re.compile("^Paused"))
+    eventually(browser, "time stands still", STATUS, re.compile("^Paused"))
     browser.click(TEST_KEY)
-    comes(browser, "while time stands still it stays as a click puts it", TEST_PRESSED, "true")
+    eventually(browser, "while time stands still it stays as a click puts it", TEST_PRESSED, "true")
     browser.click(TEST_KEY)
-    comes(browser, "up to the next one", TEST_PRESSED, "false")
+    eventually(browser, "up to the next one", TEST_PRESSED, "false")
 
 
 def check_stopwatch(browser):
     choose_example(browser, "stopwatch")
-    comes(browser, "a switch has its name", TITLE, "Stopwatch")
+    eventually(browser, "a switch has its name", TITLE, "Stopwatch")
     verdict("and is off", [browser.text(f"{TEST_KEY} b"), browser.script(TEST_PRESSED)], ["RUN", "false"])
-    comes(browser, "the display begins with 0", DIGITS, "0")
+    eventually(browser, "the display begins with 0", DIGITS, "0")
     browser.script(WATCH_SAID)
     browser.fingers([TEST_KEY], 80)
-    comes(browser, "a switch stays", TEST_PRESSED, "true")
-    comes(browser, "and the digits count", DIGITS, re.compile("^[1-9][0-9][0-9]$"))
+    eventually(browser, "a switch stays", TEST_PRESSED, "true")
+    eventually(browser, "and the digits count", DIGITS, re.compile("^[1-9][0-9][0-9]$"))
     browser.fingers([TEST_KEY], 80)
-    comes(browser, "until it is switched off", TEST_PRESSED, "false")
-    comes(browser, "what stands still is announced", SAID_IS_SHOWN, True)
+    eventually(browser, "until it is switched off", TEST_PRESSED, "false")
+    eventually(browser, "what stands still is announced", SAID_IS_SHOWN, True)
     shown, segments = browser.script(SHOWN)
     lit = [SEGMENTS_OF[digit] for digit in shown]
     verdict("four digits are drawn, of seven segments each", segments, [0] * (4 - len(lit)) + lit)
@@ -132,7 +132,7 @@ def check_stopwatch(browser):
 
 def check_die(browser):
     choose_example(browser, "die")
-    comes(browser, "a die has seven lamps", "return document.querySelectorAll('.die .bulb').length", 7)
+    eventually(browser, "a die has seven lamps", "return document.querySelectorAll('.die .bulb').length", 7)
     places = browser.script(PLACES)
     names = browser.script("return [...document.querySelectorAll('.die .bulb')].map((bulb) => bulb.getAttribute('aria-label').split(',')[0])")
     at = [tuple(places[name]) for name in names]
@@ -141,17 +141,17 @@ def check_die(browser):
     verdict("in the places of the pips", at,
             [(left, above), (right, above), (left, centre), (middle, centre), (right, centre), (left, below), (right, below)])
     browser.fingers([key("THROW")], 100)
-    comes(browser, "it shows a face", "return [1, 2, 3, 4, 5, 6].includes(document.querySelectorAll('.die .lit').length)", True)
+    eventually(browser, "it shows a face", "return [1, 2, 3, 4, 5, 6].includes(document.querySelectorAll('.die .lit').length)", True)
 
 
 def check_game(browser):
     choose_example(browser, "stacker")
-    comes(browser, "a matrix of 64 lamps", "return document.querySelectorAll('.matrix .bulb').length", 64)
+    eventually(browser, "a matrix of 64 lamps", "return document.querySelectorAll('.matrix .bulb').length", 64)
     rows = "return new Set([...document.querySelectorAll('.matrix .bulb')].map((bulb) => Math.round(bulb.getBoundingClientRect().y))).size"
     verdict("in eight rows", browser.script(rows), 8)
-    comes(browser, "three of them run", "return document.querySelectorAll('.matrix .lit').length", 3)
+    eventually(browser, "three of them run", "return document.querySelectorAll('.matrix .lit').length", 3)
     browser.fingers([TEST_KEY], 80)
-    comes(browser, "and stand, while the next ones run", "return document.querySelectorAll('.matrix .lit').length", 6)
+    eventually(browser, "and stand, while the next ones run", "return document.querySelectorAll('.matrix .lit').length", 6)
 
 
 def board_of_lamps(count):
@@ -161,14 +161,14 @@ def board_of_lamps(count):
 
 def check_ports(browser):
     choose_example(browser, "lock")
-    comes(browser, "lamps in three colours", f"{COLOURS.replace('return', 'return new Set(')}).size", 3)
-    verdict("ports and chains have their names", browser.text("#ports-told"),
+    eventually(browser, "lamps in three colours", f"{COLOURS.replace('return', 'return new Set(')}).size", 3)
+    verdict("ports and chains have their names", browser.text("#ports-status"),
             re.compile("1columns of the keys0iii.*chain 0rows of the keys"))
 
 
 def check_no_face(browser):
-    told_of(browser, "#board-editor", board_of_lamps(16))
-    comes(browser, "sixteen lamps without a face are no number", "return document.getElementById('display').hidden", True)
+    status_of(browser, "#board-editor", board_of_lamps(16))
+    eventually(browser, "sixteen lamps without a face are no number", "return document.getElementById('display').hidden", True)
     names = re.sub(", (lit|dark)", "", browser.script(NAMES))
     verdict("but have the names of their lines", names, "; ".join(f"chain0.{number}" for number in range(16)))
     verdict("and a title like any", browser.script(TITLE), "Lamps and keys")
@@ -177,21 +177,21 @@ def check_no_face(browser):
 
 def check_bad_faces(browser):
     bad = "# title: Odd <b>one</b>\n# colour 0: pink\n# lamp 16: nobody\n# lamp 0: here <i>x</i>\n# display 15: 1 digit\n# grid 0: ghost\n"
-    verdict("a board with a face that is none is wired", told_of(browser, "#board-editor", bad + board_of_lamps(16)),
+    verdict("a board with a face that is none is wired", status_of(browser, "#board-editor", bad + board_of_lamps(16)),
             "Board applied.")
-    comes(browser, "what is wrong with it is told with its lines", FAULTS, "; ".join(f"line {line} of the board's text: {words}" for line, words in (
+    eventually(browser, "what is wrong with it is reported with its lines", FAULTS, "; ".join(f"line {line} of the board's text: {words}" for line, words in (
         (2, "pink is no colour; there are red, amber, yellow, green, blue and white"),
         (3, "the lamp nobody is number 16, and the board has 16"),
         (5, "the display needs lamps up to number 18, and the board has 16"),
         (6, "no lamp has the name ghost"))))
-    comes(browser, "what is not understood stands at its lines in the editor, too", AT_LINES, "line 2: pink is no colour")
+    eventually(browser, "what is not understood stands at its lines in the editor, too", AT_LINES, "line 2: pink is no colour")
     verdict("the rest of it is shown, as letters", [browser.script(TITLE), browser.script("return document.querySelector('#front i, #front h2 b')")],
             ["Odd <b>one</b>", None])
     verdict("the lamp has its name", browser.script(NAMES).split("; ")[0], re.compile("^here, (lit|dark)$"))
     show_text(browser, "board")
     browser.script(PUT_INTO_EDITOR, "#board-editor", "# title: Another\n" + board_of_lamps(16))
-    comes(browser, "a face that is written is shown without wiring", TITLE, "Another")
-    comes(browser, "and no fault is left", FAULTS, "")
+    eventually(browser, "a face that is written is shown without wiring", TITLE, "Another")
+    eventually(browser, "and no fault is left", FAULTS, "")
     # Texts are read 600 ms after the last edit.
     for what, text in (("of another board", board_of_lamps(15)), ("with a fault", board_of_lamps(16) + "[[lamp\n")):
         browser.script(PUT_INTO_EDITOR, "#board-editor", "# title: Third\n# lamp 16: nobody\n" + text)
@@ -199,26 +199,26 @@ def check_bad_faces(browser):
         verdict(f"the face of a text {what} waits until that is wired", [browser.script(TITLE), browser.script(FAULTS)], ["Another", ""])
     browser.reload()
     until_ready(browser)
-    comes(browser, "after a reload, too", TITLE, "Another")
-    told_of(browser, "#board-editor", "# title: Third\n" + board_of_lamps(15))
-    comes(browser, "it is shown then", TITLE, "Third")
+    eventually(browser, "after a reload, too", TITLE, "Another")
+    status_of(browser, "#board-editor", "# title: Third\n" + board_of_lamps(15))
+    eventually(browser, "it is shown then", TITLE, "Third")
 
 
 def check_forced_colours(browser):
     choose_example(browser, "traffic light")
-    comes(browser, "the traffic light again", NAMES, re.compile("green, lit"))
+    eventually(browser, "the traffic light again", NAMES, re.compile("green, lit"))
     browser.command("Emulation.setEmulatedMedia", features=[{"name": "forced-colors", "value": "active"}])
     verdict("in forced colours all lamps have one colour", len(set(browser.script(RINGS))), 1)
     verdict("what is lit is full there, too", browser.script(FILLED), True)
     letters = "return [...document.querySelectorAll('#front .bulb')].map((bulb) => getComputedStyle(bulb, '::before').content).join(' ')"
-    verdict("and letters tell the colours", browser.script(letters), '"" "A" "" "G" "G"')
+    verdict("and letters show the colours", browser.script(letters), '"" "A" "" "G" "G"')
     browser.command("Emulation.setEmulatedMedia", features=[])
 
 
 def check_three_lamps(browser):
     three = (TOP / "examples/three_lamps/board.toml").read_text()
-    told_of(browser, "#board-editor", three)
-    comes(browser, "lamps with names alone stand in a row", NAMES, re.compile("^left, (lit|dark); middle, (lit|dark); right, (lit|dark)$"))
+    status_of(browser, "#board-editor", three)
+    eventually(browser, "lamps with names alone stand in a row", NAMES, re.compile("^left, (lit|dark); middle, (lit|dark); right, (lit|dark)$"))
 
 
 def check(browser, page, _folder, _mcs4):
@@ -237,7 +237,7 @@ def check(browser, page, _folder, _mcs4):
 
 
 def take_pictures(browser, page, folder):
-    """Three boards as the page shows them, for the documents."""
+    """Takes pictures of three boards as the page shows them, for the documents."""
     browser.go(page.as_uri())
     until_ready(browser)
     browser.command("Emulation.setDeviceMetricsOverride", width=1280, height=1400, deviceScaleFactor=1, mobile=False)
@@ -254,4 +254,4 @@ def take_pictures(browser, page, folder):
             return [front.x, front.y, front.width, document.getElementById("keys").getBoundingClientRect().bottom - front.y + 8]""")
         taken = browser.command("Page.captureScreenshot", clip=dict(zip(("x", "y", "width", "height", "scale"), [*box, 1])))
         write_picture(base64.b64decode(taken["data"]), folder / f"{name.replace(' ', '_')}.png")
-    browser.command("Emulation.clearDeviceMetricsOverride")
+    browser.resize_back()

@@ -4,15 +4,15 @@ size; an unknown one; and what is not there any more."""
 import re
 import time
 
-from page_in_browser import DIGITS, ENTER, NOTICE, READY, SPEED, STATUS, WHOLE_STATUS, choose_example, told_of, until_ready
+from page_in_browser import DIGITS, ENTER, NOTICE, READY, SPEED, STATUS, WHOLE_STATUS, choose_example, status_of, until_ready
 from page_layout import SIDEWAYS, at_size
 from page_strip import STRIP
-from verdicts import comes, verdict
+from verdicts import eventually, verdict
 from web_driver import Chromium
 
 NAME = "printing%20calculator"
 TITLE = "return document.getElementById('tour').hidden ? '-' : document.getElementById('tour-title').textContent"
-TOLD = "return document.getElementById('tour-told').textContent"
+TOUR_STATUS = "return document.getElementById('tour-status').textContent"
 SESSION = "return document.getElementById('name').value"
 TAB = "return document.querySelector('#text-tabs [aria-selected=true]').textContent"
 DOCK_TAB = TAB.replace("text-tabs", "dock-tabs")
@@ -27,7 +27,7 @@ REGISTER = "return document.getElementById(`value-${arguments[0]}`).textContent"
 
 
 def place(browser, words, time_after=0.2):
-    """A place, as a click on it; places with the same words are told apart by a number behind them."""
+    """Clicks on the place with these words; a number behind them distinguishes places with the same words."""
     words, _, number = words.partition("#")
     found = [at for at, each in enumerate(browser.script(PLACES)) if each == words]
     if not found:
@@ -39,127 +39,127 @@ def place(browser, words, time_after=0.2):
 
 def next_step(browser, title):
     browser.click("#tour-next")
-    comes(browser, f"the next step is {title}", TITLE, re.compile(f"^[1-6] of 6: {title}$"))
+    eventually(browser, f"the next step is {title}", TITLE, re.compile(f"^[1-6] of 6: {title}$"))
 
 
 def check_sum(browser):
-    comes(browser, "the story is open", TITLE, "1 of 6: A sum")
+    eventually(browser, "the story is open", TITLE, "1 of 6: A sum")
     verdict("with its example", browser.script(SESSION), "printing calculator")
     for words in ("1", "2", "+", "3", "0", "="):
         place(browser, words)
-    comes(browser, "its keys press the board's", STRIP, "12+ 30= 42")
+    eventually(browser, "its keys press the board's", STRIP, "12+ 30= 42")
     verdict("and the display shows what came", browser.script(DIGITS), "42")
 
 
 def check_turn(browser):
     next_step(browser, "One digit at a time")
     place(browser, "Stop time")
-    comes(browser, "time stands still", STATUS, re.compile("^Paused"))
+    eventually(browser, "time stands still", STATUS, re.compile("^Paused"))
     place(browser, "Let it run")
-    comes(browser, "time runs", STATUS, re.compile("^Running"))
+    eventually(browser, "time runs", STATUS, re.compile("^Running"))
     place(browser, "wiring")
-    comes(browser, "the wiring is in front", TAB, re.compile("^Wiring"))
+    eventually(browser, "the wiring is in front", TAB, re.compile("^Wiring"))
     place(browser, "a turn")
-    comes(browser, "the source is in front", TAB, re.compile("^Source"))
+    eventually(browser, "the source is in front", TAB, re.compile("^Source"))
 
 
 def check_phone(browser):
-    """On a phone the story stays in view above what it shows."""
+    """Checks that on a phone the story stays in view above what it shows."""
     at_size(browser, 390, 844, True)
     for words in ("wiring", "a turn"):
         place(browser, words)
-        comes(browser, f"on a phone the story stays beside {words}", STORY_IN_VIEW, True)
+        eventually(browser, f"on a phone the story stays beside {words}", STORY_IN_VIEW, True)
         verdict(f"and {words} has room", browser.script(SHOWN_OF_TAB) > 150, True)
         verdict("nothing scrolls sideways", browser.script(SIDEWAYS), 0)
-    browser.command("Emulation.clearDeviceMetricsOverride")
+    browser.resize_back()
 
 
 def check_key(browser):
     next_step(browser, "A key goes down")
     place(browser, "Stop time")
-    comes(browser, "time stands still", STATUS, re.compile("^Paused"))
+    eventually(browser, "time stands still", STATUS, re.compile("^Paused"))
     place(browser, "press 5")
-    comes(browser, "the key stays down", DOWN, "5")
+    eventually(browser, "the key stays down", DOWN, "5")
     place(browser, "press 5")
     verdict("also where it is pressed again", browser.script(DOWN), "5")
     place(browser, "Run to where the columns are read")
-    comes(browser, "time has come to where the columns are read", WHOLE_STATUS, re.compile(r"look, line"))
+    eventually(browser, "time has come to where the columns are read", WHOLE_STATUS, re.compile(r"look, line"))
     place(browser, "Run to where the key is taken")
-    comes(browser, "and to where the key is taken", WHOLE_STATUS, re.compile(r"taken, line"))
+    eventually(browser, "and to where the key is taken", WHOLE_STATUS, re.compile(r"taken, line"))
     verdict("R11 has its number", browser.script(REGISTER, "R11"), "5")
     place(browser, "here it came into R11")
-    comes(browser, "back to where it came into R11", WHOLE_STATUS, re.compile(r"^Back .*other \+"))
+    eventually(browser, "back to where it came into R11", WHOLE_STATUS, re.compile(r"^Back .*other \+"))
     verdict("which is not done yet", browser.script(REGISTER, "R11"), "0")
     verdict("R9 has it", browser.script(REGISTER, "R9"), "5")
     place(browser, "here R9 got it")
-    comes(browser, "and to where R9 got it", WHOLE_STATUS, re.compile(r"^Back .*look \+"))
+    eventually(browser, "and to where R9 got it", WHOLE_STATUS, re.compile(r"^Back .*look \+"))
     verdict("from the accumulator", browser.script(REGISTER, "acc"), "5")
     place(browser, "Forward")
     place(browser, "Forward")
-    comes(browser, "forward is where it came from", WHOLE_STATUS, re.compile(r"taken, line"))
+    eventually(browser, "forward is where it came from", WHOLE_STATUS, re.compile(r"taken, line"))
 
 
 def check_number(browser):
     next_step(browser, "A digit of a number")
     place(browser, "Run to where the digit is entered")
-    comes(browser, "time has come to where the digit is entered", WHOLE_STATUS, re.compile(r"enter, line"))
+    eventually(browser, "time has come to where the digit is entered", WHOLE_STATUS, re.compile(r"enter, line"))
     verdict("R15 has its code", browser.script(REGISTER, "R15"), "5")
     place(browser, "RAM")
-    comes(browser, "RAM is in view", IN_VIEW, True)
+    eventually(browser, "RAM is in view", IN_VIEW, True)
     place(browser, "run on to what is shown")
-    comes(browser, "time has come to what is shown", WHOLE_STATUS, re.compile(r"show, line"))
+    eventually(browser, "time has come to what is shown", WHOLE_STATUS, re.compile(r"show, line"))
     place(browser, "Run to the next turn")
-    comes(browser, "and to the next turn", WHOLE_STATUS, re.compile(r"turn, line"))
+    eventually(browser, "and to the next turn", WHOLE_STATUS, re.compile(r"turn, line"))
     place(browser, "5")
-    comes(browser, "the key is up", DOWN, "")
+    eventually(browser, "the key is up", DOWN, "")
     place(browser, "time run")
-    comes(browser, "the digit is seen", DIGITS, "5")
+    eventually(browser, "the digit is seen", DIGITS, "5")
     place(browser, "Run to where the digit is entered")
-    comes(browser, "without a key time runs up to there", WHOLE_STATUS, re.compile("^Running to"))
+    eventually(browser, "without a key time runs up to there", WHOLE_STATUS, re.compile("^Running to"))
     place(browser, "time run")
-    comes(browser, "until it is to run on without a goal", WHOLE_STATUS, re.compile('^Running ".*F5'))
+    eventually(browser, "until it is to run on without a goal", WHOLE_STATUS, re.compile('^Running ".*F5'))
     browser.keys(["5"])
-    comes(browser, "a digit that is entered then is seen", DIGITS, "55")
+    eventually(browser, "a digit that is entered then is seen", DIGITS, "55")
     verdict("and stops nothing", browser.script(WHOLE_STATUS), re.compile('^Running ".*F5'))
 
 
 def check_paper(browser):
     next_step(browser, "A line of paper")
     place(browser, "Stop time")
-    comes(browser, "time stands still", STATUS, re.compile("^Paused"))
+    eventually(browser, "time stands still", STATUS, re.compile("^Paused"))
     place(browser, "press =")
     place(browser, "run to where a character is sent")
-    comes(browser, "time has come to where a character is sent", WHOLE_STATUS, re.compile(r"send, line"))
+    eventually(browser, "time has come to where a character is sent", WHOLE_STATUS, re.compile(r"send, line"))
     verdict("the accumulator has its code", browser.script(REGISTER, "acc"), "5")
     place(browser, "Run on")
-    comes(browser, "the paper has one character more", STRIP, "12+ 30= 42 5")
+    eventually(browser, "the paper has one character more", STRIP, "12+ 30= 42 5")
     place(browser, "Go back to before the code came")
-    comes(browser, "it is gone again", STRIP, "12+ 30= 42")
+    eventually(browser, "it is gone again", STRIP, "12+ 30= 42")
 
 
 def check_end(browser):
-    """By the keyboard."""
+    """Checks the end of the story by the keyboard."""
     browser.script("document.getElementById('tour-next').focus()")
     browser.keys([ENTER])
-    comes(browser, "Enter goes to the last step", TITLE, "6 of 6: Further")
+    eventually(browser, "Enter goes to the last step", TITLE, "6 of 6: Further")
     for words, what in (("=", DOWN), ("tests", TAB), ("Waves", DOCK_TAB), ("Source", TAB)):
         browser.script(FOCUS, browser.script(PLACES).index(words))
         browser.keys([ENTER])
         wanted = "" if what == DOWN else re.compile(f"^{words.capitalize()}")
-        comes(browser, f"Enter on {words}", what, wanted)
+        eventually(browser, f"Enter on {words}", what, wanted)
     browser.script(FOCUS, browser.script(PLACES).index("time run"))
     browser.keys([ENTER])
-    comes(browser, "time runs", STATUS, re.compile("^Running"))
-    told_of(browser, "#program-editor", "NOP\n")
+    eventually(browser, "time runs", STATUS, re.compile("^Running"))
+    status_of(browser, "#program-editor", "NOP\n")
     browser.click("#tour-back")
     place(browser, "run to where a character is sent")
-    comes(browser, "a label that is gone is told", TOLD, re.compile("^Nothing was done: .* it has no label send"))
+    eventually(browser, "a label that is gone is reported", TOUR_STATUS, re.compile("^Nothing was done: .* it has no label send"))
 
 
 def check_leaving(browser):
     browser.reload()
     until_ready(browser)
-    comes(browser, "a reload tells the story again", TITLE, "1 of 6: A sum")
+    eventually(browser, "a reload shows the story again", TITLE, "1 of 6: A sum")
     verdict("beside the session", browser.script("return location.hash"), re.compile("^#session="))
     browser.click("#tour-close")
     verdict("Leave closes it", browser.script(TITLE), "-")
@@ -168,21 +168,21 @@ def check_leaving(browser):
 def check_others(browser, page):
     browser.go(f"{page.as_uri()}?story=no%20such")
     until_ready(browser)
-    comes(browser, "an unknown story is told", NOTICE, 'The address names a story, "no such", that this page does not have.')
+    eventually(browser, "an unknown story is reported", NOTICE, 'The address names a story, "no such", that this page does not have.')
     verdict("and the last session is there", browser.script(SESSION), "printing calculator")
     browser.click("#sessions-button")
     browser.until("return document.getElementById('sessions').open", True)
     browser.click("#examples button[aria-label='new session with its story: printing calculator']")
-    comes(browser, "the list of examples has it, too", TITLE, "1 of 6: A sum")
+    eventually(browser, "the list of examples has it, too", TITLE, "1 of 6: A sum")
     wide = "return document.documentElement.scrollWidth <= innerWidth"
     verdict("no line is wider than the window", browser.script(wide), True)
     choose_example(browser, "traffic light")
-    comes(browser, "another session has no story", TITLE, "-")
+    eventually(browser, "another session has no story", TITLE, "-")
 
 
 def check(browser, page, _folder, _mcs4):
     browser.go(f"{page.as_uri()}?story={NAME}")
-    comes(browser, "the page is ready", READY, True, 90)
+    eventually(browser, "the page is ready", READY, True, 90)
     browser.script(SPEED, "real")
     check_sum(browser)
     check_turn(browser)

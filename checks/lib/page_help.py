@@ -4,16 +4,16 @@ import re
 import time
 
 from page_in_browser import ENTER, ESCAPE, STATUS, choose_example, key, lines_answered, show_text, until_ready
-from verdicts import comes, verdict
+from verdicts import eventually, verdict
 
 F1, UP, DOWN, CONTROL = "\ue031", "\ue013", "\ue015", "\ue009"
 HELP = "return !document.getElementById('help').hidden"
 HINT = "return document.getElementById('lines-hint').textContent"
 LINES = "return document.getElementById('lines').value"
-DONE = "return document.getElementById('tour-told').textContent"
+DONE = "return document.getElementById('tour-status').textContent"
 TITLE = "return document.getElementById('tour-title').textContent"
 ROWS = "return document.querySelectorAll('#help-sections tbody tr').length"
-SHOW_IN_BOARD = "#chosen [aria-label='Show in Board']"
+SHOW_IN_BOARD = "#chosen [aria-label='Show in text']"
 HIGH = "return [...document.querySelectorAll('#wiring-picture .high')].length"
 SELECTED = "return document.querySelector('#board-editor .cm-editor').lineEditor.getSelection()"
 
@@ -21,12 +21,12 @@ SELECTED = "return document.querySelector('#board-editor .cm-editor').lineEditor
 def check_help(browser):
     browser.script("document.activeElement.blur()")
     browser.keys([F1])
-    comes(browser, "F1 opens the help", HELP, True)
+    eventually(browser, "F1 opens the help", HELP, True)
     browser.type_into("#help-search", "decimal adjust")
-    comes(browser, "a search leaves the row that has it", ROWS, 1)
+    eventually(browser, "a search leaves the row that has it", ROWS, 1)
     verdict("it is the manual's", browser.text("#help-sections tbody tr"), re.compile("^DAAFBdecimal adjust: 6 is added to ACC if CY"))
     browser.keys([ESCAPE])
-    comes(browser, "Escape closes the help", HELP, False)
+    eventually(browser, "Escape closes the help", HELP, False)
     verdict("and the button has the focus again", browser.script("return document.activeElement.id"), "help-button")
 
 
@@ -34,44 +34,44 @@ def check_lines(browser):
     show_text(browser, "console")
     browser.script("document.activeElement.blur()")
     browser.type_into("#lines", "re")
-    comes(browser, "what begins so is shown below the box", HINT, re.compile(r"^release r c: .*\nreset: .*\nregs: "))
+    eventually(browser, "what begins so is shown below the box", HINT, re.compile(r"^release r c: .*\nreset: .*\nregs: "))
     browser.script("document.getElementById('lines').value = ''")
     browser.type_into("#lines", "poke r5 9" + ENTER)
-    comes(browser, "Enter sends", LINES, "")
+    eventually(browser, "Enter sends", LINES, "")
     browser.type_into("#lines", "seq" + ENTER)
-    comes(browser, "and again", LINES, "")
+    eventually(browser, "and again", LINES, "")
     browser.keys([UP, UP])
-    comes(browser, "the arrow up brings back what was sent before", LINES, "poke r5 9")
+    eventually(browser, "the arrow up brings back what was sent before", LINES, "poke r5 9")
     browser.keys([DOWN])
-    comes(browser, "and the arrow down what was sent after it", LINES, "seq")
+    eventually(browser, "and the arrow down what was sent after it", LINES, "seq")
     browser.keys([DOWN])
-    comes(browser, "and at the end what was being typed", LINES, "")
+    eventually(browser, "and at the end what was being typed", LINES, "")
     browser.type_into("#lines", "unb")
     browser.chord(CONTROL, " ")
-    comes(browser, "Control and the space bar complete a word", LINES, "unbreak ")
+    eventually(browser, "Control and the space bar complete a word", LINES, "unbreak ")
     browser.script("document.getElementById('lines').value = ''")
     browser.type_into("#lines", "help watch" + ENTER)
-    comes(browser, "help with a word opens the help there", HELP, True)
+    eventually(browser, "help with a word opens the help there", HELP, True)
     verdict("and searches it", browser.script("return document.getElementById('help-search').value"), "watch")
     browser.click("#help-close")
-    comes(browser, "its button closes it", HELP, False)
+    eventually(browser, "its button closes it", HELP, False)
 
 
 def check_wiring(browser):
     choose_example(browser, "traffic light")
     browser.click("#wiring-tab")
-    comes(browser, "the wiring is drawn", "return document.querySelectorAll('#wiring-picture .part').length >= 4", True)
-    comes(browser, "lines at 1 are marked while time runs", HIGH, re.compile("[1-9]"))
-    verdict("and told in words", browser.text("#wiring-words"), re.compile("ROM 0 · 4001: line rom0.0, an (in|out)put, "))
+    eventually(browser, "the wiring is drawn", "return document.querySelectorAll('#wiring-picture .part').length >= 4", True)
+    eventually(browser, "lines at 1 are marked while time runs", HIGH, re.compile("[1-9]"))
+    verdict("and described in words", browser.text("#wiring-words"), re.compile("ROM 0 · 4001: line rom0.0, an (in|out)put, "))
     browser.script("document.querySelector('#wiring-picture .part.of-rom').focus()")
     browser.keys([ENTER])
     browser.click(SHOW_IN_BOARD)
-    comes(browser, "a part that is chosen by Enter has its lines in the board's text", SELECTED, re.compile(r"^\[\[rom\]\]\nchip = 0\n"))
+    eventually(browser, "a part that is chosen by Enter has its lines in the board's text", SELECTED, re.compile(r"^\[\[rom\]\]\nchip = 0\n"))
     browser.click("#wiring-tab")
     browser.script("document.querySelector('#wiring-picture .of-test').focus()")
     browser.keys([ENTER])
     browser.click(SHOW_IN_BOARD)
-    comes(browser, "and the button at TEST its line", SELECTED, "# test: button WALK")
+    eventually(browser, "and the button at TEST its line", SELECTED, "# test: button WALK")
     browser.click("#wiring-tab")
     verdict("and the part where the caret stands is marked",
             browser.script("return document.querySelectorAll('#wiring-picture .marked').length") >= 1, True)
@@ -81,46 +81,46 @@ def check_wiring(browser):
 def run_program(browser):
     """Puts the step's program into the source, and assembles and runs it by its button."""
     browser.click("#tour-put")
-    browser.script("document.querySelector('#program-editor .told').firstChild.data = ''")
+    browser.script("document.querySelector('#program-editor .status-text').firstChild.data = ''")
     browser.click("#program-editor .send")
-    browser.until("return document.querySelector('#program-editor .told').textContent", re.compile("It runs from 000 on"))
+    browser.until("return document.querySelector('#program-editor .status-text').textContent", re.compile("It runs from 000 on"))
     browser.until(STATUS, re.compile("^Running"))
 
 
 def check_tour(browser):
-    """The five steps, as they say it."""
+    """Checks the five steps, as they describe it."""
     browser.click("#help-button")
     browser.click("#tour-begin")
-    comes(browser, "the first program begins", TITLE, "1 of 5: A lamp")
+    eventually(browser, "the first program begins", TITLE, "1 of 5: A lamp")
     run_program(browser)
-    comes(browser, "the lamp is seen", DONE, "Done.")
+    eventually(browser, "the lamp is seen", DONE, "Done.")
     browser.click("#tour-next")
     run_program(browser)
-    comes(browser, "the count is seen", DONE, "Done.")
+    eventually(browser, "the count is seen", DONE, "Done.")
     browser.click("#tour-next")
     verdict("a step begins undone", browser.script(DONE), "")
     run_program(browser)
     time.sleep(0.3)
     browser.fingers([key("right")], 400)
-    comes(browser, "the key is seen", DONE, "Done.")
+    eventually(browser, "the key is seen", DONE, "Done.")
     browser.click("#tour-next")
     lines_answered(browser, "break 0x006")
-    comes(browser, "the breakpoint is seen", DONE, "Done.")
+    eventually(browser, "the breakpoint is seen", DONE, "Done.")
     lines_answered(browser, "unbreak 0x006")
     browser.click("#tour-next")
     run_program(browser)
     browser.click(".ram button")
     time.sleep(0.3)
     browser.fingers([key("left")], 300)
-    comes(browser, "the watch is seen", DONE, re.compile("^Done: that was the last step"))
+    eventually(browser, "the watch is seen", DONE, re.compile("^Done: that was the last step"))
     browser.click("#tour-next")
-    comes(browser, "and it ends", "return document.getElementById('tour').hidden", True)
+    eventually(browser, "and it ends", "return document.getElementById('tour').hidden", True)
 
 
 def check_hints(browser):
     titles = "return [...document.querySelectorAll('#processor [title], #calls [title], #ports [title]')].map((each) => each.title).join('; ')"
     for words in ("the accumulator", "in the middle of an instruction of two cycles", "the return addresses, the newest first", "what WRR has written"):
-        comes(browser, f"a cell says what it shows: {words}", titles, re.compile(words))
+        eventually(browser, f"a cell says what it shows: {words}", titles, re.compile(words))
 
 
 def check(browser, page, _folder, _mcs4):

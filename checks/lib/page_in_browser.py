@@ -6,24 +6,25 @@ import re
 import subprocess
 import time
 
+from driven import Fault
 from page_module import module_of_page
 from picture import write_picture
-from verdicts import comes, verdict
+from verdicts import eventually, verdict
 
 TOP = pathlib.Path(__file__).resolve().parent.parent.parent
 DIGITS = "return document.getElementById('digits').textContent"
-# What the status says; where it has names of the program behind an address, without them.
+# The status text; names of the program after an address are left out.
 STATUS = "return document.getElementById('status').textContent.replace(/ \\([^()]*line \\d+\\)/g, '')"
 WHOLE_STATUS = "return document.getElementById('status').textContent"
 STEPPED = re.compile("^At [0-9A-F]{3}, after [12] cycles?, ")
-NOTICE = "return [...document.querySelectorAll('#notice p')].map((told) => told.textContent).join(' ')"
+NOTICE = "return [...document.querySelectorAll('#notice p')].map((shown) => shown.textContent).join(' ')"
 # All notices so far, the newest first, as the list has them.
 ALL_NOTICES = """
 document.getElementById("notices-button").click();
-const all = [...document.querySelectorAll("#notices li .grow")].map((told) => told.textContent);
+const all = [...document.querySelectorAll("#notices li .grow")].map((shown) => shown.textContent);
 document.querySelector("#notices .bar button").click();
 return all"""
-# The cards of a first visit stand before all else.
+# The cards of a first visit precede everything else.
 CLOSE_CARDS = "const cards = document.getElementById('welcome'); if (cards && cards.open) cards.close()"
 READY = "return Boolean(document.body.dataset.ready)"
 KEYS_DOWN = "return document.querySelectorAll(\"#keys [aria-pressed='true']\").length"
@@ -33,12 +34,12 @@ field.value = arguments[0];
 field.dispatchEvent(new Event("change"))"""
 ENTER, ESCAPE, TAB, DOWN = "\ue007", "\ue00c", "\ue004", "\ue015"
 
-# How many elements that can be used have no name for those who do not see the page.
+# The number of controls that have no name for users who do not see the page.
 WITHOUT_NAMES = """
 return [...document.querySelectorAll("button, input, select, textarea")].filter((each) => !each.textContent.trim()
   && !each.getAttribute("aria-label") && !each.labels?.length && !each.getAttribute("aria-labelledby")).length"""
 
-# Takes note of the kept session while the page is hidden and at the moment when it is shown again.
+# Notes the kept session while the page is hidden and at the moment when it is shown again.
 WATCH_HIDDEN = """
 window.keptWhenHidden = [];
 const id = location.hash.slice("#session=".length);
@@ -55,16 +56,16 @@ KEPT_WHEN_HIDDEN = "const kept = window.keptWhenHidden; return [kept.length, new
 TEXT_OF_EDITOR = "return document.querySelector(`${arguments[0]} .cm-editor`).lineEditor.getValue()"
 PUT_INTO_EDITOR = "document.querySelector(`${arguments[0]} .cm-editor`).lineEditor.setValue(arguments[1])"
 
-# The browser runs nothing of the page for so many milliseconds.
+# Keeps the browser from running anything of the page for a number of milliseconds.
 BLOCK = "const end = performance.now() + arguments[0]; while (performance.now() < end);"
 
-# The rows of the listing turn as the counter goes on: a click before that meets another line.
+# The rows of the listing turn as the counter moves: a click before that meets another line.
 AT_COUNTER = """const next = document.querySelector('#lines-of-program .next');
 return next !== null && next.textContent.includes(document.getElementById('value-pc').textContent)"""
 
 RATE = "return Number(document.getElementById('rate').textContent.replace(/\\D/g, ''))"
 
-# What the page's policy forbids: each of it is tried, and told by an event.
+# The actions that the page's policy forbids: each is tried, and reported by an event.
 FORBIDDEN = """
 window.violations = new Set();
 document.addEventListener("securitypolicyviolation", (event) => window.violations.add(event.effectiveDirective));
@@ -77,27 +78,27 @@ add(document.body, "form", { id: "forbidden", action: "http://127.0.0.1:1/" });
 try {
   document.getElementById("forbidden").submit();
 } catch {
-  // Firefox throws, where Chromium only tells.
+  // Firefox throws, where Chromium only reports.
 }
 """
 VIOLATIONS = "return [...window.violations].sort().join(' ') + (window.injected ? ', but the script ran' : '')"
 
 
 def until_ready(browser):
-    """Waits for the page, which other work on the machine may make slow by far."""
-    comes(browser, "the page is ready", READY, True, 90)
+    """Waits for the page, which other work on the machine may make much slower."""
+    eventually(browser, "the page is ready", READY, True, 90)
     browser.script(CLOSE_CARDS)
 
 
 def open_anew(browser, page):
-    """Opens the page where no page was."""
+    """Opens the page in a browser that had no page."""
     browser.go("about:blank")
     browser.go(page.as_uri())
     until_ready(browser)
 
 
 def stop_time(browser):
-    """Stops time, which runs."""
+    """Pauses the running page."""
     browser.click("#run")
     browser.until(STATUS, re.compile("^Paused"))
 
@@ -109,7 +110,7 @@ def of_file_menu(browser, selector):
 
 
 def key(legend):
-    """The selector of a key of the board."""
+    """Returns the selector of a key of the board."""
     return f"#keys button[aria-label^='key {legend},']"
 
 
@@ -121,12 +122,12 @@ def choose_example(browser, name):
 
 
 def step_with_marks(browser):
-    """Lamps that are lit, time that stands, and the marks of what a step has changed: the traffic light."""
+    """Checks lamps that are on, paused time, and the marks of what a step has changed: the traffic light."""
     choose_example(browser, "traffic light")
-    comes(browser, "a lamp is lit", "return document.querySelectorAll('.bulb.lit').length > 0", True)
+    eventually(browser, "a lamp is lit", "return document.querySelectorAll('.bulb.lit').length > 0", True)
     stop_time(browser)
     browser.click("#step")
-    comes(browser, "a step leaves marks", "return document.querySelectorAll('.changed').length > 0", True)
+    eventually(browser, "a step leaves marks", "return document.querySelectorAll('.changed').length > 0", True)
 
 
 def check_calculator(browser):
@@ -134,18 +135,18 @@ def check_calculator(browser):
     for legend in "12+30=":
         browser.fingers([key(legend)], 60)
         time.sleep(0.08)
-    comes(browser, "1 2 + 3 0 = by the pointer", DIGITS, "42")
+    eventually(browser, "1 2 + 3 0 = by the pointer", DIGITS, "42")
     browser.reload()
     until_ready(browser)
-    comes(browser, "the display after a reload", DIGITS, "42")
+    eventually(browser, "the display after a reload", DIGITS, "42")
     browser.keys([ESCAPE, "7", "-", "9", ENTER])
-    comes(browser, "7 - 9 by the keyboard", DIGITS, "-2")
+    eventually(browser, "7 - 9 by the keyboard", DIGITS, "-2")
     browser.keys([ESCAPE, "6", "*", "9", ENTER], 1, 1)
-    comes(browser, "6 * 9, typed faster than a hand can", DIGITS, "54")
-    # Again before its release is told, which comes 43 ms after the press and is shown with the next frame.
+    eventually(browser, "6 * 9, typed faster than a hand can", DIGITS, "54")
+    # Again before its release is reported, which comes 43 ms after the press and is shown with the next frame.
     for down, up in ((20, 50), (50, 20), (90, 25)):
         browser.keys([ESCAPE, *"11111111"], down, up)
-        comes(browser, f"one key eight times, {down} ms down and {up} ms up", DIGITS, "11111111")
+        eventually(browser, f"one key eight times, {down} ms down and {up} ms up", DIGITS, "11111111")
 
 
 def check_two_keys(browser):
@@ -153,21 +154,21 @@ def check_two_keys(browser):
                    "document.querySelectorAll(\"#keys [aria-pressed='true']\").length); }).observe(document.getElementById('keys'), "
                    "{ subtree: true, attributes: true, attributeFilter: ['aria-pressed'] })")
     browser.fingers([key("C"), key("S"), key("0")], 400)
-    comes(browser, "three keys at once", "return window.both", 3)
-    comes(browser, "and all up again", KEYS_DOWN, 0)
+    eventually(browser, "three keys at once", "return window.both", 3)
+    eventually(browser, "and all up again", KEYS_DOWN, 0)
 
 
 def lamps_of(mcs4, file, keys):
-    """What the program shows of a session's file, after some keys."""
+    """Returns the program's output for a session's file, after some keys."""
     board = TOP / "examples/calculator/board.toml"
-    told = dict(os.environ, MCS4=str(mcs4))
-    lines = subprocess.run([TOP / "mcs4", "keys", board, keys], stdout=subprocess.PIPE, check=True, env=told).stdout
+    environment = dict(os.environ, MCS4=str(mcs4))
+    lines = subprocess.run([TOP / "mcs4", "keys", board, keys], stdout=subprocess.PIPE, check=True, env=environment).stdout
     answers = subprocess.run([mcs4, "open", file], input=lines, stdout=subprocess.PIPE, check=True).stdout
     return subprocess.run([TOP / "mcs4", "display", board], input=answers, stdout=subprocess.PIPE, check=True).stdout.decode().strip()
 
 
 def as_version_1(file):
-    """A saved session as version 1 would have it: no byte for the version, and no count of watches."""
+    """Returns a saved session as version 1 would have it: no byte for the version, and no count of watches."""
     slot = 16 if file[8] % 2 == 0 else 81936
     length = int.from_bytes(file[slot:slot + 4], "big")
     snapshot = file[slot + 4:slot + 4 + length]
@@ -190,25 +191,25 @@ def check_files(browser, folder, mcs4):
     old = folder / "old.mcs"
     old.write_bytes(as_version_1(saved.read_bytes()))
     browser.type_into("#file", str(old))
-    comes(browser, "a file of version 1 is carried over", "return document.getElementById('name').value", "old")
+    eventually(browser, "a file of version 1 is carried over", "return document.getElementById('name').value", "old")
     verdict("and shows the same", browser.script(DIGITS), "42")
     verdict("the saved file, gone on with by the program", lamps_of(mcs4, saved, "/8="), "5.25")
     browser.type_into("#file", str(saved))
-    comes(browser, "the program's file, opened by the page", DIGITS, "5.25")
+    eventually(browser, "the program's file, opened by the page", DIGITS, "5.25")
     verdict("its keys have their names", browser.text("#keys"), "789/456*123-0.~+CCEcS=")
     source = browser.script(TEXT_OF_EDITOR, "#program-editor")
     verdict("its program has its text", source, (TOP / "examples/calculator/calculator.asm").read_text())
     rubbish = folder / "rubbish.mcs"
     rubbish.write_bytes(b"no session")
     browser.type_into("#file", str(rubbish))
-    comes(browser, "rubbish is refused in words", NOTICE, re.compile(r"rubbish\.mcs was not opened: no 50: not a session file"))
+    eventually(browser, "rubbish is refused in words", NOTICE, re.compile(r"Cannot open rubbish\.mcs: no 50: not a session file"))
     damaged = folder / "damaged.mcs"
     bytes_of = bytearray(saved.read_bytes())
     bytes_of[16:20] = b"\xff" * 4
     bytes_of[81936:81940] = b"\xff" * 4
     damaged.write_bytes(bytes_of)
     browser.type_into("#file", str(damaged))
-    comes(browser, "a damaged file is refused in words", NOTICE, re.compile("no 51: the session file is damaged"))
+    eventually(browser, "a damaged file is refused in words", NOTICE, re.compile("no 51: the session file is damaged"))
     verdict("the session is as it was", browser.script(DIGITS), "5.25")
     browser.click("#notice .dismiss")
 
@@ -217,22 +218,22 @@ def check_stops(browser):
     browser.click("#step")
     browser.until(STATUS, STEPPED)
     line = "#lines-of-program button.next"
-    comes(browser, "the listing is at the counter", AT_COUNTER, True)
+    eventually(browser, "the listing is at the counter", AT_COUNTER, True)
     address = browser.text(f"{line} span")[:3]
     browser.click_at_rest(line)
-    comes(browser, "a breakpoint by a click", f"return document.querySelector('{line}').getAttribute('aria-pressed')", "true")
+    eventually(browser, "a breakpoint by a click", f"return document.querySelector('{line}').getAttribute('aria-pressed')", "true")
     browser.click("#run")
-    comes(browser, "the run stops there", STATUS, f"Paused at {address}, at a breakpoint.")
-    comes(browser, "the listing shows it", f"return document.querySelector('{line} span').textContent.slice(0, 3)", address)
+    eventually(browser, "the run stops there", STATUS, f"Paused at {address}, at a breakpoint.")
+    eventually(browser, "the listing shows it", f"return document.querySelector('{line} span').textContent.slice(0, 3)", address)
     browser.click_at_rest(line)
-    comes(browser, "the breakpoint is gone", f"return document.querySelector('{line}').getAttribute('aria-pressed')", "false")
+    eventually(browser, "the breakpoint is gone", f"return document.querySelector('{line}').getAttribute('aria-pressed')", "false")
     browser.click(".ram button")
-    comes(browser, "a watch by a click", "return document.querySelector('.ram button').getAttribute('aria-pressed')", "true")
+    eventually(browser, "a watch by a click", "return document.querySelector('.ram button').getAttribute('aria-pressed')", "true")
     browser.script(SPEED, "full")
     browser.click("#run")
     browser.fingers([key("C")], 60)
-    comes(browser, "a run at full speed stops where the character changes", STATUS,
-          re.compile("^Paused at ..., after a watched character changed.$"))
+    eventually(browser, "a run at full speed stops where the character changes", STATUS,
+               re.compile("^Paused at ..., after a watched nibble changed.$"))
     browser.script(SPEED, "real")
     verdict("and it is marked", "changed" in browser.script("return document.querySelector('.ram button').className"), True)
     browser.click(".ram button")
@@ -240,7 +241,7 @@ def check_stops(browser):
 
 
 def focused(browser, key, code, most=40):
-    """Goes from one focus to the next by a key until a script on the focused element answers true."""
+    """Moves from one focus to the next by a key until a script on the focused element answers true; returns true if it does."""
     for _ in range(most):
         browser.keys([key], 1, 1)
         if browser.script(f"const e = document.activeElement; return {code}"):
@@ -253,23 +254,23 @@ def check_keyboard_alone(browser):
     browser.script("document.getElementById('name').focus()")
     verdict("Tab comes to Step", focused(browser, TAB, "e.id === 'step'"), True)
     browser.keys([ENTER])
-    comes(browser, "Enter steps", STATUS, STEPPED)
+    eventually(browser, "Enter steps", STATUS, STEPPED)
     verdict("Tab comes to the listing", focused(browser, TAB, "e.closest('#lines-of-program') !== null"), True)
     browser.keys([DOWN, DOWN, ENTER])
-    comes(browser, "arrows and Enter set a breakpoint", "return document.activeElement.getAttribute('aria-pressed')", "true")
+    eventually(browser, "arrows and Enter set a breakpoint", "return document.activeElement.getAttribute('aria-pressed')", "true")
     browser.keys([ENTER])
-    comes(browser, "and clear it", "return document.activeElement.getAttribute('aria-pressed')", "false")
+    eventually(browser, "and clear it", "return document.activeElement.getAttribute('aria-pressed')", "false")
     verdict("all that can be used has a name", browser.script(WITHOUT_NAMES), 0)
 
 
 def check_narrow(browser):
     browser.command("Emulation.setDeviceMetricsOverride", width=360, height=740, deviceScaleFactor=1, mobile=True)
-    comes(browser, "a phone shows the page without scrolling sideways", "return document.documentElement.scrollWidth <= 360", True)
-    browser.command("Emulation.clearDeviceMetricsOverride")
+    eventually(browser, "a phone shows the page without scrolling sideways", "return document.documentElement.scrollWidth <= 360", True)
+    browser.resize_back()
 
 
 def check_hidden(browser):
-    """A hidden page stands still, and so does one that the browser does not run."""
+    """Checks that a hidden page is paused, and so is one that the browser does not run."""
     # An example is kept from the first key on.
     browser.keys([ESCAPE])
     browser.until("return location.hash", re.compile("#session="))
@@ -278,49 +279,50 @@ def check_hidden(browser):
     browser.new_tab()
     time.sleep(2.5)
     browser.close_tab(shown)
-    comes(browser, "a page that was hidden says for how long it stood still", STATUS,
-          re.compile(r"^Running\. Paused for \d+ seconds while the page was hidden\.$"))
-    comes(browser, "what is kept did not change meanwhile", KEPT_WHEN_HIDDEN, [2, 1])
-    comes(browser, "and it runs on as fast as it should", RATE, re.compile("^9[0-4]...$"))
+    eventually(browser, "a page that was hidden says for how long it stood still", STATUS,
+               re.compile(r"^Running\. Paused for \d+ seconds while the page was hidden\.$"))
+    eventually(browser, "what is kept did not change meanwhile", KEPT_WHEN_HIDDEN, [2, 1])
+    eventually(browser, "and it runs on as fast as it should", RATE, re.compile("^9[0-4]...$"))
     browser.script(BLOCK, 1500)
-    comes(browser, "the same where the browser did not run the page", STATUS,
-          re.compile(r"Paused for \d+ seconds while the tab was busy\.$"))
+    eventually(browser, "the same where the browser did not run the page", STATUS,
+               re.compile(r"Paused for \d+ seconds while the tab was busy\.$"))
     check_hidden_at_full_speed(browser)
 
 
 def check_hidden_at_full_speed(browser):
-    """At full speed the time of a hidden page goes on, and is kept."""
+    """Checks that at full speed the time of a hidden page continues, and is kept."""
     browser.script(SPEED, "full")
-    comes(browser, "full speed is faster", RATE, re.compile("[1-9]......"))
+    eventually(browser, "full speed is faster", RATE, re.compile("[1-9]......"))
     browser.script("window.keptWhenHidden = []")
     shown = browser.tab()
     browser.new_tab()
     time.sleep(6)
     browser.close_tab(shown)
-    comes(browser, "at full speed what is kept goes on while hidden", KEPT_WHEN_HIDDEN, [2, 2])
+    eventually(browser, "at full speed what is kept goes on while hidden", KEPT_WHEN_HIDDEN, [2, 2])
     verdict("and nothing stood still", browser.script(STATUS), re.compile("^Running"))
     browser.script(SPEED, "real")
-    comes(browser, "and real time is held again", RATE, re.compile("^9[0-4]...$"))
+    eventually(browser, "and real time is held again", RATE, re.compile("^9[0-4]...$"))
 
 
 def check_speed_field(browser):
-    """Some browsers fill in a field again after a reload, others where the page is come back to: the speed is the one that it says."""
+    """Checks the speed, because some browsers fill in a field again after a reload, and others when the user returns to the page: the
+    speed is the one that the field says. The driver goes back: Chromium ignores pages that nobody touched when a script does."""
     for what, come_again in {"a reload": lambda: browser.script("setTimeout(() => location.reload(), 50)"),
-                             "coming back": lambda: (browser.go("about:blank"), browser.script("history.back()"))}.items():
+                             "coming back": lambda: (browser.go("about:blank"), browser.back())}.items():
         browser.type_into("#speed", "full")
         # A page that the browser has kept whole is ready as it is shown again.
         browser.script("const { dataset } = document.body; delete dataset.ready; addEventListener('pageshow', () => { dataset.ready = 'again'; })")
         come_again()
         until_ready(browser)
         is_full = browser.until("const field = document.getElementById('speed'); return field ? field.value : ''", re.compile("^(full|real)$")) == "full"
-        # The first rate that is told at full speed may still be a low one.
-        comes(browser, f"the speed after {what} is the one in its field", RATE, re.compile("^[2-9].{5}$|^.{7,}$" if is_full else "^[1-9].{4}$"))
+        # The first rate that is reported at full speed may still be a low one.
+        eventually(browser, f"the speed after {what} is the one in its field", RATE, re.compile("^[2-9].{5}$|^.{7,}$" if is_full else "^[1-9].{4}$"))
     browser.script(SPEED, "real")
 
 
 def show_text(browser, name):
-    """Brings a tab of the texts to the front (`program`, `board`, `wiring`), or one of the dock (`console`, `disassembly`). What is drawn anew beside the tabs may move them from under the
-    pointer on a slow machine; a user clicks again then."""
+    """Brings a tab of the texts to the front (`program`, `board`, `wiring`), or one of the dock (`console`, `disassembly`). On a slow
+    machine, redrawing beside the tabs may move them from under the pointer; a user clicks again then."""
     selected = f"return document.getElementById('{name}-tab').getAttribute('aria-selected')"
     end = time.monotonic() + 30
     while time.monotonic() < end:
@@ -331,28 +333,28 @@ def show_text(browser, name):
     raise Fault(f"the tab {name} does not come to the front")
 
 
-def told_of(browser, editor, text):
+def status_of(browser, editor, text):
     show_text(browser, editor[1:].removesuffix("-editor"))
     browser.script(PUT_INTO_EDITOR, editor, text)
     browser.click(f"{editor} .send")
-    return browser.until(f"return document.querySelector('{editor} .told').textContent", re.compile("."))
+    return browser.until(f"return document.querySelector('{editor} .status-text').textContent", re.compile("."))
 
 
 def check_texts(browser):
-    verdict("a program's fault at its line", told_of(browser, "#program-editor", "NOP\n\tJCN 4, far\n ORG 0x300\nfar: NOP\n"),
+    verdict("a program's fault at its line", status_of(browser, "#program-editor", "NOP\n\tJCN 4, far\n ORG 0x300\nfar: NOP\n"),
             re.compile("^line 2: far is on another page; JCN reaches"))
-    verdict("a dot in a text", told_of(browser, "#program-editor", "NOP\n.\nNOP\n"), re.compile("^line 2: a line that is a dot alone"))
-    verdict("a letter that is not of ASCII", told_of(browser, "#program-editor", "NOP\ncaf\u00e9: NOP"), re.compile("^line 2: \u00e9 is not a"))
+    verdict("a dot in a text", status_of(browser, "#program-editor", "NOP\n.\nNOP\n"), re.compile("^line 2: a line with only a dot"))
+    verdict("a letter that is not of ASCII", status_of(browser, "#program-editor", "NOP\ncaf\u00e9: NOP"), re.compile("^line 2: \u00e9 is not a"))
     rom = '[[rom]]\nchip = 0\nport = "0000"\n'
-    verdict("an unknown key of a board", told_of(browser, "#board-editor", f"{rom}size = 3\n"),
+    verdict("an unknown key of a board", status_of(browser, "#board-editor", f"{rom}size = 3\n"),
             "line 4: size is not a key of rom, which has chip, port")
-    verdict("a line that the board lacks", told_of(browser, "#board-editor", f'{rom}\n[[lamp]]\nline = "ram0.0.0"\n'),
-            "line 6: ram0.0.0: the board has no RAM in bank 0")
+    verdict("a line that the board lacks", status_of(browser, "#board-editor", f'{rom}\n[[lamp]]\nline = "ram0.0.0"\n'),
+            "line 6: the board has no line ram0.0.0: no [[ram]] has bank = 0")
     verdict("the board is as it was", browser.script(DIGITS) != "", True)
     verdict("lines and their answers", lines_answered(browser, "poke r5 9\nfoo\nseq"),
             re.compile(r"poke r5 9ok \d+foono 10: not a command.*seqseq \d+$"))
     three = (TOP / "examples/three_lamps/board.toml").read_text()
-    verdict("a board that is wired", told_of(browser, "#board-editor", three), "Board applied.")
+    verdict("a board that is wired", status_of(browser, "#board-editor", three), "Board applied.")
     verdict("has three lamps", browser.script("return document.querySelectorAll('#lamps li').length"), 3)
 
 
@@ -371,17 +373,17 @@ def check_two_tabs(browser):
     browser.new_tab()
     browser.go(address)
     until_ready(browser)
-    verdict("a second tab on the session is told so", browser.script(NOTICE), re.compile("open in another tab"))
+    verdict("a second tab on the session is informed", browser.script(NOTICE), re.compile("open in another tab"))
     verdict("and shows another session", browser.script("return location.href") != address, True)
     name = browser.script("return document.getElementById('name').value")
     browser.click("#notice button[aria-label^='Open a copy']")
-    comes(browser, "a copy of the first one can be opened there", "return document.getElementById('name').value", re.compile(", a copy$"))
+    eventually(browser, "a copy of the first one can be opened there", "return document.getElementById('name').value", re.compile(", a copy$"))
     verdict("which is none of the session that was shown", browser.script("return document.getElementById('name').value") != f"{name}, a copy", True)
     browser.close_tab(first)
 
 
 def check_use(browser, page, folder, mcs4):
-    """What the page does in a browser that has all."""
+    """Checks what the page does in a browser that has everything."""
     browser.go(page.as_uri())
     until_ready(browser)
     verdict("without a notice", browser.script(NOTICE), "")
@@ -400,7 +402,7 @@ def check_use(browser, page, folder, mcs4):
 
 
 def check_by_chromium(browser, page):
-    """What Chromium's driver alone can show."""
+    """Checks what only Chromium's driver can show."""
     browser.go(page.as_uri())
     until_ready(browser)
     check_narrow(browser)
@@ -413,11 +415,11 @@ def check_policy(browser, page):
     browser.go(page.as_uri())
     until_ready(browser)
     browser.script(FORBIDDEN)
-    comes(browser, "what the policy forbids", VIOLATIONS, "base-uri form-action img-src script-src-elem style-src-elem")
+    eventually(browser, "what the policy forbids", VIOLATIONS, "base-uri form-action img-src script-src-elem style-src-elem")
 
 
 def figures(browser, page):
-    """What the page takes, for the documents."""
+    """Returns the sizes and the time of the start of the page, for the documents."""
     open_anew(browser, page)
     start = browser.script("return Number(document.body.dataset.ready)")
     return f"the page has {page.stat().st_size} bytes, its module {len(module_of_page(page))}; it starts in {start} ms in {browser.name}"
@@ -441,4 +443,4 @@ def take_picture(browser, page, path):
     browser.until("return document.querySelectorAll('#lines-of-program [aria-pressed=true], .ram [aria-pressed=true]').length", 2)
     browser.script("scrollTo(0, 0)")
     write_picture(browser.picture(), path)
-    browser.command("Emulation.clearDeviceMetricsOverride")
+    browser.resize_back()

@@ -1,4 +1,4 @@
-"""What checks/page looks at where something fails or the browser lacks something: it is told in words, and nothing is lost."""
+"""What checks/page looks at where something fails or the browser lacks something: it is described in words, and nothing is lost."""
 
 import re
 import time
@@ -6,7 +6,7 @@ import time
 from page_altered import FAULT, FAULTS, SHOW_WORKER, altered
 from page_in_browser import (DIGITS, ENTER, ESCAPE, NOTICE, PUT_INTO_EDITOR, READY, STATUS, TEXT_OF_EDITOR, choose_example, lines_answered,
                              open_anew, stop_time, until_ready)
-from verdicts import comes, verdict
+from verdicts import eventually, verdict
 from web_driver import Chromium
 
 # Ways to have no store.
@@ -18,7 +18,7 @@ NO_STORE = {
 }
 NO_READING = "IDBObjectStore.prototype.getAll = () => { throw new DOMException('', 'UnknownError'); }"
 
-# The browser's store takes nothing more.
+# The browser's store accepts nothing more.
 FULL_STORE = """
 window.put = IDBObjectStore.prototype.put;
 IDBObjectStore.prototype.put = () => { throw new DOMException("", "QuotaExceededError"); }"""
@@ -38,27 +38,27 @@ def dismiss(browser):
 
 
 def check_failures(browser, page, folder):
-    """A trap, no memory, a worker that dies or hangs, and a store without space; the session stays."""
+    """Checks a trap, no memory, a worker that dies or hangs, and a store without space; the session stays."""
     browser.go(altered(page, folder, SHOW_WORKER, FAULTS).as_uri())
     until_ready(browser)
     choose_example(browser, "calculator")
     browser.keys([ESCAPE, "1", "2"])
     browser.until(DIGITS, "12")
     fail(browser, "trap")
-    comes(browser, "a trap is told", NOTICE, re.compile("the module stopped inside a call .unreachable. and was started again"))
+    eventually(browser, "a trap is reported", NOTICE, re.compile("the module stopped inside a call .unreachable. and was started again"))
     verdict("the session is as it was", browser.script(DIGITS), "12")
     dismiss(browser)
     browser.click("#run")
     browser.keys(["3"])
-    comes(browser, "and goes on", DIGITS, "123")
+    eventually(browser, "and goes on", DIGITS, "123")
     fail(browser, "no memory")
-    comes(browser, "lack of memory is told", NOTICE, re.compile("no 90: there was no memory"))
-    comes(browser, "the session is as it was then, too", DIGITS, "123")
+    eventually(browser, "lack of memory is reported", NOTICE, re.compile("no 90: there was no memory"))
+    eventually(browser, "the session is as it was then, too", DIGITS, "123")
     dismiss(browser)
     check_full_store(browser)
     fail(browser, "trap without room")
     browser.click("#step")
-    comes(browser, "no memory for the module after a trap is told", NOTICE, re.compile("no 90: there was no memory"))
+    eventually(browser, "no memory for the module after a trap is reported", NOTICE, re.compile("no 90: there was no memory"))
     verdict("and the session is as it was", browser.script(DIGITS), "123")
     dismiss(browser)
     check_worker(browser)
@@ -67,38 +67,38 @@ def check_failures(browser, page, folder):
 def check_full_store(browser):
     browser.script(FULL_STORE)
     verdict("an answer that is not kept says so", lines_answered(browser, "poke r5 9"), re.compile("not kept: "))
-    verdict("a full store is told", browser.script(NOTICE), re.compile("This session is not kept: the browser has no more space"))
+    verdict("a full store is reported", browser.script(NOTICE), re.compile("This session is not kept: the browser has no more space"))
     browser.script("IDBObjectStore.prototype.put = window.put")
     lines_answered(browser, "seq")
     verdict("once it is kept the notice goes", browser.script(NOTICE), "")
 
 
 def check_worker(browser):
-    """A worker that dies while time runs, and one that hangs when its work is cancelled."""
+    """Checks a worker that dies while time runs, and one that hangs when its work is cancelled."""
     browser.click("#run")
     browser.until(STATUS, re.compile("^Running \""))
     fail(browser, "die")
-    comes(browser, "a worker that died is told", NOTICE, re.compile("worker has stopped and was started again.*as it was before"), 40)
-    comes(browser, "and the session is as it was", DIGITS, "123")
+    eventually(browser, "a worker that died is reported", NOTICE, re.compile("worker has stopped and was started again.*as it was before"), 40)
+    eventually(browser, "and the session is as it was", DIGITS, "123")
     dismiss(browser)
     browser.click("#run")
     browser.keys(["4"])
-    comes(browser, "and goes on in another worker", DIGITS, "1234")
+    eventually(browser, "and goes on in another worker", DIGITS, "1234")
     stop_time(browser)
     before = lines_answered(browser, "seq")
     fail(browser, "hang")
     browser.script("document.getElementById('lines').value = 'poke r5 9'")
     browser.script("document.getElementById('send').click()")
-    comes(browser, "work that hangs can be cancelled", "return document.getElementById('work').hidden", False)
+    eventually(browser, "work that hangs can be cancelled", "return document.getElementById('work').hidden", False)
     browser.click("#cancel")
-    comes(browser, "then its worker is ended", NOTICE, re.compile("worker has stopped and was started again"), 20)
+    eventually(browser, "then its worker is ended", NOTICE, re.compile("worker has stopped and was started again"), 20)
     browser.script("document.getElementById('lines').value = ''")
     verdict("and the session is as it was then, too", lines_answered(browser, "seq"), before)
     dismiss(browser)
 
 
-# 20,000,000 bytes, of lines that take a while together: none of them may be done. The field is not shown meanwhile, since to lay out so
-# much text takes a browser minutes.
+# 20,000,000 bytes, of lines that take a while together: none of them may be done. The field is not shown meanwhile, because to lay out
+# so much text takes a browser minutes.
 LONG_WORK = """
 document.getElementById("lines").style.display = "none";
 document.getElementById("lines").value = "run 100000".padEnd(249).concat("\\n").repeat(80000);
@@ -108,8 +108,8 @@ window.ticking = setInterval(() => {
   window.longest = Math.max(window.longest, performance.now() - before);
   before = performance.now();
 }, 20)"""
-# Opened with `?hang`, the page never comes to the end of opening a session, nor to what it does when it is left. Opened with `?deaf=EVENT`,
-# it is not told of that event.
+# Opened with `?hang`, the page never finishes opening a session, nor what it does when it is left. Opened with `?deaf=EVENT`,
+# it does not get that event.
 HANG = """
 const deaf = (name) => addEventListener(name, (event) => event.stopImmediatePropagation(), true);
 if (location.search.startsWith("?deaf=")) deaf(location.search.slice(6));
@@ -126,14 +126,14 @@ FLAGS = "return Object.keys(localStorage).filter((key) => key.startsWith('fethsa
 LONG_AGO = "for (const key of Object.keys(localStorage)) if (key.startsWith('fethsaim.opening')) localStorage.setItem(key, '1')"
 # Pages that were left in the middle of something may have left some.
 WITHOUT_FLAGS = "for (const key of Object.keys(localStorage)) if (key.startsWith('fethsaim.opening')) localStorage.removeItem(key)"
-UNENDED = 'The session "die" was not opened automatically: when it was last opened, that did not end.'
+UNENDED = 'The session "die" was not opened automatically: the last time, opening it did not finish.'
 LAST_ENTRY = "return document.getElementById('log').lastElementChild.textContent"
 PROGRESS = "return document.querySelector('#work progress').value > 0"
 LONGEST = "clearInterval(window.ticking); return window.longest"
 
 
 def check_long_work(browser, page):
-    """Long work shows how far it is, leaves the page alive, and can be cancelled: then nothing of it is done."""
+    """Checks that long work shows its progress, leaves the page alive, and can be cancelled: then nothing of it is done."""
     open_anew(browser, page)
     choose_example(browser, "calculator")
     stop_time(browser)
@@ -142,16 +142,16 @@ def check_long_work(browser, page):
     before = lines_answered(browser, "seq")
     browser.script(LONG_WORK)
     browser.script("document.getElementById('send').click()")
-    comes(browser, "long work shows how far it is", PROGRESS, True, 60)
+    eventually(browser, "long work shows how far it is", PROGRESS, True, 60)
     browser.click("#cancel")
-    comes(browser, "it can be cancelled", NOTICE, re.compile("It was cancelled. The session is as it was before."), 30)
+    eventually(browser, "it can be cancelled", NOTICE, re.compile("It was cancelled. The session is as it was before."), 30)
     print(f"beside long work the page answers at least every {browser.script(LONGEST):.0f} ms in {browser.name}")
     browser.script("const area = document.getElementById('lines'); area.value = ''; area.style.display = ''")
     verdict("and nothing of it is done", lines_answered(browser, "seq"), before)
     dismiss(browser)
     browser.script("document.getElementById('lines').value = 'step\\n'.repeat(20000)")
     browser.script("document.getElementById('send').click()")
-    comes(browser, "work in pieces is done whole", "return document.getElementById('lines').value", "", 60)
+    eventually(browser, "work in pieces is done whole", "return document.getElementById('lines').value", "", 60)
     lines_answered(browser, "seq")
     verdict("each line of it once", browser.script(LAST_ENTRY), f"seqseq {int(before.rsplit(' ', 1)[1]) + 20000}")
 
@@ -163,41 +163,42 @@ window.setTimeout = (act, time, ...rest) => wait(act, time === 10000 ? 300 : tim
 
 
 def poor(page, folder, code):
-    """A page like this one, in a browser that lacks something; it waits for a store, which it does for ten seconds, for a short time alone."""
+    """Returns a page like this one, in a browser that lacks something. It waits for a store, normally ten seconds, for a short time
+    only."""
     return altered(page, folder, f"{SHORT_WAIT}{code}")
 
 
-def told_at_start(browser, page, code=NOTICE, wanted=re.compile(".")):
+def notice_at_start(browser, page, code=NOTICE, wanted=re.compile(".")):
     browser.go("about:blank")
     browser.go(page.as_uri())
     return browser.until(code, wanted)
 
 
 def works(browser, what):
-    comes(browser, what, READY, True)
+    eventually(browser, what, READY, True)
     browser.keys([ESCAPE, "6", "*", "7", ENTER])
-    comes(browser, "and the bench works all the same", DIGITS, "42")
+    eventually(browser, "and the bench works all the same", DIGITS, "42")
 
 
 def check_poor_browsers(browser, page, folder):
-    verdict("no bulk memory", told_at_start(browser, poor(page, folder, "WebAssembly.validate = () => false")),
+    verdict("no bulk memory", notice_at_start(browser, poor(page, folder, "WebAssembly.validate = () => false")),
             re.compile(r"This browser has no WebAssembly with bulk memory.*97.*102.*16"))
     verdict("no button without a use", browser.script(SHOWN_CONTROLS), ["Dismiss"])
     for lack, code in NO_STORE.items():
-        verdict(lack, told_at_start(browser, poor(page, folder, code)), re.compile("keeps nothing"))
+        verdict(lack, notice_at_start(browser, poor(page, folder, code)), re.compile("keeps nothing"))
         works(browser, lack)
         verdict("a line is answered", lines_answered(browser, "poke r5 9"), re.compile(r"poke r5 9ok \d+"))
         browser.click("#sessions-button")
-        comes(browser, "the sessions of this page are shown", "return document.querySelectorAll('#kept li').length", 1)
+        eventually(browser, "the sessions of this page are shown", "return document.querySelectorAll('#kept li').length", 1)
         browser.click("#close-sessions")
-    verdict("a store that cannot be read", told_at_start(browser, poor(page, folder, NO_READING)), re.compile("could not be read"))
+    verdict("a store that cannot be read", notice_at_start(browser, poor(page, folder, NO_READING)), re.compile("could not be read"))
     works(browser, "a store that cannot be read")
     check_no_locks(browser, page, folder)
 
 
 def check_no_locks(browser, page, folder):
-    """Two tabs on one session, where the browser has no locks: neither overwrites what the other has written."""
-    told_at_start(browser, altered(page, folder, "Object.defineProperty(Navigator.prototype, 'locks', { value: undefined })"), READY, True)
+    """Checks two tabs on one session, in a browser that has no locks: neither overwrites what the other has written."""
+    notice_at_start(browser, altered(page, folder, "Object.defineProperty(Navigator.prototype, 'locks', { value: undefined })"), READY, True)
     address = browser.script("return location.href")
     first = browser.tab()
     stop_time(browser)
@@ -206,7 +207,7 @@ def check_no_locks(browser, page, folder):
     until_ready(browser)
     verdict("the second tab keeps its line", lines_answered(browser, "poke r5 9"), re.compile(r"poke r5 9ok \d+"))
     browser.close_tab(first)
-    verdict("the first one is told", lines_answered(browser, "poke r5 3"), re.compile("not kept: another tab has changed"))
+    verdict("the first one is reported", lines_answered(browser, "poke r5 3"), re.compile("not kept: another tab has changed"))
     browser.reload()
     until_ready(browser)
     verdict("and what the second one wrote is there", lines_answered(browser, "regs"), re.compile(" r .{5}9"))
@@ -214,17 +215,17 @@ def check_no_locks(browser, page, folder):
 
 
 def check_blocked(kind, page, folder):
-    """The page in a browser whose settings block the data of all sites."""
+    """Checks the page in a browser whose settings block the data of all sites."""
     browser = kind(folder / f"blocked{kind.name}", str(folder / "downloads"), **kind.blocks_data)
     try:
-        verdict("blocked data of sites", told_at_start(browser, page), re.compile("blocked by the settings"))
+        verdict("blocked data of sites", notice_at_start(browser, page), re.compile("blocked by the settings"))
         works(browser, "blocked data of sites")
     finally:
         browser.end()
 
 
 def check_little_memory(page, folder):
-    """A browser that gives the module 80 pages of memory, 5 MB: a text that needs more is refused, and the session is as it was."""
+    """Checks a browser that gives the module 80 pages of memory, 5 MB: a text that needs more is rejected, and the session is as it was."""
     browser = Chromium(folder / "little", str(folder / "downloads"), ["--js-flags=--wasm-max-mem-pages=80"])
     try:
         browser.go(page.as_uri())
@@ -234,7 +235,7 @@ def check_little_memory(page, folder):
         before = lines_answered(browser, "seq").split()[-1]
         browser.script("document.getElementById('lines').value = 'poke r5 9\\nasm\\n' + '; a comment of so many letters\\n'.repeat(150000)")
         browser.script("document.getElementById('send').click()")
-        comes(browser, "lack of memory in the module is told", NOTICE, re.compile("no 90: there was no memory.*The session is as it was"), 30)
+        eventually(browser, "lack of memory in the module is reported", NOTICE, re.compile("no 90: there was no memory.*The session is as it was"), 30)
         browser.script("document.getElementById('lines').value = ''")
         verdict("and the session is as it was", lines_answered(browser, "seq").split()[-1], before)
     finally:
@@ -242,7 +243,7 @@ def check_little_memory(page, folder):
 
 
 def reopen(browser, address):
-    """The page, left and opened again; gives what it says then."""
+    """Leaves the page and opens it again; returns what it says then."""
     browser.go("about:blank")
     browser.go(address)
     until_ready(browser)
@@ -250,7 +251,7 @@ def reopen(browser, address):
 
 
 def hang(browser, address):
-    """A session is opened, and the tab is left while that is under way, long ago, as where the page hangs."""
+    """Opens a session and leaves the tab meanwhile, long ago, as if the page had hung."""
     browser.go("about:blank")
     browser.go(address.replace("html", "html?hang", 1))
     browser.until("return Boolean(window.hung)", True)
@@ -258,7 +259,7 @@ def hang(browser, address):
 
 
 def check_left_soon(browser, address, session):
-    """A page that is left within a second was not hung by its session, whichever event of its end it is told of."""
+    """Checks that a page that is left within a second was not hung by its session, whichever event of its end it gets."""
     for query in ("", "?deaf=beforeunload", "?deaf=pagehide"):
         browser.go("about:blank")
         browser.go(address.replace(".html", f".html{query}") + session)
@@ -274,23 +275,24 @@ def check_left_soon(browser, address, session):
 
 
 def check_unended(browser, page, folder):
-    """A session whose opening hung the page is not opened by itself again; it is told, and can be opened or deleted."""
+    """Checks that a session whose opening hung the page is not opened by itself again; a message says so, and it can be opened or
+    deleted."""
     hanging = altered(page, folder, HANG).as_uri()
     reopen(browser, hanging)
     browser.script(WITHOUT_FLAGS)
     choose_example(browser, "die")
     browser.click("#step")
     session = browser.until("return location.hash", re.compile("^#session="))
-    comes(browser, "an opening that came to an end leaves nothing", FLAGS, 0)
+    eventually(browser, "an opening that came to an end leaves nothing", FLAGS, 0)
     verdict("the session is opened by itself", [reopen(browser, hanging), browser.script("return location.hash")], ["", session])
     browser.until(FLAGS, 0)
     hang(browser, hanging + session)
     for address in (hanging, hanging + session):
-        verdict("one whose opening did not is told", reopen(browser, address), UNENDED)
+        verdict("one whose opening did not is reported", reopen(browser, address), UNENDED)
         verdict("and is not opened by itself", browser.script("return location.hash") != session, True)
     browser.click("#notice button[aria-label^='Open it']")
-    comes(browser, "it can be opened", "return location.hash", session)
-    comes(browser, "and is well again then", FLAGS, 0)
+    eventually(browser, "it can be opened", "return location.hash", session)
+    eventually(browser, "and is well again then", FLAGS, 0)
     verdict("at the next start, too", [reopen(browser, hanging), browser.script("return location.hash")], ["", session])
     browser.until(FLAGS, 0)
     check_left_soon(browser, hanging, session)
@@ -298,12 +300,12 @@ def check_unended(browser, page, folder):
     hang(browser, hanging + session)
     reopen(browser, hanging)
     browser.click("#notice button[aria-label^='Delete it']")
-    comes(browser, "it can be deleted", NOTICE, 'Deleted "die".')
-    verdict("and is not told any more", reopen(browser, hanging), "")
+    eventually(browser, "it can be deleted", NOTICE, 'Deleted "die".')
+    verdict("and is not reported any more", reopen(browser, hanging), "")
 
 
 def check_lacks(browser, page, folder):
-    """What it does where something fails or is missing."""
+    """Checks what it does if something fails or is missing."""
     check_long_work(browser, page)
     check_unended(browser, page, folder)
     check_failures(browser, page, folder)

@@ -5,8 +5,10 @@ import time
 
 from page_in_browser import (AT_COUNTER, ENTER, ESCAPE, STATUS, STEPPED, choose_example, key, lines_answered, open_anew, show_text,
                              step_with_marks, stop_time, until_ready)
-from page_workbench import check_arrangement, check_by_finger, check_first_glance, check_newcomer, check_shifts, check_small_things
-from verdicts import comes, verdict
+from page_workbench import (check_arrangement, check_by_finger, check_first_glance, check_narrow_things, check_newcomer, check_shifts,
+                            check_small_things)
+from page_waves import record
+from verdicts import eventually, verdict
 from web_driver import Chromium
 
 PAGE_UP, PAGE_DOWN, END, HOME, UP, DOWN, RIGHT, LEFT = "\ue00e", "\ue00f", "\ue010", "\ue011", "\ue013", "\ue015", "\ue014", "\ue012"
@@ -28,13 +30,16 @@ def check(browser, page, _folder, _mcs4):
     check_names(browser)
     check_swipe(browser)
     check_letters(browser)
+    check_first_glance(browser, page, at_size)
+    check_small_things(browser, at_size)
+    check_newcomer(browser)
+    check_sizes(browser)
     if isinstance(browser, Chromium):
-        check_first_glance(browser, page, at_size)
-        check_small_things(browser, at_size)
-        check_newcomer(browser)
+        check_narrow_things(browser, at_size)
         check_by_finger(browser, at_size)
         check_shifts(browser, page, at_size)
-        check_sizes(browser)
+        check_narrow_sizes(browser)
+        check_controls(browser)
         check_phone(browser)
         check_forced_colours(browser)
         check_print(browser)
@@ -47,7 +52,7 @@ SHOWN = "return [...document.querySelectorAll('#texts [role=tabpanel]')].filter(
 
 
 def check_tabs(browser):
-    """Tabs by ARIA's pattern; nothing that is typed goes when another tab comes to the front."""
+    """Checks tabs by ARIA's pattern; no typed text is lost when another tab is brought to the front."""
     show_text(browser, "board")
     verdict("a click shows the board's text", browser.script(SHOWN), "board-editor")
     browser.script("document.getElementById('board-tab').focus()")
@@ -81,6 +86,7 @@ def check_folds(browser):
 
 ROWS = "return [...document.querySelectorAll('#lines-of-program button')].filter((each) => !each.hidden).map((each) => each.textContent)"
 FOCUSED = "return document.activeElement.closest('#lines-of-program') ? document.activeElement.textContent.replace(/\\W/g, '').slice(0, 3) : ''"
+LAST_ROW = ROWS.replace("return", "return (") + ").pop().replace(/\\W/g, '').slice(0, 3)"
 TOP = "return document.getElementById('lines-of-program').scrollTop"
 
 
@@ -93,23 +99,23 @@ def focus_row(browser, at):
 
 
 def check_listing(browser):
-    """All 4,096 bytes can be gone through, by keys, wheel and scroll bar."""
+    """Checks that all 4,096 bytes can be reached, by keys, wheel and scroll bar."""
     stop_time(browser)
     focus_row(browser, 3)
     browser.keys([HOME])
-    comes(browser, "Home goes to 000", FOCUSED, "000")
+    eventually(browser, "Home goes to 000", FOCUSED, "000")
     verdict("follow is off then", browser.script("return document.getElementById('follow').checked"), False)
     shown = addresses(browser)
     browser.keys([DOWN])
-    comes(browser, "an arrow goes to the next line", FOCUSED, shown[1])
+    eventually(browser, "an arrow goes to the next line", FOCUSED, shown[1])
     browser.keys([UP, UP])
-    comes(browser, "and stays at the first one", FOCUSED, "000")
+    eventually(browser, "and stays at the first one", FOCUSED, "000")
     seen = set(shown)
     for _ in range(200):
         before = addresses(browser)[-1]
         browser.keys([PAGE_DOWN], 1, 1)
         browser.until(FOCUSED, re.compile("."))
-        time.sleep(0.05)
+        browser.until(LAST_ROW, re.compile(f"^(?!{before})"), 5)
         rows = addresses(browser)
         seen.update(rows)
         if before > "2FF":
@@ -117,29 +123,29 @@ def check_listing(browser):
     verdict("page by page each line of the program is shown", lines_of_program(browser) - seen, set())
     focus_row(browser, 3)
     browser.keys([END])
-    comes(browser, "End goes to FFF", FOCUSED, re.compile("FF[EF]"))
+    eventually(browser, "End goes to FFF", FOCUSED, re.compile("FF[EF]"))
     for _ in range(4):
         browser.keys([PAGE_DOWN], 1, 1)
     verdict("and PageDown stays there", browser.script(FOCUSED)[:2], "FF")
     browser.keys([PAGE_UP, PAGE_UP])
-    comes(browser, "PageUp goes back", "return Number(document.activeElement.textContent.slice(0, 4) < '\u25cfFF') && 1", re.compile("[01]"))
+    eventually(browser, "PageUp goes back", "return Number(document.activeElement.textContent.slice(0, 4) < '\u25cfFF') && 1", re.compile("[01]"))
     check_scroll_bar(browser)
 
 
 def lines_of_program(browser):
-    """Where instructions begin, by a list that begins at 000, up to 2FF."""
-    told = lines_answered(browser, "list 0 256\nlist 0x100 256\nlist 0x200 256")
-    return {found for found in re.findall(r"(?<![0-9A-F])([0-2][0-9A-F]{2}) (?:[0-9A-F]{2} ){1,2}", told) if found <= "23F"} - {"list"}
+    """Returns the addresses at which instructions begin, by a list that begins at 000, up to 2FF."""
+    answers = lines_answered(browser, "list 0 256\nlist 0x100 256\nlist 0x200 256")
+    return {found for found in re.findall(r"(?<![0-9A-F])([0-2][0-9A-F]{2}) (?:[0-9A-F]{2} ){1,2}", answers) if found <= "23F"} - {"list"}
 
 
 def check_scroll_bar(browser):
     browser.script("document.getElementById('lines-of-program').scrollTop = arguments[0] * 24", 0x100)
-    comes(browser, "the scroll bar goes to 100", ROWS, re.compile(r"^\['\W*10[0-3]"))
+    eventually(browser, "the scroll bar goes to 100", ROWS, re.compile(r"^\['\W*10[0-3]"))
     browser.script("document.getElementById('lines-of-program').scrollTop = 1e9")
-    comes(browser, "and to the end", ROWS, re.compile(r"FF[EF][^,]*\]$"))
+    eventually(browser, "and to the end", ROWS, re.compile(r"FF[EF][^,]*\]$"))
     browser.type_into("#go-to", f"0x010{ENTER}")
-    comes(browser, "go to brings an address to the top", ROWS, re.compile(r"^\['\W*010"))
-    comes(browser, "and the box is scrolled there", TOP, 16 * 24)
+    eventually(browser, "go to brings an address to the top", ROWS, re.compile(r"^\['\W*010"))
+    eventually(browser, "and the box is scrolled there", TOP, 16 * 24)
 
 
 NEXT = "const next = document.querySelector('#lines-of-program .next'); return next ? next.textContent : ''"
@@ -151,14 +157,14 @@ def check_follow(browser):
     browser.click("#step")
     verdict("without follow the listing stays", addresses(browser), before)
     browser.click("#follow")
-    comes(browser, "with follow it shows the counter", NEXT, re.compile("."))
+    eventually(browser, "with follow it shows the counter", NEXT, re.compile("."))
     for _ in range(5):
         before = text_of(browser, "pc")
         browser.click("#step")
-        comes(browser, "a step goes on", f"return document.getElementById('value-pc').textContent !== '{before}'", True)
-        comes(browser, "a line begins at the counter at each step", AT_COUNTER, True)
+        eventually(browser, "a step goes on", f"return document.getElementById('value-pc').textContent !== '{before}'", True)
+        eventually(browser, "a line begins at the counter at each step", AT_COUNTER, True)
     browser.click("#run")
-    comes(browser, "while time runs it follows, too", NEXT, re.compile("."))
+    eventually(browser, "while time runs it follows, too", NEXT, re.compile("."))
     stop_time(browser)
 
 
@@ -178,14 +184,14 @@ SLOW = "FIM P0, 0x00\\nLDM 7\\nXCH R5\\nwait: ISZ R0, wait\\nISZ R1, wait\\nISZ 
 
 
 def check_marks(browser):
-    """What is marked at a stop is what differs from the stop before, however long ago it changed."""
+    """Checks that the marks at a stop are the differences from the stop before, however long ago they changed."""
     choose_example(browser, "three lamps")
     stop_time(browser)
     lines_answered(browser, f"asm\n{SLOW}.\nreset\nbreak 12".replace("\\n", "\n"))
-    comes(browser, "after a reset the status is true", STATUS, "The board was reset; it is at 000.")
+    eventually(browser, "after a reset the status is true", STATUS, "The board was reset; it is at 000.")
     browser.script(COUNT_MARKS)
     browser.click("#run")
-    comes(browser, "a long run ends at its breakpoint", STATUS, "Paused at 00C, at a breakpoint.", 40)
+    eventually(browser, "a long run ends at its breakpoint", STATUS, "Paused at 00C, at a breakpoint.", 40)
     verdict("while it ran nothing was marked but at the stop", browser.script("return window.marks") < 12, True)
     verdict("what changed at its start is marked", "R5" in browser.script(MARKED).split(), True)
     verdict("what came back to what it was is not", "R0" in browser.script(MARKED).split(), False)
@@ -193,11 +199,11 @@ def check_marks(browser):
     browser.until(STATUS, STEPPED)
     verdict("the next stop marks what it changed alone", "R5" in browser.script(MARKED).split(), False)
     browser.click("#reset")
-    comes(browser, "Reset says where the board stands", STATUS, "The board was reset; it is at 000.")
+    eventually(browser, "Reset says where the board stands", STATUS, "The board was reset; it is at 000.")
 
 
 EDITED = "return document.getElementById('cell-editor').hidden ? '' : document.querySelector('#cell-editor label').textContent"
-TOLD = "return document.getElementById('cell-told').textContent"
+CELL_STATUS = "return document.getElementById('cell-status').textContent"
 
 
 def edit(browser, cell, opening, typed):
@@ -214,56 +220,56 @@ def double_click(browser, selector):
 
 
 def check_cells(browser):
-    """Registers and RAM are edited in place; a refusal stands at the cell; what cannot be poked says so."""
+    """Checks that registers and RAM are edited in place; a refusal is shown at the cell; a cell that cannot be poked says so."""
     edit(browser, "#value-R5", F2, ["b", ENTER])
-    comes(browser, "F2 and a digit poke a register", "return document.getElementById('value-R5').textContent", "B")
+    eventually(browser, "F2 and a digit poke a register", "return document.getElementById('value-R5').textContent", "B")
     verdict("the focus is back at the cell", browser.script("return document.activeElement.id"), "value-R5")
     edit(browser, "#value-pc", ENTER, ["0", "1", "0", ENTER])
-    comes(browser, "the counter is written as it is shown", "return document.getElementById('value-pc').textContent", "010")
+    eventually(browser, "the counter is written as it is shown", "return document.getElementById('value-pc').textContent", "010")
     edit(browser, "#value-cy", ENTER, ["2", ENTER])
-    comes(browser, "a value out of range is refused at the cell", TOLD, re.compile("."))
-    verdict("in words of the bench", browser.script(TOLD), re.compile("value|range|number", re.I))
+    eventually(browser, "a value out of range is refused at the cell", CELL_STATUS, re.compile("."))
+    verdict("in words of the bench", browser.script(CELL_STATUS), re.compile("value|range|number", re.I))
     browser.keys([ESCAPE])
-    comes(browser, "Escape leaves", EDITED, "")
+    eventually(browser, "Escape leaves", EDITED, "")
     verdict("and the value is as it was", text_of(browser, "cy"), "0")
     edit(browser, "#value-acc", ENTER, ["x", ENTER])
-    comes(browser, "what is no digit is refused", TOLD, re.compile("hexadecimal"))
+    eventually(browser, "what is no digit is refused", CELL_STATUS, re.compile("hexadecimal"))
     browser.keys([ESCAPE])
     character = ".ram button:nth-child(3)"
     double_click(browser, character)
-    comes(browser, "a double click opens a character of RAM", EDITED, re.compile(r"bank 0, chip 0, register 0, character 2: SRC byte 02"))
+    eventually(browser, "a double click opens a character of RAM", EDITED, re.compile(r"bank 0, chip 0, register 0, character 2: SRC byte 02"))
     browser.keys(["9", ENTER])
-    comes(browser, "and Enter pokes it", f"return document.querySelector('{character}').textContent", "9")
+    eventually(browser, "and Enter pokes it", f"return document.querySelector('{character}').textContent", "9")
     verdict("it is not watched", browser.script(f"return document.querySelector('{character}').getAttribute('aria-pressed')"), "false")
     verdict("the log has its line", "poke ram.0.0x02 0x9" in browser.text("#log"), True)
     edit(browser, ".ram button.status", F2, ["4", ENTER])
-    comes(browser, "a status character, too", "return document.querySelector('.ram button.status').textContent", "4")
+    eventually(browser, "a status character, too", "return document.querySelector('.ram button.status').textContent", "4")
     double_click(browser, ".ram .port span")
-    comes(browser, "a port says why it cannot be poked", AT, re.compile("WMP"))
+    eventually(browser, "a port says why it cannot be poked", AT, re.compile("WMP"))
 
 
 def check_pressed(browser):
-    """What changes while it is pressed is pressed all the same: WebKit forgets it where its text node is put in anew."""
+    """Checks that an element that changes while it is pressed is pressed all the same: WebKit forgets it if its text node is replaced."""
     browser.until(STATUS, re.compile("^Running"))
     browser.script("window.pressed = 0; document.getElementById('value-acc').addEventListener('click', () => { window.pressed++; })")
     browser.hold("#value-acc", 400)
-    comes(browser, "a value that changes is pressed while time runs", "return window.pressed", 1)
+    eventually(browser, "a value that changes is pressed while time runs", "return window.pressed", 1)
 
 
-AT = "const told = document.querySelector('.told-at'); return told.hidden ? '' : told.textContent"
+AT = "const shown = document.querySelector('.popup-message'); return shown.hidden ? '' : shown.textContent"
 
 
 def check_refusals(browser):
-    """The ninth watch and the thirty-third breakpoint are refused where the click was."""
+    """Checks that the ninth watch and the thirty-third breakpoint are rejected at the point of the click."""
     lines_answered(browser, "\n".join(f"watch 7 {at}" for at in range(8)))
     browser.click(".ram button:nth-child(5)")
-    comes(browser, "a watch too many is refused at its cell", AT, re.compile("8 characters"))
-    near = "const [a, b] = [arguments[0], '.told-at'].map((each) => document.querySelector(each).getBoundingClientRect()); " \
+    eventually(browser, "a watch too many is refused at its cell", AT, re.compile("8 characters"))
+    near = "const [a, b] = [arguments[0], '.popup-message'].map((each) => document.querySelector(each).getBoundingClientRect()); " \
         "return Math.abs(a.left - b.left) + Math.abs(a.bottom - b.top) < 260"
     verdict("near it", browser.script(near, ".ram button:nth-child(5)"), True)
     lines_answered(browser, "\n".join([*(f"unwatch 7 {at}" for at in range(8)), *(f"break {0x300 + at}" for at in range(32))]))
     browser.click("#lines-of-program button:nth-child(2)")
-    comes(browser, "a breakpoint too many is refused at its line", AT, re.compile("32 breakpoints"))
+    eventually(browser, "a breakpoint too many is refused at its line", AT, re.compile("32 breakpoints"))
     lines_answered(browser, "\n".join(f"unbreak {0x300 + at}" for at in range(32)))
 
 
@@ -272,7 +278,7 @@ def check_refusals(browser):
 NAMED = """
 return [...document.querySelectorAll(".ram button")].filter((each) => !/^[0-9A-F]$/.test(each.textContent)
   || each.getAttribute("aria-label") || !/bank \\d, chip \\d, register \\d, (character \\d+: SRC byte [0-9A-F]{2}|status character \\d)/.test(each.title)).length"""
-# What is said of itself while time runs: changes in places that are announced, in so many seconds.
+# Announcements while time runs: changes in places that are announced, in a number of seconds.
 SAID = """
 window.said = 0;
 const places = [...document.querySelectorAll("output, [aria-live], [role=status], [role=alert], [role=log]")];
@@ -303,7 +309,7 @@ DOWN_KEYS = "return document.querySelectorAll(\"#keys [aria-pressed='true']\").l
 
 
 def check_swipe(browser):
-    """A swipe that begins on a key leaves no key down, quick or slow, while time runs and while it stands still."""
+    """Checks that a swipe that begins on a key leaves no key down, quick or slow, running and paused."""
     choose_example(browser, "calculator")
     browser.until(STATUS, re.compile("^Running"))
     before = lines_answered(browser, "seq")
@@ -311,12 +317,12 @@ def check_swipe(browser):
     for what, wait in (("quick", 20), ("slow", 200)):
         browser.script(SWIPE, key("7"), wait)
         time.sleep(0.5)
-        verdict(f"after a {what} swipe no key is down", browser.script(DOWN_KEYS), 0)
+        eventually(browser, f"after a {what} swipe no key is down", DOWN_KEYS, 0)
     stop_time(browser)
     for what, wait in (("quick", 20), ("slow", 200)):
         browser.script(SWIPE, key("7"), wait)
         time.sleep(0.5)
-        verdict(f"after a {what} swipe while time stands still no key is down", browser.script(DOWN_KEYS), 0)
+        eventually(browser, f"after a {what} swipe while time stands still no key is down", DOWN_KEYS, 0)
     verdict("the bench has served lines meanwhile", lines_answered(browser, "seq") != before, True)
 
 
@@ -342,7 +348,7 @@ def check_letters(browser):
 # --- sizes, print and colours, by Chromium's driver ---
 
 def at_size(browser, width, height, mobile=False):
-    browser.command("Emulation.setDeviceMetricsOverride", width=width, height=height, deviceScaleFactor=1, mobile=mobile)
+    browser.resize(width, height, mobile)
     time.sleep(0.3)
     browser.script("scrollTo(0, 0)")
 
@@ -363,7 +369,7 @@ return boxes.flatMap(([id, a], k) => boxes.slice(k + 1)
   .filter(([, b]) => Math.min(a.right, b.right) - Math.max(a.left, b.left) > 1 && Math.min(a.bottom, b.bottom) - Math.max(a.top, b.top) > 1)
   .map(([other]) => `${id} ${other}`))"""
 SIDEWAYS = "return document.documentElement.scrollWidth - document.documentElement.clientWidth"
-# How far the page itself can be scrolled, down and sideways.
+# The distances by which the page itself can be scrolled, down and sideways.
 SCROLLS = """
 const { scrollHeight, clientHeight, scrollWidth, clientWidth } = document.documentElement;
 scrollTo(1000, 1000);
@@ -373,34 +379,76 @@ return [scrollWidth - clientWidth, scrollHeight - clientHeight, ...moved]"""
 
 
 def check_sizes(browser):
-    """The page itself never scrolls; from 1,000 pixels on front panel, texts and the debugger's panels are side by side."""
+    """Checks that the page itself never scrolls; from 1,000 pixels on front panel, texts and the debugger's panels are side by side."""
     choose_example(browser, "traffic light")
     for width, height in ((1024, 640), (1200, 720), (1280, 720), (1440, 900), (1920, 1080)):
         at_size(browser, width, height)
-        told = browser.script(BOXES)
+        boxes = browser.script(BOXES)
         verdict(f"the page does not scroll at {width}", browser.script(SCROLLS), [0, 0, 0, 0])
-        verdict(f"the toolbar is one row at {width}", told["toolbar"]["bottom"] - told["toolbar"]["top"], 44)
+        verdict(f"the toolbar is one row at {width}", boxes["toolbar"]["bottom"] - boxes["toolbar"]["top"], 44)
         verdict(f"no control of the toolbar covers another one at {width}", browser.script(COVERED), [])
         verdict(f"three columns are side by side at {width}",
-                told["front"]["right"] <= told["texts"]["left"] and told["texts"]["right"] <= told["side"]["left"], True)
-        verdict(f"the dock is below the texts at {width}", told["texts"]["bottom"] <= told["dock"]["top"], True)
-        verdict(f"the status bar ends the window at {width}", told["statusbar"]["bottom"], height)
-        verdict(f"so do the panels above it at {width}", {told[name]["bottom"] for name in ("front", "dock", "side")}, {told["statusbar"]["top"]})
-        verdict(f"keys are in view at {width}", told["keys"]["bottom"] < height, True)
-        verdict(f"the width is used at {width}", (told["front"]["left"], told["side"]["right"]), (0, width))
-    for width in (999, 820, 700, 699, 320):
+                boxes["front"]["right"] <= boxes["texts"]["left"] and boxes["texts"]["right"] <= boxes["side"]["left"], True)
+        verdict(f"the dock is below the texts at {width}", boxes["texts"]["bottom"] <= boxes["dock"]["top"], True)
+        verdict(f"the status bar ends the window at {width}", boxes["statusbar"]["bottom"], height)
+        verdict(f"so do the panels above it at {width}", {boxes[name]["bottom"] for name in ("front", "dock", "side")}, {boxes["statusbar"]["top"]})
+        verdict(f"keys are in view at {width}", boxes["keys"]["bottom"] < height, True)
+        verdict(f"the width is used at {width}", (boxes["front"]["left"], boxes["side"]["right"]), (0, width))
+    check_not_covered(browser, 999, 820, 700)
+    check_drawer(browser)
+    browser.resize_back()
+
+
+def check_narrow_sizes(browser):
+    """No window of a browser is as narrow: its driver gives the page these sizes."""
+    check_not_covered(browser, 699, 320)
+    browser.resize_back()
+
+
+def check_not_covered(browser, *widths):
+    for width in widths:
         at_size(browser, width, 800)
         verdict(f"the page does not scroll at {width}", browser.script(SCROLLS), [0, 0, 0, 0])
         verdict(f"no control of the toolbar covers another one at {width}", browser.script(COVERED), [])
-    check_drawer(browser)
-    browser.command("Emulation.clearDeviceMetricsOverride")
+
+
+# What is wrong with the controls of the rows that are shown: one is cut off by its row, or lies over another one.
+WRONG_CONTROLS = """
+const rows = [...document.querySelectorAll("#wave-bar, .editor > .bar, #wiring > .bar, #statusbar")].filter(isShown);
+return rows.flatMap((row) => {
+  const room = row.getBoundingClientRect();
+  const shown = [...row.querySelectorAll("button, input, select, summary")].filter((each) => isShown(each) && !each.closest(".pop > :not(summary)"));
+  const boxes = shown.map((each) => [each.id || each.textContent, each.getBoundingClientRect()]);
+  const cut = boxes.filter(([, box]) => box.left < room.left - 1 || box.top < room.top - 1 || box.right > Math.min(room.right, innerWidth) + 1
+    || box.bottom > room.bottom + 1).map(([name]) => `${name} is cut off`);
+  return [...cut, ...boxes.flatMap(([name, a], k) => boxes.slice(k + 1)
+    .filter(([, b]) => Math.min(a.right, b.right) - Math.max(a.left, b.left) > 1 && Math.min(a.bottom, b.bottom) - Math.max(a.top, b.top) > 1)
+    .map(([other]) => `${name} is over ${other}`))];
+})"""
+
+
+def check_controls(browser):
+    """Checks that in narrower windows the controls of waves, texts and status are whole, beside one another."""
+    choose_example(browser, "traffic light")
+    show_text(browser, "waves")
+    record(browser, 20000)
+    for width, height in ((1279, 720), (1024, 640), (820, 1180), (390, 844)):
+        at_size(browser, width, height, width < 700)
+        browser.command("Emulation.setTouchEmulationEnabled", enabled=width < 700)
+        for tab in ("program", "board", "wiring", "tests", "properties", "waves"):
+            if width < 700:
+                browser.click(f"#region-{'more' if tab == 'waves' else 'source'}")
+            show_text(browser, tab)
+            verdict(f"the controls of {tab} are whole at {width}", browser.script(WRONG_CONTROLS), [])
+    browser.command("Emulation.setTouchEmulationEnabled", enabled=False)
+    browser.resize_back()
 
 
 DRAWER = "return isShown(document.getElementById('processor'))"
 
 
 def check_drawer(browser):
-    """In a narrower window the debugger's panels are a drawer."""
+    """Checks that in a narrower window the debugger's panels are a drawer."""
     at_size(browser, 820, 1180)
     verdict("the drawer is shut", browser.script(DRAWER), False)
     browser.click("#drawer-button")
@@ -416,7 +464,7 @@ return box.top >= -1 && box.bottom <= innerHeight + 1 && box.height > 0"""
 
 
 def swipe_up(browser, x, y):
-    """A finger goes up by 180 pixels, as the browser's own scrolling takes it."""
+    """Moves a finger up by 180 pixels, as the browser's own scrolling does."""
     moves = [{"type": "pointerMove", "duration": 16, "x": int(x), "y": int(y) - 18 * step} for step in range(11)]
     browser.actions({"type": "pointer", "id": "swipe", "parameters": {"pointerType": "touch"},
                      "actions": [moves[0], {"type": "pointerDown", "button": 0}, *moves[1:], {"type": "pointerUp", "button": 0}]})
@@ -428,7 +476,7 @@ return `${word.getAttribute("aria-expanded")} ${isShown(item)}`"""
 
 
 def check_menu(browser):
-    """On a phone the session's buttons are in a menu, which a choice or Escape shuts."""
+    """Checks that on a phone the session's buttons are in a menu, which a choice or Escape closes."""
     verdict("the menu is shut", browser.script(MENU), "false false")
     browser.click("#menu-button")
     verdict("it opens", browser.script(MENU), "true true")
@@ -442,7 +490,7 @@ def check_menu(browser):
     browser.click("#menu-button")
     browser.click("#examples-narrow")
     wide = "const box = document.getElementById('sessions'); return box.open && box.scrollWidth - box.clientWidth"
-    comes(browser, "the dialog of sessions does not scroll sideways", wide, 0)
+    eventually(browser, "the dialog of sessions does not scroll sideways", wide, 0)
     browser.click("#close-sessions")
 
 
@@ -450,7 +498,7 @@ PHONE_PANELS = "return ['front', 'texts', 'side', 'dock'].filter((id) => isShown
 
 
 def check_phone(browser):
-    """On a phone one region is shown at a time, chosen by the tabs at the bottom; a swipe that begins on a key scrolls."""
+    """Checks that on a phone one region is shown at a time, chosen by the tabs at the bottom; a swipe that begins on a key scrolls."""
     choose_example(browser, "calculator")
     at_size(browser, 375, 667, True)
     browser.command("Emulation.setTouchEmulationEnabled", enabled=True)
@@ -459,10 +507,10 @@ def check_phone(browser):
     check_menu(browser)
     for width, height in ((390, 844), (360, 640), (320, 640), (375, 667)):
         at_size(browser, width, height, True)
-        told = browser.script(BOXES)
+        boxes = browser.script(BOXES)
         verdict(f"at {width} a phone's page does not scroll", browser.script(SCROLLS), [0, 0, 0, 0])
-        verdict(f"the tabs are at the bottom at {width}", told["regions"]["bottom"], height)
-        verdict(f"and are large enough at {width}", told["regions"]["bottom"] - told["regions"]["top"] >= 44, True)
+        verdict(f"the tabs are at the bottom at {width}", boxes["regions"]["bottom"], height)
+        verdict(f"and are large enough at {width}", boxes["regions"]["bottom"] - boxes["regions"]["top"] >= 44, True)
     for region, panel in (("source", "texts"), ("debug", "side"), ("more", "dock"), ("board", "front")):
         browser.click(f"#region-{region}")
         verdict(f"{region} shows its panel alone", browser.script(PHONE_PANELS), panel)
@@ -475,10 +523,10 @@ def check_phone(browser):
     at_size(browser, 375, 420, True)
     box = browser.script("const box = document.querySelector('.key').getBoundingClientRect(); return [box.x + 20, box.y + 15]")
     swipe_up(browser, *box)
-    comes(browser, "a swipe that begins on a key scrolls the front panel", "return document.getElementById('front').scrollTop > 50", True)
-    comes(browser, "and presses nothing that stays down", DOWN_KEYS, 0)
+    eventually(browser, "a swipe that begins on a key scrolls the front panel", "return document.getElementById('front').scrollTop > 50", True)
+    eventually(browser, "and presses nothing that stays down", DOWN_KEYS, 0)
     browser.command("Emulation.setTouchEmulationEnabled", enabled=False)
-    browser.command("Emulation.clearDeviceMetricsOverride")
+    browser.resize_back()
 
 
 def emulate(browser, media="", **features):
@@ -510,10 +558,10 @@ return [...document.querySelectorAll("#bench *")].filter((each) => isShown(each)
 def check_print(browser):
     board = browser.script("return document.querySelector('#board-title') !== null")
     emulate(browser, media="print")
-    comes(browser, "print has the texts", "return document.querySelectorAll('#print h2').length", 2)
-    told = browser.text("#print")
-    verdict("the source whole", "JMS" in told or "JUN" in told, True)
-    verdict("and the board", board and "lamp = [" in told and "[[rom]]" in told, True)
+    eventually(browser, "print has the texts", "return document.querySelectorAll('#print h2').length", 2)
+    printed = browser.text("#print")
+    verdict("the source whole", "JMS" in printed or "JUN" in printed, True)
+    verdict("and the board", board and "lamp = [" in printed and "[[rom]]" in printed, True)
     verdict("lamps are printed", browser.script("return isShown(document.querySelector('.bulb'))"), True)
     verdict("and no buttons, fields or editors", browser.script(PRINTED), 0)
     emulate(browser)

@@ -28,7 +28,7 @@ Worker.prototype.addEventListener = function (kind, act) {
 };"""
 FRAMES = "return window.frames"
 
-# Before the worker's: each reply says how many milliseconds after its request it goes.
+# Before the worker's: each reply says how many milliseconds after its request it is sent.
 WORKER_METER = """
 let begun = 0;
 addEventListener("message", () => { begun = performance.now(); });
@@ -36,16 +36,16 @@ const post = postMessage.bind(self);
 self.postMessage = (message, transfer) => post({ ...message, took: performance.now() - begun }, transfer);
 """
 
-# At full speed: the worker tells the page each half second for which part of that time it was in the module.
+# At full speed: each half second the worker sends the page the part of that time for which it was in the module.
 MODULE_METER = """
 (() => {
   const made = WebAssembly.Instance;
   let [spent, since] = [0, performance.now()];
   WebAssembly.Instance = function (...words) {
     const { exports } = new made(...words);
-    const page_serve_and_settle = (...given) => {
+    const bench_serve_and_settle = (...given) => {
       const begun = performance.now();
-      const result = exports.page_serve_and_settle(...given);
+      const result = exports.bench_serve_and_settle(...given);
       const now = performance.now();
       spent += now - begun;
       if (now - since > 500) {
@@ -54,7 +54,7 @@ MODULE_METER = """
       }
       return result;
     };
-    return { exports: { ...exports, page_serve_and_settle } };
+    return { exports: { ...exports, bench_serve_and_settle } };
   };
 })();"""
 # Before the page's script: `parts` gets them.
@@ -72,19 +72,19 @@ PARTS = "return window.parts"
 # A worker of its own with the page's module, for MODULE_ALONE.
 MODULE_BESIDE = """
 const work = `
-let instance, file, size, input, room, answers, told;
+let instance, file, size, input, room, answers, report;
 const serve = (lines) => {
   const bytes = new TextEncoder().encode(lines);
   new Uint8Array(instance.memory.buffer).set(bytes, Number(input));
-  return instance.page_serve_and_settle(file, BigInt(size), input, BigInt(bytes.length), answers, BigInt(room), told);
+  return instance.bench_serve_and_settle(file, BigInt(size), input, BigInt(bytes.length), answers, BigInt(room), report);
 };
 onmessage = async ({ data: { module, board, runs, cycles } }) => {
   if (module) {
     instance = (await WebAssembly.instantiate(await WebAssembly.compile(module), {})).exports;
-    size = Number(instance.page_file_size());
+    size = Number(instance.bench_file_size());
     room = 1 << 20;
-    [file, input, answers, told] = [size, room, room, 16].map((count) => instance.page_buffer(BigInt(count)));
-    instance.page_begin(file, BigInt(size));
+    [file, input, answers, report] = [size, room, room, 16].map((count) => instance.bench_buffer(BigInt(count)));
+    instance.bench_begin(file, BigInt(size));
     serve(board);
   }
   const begun = performance.now();
@@ -123,7 +123,7 @@ new MutationObserver((_, own) => {
 }).observe(document.getElementById("digits"), { childList: true, characterData: true, subtree: true })"""
 KEY_TIME = "return window.seen"
 
-# Looks for what a button leads to, a place that rests where it is one of a change; `searched` gets the cycles a second.
+# Searches for what a button leads to, a place that rests if it is one of a change; `searched` gets the cycles a second.
 SEARCH = """
 window.searched = 0;
 document.getElementById("change-place").value = "st.0.3.3";

@@ -6,12 +6,22 @@ import zlib
 
 
 def part_of_page(text, name):
-    """What stands in the element of this name that is not shown."""
+    """Returns the contents of the element of this name that is not shown."""
     return re.search(rf'<script type="[a-z/]+" id="{name}">(.*?)</script>', text, re.S).group(1)
 
 
 def module_of_page(page):
-    """The WebAssembly module."""
+    """Returns the WebAssembly module."""
     kept = base64.b64decode(part_of_page(page.read_text(), "module"))
     # In older pages it is not packed.
     return kept if kept.startswith(b"\0asm") else zlib.decompress(kept, -15)
+
+
+def with_worker_code(text, code):
+    """A page's text with `code` before the script of its worker, which older pages do not pack."""
+    kept = part_of_page(text, "worker")
+    if not re.fullmatch("[A-Za-z0-9+/=]+", kept):
+        return text.replace(kept, code + kept, 1)
+    packer = zlib.compressobj(wbits=-15)
+    packed = packer.compress(code.encode() + zlib.decompress(base64.b64decode(kept), -15)) + packer.flush()
+    return text.replace(kept, base64.b64encode(packed).decode(), 1)

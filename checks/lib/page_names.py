@@ -6,20 +6,20 @@ import re
 import subprocess
 
 from page_in_browser import ENTER, NOTICE, PUT_INTO_EDITOR, STATUS, choose_example, lines_answered, show_text, stop_time, until_ready
-from verdicts import comes, verdict
+from verdicts import eventually, verdict
 
 TOP = pathlib.Path(__file__).resolve().parent.parent.parent
 PROGRAM = TOP / "examples/calculator/calculator.asm"
 STEPS = 60
 STEPS_AT_ONCE = 6
-SOURCE_TOLD = "return document.getElementById('source-told').textContent"
-TOLD_AT = "const told = document.querySelector('.told-at'); return told.hidden ? '' : told.textContent"
-GO_TO_TOLD = "return document.getElementById('go-to-told').textContent"
+SOURCE_STATUS = "return document.getElementById('source-status').textContent"
+POPUP = "const shown = document.querySelector('.popup-message'); return shown.hidden ? '' : shown.textContent"
+GO_TO_STATUS = "return document.getElementById('go-to-status').textContent"
 CHOSEN = "return document.getElementById('follow').checked"
 STACK = "return [...document.querySelectorAll('.stack button')].map((row) => [...row.children].map((part) => part.textContent).join(' '))"
 # The addresses of the listing's lines, and the lines whose margin shows a breakpoint.
 ADDRESSES = "return [...document.querySelectorAll('#lines-of-program button:not([hidden])')].map((row) => row.textContent.match(/[0-9A-F]{3}/)[0])"
-# What stands in the margin of the line that has a breakpoint, and in the row of the listing that has one.
+# The margin of the line that has a breakpoint, and the margin of the row of the listing that has one.
 MARKS = """
 const marks = [...document.querySelectorAll(".mark-breakpoints")].map((mark) => `${mark.textContent} ${mark.title}`);
 const rows = [...document.querySelectorAll("#lines-of-program button[aria-pressed='true']")].filter((row) => !row.hidden);
@@ -28,7 +28,7 @@ LABELS = "return [...document.querySelectorAll('#lines-of-program .labels')].map
 MARGIN = """
 return document.querySelector("#program-editor .cm-editor").lineEditor.marksIn("breakpoints").map((line) => line + 1).join(" ")"""
 
-# Steps so many times; after each step the counter, and the source line that is marked and seen, with its number in the margin.
+# Steps a number of times; after each step the counter, and the source line that is marked and seen, with its number in the margin.
 STEP_THROUGH = """
 // What a line has changed stands behind it, and is no part of it.
 const textOf = (line) => {
@@ -46,19 +46,19 @@ const marked = () => [...document.querySelectorAll("#program-editor .cm-line.nex
 });
 const frame = () => new Promise((done) => setTimeout(done, 5));
 return (async () => {
-  const told = [];
+  const rows = [];
   for (let step = 0; step < arguments[0]; step++) {
     const before = shown();
     document.getElementById("step").click();
     while (shown() === before) await frame();
     await frame();
     await frame();
-    told.push([document.querySelector(".stack .value").textContent, marked().join(" and ")]);
+    rows.push([document.querySelector(".stack .value").textContent, marked().join(" and ")]);
   }
-  return told;
+  return rows;
 })();"""
 
-# The number of a line is brought into view.
+# Brings the number of a line into view.
 SHOW_MARGIN = """
 const editor = document.querySelector("#program-editor .cm-editor").lineEditor;
 editor.scrollIntoView({ line: arguments[0] - 1, ch: 0 }, 60);
@@ -67,13 +67,13 @@ const numbers = [...document.querySelectorAll("#program-editor .cm-lineNumbers .
 const node = numbers.find((each) => each.textContent === String(arguments[0]));
 node.scrollIntoView({ block: "center" });
 """
-# A click on it, as by the pointer.
+# Clicks on it, as by the pointer.
 CLICK_MARGIN = SHOW_MARGIN + """
 const { left, top, width, height } = node.getBoundingClientRect();
 const at = { clientX: left + width / 2, clientY: top + height / 2, button: 0, buttons: 1, bubbles: true, cancelable: true, detail: 1 };
 for (const kind of ["mousedown", "mouseup", "click"]) node.dispatchEvent(new MouseEvent(kind, at));"""
 
-# Where a word of a line stands on the screen, once that line is in view.
+# The position of a word of a line on the screen, once that line is in view.
 WORD_PLACE = """
 const editor = document.querySelector("#program-editor .cm-editor").lineEditor;
 const [line, word] = arguments;
@@ -87,15 +87,16 @@ MEANING = "return document.querySelector('#program-editor .meaning').textContent
 
 
 def listing_of(mcs4, *words):
-    told = dict(os.environ, MCS4=str(mcs4))
-    return subprocess.run([TOP / "mcs4", "listing", *words, PROGRAM], stdout=subprocess.PIPE, text=True, check=True, env=told).stdout
+    environment = dict(os.environ, MCS4=str(mcs4))
+    return subprocess.run([TOP / "mcs4", "listing", *words, PROGRAM], stdout=subprocess.PIPE, text=True, check=True, env=environment).stdout
 
 
 def listed(mcs4):
-    """What mcs4 listing prints: by the addresses that they begin at, the numbers and texts of the source lines; and the names' values."""
-    told = listing_of(mcs4).splitlines()
+    """Returns the output of mcs4 listing: by the addresses that they begin at, the numbers and texts of the source lines; and the names'
+    values."""
+    listing = listing_of(mcs4).splitlines()
     # Further rows of a line have no text.
-    rows = [row for row in told if row[17:] or not re.match("[0-9A-F]{3} ", row)]
+    rows = [row for row in listing if row[17:] or not re.match("[0-9A-F]{3} ", row)]
     lines = {row[:3]: (number, row[17:]) for number, row in enumerate(rows, 1) if re.match("[0-9A-F]{3} [0-9A-F]{2}", row)}
     return lines, dict(line.split() for line in listing_of(mcs4, "--names").splitlines())
 
@@ -112,79 +113,80 @@ def go_to(browser, text):
 def check_steps(browser, source):
     stop_time(browser)
     lines_answered(browser, "reset")
-    told = []
+    rows = []
     for chunk in range(STEPS // STEPS_AT_ONCE):
-        told += browser.script(STEP_THROUGH, STEPS_AT_ONCE)
+        rows += browser.script(STEP_THROUGH, STEPS_AT_ONCE)
         # Another routine each time.
         lines_answered(browser, f"run {20 + 61 * chunk}")
-    wanted = [[counter, words_of("{} {}".format(*source[counter]))] for counter, _ in told]
-    verdict(f"the source line at each of {STEPS} steps", [[counter, words_of(line)] for counter, line in told], wanted)
-    verdict("they go through several routines", len({counter for counter, _ in told}) > STEPS // 3, True)
+    wanted = [[counter, words_of("{} {}".format(*source[counter]))] for counter, _ in rows]
+    verdict(f"the source line at each of {STEPS} steps", [[counter, words_of(line)] for counter, line in rows], wanted)
+    verdict("they go through several routines", len({counter for counter, _ in rows}) > STEPS // 3, True)
 
 
 def check_breakpoint_at_name(browser, source, values, lines):
     go_to(browser, "scan")
-    comes(browser, "go to a name", f"{ADDRESSES}.includes('{values['scan']}')", True)
+    eventually(browser, "go to a name", f"{ADDRESSES}.includes('{values['scan']}')", True)
     verdict("and the listing follows no more", browser.script(CHOSEN), False)
     browser.click("#break-there")
     line = source[values["scan"]][0]
-    comes(browser, "a breakpoint at a name stands in the source's margin", MARGIN, str(line))
+    eventually(browser, "a breakpoint at a name stands in the source's margin", MARGIN, str(line))
     browser.click("#run")
-    comes(browser, "a run stops there", STATUS, f"Paused at {values['scan']}, at a breakpoint.")
+    eventually(browser, "a run stops there", STATUS, f"Paused at {values['scan']}, at a breakpoint.")
     call = next(number for number, text in enumerate(lines, 1) if "JMS scan" in text.expandtabs(1))
-    comes(browser, "the counter and the return addresses by name", STACK, re.compile(
+    eventually(browser, "the counter and the return addresses by name", STACK, re.compile(
         rf"^\['pc {values['scan']} scan, line {line}', 'ret 1 {int(values['await'], 16) + 2:03X} await \+ 2, call in line {call}', "
         r"'ret 2 ... stale', 'ret 3 ... stale'\]$"))
     browser.click("#break-there")
-    comes(browser, "the same button clears it", MARGIN, "")
+    eventually(browser, "the same button clears it", MARGIN, "")
 
 
 def check_margin(browser, source, values):
     show = source[values["show"]][0]
     browser.script(CLICK_MARGIN, show)
-    comes(browser, "a breakpoint by a click in the margin", MARGIN, str(show))
+    eventually(browser, "a breakpoint by a click in the margin", MARGIN, str(show))
     browser.click("#reset")
     browser.click("#run")
-    comes(browser, "a run stops at that line", STATUS, f"Paused at {values['show']}, at a breakpoint.")
+    eventually(browser, "a run stops at that line", STATUS, f"Paused at {values['show']}, at a breakpoint.")
     browser.script(CLICK_MARGIN, show)
-    comes(browser, "another click clears it", MARGIN, "")
+    eventually(browser, "another click clears it", MARGIN, "")
     browser.script(CLICK_MARGIN, 1)
-    comes(browser, "at a line without bytes it goes to the next instruction, in words", TOLD_AT,
-          re.compile("^Line 1 puts no bytes into ROM: its breakpoint is at the next instruction, line "))
+    eventually(browser, "at a line without bytes it goes to the next instruction, in words", POPUP,
+               re.compile("^Line 1 puts no bytes into ROM: its breakpoint is at the next instruction, line "))
     first = browser.until(MARGIN, re.compile("[0-9]"))
     browser.script(CLICK_MARGIN, int(first))
-    comes(browser, "which a click there takes away", MARGIN, "")
+    eventually(browser, "which a click there takes away", MARGIN, "")
 
 
 def check_inside(browser, source, values, lines):
-    """A breakpoint inside an instruction goes to the next one, where a run stops."""
+    """Checks that a breakpoint inside an instruction moves to the next one, and that a run stops there."""
     call = next(number for number, text in enumerate(lines, 1) if "JMS scan" in text.expandtabs(1))
     address = next(place for place, (number, _) in source.items() if number == call)
     inside, behind = (f"{int(address, 16) + more:03X}" for more in (1, 2))
     go_to(browser, address)
     lines_answered(browser, f"break 0x{inside}")
     browser.script(SHOW_MARGIN, call)
-    comes(browser, "a breakpoint inside an instruction goes to the next one", MARGIN, str(source[behind][0]))
-    comes(browser, "in the listing, too", MARKS, ["\u25cf breakpoint", "\u25cf"])
+    eventually(browser, "a breakpoint inside an instruction goes to the next one", MARGIN, str(source[behind][0]))
+    eventually(browser, "in the listing, too", MARKS, ["\u25cf breakpoint", "\u25cf"])
     verdict("and in the bench", lines_answered(browser, "breaks"), re.compile(f"breaks {behind}$"))
     browser.script(CLICK_MARGIN, source[behind][0])
-    comes(browser, "a click in the margin clears it", MARGIN, "")
+    eventually(browser, "a click in the margin clears it", MARGIN, "")
     verdict("no breakpoint is left", lines_answered(browser, "breaks"), re.compile("breaks -$"))
     lines_answered(browser, f"break 0x{address}")
     browser.until(MARGIN, str(call))
     browser.script("document.querySelector('#lines-of-program button[aria-pressed=true]').click()")
-    comes(browser, "and so does one on its row of the listing", MARGIN, "")
+    eventually(browser, "and so does one on its row of the listing", MARGIN, "")
 
 
 def point_at(browser, line, word):
-    """The pointer comes to a word of the source, and rests there."""
+    """Moves the pointer to a word of the source, and rests there."""
     x, y = browser.script(WORD_PLACE, line, word)
     browser.actions({"type": "pointer", "id": "mouse", "parameters": {"pointerType": "mouse"}, "actions": [
         {"type": "pointerMove", "duration": 0, "x": int(x) + shift, "y": int(y)} for shift in (1, 2)]})
 
 
 def check_pointing(browser, source, values, lines):
-    """What the pointer rests on is explained: a label with its address and line, a number with its value, an instruction, a register."""
+    """Checks that the word at the pointer is explained: a label with its address and line, a number with its value, an instruction, a
+    register."""
     line_of = {word: next(number for number, text in enumerate(lines, 1) if re.search(pattern, text)) for word, pattern in {
         "scan": r"JMS scan\b", "nonzero": r"^nonzero\s*=", "JMS": r"JMS scan\b", "P1": r"FIM P1,"}.items()}
     for word, words in {
@@ -194,26 +196,26 @@ def check_pointing(browser, source, values, lines):
         "P1": re.compile(r"^(?:P1 = ([0-9A-F])([0-9A-F]): R2 \1, R3 \2\. )?P1: the pair of R2, its upper four bits, and R3, its lower ones\.$"),
     }.items():
         point_at(browser, line_of[word], word)
-        comes(browser, f"the pointer on {word} shows what it is", MEANING, words)
+        eventually(browser, f"the pointer on {word} shows what it is", MEANING, words)
 
 
 def check_go_to(browser):
     for text, address in (("01E", "01E"), ("0x11E", "11E"), ("30", "01E"), ("100", "100")):
         go_to(browser, text)
-        comes(browser, f"go to {text}", f"{ADDRESSES}.includes('{address}')", True)
+        eventually(browser, f"go to {text}", f"{ADDRESSES}.includes('{address}')", True)
     for text, words in (("nosuch", "^nosuch is neither a name of the program nor an address"), ("4096", "^4096 is not an address")):
         go_to(browser, text)
-        comes(browser, f"{text} is no address, in words", GO_TO_TOLD, re.compile(words))
+        eventually(browser, f"{text} is no address, in words", GO_TO_STATUS, re.compile(words))
         verdict("and the field is marked", browser.script("return document.getElementById('go-to').getAttribute('aria-invalid')"), "true")
     go_to(browser, "scan")
-    comes(browser, "an address takes the words away", GO_TO_TOLD, "")
+    eventually(browser, "an address takes the words away", GO_TO_STATUS, "")
 
 
 def check_names_in_lines(browser, values):
     verdict("a name in a line", lines_answered(browser, "list @scan 1"), re.compile(rf"^list 0x{values['scan']} 1{values['scan']} "))
     show_text(browser, "console")
     browser.type_into("#lines", "break @nosuch" + ENTER)
-    comes(browser, "one that the program lacks, in words", NOTICE, "@nosuch: the program has no such name.")
+    eventually(browser, "one that the program lacks, in words", NOTICE, "@nosuch: the program has no such name.")
     verdict("and the line can be mended", browser.script("return document.getElementById('lines').value"), "break @nosuch")
     browser.script("document.getElementById('lines').value = ''")
     browser.click("#notice button")
@@ -229,24 +231,24 @@ def check_difference(browser, source, lines):
     line = source["106"][0]
     changed = [*lines[:line - 1], "\tLDM 3", *lines[line:]]
     put(browser, "\n".join(["; one line more", *changed]) + "\n")
-    differs = f"The source differs from ROM at 0x106, line {line + 1}: assemble it."
-    comes(browser, "a text that is not in ROM says where it differs", SOURCE_TOLD, differs)
-    comes(browser, "and names nothing", LABELS, "")
+    differs = f"Source and ROM differ from line {line + 1} (0x106). Assemble to update."
+    eventually(browser, "a text that is not in ROM says where it differs", SOURCE_STATUS, differs)
+    eventually(browser, "and names nothing", LABELS, "")
     browser.script(CLICK_MARGIN, line)
-    comes(browser, "a breakpoint in it stops nothing yet, in words", TOLD_AT, f"{differs} Until then this breakpoint stops nothing.")
+    eventually(browser, "a breakpoint in it stops nothing yet, in words", POPUP, f"{differs} Until then this breakpoint stops nothing.")
     browser.script(CLICK_MARGIN, line)
-    comes(browser, "a second click takes it away", MARGIN, "")
+    eventually(browser, "a second click takes it away", MARGIN, "")
     put(browser, "\n".join(["; one line more", *lines]) + "\n")
-    comes(browser, "another comment alone makes no difference", SOURCE_TOLD, "")
-    comes(browser, "and names are there", LABELS, re.compile("scan:"))
+    eventually(browser, "another comment alone makes no difference", SOURCE_STATUS, "")
+    eventually(browser, "and names are there", LABELS, re.compile("scan:"))
     lines_answered(browser, "poke rom.0x106 0xD3")
-    comes(browser, "nor is it in ROM where a byte was poked", SOURCE_TOLD, differs)
+    eventually(browser, "nor is it in ROM where a byte was poked", SOURCE_STATUS, differs)
     lines_answered(browser, "poke rom.0x106 0xD2")
-    comes(browser, "as long as it is there", SOURCE_TOLD, "")
+    eventually(browser, "as long as it is there", SOURCE_STATUS, "")
     put(browser, "\tLDM 3\n\tJUN nowhere\n")
-    comes(browser, "a text with a fault says so", SOURCE_TOLD, re.compile("^The source has an error in line 2: no 32"))
+    eventually(browser, "a text with a fault says so", SOURCE_STATUS, re.compile("^The source has an error in line 2: no 32"))
     put(browser, "\tORG 0xF00\n\tNOP\n")
-    comes(browser, "and one that has no ROM", SOURCE_TOLD, "The board has no ROM at 0xF00, where line 2 of the source goes.")
+    eventually(browser, "and one that has no ROM", SOURCE_STATUS, "The board has no ROM at 0xF00, where line 2 of the source goes.")
 
 
 def check(browser, page, _folder, mcs4):

@@ -8,11 +8,11 @@ import subprocess
 import time
 
 from page_commands import chord
-from page_explore import MARK, TOLD, put, text_of
+from page_explore import MARK, PROPERTIES_STATUS, put, text_of
 from page_in_browser import NOTICE, STATUS, TOP, choose_example, lines_answered, open_anew, show_text
 from page_layout import SIDEWAYS, at_size
 from page_texts import NAME
-from verdicts import comes, verdict
+from verdicts import eventually, verdict
 from web_driver import Chromium
 
 BUTTON = "return document.getElementById('prove').textContent"
@@ -23,14 +23,16 @@ ROWS = """return [...document.querySelectorAll('#proof-list > li')].map((each) =
 LAMPS_LIT = "return document.querySelectorAll('.bulb.lit').length"
 LIT = "return [...document.querySelectorAll('#proof-list .lit')].length"
 CONTROL, SHIFT, ENTER = "\ue009", "\ue008", "\ue007"
-# So long a search may take on a machine that has other work.
+# The time that a search may need on a machine that has other work.
 LONG = 900
+# The mistakes that every program is asked for.
+MISTAKES = 7
 CHANGED = "the program, the board or the text has changed since"
 # The lamp is on while TEST is 0, and nothing turns the other one on.
 BOARD = ('# lamp 0: lit\n# test: button WALK\nlamp = [{ line = "ram0.0.0" }, { line = "ram0.0.1" }]\nrom = [{ chip = 0, port = "0000" }]\n'
          "ram = [{ bank = 0, chips = 1 }]\n")
 PROGRAM = "look:   JCN 1, on\n        LDM 0\n        JUN put\non:     LDM 1\nput:    WMP\n        INC R1\n        JUN look\n"
-# It counts in all registers: no search comes to an end.
+# It counts in all registers: no search reaches an end.
 COUNTING = "look:   JCN 1, look\n" + "".join(f"        ISZ R{number}, look\n" for number in range(16)) + "        JUN look\n"
 
 
@@ -41,54 +43,55 @@ def prove(browser, states=1000000):
 
 
 def prove_to_end(browser, what, states=1000000):
-    """Proves, and waits for the end: the button is itself again."""
+    """Proves, and waits for the end: the button has its first label again."""
     prove(browser, states)
-    comes(browser, what, BUTTON, "Prove", LONG)
+    eventually(browser, what, BUTTON, "Prove", LONG)
 
 
 def proved_by_tool(browser, folder, mcs4):
-    """What mcs4 prove says of the texts of the page, without the mistakes that it looks for unasked."""
+    """Returns what mcs4 prove says of the texts of the page: properties, and then mistakes."""
     names = [("board", "board.toml"), ("program", "program.asm"), ("properties", "some.props")]
     for name, file in names:
         (folder / file).write_text(text_of(browser, name))
     asked = ["./mcs4", "prove", *(folder / file for _, file in names)]
     ran = subprocess.run(asked, cwd=TOP, env=dict(os.environ, MCS4=str(mcs4)), stdout=subprocess.PIPE, text=True, check=False)
-    return re.findall(r"^ok \d+ - (?!no )(.*) # proved for all inputs \((.*)\)$", ran.stdout, re.M)
+    return re.findall(r"^ok \d+ - (.*) # proved for all inputs \((.*)\)$", ran.stdout, re.M)
 
 
 def check_example(browser, folder, mcs4):
-    """The stopwatch, which has one state more than the first question may search."""
+    """Checks the stopwatch, which has one state more than the first question may search."""
     choose_example(browser, "stopwatch")
     properties = [line for line in text_of(browser, "properties").splitlines() if line.startswith("never")]
-    told = proved_by_tool(browser, folder, mcs4)
-    verdict("the tool proves its properties", [text for text, _ in told], properties)
+    proved = proved_by_tool(browser, folder, mcs4)
+    verdict("the tool proves its properties, and that no mistake is made", [text for text, _ in proved][: len(properties)], properties)
+    verdict("of which there are seven", len(proved) - len(properties), MISTAKES)
     prove(browser)
-    comes(browser, "the button cancels it", BUTTON, "Cancel")
-    comes(browser, "it is said how many states were searched", SO_FAR, f"Property 1 of {len(properties)}: more than 10,000 states so far", LONG)
+    eventually(browser, "the button cancels it", BUTTON, "Cancel")
+    eventually(browser, "it is said how many states were searched", SO_FAR, f"Property 1 of {len(proved)}: more than 10,000 states so far", LONG)
     verdict("as the bar shows", browser.script(BAR), [10000, 1000000])
-    comes(browser, "it comes to its end", BUTTON, "Prove", LONG)
+    eventually(browser, "it comes to its end", BUTTON, "Prove", LONG)
     verdict("each property is proved, with as many states as the tool has", browser.script(ROWS),
-            [f"proved | {text} | for all inputs: {states}" for text, states in told])
-    verdict("with a lit mark", browser.script(LIT), len(properties))
-    verdict("what came of all is said", browser.script(TOLD), f"{len(properties)} proved.")
-    verdict("also on the tab", browser.script(MARK), f"{len(properties)} proved")
+            [f"proved | {text} | for all inputs: {states}" for text, states in proved])
+    verdict("with a lit mark", browser.script(LIT), len(proved))
+    verdict("what came of all is said", browser.script(PROPERTIES_STATUS), f"{len(proved)} proved.")
+    verdict("also on the tab", browser.script(MARK), f"{len(proved)} proved")
 
 
 def check_edits(browser):
-    """A mark goes with an edit of the program, the board or the property, and is there again once that is undone."""
+    """Checks that a mark is removed with an edit of the program, the board or the property, and is there again once that is undone."""
     count = browser.script(LIT)
     for name, mark in (("program", ";"), ("board", "#")):
         text = text_of(browser, name)
         put(browser, name, f"{text}{mark} another one\n")
-        comes(browser, f"an edit of the {name} takes the marks away", LIT, 0)
+        eventually(browser, f"an edit of the {name} takes the marks away", LIT, 0)
         verdict("and says why", {row.split(" | ")[-1] for row in browser.script(ROWS)}, {CHANGED})
         verdict("the tab says nothing then", browser.script(MARK), "")
         put(browser, name, text)
-        comes(browser, "undone, they are there again", LIT, count)
+        eventually(browser, "undone, they are there again", LIT, count)
     properties = text_of(browser, "properties")
     first, second = [row.split(" | ")[1] for row in browser.script(ROWS)][:2]
     put(browser, "properties", f"# one more\nnever r0 = 1 and r0 = 2\n{properties.replace(first, first.replace('9', '8'))}")
-    comes(browser, "a property that is another one loses its mark alone", LIT, count - 1)
+    eventually(browser, "a property that is another one loses its mark alone", LIT, count - 1)
     verdict("and the next one keeps its verdict", [row.split(" | ")[0] for row in browser.script(ROWS)][:2], [first, "proved"])
     browser.click("#proof-list li:nth-of-type(2) .name")
     verdict("a click on it shows its line", browser.script("""
@@ -97,49 +100,50 @@ return editor.getLine(editor.getCursor('from').line).trim()"""), second)
 
 
 def check_counterexample(browser):
-    """The lamp that can be lit: its test, and the session before the step that lights it."""
+    """Checks the lamp that can be on: its test, and the session before the step that turns it on."""
     before = text_of(browser, "tests")
     row = "#proof-list li:nth-of-type(2) .bar button"
     browser.click(f"{row}:nth-of-type(2)")
-    comes(browser, "its test goes to the tests", TOLD, "It is at the end of Tests, where Run tests runs it.")
+    eventually(browser, "its test goes to the tests", PROPERTIES_STATUS, "It is at the end of Tests, where Run tests runs it.")
     verdict("as it is shown", text_of(browser, "tests"),
             f"{before}{browser.script('return document.querySelector(`#proof-list li:nth-of-type(2) pre`).textContent')}\n")
     browser.click(row)
-    comes(browser, "it is opened", NAME, "never lamp lit on")
-    comes(browser, "before the step that breaks it", STATUS, "The next step breaks: never lamp lit on")
-    comes(browser, "the way back to the session is offered", NOTICE, re.compile('The session "empty bench" is kept'))
+    eventually(browser, "it is opened", NAME, "never lamp lit on")
+    eventually(browser, "before the step that breaks it", STATUS, "The next step breaks: never lamp lit on")
+    eventually(browser, "the way back to the session is offered", NOTICE, re.compile('"empty bench" is saved'))
     verdict("with the source in front", browser.script("return document.getElementById('program-tab').getAttribute('aria-selected')"), "true")
     verdict("the lamp is off there", lines_answered(browser, "lamps").endswith("lamps .."), True)
     browser.click("#step")
-    comes(browser, "the step lights it", LAMPS_LIT, 1)
+    eventually(browser, "the step lights it", LAMPS_LIT, 1)
     verdict("by the bench's word", lines_answered(browser, "lamps").endswith("lamps *."), True)
     browser.click("#back-instruction")
-    comes(browser, "time goes back", LAMPS_LIT, 0)
+    eventually(browser, "time goes back", LAMPS_LIT, 0)
     counter = "return document.getElementById('cycles').textContent.match(/[\\d,]+ cycle/)[0]"
-    comes(browser, "to where it was opened", counter, "3 cycle")
+    eventually(browser, "to where it was opened", counter, "3 cycle")
     browser.click("#back-instruction")
-    comes(browser, "and before that", counter, "2 cycle")
+    eventually(browser, "and before that", counter, "2 cycle")
 
 
 def check_kinds(browser):
-    """All verdicts at once, of a board and a program of one's own."""
+    """Checks all verdicts at once, of a board and a program of the user's own."""
     choose_example(browser, "empty bench")
     put(browser, "board", BOARD)
     put(browser, "program", PROGRAM)
     put(browser, "properties", "test\nnever lamp 1 on\nnever lamp lit on\nreach lamp lit on\nreach lamp 1 on\nevery 1 ms @look\n")
     prove_to_end(browser, "it comes to its end")
-    verdict("what came of all is said", browser.script(TOLD), "1 proved, 1 can fail, 1 reached, 1 never reached, 1 not decided.")
+    verdict("what came of all is said", browser.script(PROPERTIES_STATUS), f"{1 + MISTAKES} proved, 1 can fail, 1 reached, 1 never reached, 1 not decided.")
     rows = browser.script(ROWS)
     verdict("each verdict", rows[:4], [
         "proved | never lamp 1 on | for all inputs: 32 states", "can fail | never lamp lit on | broken by 1 step, 4 cycles",
         "reached | reach lamp lit on | reached by 1 step, 4 cycles", "never reached | reach lamp 1 on | for all inputs: 32 states"])
-    verdict("and a form that is not decided", rows[4:], re.compile(r"^\['not decided \| every 1 ms @look \| a property of the form"))
-    verdict("one of them is lit", browser.script(LIT), 1)
+    verdict("and a form that is not decided", rows[4:5], re.compile(r"^\['not decided \| every 1 ms @look \| a property of the form"))
+    verdict("no mistake is made", [row.split(" | ")[0] for row in rows[5:]], ["proved"] * MISTAKES)
+    verdict("what is proved is lit", browser.script(LIT), 1 + MISTAKES)
     check_counterexample(browser)
     browser.click("#sessions-button")
     browser.until("return document.getElementById('sessions').open", True)
     browser.click("#kept button[aria-label='open empty bench']")
-    comes(browser, "back in the session, its verdicts are there", LIT, 1)
+    eventually(browser, "back in the session, its verdicts are there", LIT, 1 + MISTAKES)
     prove_to_end(browser, "20 states are soon searched", 20)
     verdict("too many states decide nothing", browser.script(ROWS), re.compile("'not decided . never lamp 1 on . more than 20 states; a larger number"))
     browser.click("#clear-finds")
@@ -149,33 +153,37 @@ def check_kinds(browser):
 def check_wrong(browser):
     for states in ("0", "x", ""):
         prove(browser, states)
-        verdict(f"{states or 'no'} states are refused", browser.script(TOLD), "The states are a number, 1 to 999,999,999.")
+        verdict(f"{states or 'no'} states are refused", browser.script(PROPERTIES_STATUS), "The states are a number, 1 to 999,999,999.")
     put(browser, "properties", "never lamp purple on\n")
     prove_to_end(browser, "nothing is proved of a text with an error")
-    verdict("which is told", browser.script(TOLD), re.compile("^Nothing was run: Properties, line 1: the board has no lamp purple"))
+    verdict("which is reported", browser.script(PROPERTIES_STATUS), re.compile("^Nothing was run: Properties, line 1: the board has no lamp purple"))
     put(browser, "properties", "test\n")
-    prove_to_end(browser, "nor without a property")
-    verdict("and says so", browser.script(TOLD), re.compile("^Properties has no property"))
+    prove_to_end(browser, "without a property the mistakes are asked for")
+    verdict("and nothing else", browser.script(PROPERTIES_STATUS), f"{MISTAKES} proved.")
+    put(browser, "program", "        JUN 256\n")
+    prove_to_end(browser, "a program can make one")
+    verdict("which is reported", browser.script(PROPERTIES_STATUS), f"{MISTAKES - 1} proved, 1 can fail.")
+    verdict("as one", [row for row in browser.script(ROWS) if not row.startswith("proved")], ["can fail | no ROM that is absent | broken by 0 steps, 2 cycles"])
 
 
 def check_cancelled(browser):
-    """A search without an end is cancelled at once, also by the keyboard; time runs meanwhile."""
+    """Checks that a search without an end is cancelled at once, also by the keyboard; time runs meanwhile."""
     put(browser, "program", COUNTING)
     put(browser, "properties", "never lamp 1 on\n")
     prove(browser, 999999999)
-    comes(browser, "it searches", SO_FAR, re.compile("more than .* states so far"), LONG)
+    eventually(browser, "it searches", SO_FAR, re.compile("more than .* states so far"), LONG)
     begun = time.monotonic()
     browser.hold("#prove", 300)
-    comes(browser, "it stops", BUTTON, "Prove", 10)
+    eventually(browser, "it stops", BUTTON, "Prove", 10)
     verdict("at once", time.monotonic() - begun < 8, True)
-    verdict("and says so", browser.script(TOLD), "It was cancelled before anything was proved.")
+    verdict("and says so", browser.script(PROPERTIES_STATUS), "It was cancelled before anything was proved.")
     verdict("with nothing left of it", browser.script("return isShown(document.getElementById('proof-results'))"), False)
     browser.script("document.querySelector('#properties-editor .cm-editor').lineEditor.focus()")
     chord(browser, CONTROL, SHIFT, ENTER)
-    comes(browser, "Ctrl, Shift and Enter begin it", BUTTON, "Cancel")
+    eventually(browser, "Ctrl, Shift and Enter begin it", BUTTON, "Cancel")
     browser.script("document.getElementById('prove').focus()")
     browser.keys([ENTER])
-    comes(browser, "Enter on the button cancels it", BUTTON, "Prove", 10)
+    eventually(browser, "Enter on the button cancels it", BUTTON, "Prove", 10)
     choose_example(browser, "three lamps")
     show_text(browser, "properties")
     verdict("another session has none of it", browser.script("return isShown(document.getElementById('proof-results'))"), False)
@@ -188,11 +196,11 @@ def check_phone(browser):
     put(browser, "properties", "never lamp lit on\nnever lamp 1 on\n")
     at_size(browser, 390, 844, True)
     prove_to_end(browser, "on a phone it proves, too")
-    verdict("with its verdicts", browser.script(TOLD), "1 proved, 1 can fail.")
+    verdict("with its verdicts", browser.script(PROPERTIES_STATUS), f"{1 + MISTAKES} proved, 1 can fail.")
     verdict("its rows fit into the width", browser.script("""return [...document.querySelectorAll('#proof-results *')]
       .filter((each) => isShown(each) && each.getBoundingClientRect().right > innerWidth).length"""), 0)
     verdict("and nothing scrolls sideways", browser.script(SIDEWAYS), 0)
-    browser.command("Emulation.clearDeviceMetricsOverride")
+    browser.resize_back()
 
 
 def check(browser, page, folder, mcs4):

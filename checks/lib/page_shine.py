@@ -1,19 +1,19 @@
-"""How bright lamps are in a browser: while time runs, by the part of the time for which they are lit, as `trace` tells it; at a stop, the
+"""How bright lamps are in a browser: while time runs, by the part of the time for which they are lit, as `trace` reports it; at a stop, the
 instant. A display that is written anew in each turn of the main loop shows its number all the time; one that is shifted in after a key, when
 it stands."""
 
 import re
 
-from page_in_browser import DIGITS, SPEED, STATUS, TOP, choose_example, lines_answered, told_of, until_ready
-from verdicts import comes, verdict
+from page_in_browser import DIGITS, SPEED, STATUS, TOP, choose_example, lines_answered, status_of, until_ready
+from verdicts import eventually, verdict
 
 ROM = '[[rom]]\nchip = 0\nport = "0000"\n'
 PULSES_BOARD = ROM + "".join(f'[[lamp]]\nline = "rom0.{line}"\n' for line in range(4))
-# Lamp 0 is lit for 3 cycles in a turn, lamp 1 for the rest of them, lamp 2 always, lamp 3 never.
+# Lamp 0 is on for 3 cycles in a turn, lamp 1 for the rest of them, lamp 2 always, lamp 3 never.
 PULSES = "FIM P0, 0\nSRC P0\nloop: LDM 5\nWRR\nNOP\nLDM 6\nWRR\nFIM P1, 0\nwait: ISZ R2, wait\nJUN loop\n"
 # Shifts 42 out all the time, segment by segment.
 REFRESHED_BOARD, REFRESHED = ((TOP / f"js/test/two_digits.{kind}").read_text() for kind in ("toml", "asm"))
-TOLD = "return document.getElementById('shine-told').textContent"
+BRIGHTNESS_STATUS = "return document.getElementById('brightness-status').textContent"
 # From here on: in each frame, how bright each lamp is, and what the display shows.
 WATCH = """
 window.shines = [];
@@ -32,7 +32,7 @@ SHINES = "return [...document.querySelectorAll('#front .bulb')].map((bulb) => Nu
 
 
 def parts_lit(answer):
-    """The part of the time for which each lamp is lit, by an answer to `trace n lamps`, as the log has it."""
+    """Returns the part of the time for which each lamp is on, by an answer to `trace n lamps`, as the log has it."""
     head = re.search(r"trace ran (\d+) end lines \d+ ([.*]+)", answer)
     rows = re.findall(r"(\d+) [0-9A-F]{3} ([.*]+)", answer[head.end():])
     total, marks, since = int(head.group(1)), head.group(2), 0
@@ -49,35 +49,35 @@ def watched(browser, milliseconds):
 
 
 def parts_seen(browser):
-    """The least and the most of what each lamp shines, as the part of the time that it tells."""
+    """Returns the least and the greatest brightness of each lamp, as its share of the time that it states."""
     frames = browser.script("return window.shines")
     return [(min(each) ** 2.2, max(each) ** 2.2) for each in zip(*frames)]
 
 
 def check_pulses(browser, speed):
     browser.script(SPEED, speed)
-    comes(browser, f"at {speed} speed lamps are as an eye sees them", TOLD, re.compile("averaged over 30 ms"))
+    eventually(browser, f"at {speed} speed lamps are as an eye sees them", BRIGHTNESS_STATUS, re.compile("averaged over 30 ms"))
     watched(browser, 500)
     watched(browser, 1500)
     seen = parts_seen(browser)
     wanted = parts_lit(lines_answered(browser, "trace 4100 lamps"))
-    verdict(f"at {speed} speed each lamp shines as trace tells it, to 2 %: {seen} of {wanted}",
+    verdict(f"at {speed} speed each lamp shines as trace reports it, to 2 %: {seen} of {wanted}",
             all(abs(each - part) < 0.02 for pair, part in zip(seen, wanted) for each in pair), True)
 
 
 def check_instant(browser):
     browser.click("#run")
-    comes(browser, "time stands still", STATUS, re.compile("^Paused"))
+    eventually(browser, "time stands still", STATUS, re.compile("^Paused"))
     marks = re.search(r"lamps ([.*]+)", lines_answered(browser, "lamps")).group(1)
     verdict("then lamps are as they are at this instant", browser.script(SHINES), [1 if mark == "*" else 0 for mark in marks])
-    verdict("and that is told", browser.script(TOLD), "Paused: lamps show this instant.")
+    verdict("and that is reported", browser.script(BRIGHTNESS_STATUS), "Paused: lamps show this instant.")
     browser.click("#run")
 
 
 def check_refreshed(browser):
-    told_of(browser, "#board-editor", REFRESHED_BOARD)
-    told_of(browser, "#program-editor", REFRESHED)
-    comes(browser, "a display that is written anew all the time shows its number", DIGITS, "42")
+    status_of(browser, "#board-editor", REFRESHED_BOARD)
+    status_of(browser, "#program-editor", REFRESHED)
+    eventually(browser, "a display that is written anew all the time shows its number", DIGITS, "42")
     watched(browser, 2000)
     verdict("in each frame", browser.script("return [...new Set(window.numbers)].join(' ')"), "42")
     lit = "return [...document.querySelectorAll('#glass svg')].map((digit) => digit.querySelectorAll('.lit').length).join(' ')"
@@ -87,7 +87,7 @@ def check_refreshed(browser):
 
 def check_shifted(browser):
     choose_example(browser, "calculator")
-    comes(browser, "a calculator shows 0", DIGITS, "0")
+    eventually(browser, "a calculator shows 0", DIGITS, "0")
     browser.script(WATCH, 2000)
     browser.keys(["1", "2", "3"], 40, 60)
     browser.until("return window.watched", True)
@@ -97,14 +97,14 @@ def check_shifted(browser):
 
 def check_clock(browser):
     choose_example(browser, "clock")
-    comes(browser, "four digits that are lit by turns show a time", DIGITS, re.compile(r"^12\.?00$"))
+    eventually(browser, "four digits that are lit by turns show a time", DIGITS, re.compile(r"^12\.?00$"))
     watched(browser, 1500)
     verdict("in each frame, with its point or without", browser.script("return [...new Set(window.numbers)].sort().join(' ')"), "12.00 1200")
     browser.script(SPEED, "full")
-    comes(browser, "at full speed, too", DIGITS, re.compile(r"^(1[2-9]|[02][0-9])\.?[0-5][0-9]$"))
+    eventually(browser, "at full speed, too", DIGITS, re.compile(r"^(1[2-9]|[02][0-9])\.?[0-5][0-9]$"))
     browser.script(SPEED, "real")
     browser.click("#run")
-    comes(browser, "time stands still", STATUS, re.compile("^Paused"))
+    eventually(browser, "time stands still", STATUS, re.compile("^Paused"))
     digits = "return [...document.querySelectorAll('#glass svg')].filter((digit) => digit.querySelector('.lit')).length"
     verdict("at an instant at most one digit is lit", browser.script(digits) <= 1, True)
 
@@ -113,22 +113,22 @@ def check_pictures(browser):
     choose_example(browser, "pictures")
     rows = ("const bulbs = [...document.querySelectorAll('.matrix .bulb')].map((bulb) => (bulb.classList.contains('lit') ? '*' : '.'));"
             "return Array.from({ length: 8 }, (_, row) => bulbs.slice(8 * row, 8 * row + 8).join('')).join(' ')")
-    comes(browser, "a matrix whose rows are lit by turns shows a heart", rows,
-          "........ .**..**. ******** ******** .******. ..****.. ...**... ........")
+    eventually(browser, "a matrix whose rows are lit by turns shows a heart", rows,
+               "........ .**..**. ******** ******** .******. ..****.. ...**... ........")
     verdict("each lamp names both of its lines", browser.script("return document.querySelectorAll('.matrix .bulb')[13].title"),
             "ram0.1.2 and ram0.2.1")
     browser.keys(["n"], 100)
-    comes(browser, "NEXT brings another picture", rows, "..****.. .*....*. *.*..*.* *......* *.*..*.* *..**..* .*....*. ..****..")
+    eventually(browser, "NEXT brings another picture", rows, "..****.. .*....*. *.*..*.* *......* *.*..*.* *..**..* .*....*. ..****..")
     browser.click("#run")
-    comes(browser, "time stands still", STATUS, re.compile("^Paused"))
+    eventually(browser, "time stands still", STATUS, re.compile("^Paused"))
     verdict("at an instant at most one row is lit", sum("*" in row for row in browser.script(rows).split()) <= 1, True)
 
 
 def check(browser, page, _folder, _mcs4):
     browser.go(page.as_uri() + "#example=empty%20bench")
     until_ready(browser)
-    told_of(browser, "#board-editor", PULSES_BOARD)
-    told_of(browser, "#program-editor", PULSES)
+    status_of(browser, "#board-editor", PULSES_BOARD)
+    status_of(browser, "#program-editor", PULSES)
     for speed in ("real", "tenth", "full"):
         check_pulses(browser, speed)
     browser.script(SPEED, "real")

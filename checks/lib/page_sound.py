@@ -4,8 +4,8 @@ no Web Audio."""
 import re
 import time
 
-from page_in_browser import SPEED, choose_example, told_of, until_ready
-from verdicts import comes, verdict
+from page_in_browser import SPEED, choose_example, status_of, until_ready
+from verdicts import eventually, verdict
 
 BOARD = '# buzzer rom0.0: the buzzer\n[[rom]]\nchip = 0\nport = "0000"\n'
 # A wave of 198 cycles.
@@ -23,9 +23,9 @@ wait:   ISZ R3, wait
         ISZ R2, wait
         JUN loop
 """
-# A piece comes about each 50 ms, 90 ms before it is heard: one that comes so many seconds after the one before was held up by the host.
+# A piece arrives about each 50 ms, 90 ms before it is heard. The host has held up one that arrives this many seconds after the one before.
 HELD_UP = 0.1
-# From here on: what is played, from when on, and when it came, by the clock of the sound and by that of the page.
+# From here on: the pieces that are played, their start, and their arrival, by the clock of the sound and by that of the page.
 WATCH = """
 window.played = [];
 const start = AudioBufferSourceNode.prototype.start;
@@ -38,30 +38,45 @@ AudioBufferSourceNode.prototype.start = function (when) {
   return start.call(this, when);
 };
 """
-# Without a device for sound its clock stands at 0 in some browsers: that of the page takes its place.
+# Without a device for sound its clock is 0 in some browsers: that of the page replaces it.
 CLOCK = """
 const begun = performance.now();
 Object.defineProperty(BaseAudioContext.prototype, "currentTime", { get: () => (performance.now() - begun) / 1000 });
 """
 STANDS = "return window.played.every(({ now }) => now === 0)"
 PRESSED = "return document.getElementById('sound-button').getAttribute('aria-pressed')"
-TOLD = "return document.getElementById('sound-told').textContent"
+SOUND_STATUS = "return document.getElementById('sound-status').textContent"
 PLAYED = "return window.played.length"
+# The first piece is sent this many seconds before it is heard, in one of several tries.
+EARLY, TRIES = 0.08, 5
+
+
+def begins_later(browser, first):
+    """Returns whether the first piece is sent early enough. Other work on the machine can hold the page up in between: it is tried again."""
+    for _ in range(TRIES):
+        if first["when"] - first["now"] > EARLY:
+            return True
+        browser.click("#sound-button")
+        browser.script("window.played = []")
+        browser.click("#sound-button")
+        browser.until(PLAYED, re.compile("^[1-9]"))
+        first = browser.script("return window.played[0]")
+    return first["when"] - first["now"] > EARLY
 
 
 def check_tone(browser):
-    told_of(browser, "#board-editor", BOARD)
-    told_of(browser, "#program-editor", TONE)
-    comes(browser, "a board with a buzzer has a button for it", "return document.getElementById('sound').hidden", False)
+    status_of(browser, "#board-editor", BOARD)
+    status_of(browser, "#program-editor", TONE)
+    eventually(browser, "a board with a buzzer has a button for it", "return document.getElementById('sound').hidden", False)
     verdict("with its name, and it is muted", [browser.text("#sound-button"), browser.script(PRESSED)], ["Sound of the buzzer", "false"])
     browser.script(WATCH)
     browser.click("#sound-button")
-    comes(browser, "it is heard once that is asked for", PLAYED, re.compile("^[5-9]$|^..$"))
+    eventually(browser, "it is heard once that is asked for", PLAYED, re.compile("^[5-9]$|^..$"))
     if browser.script(STANDS):
         browser.click("#sound-button")
         browser.script(CLOCK + "window.played = [];")
         browser.click("#sound-button")
-        comes(browser, "with a clock it is heard, too", PLAYED, re.compile("^[5-9]$|^..$"))
+        eventually(browser, "with a clock it is heard, too", PLAYED, re.compile("^[5-9]$|^..$"))
     time.sleep(1)
     played = browser.script("return window.played")
     lengths = [each["count"] / each["rate"] for each in played]
@@ -69,22 +84,22 @@ def check_tone(browser):
     pitch = edges / 2 / sum(lengths)
     verdict(f"its pitch is right to 1 %: {pitch:.1f} Hz", abs(pitch - PITCH) < PITCH / 100, True)
     verdict("a sample is a cycle", sorted({each["rate"] for each in played}), [92593])
-    verdict("the first one begins so much later that the next one comes in time", played[0]["when"] - played[0]["now"] > 0.08, True)
+    verdict("the first one begins so much later that the next one comes in time", begins_later(browser, played[0]), True)
     gaps = [(one, other) for one, other, length in zip(played, played[1:], lengths) if abs(one["when"] + length - other["when"]) > 1e-6]
-    told = [f"{other['at'] - one['at']:.3f} s" for one, other in gaps]
-    verdict(f"{len(played)} pieces follow each other without a gap, but where the host held one up: {told}",
+    gap_words = [f"{other['at'] - one['at']:.3f} s" for one, other in gaps]
+    verdict(f"{len(played)} pieces follow each other without a gap, but where the host held one up: {gap_words}",
             all(other["at"] - one["at"] > HELD_UP for one, other in gaps), True)
     verdict("and most of them follow", 2 * len(gaps) < len(played), True)
 
 
 def check_speeds(browser):
     browser.script(SPEED, "tenth")
-    comes(browser, "at other speeds it is silent, which is told", TOLD, "silent: there is sound only in real time")
+    eventually(browser, "at other speeds it is silent, which is reported", SOUND_STATUS, "silent: there is sound only in real time")
     browser.script("window.played = []")
-    comes(browser, "and stays on", PRESSED, "true")
+    eventually(browser, "and stays on", PRESSED, "true")
     browser.script(SPEED, "real")
-    comes(browser, "in real time it is heard again", PLAYED, re.compile("^[1-9]"))
-    verdict("and nothing is told", browser.script(TOLD), "")
+    eventually(browser, "in real time it is heard again", PLAYED, re.compile("^[1-9]"))
+    verdict("and nothing is reported", browser.script(SOUND_STATUS), "")
     browser.click("#sound-button")
     verdict("a second press mutes it", browser.script(PRESSED), "false")
 
@@ -96,8 +111,8 @@ def check(browser, page, _folder, _mcs4):
     check_tone(browser)
     check_speeds(browser)
     choose_example(browser, "music box")
-    comes(browser, "a music box has a buzzer", "return document.getElementById('sound').hidden", False)
+    eventually(browser, "a music box has a buzzer", "return document.getElementById('sound').hidden", False)
     browser.script("window.AudioContext = undefined")
     browser.click("#sound-button")
-    verdict("without Web Audio it is told where else it is heard", browser.script(TOLD), re.compile("no sound .Web Audio.*mcs4 wave --wav"))
+    verdict("without Web Audio it is reported where else it is heard", browser.script(SOUND_STATUS), re.compile("no sound .Web Audio.*mcs4 wave --wav"))
     verdict("and nothing is pressed", browser.script(PRESSED), "false")

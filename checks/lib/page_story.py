@@ -5,11 +5,11 @@ example that is a project, whose session stands where its texts say."""
 import re
 import time
 
-from page_editor import CARET, FAULTS, PROGRAM, SET_CARET, TOLD
+from page_editor import CARET, FAULTS, PROGRAM, SET_CARET, STATUS_OF
 from page_in_browser import DOWN, ENTER, ESCAPE, NOTICE, STATUS, STEPPED, TAB, TEXT_OF_EDITOR, focused, lines_answered, until_ready
-from page_names import MARGIN, SOURCE_TOLD
+from page_names import MARGIN, SOURCE_STATUS
 from page_texts import ASKED, NAME, PROGRAM_TEXT, TEXTS, kept_download
-from verdicts import comes, verdict
+from verdicts import eventually, verdict
 
 CONTROL, BACKSPACE, END, HOME, UP = "\ue009", "\ue003", "\ue010", "\ue011", "\ue013"
 F8, F9, F11 = "\ue038", "\ue039", "\ue03b"
@@ -37,14 +37,14 @@ def type_keys(browser, text):
 
 
 def choose_by_keyboard(browser, name):
-    """An example, by keys alone."""
+    """Chooses an example by keys alone."""
     browser.script("document.getElementById('name').focus()")
     focused(browser, TAB, "e.id === 'sessions-button'", 5)
     browser.keys([ENTER])
     browser.until(OPEN, True)
     go_by_tab(browser, f"the example {name}", f"e.getAttribute('aria-label') === 'new session: {name}'")
     browser.keys([ENTER])
-    comes(browser, f"Enter opens {name}", NAME, name)
+    eventually(browser, f"Enter opens {name}", NAME, name)
     browser.until(OPEN, False)
 
 
@@ -55,37 +55,37 @@ def go_to_source(browser):
 
 
 def check_board(browser):
-    """An empty bench says what one can begin with."""
+    """Checks that an empty bench says how to begin."""
     choose_by_keyboard(browser, "empty bench")
     verdict("an empty bench offers a beginning", browser.script(OFFERED), True)
     go_by_tab(browser, "a board to begin with", "e.id === 'first-board'")
     browser.keys([ENTER])
-    comes(browser, "it has four lamps", LAMPS, "....")
+    eventually(browser, "it has four lamps", LAMPS, "....")
     verdict("and is offered no more", browser.script(OFFERED), False)
     verdict("the keyboard goes on in that panel", browser.script("return document.activeElement.closest('#front') !== null"), True)
 
 
 def check_program(browser):
-    """A program is typed, refused, mended and run."""
+    """Checks that a program is typed, rejected, corrected and run."""
     go_to_source(browser)
     for line in TYPED:
         type_keys(browser, line)
         browser.keys([ENTER], 2, 2)
-    comes(browser, "a fault is told while one types", FAULTS.format(PROGRAM), FAULT)
+    eventually(browser, "a fault is reported while one types", FAULTS.format(PROGRAM), FAULT)
     before = browser.script(CARET, PROGRAM)
     browser.chord(CONTROL, ENTER)
-    comes(browser, "Control and Enter assemble nothing then", TOLD.format(PROGRAM), FAULT)
+    eventually(browser, "Control and Enter assemble nothing then", STATUS_OF.format(PROGRAM), FAULT)
     verdict("and the caret stays", browser.script(CARET, PROGRAM), before)
     browser.keys([UP, UP, END, BACKSPACE, "P"], 5, 5)
-    comes(browser, "mended, it has no fault", FAULTS.format(PROGRAM), "")
+    eventually(browser, "mended, it has no fault", FAULTS.format(PROGRAM), "")
     browser.chord(CONTROL, ENTER)
-    comes(browser, "and is assembled and run", TOLD.format(PROGRAM), "6 bytes assembled, the rest of ROM is 0. It runs from 000 on.")
-    comes(browser, "time runs", STATUS, re.compile("^Running"))
-    comes(browser, "the source is what is in ROM", SOURCE_TOLD, "")
+    eventually(browser, "and is assembled and run", STATUS_OF.format(PROGRAM), "Assembled 6 bytes; running from 000.")
+    eventually(browser, "time runs", STATUS, re.compile("^Running"))
+    eventually(browser, "the source is what is in ROM", SOURCE_STATUS, "")
 
 
 def check_keys(browser):
-    """Keys of the board by the keyboard; the lamps show them."""
+    """Checks keys of the board by the keyboard; the lamps show them."""
     browser.keys([ESCAPE, TAB], 5, 5)
     shown = browser.script(LAMPS)
     browser.script("window.shown = new Set()")
@@ -94,30 +94,30 @@ def check_keys(browser):
                    "{ subtree: true, attributes: true })")
     letter = browser.script("return document.querySelector('#keys kbd').textContent")
     browser.keys([letter], 300, 100)
-    comes(browser, "a key lights a lamp", "return window.shown.size > 0 && [...window.shown].some((each) => each !== arguments[0])"
-          .replace("arguments[0]", f"'{shown}'"), True)
-    comes(browser, "and is up again", KEYS_DOWN, "")
+    eventually(browser, "a key lights a lamp", "return window.shown.size > 0 && [...window.shown].some((each) => each !== arguments[0])"
+               .replace("arguments[0]", f"'{shown}'"), True)
+    eventually(browser, "and is up again", KEYS_DOWN, "")
 
 
 def check_stop(browser):
-    """Stopped, with a breakpoint in the source, and stepped."""
+    """Checks a stop with a breakpoint in the source, and a step."""
     browser.keys([F8])
     browser.until(STATUS, re.compile("^Paused"))
     go_to_source(browser)
     browser.script(SET_CARET, PROGRAM, 3, 0)
     browser.keys([F9])
-    comes(browser, "F9 sets a breakpoint", MARGIN, "4")
+    eventually(browser, "F9 sets a breakpoint", MARGIN, "4")
     browser.keys([F8])
-    comes(browser, "a run stops there", STATUS, re.compile("^Paused at 002, at a breakpoint"))
+    eventually(browser, "a run stops there", STATUS, re.compile("^Paused at 002, at a breakpoint"))
     browser.keys([F11])
-    comes(browser, "F11 does one instruction", STATUS, STEPPED)
+    eventually(browser, "F11 does one instruction", STATUS, STEPPED)
     verdict("the next one is WMP", browser.script(REGISTERS), re.compile("pc003"))
     browser.keys([F9])
-    comes(browser, "F9 clears it", MARGIN, "")
+    eventually(browser, "F9 clears it", MARGIN, "")
 
 
 def check_loss(browser):
-    """The text is lost, and brought back."""
+    """Checks that the text is lost, and brought back."""
     mine = browser.script(PROGRAM_TEXT)
     browser.script("document.getElementById('from-rom').focus()")
     browser.keys([ENTER])
@@ -125,14 +125,14 @@ def check_loss(browser):
     verdict("the keyboard is at the answer", browser.script("return document.activeElement.textContent"), "Replace it")
     browser.keys([ENTER])
     browser.until(ASKED, "")
-    comes(browser, "a source of the ROM has no comment", PROGRAM_TEXT, re.compile(r"^\s*LDM 3\s+WRR\s+RDR\s+WMP\s+JUN 0x002\s*$"))
+    eventually(browser, "a source of the ROM has no comment", PROGRAM_TEXT, re.compile(r"^\s*LDM 3\s+WRR\s+RDR\s+WMP\s+JUN 0x002\s*$"))
     go_to_source(browser)
     browser.chord(CONTROL, "z")
-    comes(browser, "Control and Z bring the text back", PROGRAM_TEXT, mine)
+    eventually(browser, "Control and Z bring the text back", PROGRAM_TEXT, mine)
 
 
 def save_by_keyboard(browser):
-    """By the menu of files: Enter opens it, the arrow goes on to Save, Enter saves."""
+    """Saves by the menu of files: Enter opens it, the arrow moves to Save, Enter saves."""
     browser.script("document.getElementById('menu-button').focus()")
     browser.keys([ENTER, DOWN])
     verdict("the arrow comes to Save", browser.script("return document.activeElement.id"), "save-button")
@@ -140,7 +140,7 @@ def save_by_keyboard(browser):
 
 
 def check_file(browser, folder):
-    """Saved, a wrong file refused, and opened again to the byte."""
+    """Checks a file that is saved, a wrong one that is rejected, and one that is opened again to the byte."""
     texts = browser.script(TEXTS)
     save_by_keyboard(browser)
     saved = kept_download(folder, "My first board.mcsp")
@@ -148,41 +148,41 @@ def check_file(browser, folder):
     saved.unlink()
     verdict("a project has the text as it is", all(line in whole.decode() for line in ("; my first program", "read: RDR")), True)
     browser.script(DROP, "holiday.jpg", "no session at all")
-    comes(browser, "a wrong file that is dropped is refused in words", NOTICE,
-          re.compile(r"holiday\.jpg was not opened: not a kind of text that the bench has; the page opens .*The session that is shown is as it was"))
+    eventually(browser, "a wrong file that is dropped is refused in words", NOTICE,
+               re.compile(r"Cannot open holiday\.jpg: not a kind of text that the bench has; supported are projects .*The session that is shown is as it was"))
     verdict("and the texts are as they were", browser.script(TEXTS), texts)
     go_to_source(browser)
     browser.script(SET_CARET, PROGRAM, 0, 0)
     type_keys(browser, "; not this")
-    comes(browser, "something else is typed", TEXT_OF_EDITOR.replace("arguments[0]", f"'{PROGRAM}'"), re.compile("^; not this"))
+    eventually(browser, "something else is typed", TEXT_OF_EDITOR.replace("arguments[0]", f"'{PROGRAM}'"), re.compile("^; not this"))
     browser.script(DROP, "mine.mcsp", whole.decode())
-    comes(browser, "the project is opened again", TEXTS, texts)
-    comes(browser, "what was left for it can be come back to", NOTICE, re.compile('The session "My first board" is kept, as you left it'))
+    eventually(browser, "the project is opened again", TEXTS, texts)
+    eventually(browser, "what was left for it can be come back to", NOTICE, re.compile('"My first board" is saved'))
     save_by_keyboard(browser)
     verdict("and saved again it is the same, to the byte", kept_download(folder, "My first board.mcsp").read_bytes() == whole, True)
-    browser.script("document.querySelector(\"#notice button[aria-label^='Back to it']\").focus()")
+    browser.script("document.querySelector(\"#notice button[aria-label^='Reopen']\").focus()")
     browser.keys([ENTER])
-    comes(browser, "back to the other one", PROGRAM_TEXT, re.compile("^; not this"))
+    eventually(browser, "back to the other one", PROGRAM_TEXT, re.compile("^; not this"))
 
 
 def check_example(browser):
-    """An example that is a project: its texts have their comments, and its session stands where they say."""
+    """Checks an example that is a project: its texts have their comments, and its session is where they say."""
     browser.script("for (const each of document.querySelectorAll('#notice .dismiss')) each.click()")
     choose_by_keyboard(browser, "a fault to find")
     verdict("its source has its comments", browser.script(PROGRAM_TEXT), re.compile("^; Four lamps should count from 0 to 9"))
-    comes(browser, "it is what is in ROM", SOURCE_TOLD, "")
-    comes(browser, "its breakpoint is there", MARGIN, re.compile(r"^\d+$"))
-    comes(browser, "it shows a 9", LAMPS, "*..*")
+    eventually(browser, "it is what is in ROM", SOURCE_STATUS, "")
+    eventually(browser, "its breakpoint is there", MARGIN, re.compile(r"^\d+$"))
+    eventually(browser, "it shows a 9", LAMPS, "*..*")
     verdict("and its count has just become ten", browser.script(REGISTERS), re.compile("R5A"))
     verdict("time stands still", browser.script("return document.getElementById('run').textContent"), "Continue")
-    comes(browser, "no session is made before something is done", "return location.hash", "#example=a%20fault%20to%20find")
+    eventually(browser, "no session is made before something is done", "return location.hash", "#example=a%20fault%20to%20find")
     source = browser.script(PROGRAM_TEXT)
     at = source.split("\n").index("        SUB R4")
     go_to_source(browser)
     browser.script(SET_CARET, PROGRAM, at, len("        SUB R4"))
     browser.keys([BACKSPACE, "5"], 5, 5)
     browser.chord(CONTROL, ENTER)
-    comes(browser, "mended, it is assembled and run", TOLD.format(PROGRAM), re.compile("bytes assembled, the rest of ROM is 0"))
+    eventually(browser, "mended, it is assembled and run", STATUS_OF.format(PROGRAM), re.compile("^Assembled .* bytes; running from 000"))
     browser.until(STATUS, re.compile("at a breakpoint"))
     begun = "\n".join(["unbreak 8", "reset", *["run 91000"] * 10, "lamps", "run 97000", "lamps"])
     verdict("and counts to 9, and then from 0 on", lines_answered(browser, begun), re.compile(r"lamps \*\.\.\*.*lamps \.\.\.\."))

@@ -4,8 +4,8 @@ and tearing off; and printers that cannot be."""
 import re
 import time
 
-from page_in_browser import DIGITS, ENTER, PUT_INTO_EDITOR, SPEED, STATUS, choose_example, key, told_of, until_ready
-from verdicts import comes, verdict
+from page_in_browser import DIGITS, ENTER, PUT_INTO_EDITOR, SPEED, STATUS, choose_example, key, status_of, until_ready
+from verdicts import eventually, verdict
 
 STRIP = """
 const lines = [...document.querySelectorAll("#paper div")].map((line) => line.textContent);
@@ -45,60 +45,60 @@ def press(browser, legends):
 
 def check_calculator(browser):
     choose_example(browser, "printing calculator")
-    comes(browser, "a board with a printer has a strip without a line", STRIP, "")
+    eventually(browser, "a board with a printer has a strip without a line", STRIP, "")
     height = browser.script(HEIGHT)
     press(browser, "12+30=")
-    comes(browser, "what is keyed and what comes is printed", STRIP, "12+ 30= 42")
-    comes(browser, "and shown", DIGITS, "42")
+    eventually(browser, "what is keyed and what comes is printed", STRIP, "12+ 30= 42")
+    eventually(browser, "and shown", DIGITS, "42")
     browser.keys(["-", "5", "8", ENTER], 60, 120)
-    comes(browser, "by the keyboard, too", STRIP, "12+ 30= 42 42- 58= -16")
+    eventually(browser, "by the keyboard, too", STRIP, "12+ 30= 42 42- 58= -16")
     browser.reload()
     until_ready(browser)
-    comes(browser, "a reload keeps it", STRIP, "12+ 30= 42 42- 58= -16")
+    eventually(browser, "a reload keeps it", STRIP, "12+ 30= 42 42- 58= -16")
     browser.script(SPEED, "full")
     press(browser, "*3=")
-    comes(browser, "at full speed it prints", STRIP, "12+ 30= 42 42- 58= -16 -16* 3= -48")
+    eventually(browser, "at full speed it prints", STRIP, "12+ 30= 42 42- 58= -16 -16* 3= -48")
     verdict("the end of the paper is in view", browser.script(AT_END), True)
     verdict("the paper takes no more room, so the keys stay where they are", browser.script(HEIGHT), height)
     browser.script(SPEED, "real")
 
 
 def check_editing(browser):
-    """While the board's text is written, without sending it."""
+    """Checks the time while the board's text is written and not sent."""
     text = browser.script(BOARD_TEXT)
     browser.script(PUT_INTO_EDITOR, "#board-editor", text.replace("printer rom0.2", "printer rom5.2"))
-    comes(browser, "a printer that cannot be is told", FAULTS, re.compile("the board has no output line rom5.2"))
+    eventually(browser, "a printer that cannot be is reported", FAULTS, re.compile("the board has no output line rom5.2"))
     browser.script(PUT_INTO_EDITOR, "#board-editor", text)
-    comes(browser, "until it is right again", FAULTS, "")
+    eventually(browser, "until it is right again", FAULTS, "")
     verdict("the paper keeps its lines", browser.script(STRIP), "12+ 30= 42 42- 58= -16 -16* 3= -48")
 
 
 def check_back(browser):
     browser.click("#run")
-    comes(browser, "time stands still", STATUS, re.compile("^Paused"))
+    eventually(browser, "time stands still", STATUS, re.compile("^Paused"))
     browser.click("#run")
     press(browser, "C7=")
-    comes(browser, "more is printed", STRIP, re.compile("-48 C 7= 7$"))
+    eventually(browser, "more is printed", STRIP, re.compile("-48 C 7= 7$"))
     browser.click("#run")
-    comes(browser, "time stands still again", STATUS, re.compile("^Paused"))
+    eventually(browser, "time stands still again", STATUS, re.compile("^Paused"))
     browser.click("#back-stop")
-    comes(browser, "going back takes it back", STRIP, re.compile("-48$"))
+    eventually(browser, "going back takes it back", STRIP, re.compile("-48$"))
     browser.click("#forward")
-    comes(browser, "forward brings it again", STRIP, re.compile("-48 C 7= 7$"))
-    browser.click("#tear-paper")
-    comes(browser, "the paper is torn off", STRIP, "")
+    eventually(browser, "forward brings it again", STRIP, re.compile("-48 C 7= 7$"))
+    browser.click("#clear-printout")
+    eventually(browser, "the paper is torn off", STRIP, "")
     browser.click("#run")
     press(browser, "9=")
-    comes(browser, "and the next line begins a new one", STRIP, "9= 9")
+    eventually(browser, "and the next line begins a new one", STRIP, "9= 9")
 
 
 def check_lines(browser):
-    told_of(browser, "#board-editor", BOARD)
-    comes(browser, "a printer of another board has a strip of its own", STRIP, "")
-    told_of(browser, "#program-editor", SENDER)
-    comes(browser, "codes without words are ?", STRIP, f"aCEb c{'?' * 13}")
-    told_of(browser, "#board-editor", BOARD.replace("rom0.3", "rom0.0"))
-    comes(browser, "a strobe at an input line is told", FAULTS, "line 1 of the board's text: the board has no output line rom0.0")
+    status_of(browser, "#board-editor", BOARD)
+    eventually(browser, "a printer of another board has a strip of its own", STRIP, "")
+    status_of(browser, "#program-editor", SENDER)
+    eventually(browser, "codes without words are ?", STRIP, f"aCEb c{'?' * 13}")
+    status_of(browser, "#board-editor", BOARD.replace("rom0.3", "rom0.0"))
+    eventually(browser, "a strobe at an input line is reported", FAULTS, "line 1 of the board's text: the board has no output line rom0.0")
     verdict("and prints nothing", browser.script(STRIP), "-")
 
 

@@ -7,9 +7,9 @@ import subprocess
 import time
 import zlib
 
-from page_in_browser import (ALL_NOTICES, NOTICE, STATUS, choose_example, lines_answered, of_file_menu, open_anew, show_text,
-                             stop_time, told_of, until_ready)
-from verdicts import comes, verdict
+from page_in_browser import (ALL_NOTICES, ESCAPE, NOTICE, STATUS, choose_example, lines_answered, of_file_menu, open_anew, show_text,
+                             stop_time, status_of, until_ready)
+from verdicts import eventually, verdict
 
 TOP = pathlib.Path(__file__).resolve().parent.parent.parent
 NAME = "return document.getElementById('name').value"
@@ -33,7 +33,7 @@ PROGRAM = "; my own light\nstart:\tFIM P0, 0x00\t; f\u00fcr the first lamp\n\tJU
 
 
 def kept_download(folder, name):
-    """A file that the page saves, once it is there whole."""
+    """Returns a file that the page saves, once it is there whole."""
     saved = folder / "downloads" / name
     end = time.monotonic() + 20
     # Some browsers make an empty file first.
@@ -48,9 +48,9 @@ def rename(browser, name):
 
 
 def check_project(browser, folder):
-    """A project is saved and opened again, to the byte."""
-    told_of(browser, "#board-editor", BOARD)
-    told_of(browser, "#program-editor", PROGRAM)
+    """Checks that a project is saved and opened again, to the byte."""
+    status_of(browser, "#board-editor", BOARD)
+    status_of(browser, "#program-editor", PROGRAM)
     browser.type_into("#watched-field", "count = R5" + ENTER)
     rename(browser, "my light")
     of_file_menu(browser, "#save-button")
@@ -61,9 +61,9 @@ def check_project(browser, folder):
     project = folder / "project.mcsp"
     project.write_bytes(before)
     rename(browser, "another one")
-    told_of(browser, "#program-editor", "\tNOP\n")
+    status_of(browser, "#program-editor", "\tNOP\n")
     browser.type_into("#file", str(project))
-    comes(browser, "a project is opened", NAME, "my light")
+    eventually(browser, "a project is opened", NAME, "my light")
     verdict("with its texts", browser.script(TEXTS), [BOARD, PROGRAM])
     verdict("and its values", browser.script(WATCHED), ["count = R5"])
     verdict("Control and S are the page's", browser.script(CONTROL_S), True)
@@ -72,7 +72,7 @@ def check_project(browser, folder):
 
 
 def check_damaged(browser, folder, whole):
-    """Files that are cut, damaged or foreign are refused in words; what was there stays."""
+    """Checks that files that are cut, damaged or foreign are rejected in words; the existing session stays."""
     shown = browser.script(TEXTS)
     cut = folder / "cut.mcsp"
     cut.write_bytes(whole[:-700])
@@ -82,32 +82,38 @@ def check_damaged(browser, folder, whole):
     newer.write_bytes(whole.replace(b"project 1", b"project 2"))
     foreign = folder / "foreign.png"
     foreign.write_bytes(b"\x89PNG\r\n\x1a\n" + bytes(100))
-    for path, words in ((cut, "cut off: its last line"), (changed, "damaged, or was changed by hand"), (newer, "of version 2"),
-                        (foreign, "not a text, a session or a project; the page opens projects")):
+    for path, words in ((cut, "cut off: its last line"), (changed, "damaged, or was edited"), (newer, "of version 2"),
+                        (foreign, "not a text, a session or a project; supported are projects")):
         browser.type_into("#file", str(path))
-        comes(browser, f"{path.name} is refused in words", NOTICE,
-              re.compile(f"{path.name} was not opened: .*{words}.*The session that is shown is as it was"))
+        eventually(browser, f"{path.name} is refused in words", NOTICE,
+                   re.compile(f"Cannot open {path.name}: .*{words}.*The session that is shown is as it was"))
+    plain = folder / "plain"
+    plain.write_text("hello")
+    browser.type_into("#file", str(plain))
+    eventually(browser, "a text with an error in each line is no program unasked", ASKED, "Replace the source by plain?")
+    browser.keys([ESCAPE])
+    eventually(browser, "the question is left", ASKED, "")
     verdict("and the texts are as they were", browser.script(TEXTS), shown)
 
 
 def check_undo(browser):
-    """What is replaced is asked for before, and can be brought back."""
+    """Checks that the page asks before it replaces something, and that this can be undone."""
     mine, of_rom = "; mine\n\tLDM 5\n\tJUN 0\n", "\tLDM 5\n\tJUN 0x000\n"
-    told_of(browser, "#program-editor", mine)
+    status_of(browser, "#program-editor", mine)
     taken = browser.script(TEXTS)
     show_text(browser, "program")
     browser.click("#from-rom")
-    comes(browser, "to replace a source is asked for", ASKED, "Replace the source?")
+    eventually(browser, "to replace a source is asked for", ASKED, "Replace the source?")
     browser.click("#ask .bar button:last-child")
     verdict("what is refused is not done", browser.script(TEXTS), taken)
     browser.click("#from-rom")
     browser.until(ASKED, re.compile("."))
     browser.click("#ask .bar button:first-child")
-    comes(browser, "the source is that of the ROM", PROGRAM_TEXT, of_rom)
+    eventually(browser, "the source is that of the ROM", PROGRAM_TEXT, of_rom)
     browser.click(UNDO)
-    comes(browser, "and is brought back", PROGRAM_TEXT, mine)
+    eventually(browser, "and is brought back", PROGRAM_TEXT, mine)
     browser.click(UNDO)
-    comes(browser, "the undoing can be undone, too", PROGRAM_TEXT, of_rom)
+    eventually(browser, "the undoing can be undone, too", PROGRAM_TEXT, of_rom)
     browser.click(UNDO)
     browser.until(PROGRAM_TEXT, mine)
     browser.script("document.querySelector('#program-editor .cm-editor').lineEditor.undo()")
@@ -122,23 +128,23 @@ def check_undo(browser):
 
 
 def count_kept(browser):
-    """How many sessions the dialog lists; it is open then."""
+    """Returns the number of sessions in the dialog, which is open then."""
     browser.click("#sessions-button")
     browser.until("return document.getElementById('sessions').open", True)
     return browser.script(KEPT)
 
 
 def check_examples(browser):
-    """An example is no session before something is done in it."""
+    """Checks that an example is no session before something is done in it."""
     before = count_kept(browser)
     browser.click("#close-sessions")
     choose_example(browser, "die")
-    comes(browser, "an example has its own address", "return location.hash", "#example=die")
-    comes(browser, "the tab names the session", "return document.title", "die - Fethsaim")
+    eventually(browser, "an example has its own address", "return location.hash", "#example=die")
+    eventually(browser, "the tab names the session", "return document.title", "die - Fethsaim")
     verdict("it is not kept yet", count_kept(browser), before)
     browser.click("#close-sessions")
     browser.click("#step")
-    comes(browser, "once something is done it is", "return location.hash", re.compile("^#session="))
+    eventually(browser, "once something is done it is", "return location.hash", re.compile("^#session="))
     verdict("and is listed", count_kept(browser), before + 1)
     browser.click("#close-sessions")
     rename(browser, "my die")
@@ -155,65 +161,66 @@ def check_examples(browser):
 
 
 def check_deleting(browser, kept):
-    """Sessions are deleted several at once, and brought back."""
+    """Checks that sessions are deleted several at once, and brought back."""
     verdict("examples alone have made no session", count_kept(browser), kept)
     browser.click("#choose-all")
     browser.click("#delete-chosen")
-    comes(browser, "all are deleted at once", KEPT, 0)
+    eventually(browser, "all are deleted at once", KEPT, 0)
     verdict("the keyboard goes on in the dialog", browser.script("return document.activeElement.closest('#sessions') !== null"), True)
     browser.click(UNDO)
-    comes(browser, "and brought back", KEPT, kept)
+    eventually(browser, "and brought back", KEPT, kept)
     browser.click("#kept li button[aria-label^='delete']")
-    comes(browser, "one is deleted", KEPT, kept - 1)
+    eventually(browser, "one is deleted", KEPT, kept - 1)
     browser.click("#notice .dismiss")
     browser.click("#deleted button")
-    comes(browser, "what was deleted is listed, too", KEPT, kept)
+    eventually(browser, "what was deleted is listed, too", KEPT, kept)
     browser.click("#close-sessions")
 
 
 def check_notices(browser, folder):
-    """Each kind of notice stays by itself; the status is true after a reset."""
+    """Checks that each kind of notice stays by itself; the status is true after a reset."""
     choose_example(browser, "calculator")
     stop_time(browser)
     browser.type_into("#file", str(folder / "cut.mcsp"))
     browser.until(NOTICE, re.compile("cut off"))
-    told_of(browser, "#program-editor", "\tNOP\n")
+    status_of(browser, "#program-editor", "\tNOP\n")
     browser.click("#from-rom")
     browser.until(ASKED, re.compile("."))
     browser.click("#ask .bar button:first-child")
-    comes(browser, "a notice of another kind stands beside it", NOTICE, re.compile("taken from ROM.*cut off"))
+    eventually(browser, "a notice of another kind stands beside it", NOTICE, re.compile("disassembled from ROM.*cut off"))
     browser.type_into("#file", str(folder / "changed.mcsp"))
-    comes(browser, "one of the same kind takes its place", NOTICE, re.compile("^changed.mcsp was not opened.*taken from ROM[^f]*$"))
+    eventually(browser, "one of the same kind takes its place", NOTICE, re.compile("^Cannot open changed.mcsp.*disassembled from ROM[^f]*$"))
     browser.click("#notice .dismiss")
     browser.click("#notice .dismiss")
-    comes(browser, "each can be dismissed", NOTICE, "")
+    eventually(browser, "each can be dismissed", NOTICE, "")
     lines_answered(browser, "reset\nbreak 0x024")
     browser.click("#run")
     browser.until(STATUS, re.compile("at a breakpoint"))
     browser.click("#reset")
-    comes(browser, "the status after a reset", STATUS, "The board was reset; it is at 000.")
+    eventually(browser, "the status after a reset", STATUS, "The board was reset; it is at 000.")
     check_many_notices(browser, folder)
 
 
 def check_many_notices(browser, folder):
-    """Each file makes one notice, of which the newest three are seen; they leave by themselves, and can be read and undone in the list."""
+    """Checks that each file makes one notice, and the newest three are seen; they disappear by themselves, and can be read and undone in
+    the list."""
     words = [f"{number}.asm is in Source. Assemble and run puts it into ROM." for number in range(4)]
     for number in range(4):
         text = folder / f"{number}.asm"
         text.write_text(f" LDM {number}\n")
         browser.type_into("#file", str(text))
         browser.until(PROGRAM_TEXT, f" LDM {number}\n")
-    comes(browser, "the newest three notices are seen", NOTICE, " ".join(reversed(words[1:])))
-    comes(browser, "what went well leaves by itself", NOTICE, "", 30)
+    eventually(browser, "the newest three notices are seen", NOTICE, " ".join(reversed(words[1:])))
+    eventually(browser, "what went well leaves by itself", NOTICE, "", 30)
     verdict("each notice can be read again", browser.script(ALL_NOTICES)[:4], words[::-1])
     browser.click("#notices-button")
     browser.click("#notices li:nth-child(2) button")
-    comes(browser, "and undone in the list", PROGRAM_TEXT, " LDM 1\n")
-    comes(browser, "which has a notice, too", NOTICE, "The source is back as it was.")
+    eventually(browser, "and undone in the list", PROGRAM_TEXT, " LDM 1\n")
+    eventually(browser, "which has a notice, too", NOTICE, "The source is back as it was.")
 
 
 def open_link(browser, page, link):
-    """The page, opened by an address with a link in it."""
+    """Opens the page by an address with a link in it."""
     browser.go("about:blank")
     browser.go(f"{page.as_uri()}#{link}")
     # It is not ready before what it asks is answered.
@@ -221,51 +228,51 @@ def open_link(browser, page, link):
 
 
 def check_link(browser, page):
-    """A link holds name and texts; what it is is shown before it is opened; a cut one is refused in words."""
-    told_of(browser, "#board-editor", BOARD)
-    told_of(browser, "#program-editor", PROGRAM)
+    """Checks that a link holds name and texts; a preview precedes its opening; a cut one is rejected in words."""
+    status_of(browser, "#board-editor", BOARD)
+    status_of(browser, "#program-editor", PROGRAM)
     rename(browser, "my light")
     browser.script("navigator.clipboard.writeText = async (text) => { window.copied = text; }")
     browser.click("#share-button")
-    comes(browser, "a link is copied", NOTICE, re.compile("A link of [0-9,]+ characters was copied"))
+    eventually(browser, "a link is copied", NOTICE, re.compile("A link of [0-9,]+ characters was copied"))
     link = browser.script("return window.copied").split("#")[1]
     verdict("it is compressed, for the address", link, re.compile(r"^link=1\.[\w-]+$"))
     browser.click("#notice .dismiss")
     browser.script("navigator.clipboard.writeText = async () => { throw new DOMException('', 'NotAllowedError'); }")
     browser.click("#share-button")
-    comes(browser, "where nothing may be copied it is shown, selected", "return document.getElementById('link')"
-          " ? document.getElementById('link').value.slice(document.getElementById('link').selectionStart).split('#')[1] : ''", link)
+    eventually(browser, "where nothing may be copied it is shown, selected", "return document.getElementById('link')"
+               " ? document.getElementById('link').value.slice(document.getElementById('link').selectionStart).split('#')[1] : ''", link)
     browser.click("#ask .bar button:last-child")
     choose_example(browser, "die")
     kept = count_kept(browser)
     open_link(browser, page, link)
-    comes(browser, "a link is shown before it is opened", ASKED, 'Open "my light" from a link?')
+    eventually(browser, "a link is shown before it is opened", ASKED, 'Open "my light" from a link?')
     verdict("with what it holds", browser.text("#ask"), re.compile("Three lamps.*text has 1[0-9] lines, the source 3 lines.*1 ROM, 1 RAM chip, 3 lamps"))
     browser.click("#ask .bar button:last-child")
-    comes(browser, "what is not wanted is not opened", "return location.hash", re.compile("^#(session|example)="))
+    eventually(browser, "what is not wanted is not opened", "return location.hash", re.compile("^#(session|example)="))
     verdict("and nothing is made", count_kept(browser), kept)
     open_link(browser, page, link)
-    comes(browser, "it is asked again", ASKED, re.compile("my light"))
+    eventually(browser, "it is asked again", ASKED, re.compile("my light"))
     browser.click("#ask .bar button:first-child")
-    comes(browser, "it becomes a session", NAME, "my light")
+    eventually(browser, "it becomes a session", NAME, "my light")
     verdict("with its texts", browser.script(TEXTS), [BOARD, PROGRAM])
     until_ready(browser)
     verdict("which is kept", count_kept(browser), kept + 1)
     browser.click("#close-sessions")
     open_link(browser, page, f"{link}%20")
-    comes(browser, "a blank behind a link is passed over", ASKED, re.compile("my light"))
+    eventually(browser, "a blank behind a link is passed over", ASKED, re.compile("my light"))
     browser.click("#ask .bar button:last-child")
     open_link(browser, page, "lnk=1")
-    comes(browser, "an address that names nothing says so", NOTICE, re.compile("^The address ends with #lnk=1, which names nothing here"))
+    eventually(browser, "an address that names nothing says so", NOTICE, re.compile("^The address ends with #lnk=1, which names nothing here"))
     for what, made in (("a cut link", link[:-9]), ("a link that is made by hand", "link=1.aGVsbG8"), ("another one", "link=hello")):
         before = browser.script(TEXTS)
         open_link(browser, page, made)
-        comes(browser, f"{what} is refused in words", NOTICE, re.compile("The link was not opened: it is cut off, or was changed"))
+        eventually(browser, f"{what} is refused in words", NOTICE, re.compile("Cannot open the link: it is cut off, or was changed"))
         verdict("and the bench is as it was", browser.script(TEXTS), before)
 
 
 def link_of(name, board, program):
-    """A link as whoever wants to mislead makes it."""
+    """Returns a link as somebody makes it who wants to mislead."""
     rest = f"name {name}\nwire\n{board}.\nasm\n{program}.\n".encode()
     total = subprocess.run(["cksum"], input=rest, stdout=subprocess.PIPE, check=True).stdout.split()[0]
     packer = zlib.compressobj(wbits=-15)
@@ -274,34 +281,34 @@ def link_of(name, board, program):
 
 
 def check_foreign_links(browser, page):
-    """Links that would hang the page or mislead whoever opens them."""
+    """Checks links that would hang the page or mislead whoever opens them."""
     names = [f"n{at}" for at in range(12000)]
     hanging = f"# lamp 0: {' '.join(names)}\n# grid 0: {' '.join(f'-{name}' for name in names)}\n"
     shown = browser.script(TEXTS)
     open_link(browser, page, link_of("a clock", hanging, ""))
-    comes(browser, "a link with a text that is too long is refused in words", NOTICE, re.compile(
-        rf"^The link was not opened: the board's text has {len(hanging):,} characters, and 65,536 is the most\. What was here stays as it was\.$"))
+    eventually(browser, "a link with a text that is too long is refused in words", NOTICE, re.compile(
+        rf"^Cannot open the link: the board's text has {len(hanging):,} characters; at most 65,536 are accepted\. What was here stays as it was\.$"))
     verdict("and the bench is as it was", browser.script(TEXTS), shown)
     board = f"# title: {'long words ' * 20}\n# lamp 0: {' '.join(names[:400])}\n# grid 0: {' '.join(f'-{at}' for at in range(600))}\n"
     open_link(browser, page, link_of("\u202etxe\u2066\t" + "name " * 900, board, ""))
-    comes(browser, "a long name is cut, and no letter turns it round", ASKED, f'Open "txe {"name " * 10}name…" from a link?')
+    eventually(browser, "a long name is cut, and no letter turns it round", ASKED, f'Open "txe {"name " * 10}name…" from a link?')
     verdict("and so is the title", browser.text("#ask"), re.compile("link\\?(long words ){5}long…The board's text has 3 lines"))
     browser.click("#ask .bar button:first-child")
-    comes(browser, "it is opened", NAME, re.compile("^txe name"))
-    comes(browser, "and of its faults the first ones are told", "return [...document.querySelectorAll('#face-faults li')].slice(20)"
-          ".map((each) => each.textContent).join()", re.compile("^And [0-9,]+ more\\.$"))
+    eventually(browser, "it is opened", NAME, re.compile("^txe name"))
+    eventually(browser, "and of its faults the first ones are reported", "return [...document.querySelectorAll('#face-faults li')].slice(20)"
+               ".map((each) => each.textContent).join()", re.compile("^And [0-9,]+ more\\.$"))
     browser.go("about:blank")
     browser.go(f"{page.as_uri()}#example=%E2%80%AEhacked%2C%20go%20to%20evil.example%20{'x' * 100}")
-    comes(browser, "nor has an address more words than that", NOTICE, re.compile('^The address names an example, "hacked, go to evil.example x{32}…", that'))
+    eventually(browser, "nor has an address more words than that", NOTICE, re.compile('^The address names an example, "hacked, go to evil.example x{32}…", that'))
 
 
 def check_drop(browser, project):
-    """A file that is dropped on the page is opened."""
+    """Checks that a file that is dropped on the page is opened."""
     browser.script("""
 const data = new DataTransfer();
 data.items.add(new File([arguments[0]], "dropped.mcsp"));
 document.body.dispatchEvent(new DragEvent("drop", { dataTransfer: data, bubbles: true, cancelable: true }))""", project.decode())
-    comes(browser, "a project that is dropped is opened", TEXTS, [BOARD, PROGRAM])
+    eventually(browser, "a project that is dropped is opened", TEXTS, [BOARD, PROGRAM])
     # A script cannot drop a folder; the files of one come to the same.
     drop = """
 const data = new DataTransfer();
@@ -310,18 +317,18 @@ document.body.dispatchEvent(new DragEvent("drop", { dataTransfer: data, bubbles:
     names = 'board = "own.toml"\nprogram = "own.asm"\nspeed = "tenth"\n'
     files = [["own.toml", BOARD], ["own.asm", "; my own\n" + PROGRAM], ["mcs4.toml", names]]
     browser.script(drop, files)
-    comes(browser, "the files of a project are opened by its mcs4.toml", TEXTS, [BOARD, "; my own\n" + PROGRAM])
-    comes(browser, "at the speed that it names", "return document.getElementById('speed').value", "tenth")
+    eventually(browser, "the files of a project are opened by its mcs4.toml", TEXTS, [BOARD, "; my own\n" + PROGRAM])
+    eventually(browser, "at the speed that it names", "return document.getElementById('speed').value", "tenth")
     browser.script(drop, [*files[:2], ["mcs4.toml", names + "lamps = 1\n"]])
-    comes(browser, "what is wrong in it is told with its line", NOTICE, re.compile(
-        r"^the folder was not opened: mcs4\.toml: line 4: a project has no key lamps; .*The session that is shown is as it was"))
+    eventually(browser, "what is wrong in it is reported with its line", NOTICE, re.compile(
+        r"^Cannot open the folder: mcs4\.toml: line 4: a project has no key lamps; .*The session that is shown is as it was"))
     browser.script(drop, files[2:])
-    comes(browser, "alone it is refused", NOTICE, re.compile(r"^mcs4\.toml was not opened: it names files of a project: drop its folder"))
+    eventually(browser, "alone it is refused", NOTICE, re.compile(r"^Cannot open mcs4\.toml: it names files of a project: drop its folder"))
     browser.script("document.getElementById('speed').value = 'real'; document.getElementById('speed').dispatchEvent(new Event('change'))")
 
 
 def saved_as(browser, folder, ending):
-    """A file of the dialog Export."""
+    """Returns a file of the dialog Export."""
     of_file_menu(browser, "#export-button")
     number = [".asm", ".toml", ".hex", ".bin"].index(ending) + 1
     browser.click(f"#export li:nth-child({number}) button")
@@ -332,30 +339,30 @@ def saved_as(browser, folder, ending):
 
 
 def asked_of_bench(mcs4, session, lines):
-    """What the program answers to lines, on a copy of a session."""
+    """Returns the program's answers to lines, on a copy of a session."""
     copy = session.with_suffix(".copy.mcs")
     copy.write_bytes(session.read_bytes())
     return subprocess.run([mcs4, "open", copy], input=lines, stdout=subprocess.PIPE, check=True, text=True).stdout
 
 
 def check_files(browser, folder, mcs4):
-    """Programs, boards, lines and images of ROM are opened and saved, as `mcs4 rom` reads and writes them."""
+    """Checks that programs, boards, lines and images of ROM are opened and saved, as `mcs4 rom` reads and writes them."""
     example = TOP / "examples/three_lamps"
     for name in ("board.toml", "three_lamps.asm"):
         browser.type_into("#file", str(example / name))
-        comes(browser, f"{name} is opened", NOTICE, re.compile(f"^{name} is in (Board|Source)"))
+        eventually(browser, f"{name} is opened", NOTICE, re.compile(f"^{name} is in (Board|Source)"))
     prose = folder / "notes"
     prose.write_text("hello there\nthis is no program\n")
     browser.type_into("#file", str(prose))
-    comes(browser, "a text with an error in each line is asked for", ASKED, "Replace the source by notes?")
+    eventually(browser, "a text with an error in each line is asked for", ASKED, "Replace the source by notes?")
     browser.click("#ask .bar button:last-child")
-    comes(browser, "their texts are in the editors", TEXTS, [(example / "board.toml").read_text(), (example / "three_lamps.asm").read_text()])
+    eventually(browser, "their texts are in the editors", TEXTS, [(example / "board.toml").read_text(), (example / "three_lamps.asm").read_text()])
     browser.click("#board-tab")
     browser.click("#board-editor .send")
-    browser.until("return document.querySelector('#board-editor .told').textContent", "Board applied.")
+    browser.until("return document.querySelector('#board-editor .status-text').textContent", "Board applied.")
     browser.click("#program-tab")
     browser.click("#assemble-only")
-    browser.until("return document.querySelector('#program-editor .told').textContent", re.compile("assembled"))
+    browser.until("return document.querySelector('#program-editor .status-text').textContent", re.compile("ssembled"))
     rename(browser, "my light")
     verdict("the source is exported", saved_as(browser, folder, ".asm"), (example / "three_lamps.asm").read_bytes())
     verdict("and the board", saved_as(browser, folder, ".toml"), (example / "board.toml").read_bytes())
@@ -366,27 +373,27 @@ def check_files(browser, folder, mcs4):
     questions = subprocess.run([*rom, "ask", "0", size], stdout=subprocess.PIPE, check=True, text=True).stdout
     answers = asked_of_bench(mcs4, session, questions)
     for words, ending, expected in ((["save"], ".bin", image), (["save", "--hex"], ".hex", None)):
-        told = subprocess.run([*rom, *words, "0", size], input=answers.encode(), stdout=subprocess.PIPE, check=True).stdout
-        verdict(f"ROM is exported as {ending} as mcs4 rom has it", expected or saved_as(browser, folder, ending), told)
+        expected_file = subprocess.run([*rom, *words, "0", size], input=answers.encode(), stdout=subprocess.PIPE, check=True).stdout
+        verdict(f"ROM is exported as {ending} as mcs4 rom has it", expected or saved_as(browser, folder, ending), expected_file)
     check_image(browser, folder, image)
 
 
 def check_image(browser, folder, image):
-    """An image comes into ROM; one with bytes where the board has no ROM does not."""
+    """Checks that an image is loaded into ROM; one with bytes for which the board has no ROM is not."""
     other = folder / "other.bin"
     other.write_bytes(bytes(byte ^ 0x80 if at < 4 else byte for at, byte in enumerate(image)))
     browser.type_into("#file", str(other))
-    comes(browser, "an image is opened", NOTICE, re.compile(f"^{len(image):,} bytes of other.bin stand in ROM, from 000 on; nothing was reset\\."))
+    eventually(browser, "an image is opened", NOTICE, re.compile(f"^{len(image):,} bytes of other.bin are in ROM, from 000 on; nothing was reset\\."))
     verdict("it stands in ROM", saved_as(browser, folder, ".bin"), other.read_bytes())
     large = folder / "large.hex"
     large.write_text(":010F0000D11F\n:00000001FF\n")
     browser.type_into("#file", str(large))
-    comes(browser, "an image for a ROM that is not there is refused in words", NOTICE, re.compile("^large.hex was not opened: the board has no ROM 15"))
+    eventually(browser, "an image for a ROM that is not there is refused in words", NOTICE, re.compile("^Cannot open large.hex: the board has no ROM 15"))
     browser.script("for (const each of document.querySelectorAll('#notice .dismiss')) each.click()")
 
 
 def check_tool(folder, project):
-    """`mcs4 project` takes a project of the page apart, and puts it together to the byte."""
+    """Checks that `mcs4 project` takes a project of the page apart, and puts it together to the byte."""
     tool = [TOP / "mcs4", "project"]
     parts, again = folder / "parts", folder / "again.mcsp"
     subprocess.run([*tool, "split", project, parts], check=True)

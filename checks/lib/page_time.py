@@ -7,7 +7,7 @@ import re
 import subprocess
 
 from page_in_browser import DIGITS, RATE, SPEED, STATUS, STEPPED, choose_example, key, lines_answered, stop_time, until_ready
-from verdicts import comes, verdict
+from verdicts import eventually, verdict
 
 TOP = pathlib.Path(__file__).resolve().parent.parent.parent
 MARKED = "return document.querySelector('#cycles span:last-child').textContent"
@@ -44,13 +44,13 @@ class Program:
         return subprocess.run(tool, input=lines, stdout=subprocess.PIPE, text=True, check=True, env=self.env).stdout
 
     def session(self, name, lines):
-        """A new session with these lines; gives their answers."""
+        """Begins a new session with these lines; returns their answers."""
         file = self.folder / f"{name}.mcs"
         file.unlink(missing_ok=True)
         return file, subprocess.run([self.mcs4, "new", file], input=lines, stdout=subprocess.PIPE, text=True, check=True).stdout
 
     def cycles(self, answers):
-        """The cycles of the last run among answers, by mcs4 cycles."""
+        """Returns the cycles of the last run among answers, by mcs4 cycles."""
         line = len(answers.splitlines())
         return int(self.tool("cycles", line, line, lines=answers).split(" ")[0])
 
@@ -62,7 +62,7 @@ def texts_of(name):
 
 
 def first_call(program, name):
-    """The first JMS of an example: the cycles before it, those over it, its address and that behind it."""
+    """Returns the first JMS of an example: the cycles before it, those over it, its address and the one behind it."""
     file, _ = program.session(name, texts_of(name))
     lines = [line for line in program.tool("trace", file, 3000).splitlines() if re.match(r" *\d+  [0-9A-F]{3} ", line)]
     at = next(at for at, line in enumerate(lines) if " JMS " in line)
@@ -73,19 +73,19 @@ def first_call(program, name):
 
 
 def counted(cycles):
-    """A number of cycles as the page writes it: 10.8 microseconds each."""
+    """Returns a number of cycles as the page writes it: 10.8 microseconds each."""
     time = cycles * 10.8 / 1000
     return f"{cycles:,} cycles, " + (f"{time:.3f} ms" if time < 1000 else f"{time / 1000:.3f} s")
 
 
 def stand(browser):
-    """Stops the time that runs."""
+    """Pauses the running time."""
     if browser.script("return document.getElementById('run').textContent") == "Pause":
         stop_time(browser)
 
 
 def at_rest(browser, name):
-    """A new session of an example that stands still, after a reset."""
+    """Opens a new session of an example, paused, after a reset."""
     choose_example(browser, name)
     browser.until("return document.getElementById('run').textContent", "Pause", 3)
     stand(browser)
@@ -94,27 +94,27 @@ def at_rest(browser, name):
 
 
 def state(browser):
-    """The answers to all questions; what time has done may come into the log just before them."""
-    told = lines_answered(browser, ALL)
-    return told[told.index("seqseq"):]
+    """Returns the answers to all questions; the answers of running time may be in the log just before them."""
+    answers = lines_answered(browser, ALL)
+    return answers[answers.index("seqseq"):]
 
 
 def check_over(browser, program, name, example):
-    """Over a JMS, into it, out of it, and to the line behind it: as many cycles as the trace has, and nothing stays."""
+    """Checks over a JMS, into it, out of it, and to the line behind it: as many cycles as the trace has, and nothing stays."""
     before, over, address, behind = first_call(program, example)
     at_rest(browser, name)
     lines_answered(browser, f"run {before}")
     browser.click("#over")
-    comes(browser, f"{name}: Over comes back behind the JMS at {address}", STATUS, f"Returned to {behind}, after {counted(over)}.")
+    eventually(browser, f"{name}: Over comes back behind the JMS at {address}", STATUS, f"Returned to {behind}, after {counted(over)}.")
     verdict("the counter has the cycles since the stop", browser.script(SINCE_STOP), counted(over))
     verdict("and those since the reset", browser.script(SINCE_RESET), counted(before + over))
     verdict("no breakpoint and no watch stays", state(browser)[-len("breaksbreaks -watcheswatches -"):], "breaksbreaks -watcheswatches -")
     for what, again in {"by F10": lambda: browser.script(PRESS, "F10", False),
                         "into it by F11, and out by Shift and F11": lambda: into_and_out(browser)}.items():
         browser.click("#back-stop")
-        comes(browser, f"{name}: back to the stop before", STATUS, re.compile(f"^Back at the stop at {address}"))
+        eventually(browser, f"{name}: back to the stop before", STATUS, re.compile(f"^Back at the stop at {address}"))
         again()
-        comes(browser, f"{name}: the same {what}", STATUS, re.compile(f"^Returned to {behind}, after "))
+        eventually(browser, f"{name}: the same {what}", STATUS, re.compile(f"^Returned to {behind}, after "))
         verdict("after as many cycles", browser.script(SINCE_RESET), counted(before + over))
 
 
@@ -125,7 +125,7 @@ def into_and_out(browser):
 
 
 def check_run_to(browser):
-    """To a line of the listing, by Control and a click."""
+    """Checks a run to a line of the listing, by Control and a click."""
     browser.click("#back-stop")
     browser.until(STATUS, re.compile("^Back at"))
     address = browser.script("""
@@ -133,39 +133,40 @@ const next = document.querySelector("#lines-of-program .next");
 const row = next.nextElementSibling;
 row.dispatchEvent(new MouseEvent("click", { ctrlKey: true, bubbles: true, cancelable: true }));
 return row.textContent.match(/[0-9A-F]{3}/)[0]""")
-    comes(browser, "Control and a click run to a line", STATUS, re.compile(f"^Paused at {address}, as wanted, after [0-9,]+ cycles?, "))
+    eventually(browser, "Control and a click run to a line", STATUS, re.compile(f"^Paused at {address}, as requested, after [0-9,]+ cycles?, "))
     verdict("it has no breakpoint", browser.script("return document.querySelectorAll('#lines-of-program [aria-pressed=true]').length"), 0)
 
 
 def check_run_to_source(browser):
-    """To the line of the source that the caret is in, by Control and F10; and to a change of a lamp that is named."""
+    """Checks a run to the line of the source that the caret is in, by Control and F10; and to a change of a lamp that is named."""
     at_rest(browser, "three lamps")
     browser.script("""
 const editor = document.querySelector("#program-editor .cm-editor").lineEditor;
 editor.setCursor({ line: editor.getValue().split("\\n").findIndex((line) => line.startsWith("turn:")), ch: 0 });
 editor.getInputField().dispatchEvent(new KeyboardEvent("keydown", { key: "F10", ctrlKey: true, bubbles: true, cancelable: true }))""")
-    comes(browser, "Control and F10 in the source run to the label turn", STATUS, re.compile("^Paused at 016, as wanted, after 11 cycles, "))
+    eventually(browser, "Control and F10 in the source run to the label turn", STATUS, re.compile("^Paused at 016, as requested, after 11 cycles, "))
     lines_answered(browser, "reset")
     browser.script(CHANGE, "#change-place", "right")
     browser.click("#until-change")
-    comes(browser, "to a change of a lamp by its name", STATUS, "Paused at 007, after lamp 2 changed, after 7 cycles, 0.076 ms.")
+    eventually(browser, "to a change of a lamp by its name", STATUS, "Paused at 007, after lamp 2 changed, after 7 cycles, 0.076 ms.")
 
 
 def check_many(browser, program):
-    """So many instructions: as many cycles as the trace has for them."""
+    """Checks a number of instructions: as many cycles as the trace has for them."""
     file, _ = program.session("many", texts_of("three_lamps"))
     lines = [line for line in program.tool("trace", file, 400).splitlines() if re.match(r" *\d+  [0-9A-F]{3} ", line)]
     at_rest(browser, "three lamps")
     browser.script(CHANGE, "#step-count", "50")
     browser.click("#step-many")
-    comes(browser, "50 instructions", STATUS, f"50 instructions were done, after {counted(int(lines[50].split()[0]))}.")
+    eventually(browser, "50 instructions", STATUS, f"50 instructions were done, after {counted(int(lines[50].split()[0]))}.")
     browser.script(CHANGE, "#step-count", "many")
     browser.click("#step-many")
-    comes(browser, "what is no number is refused in words", STATUS, re.compile("^Nothing was done: give a number"))
+    eventually(browser, "what is no number is refused in words", STATUS, re.compile("^Nothing was done: give a number"))
 
 
 def check_far(browser):
-    """Over a delay of 24 seconds, counted by hand, and back out of it; a change that does not come is not waited for for ever."""
+    """Checks over a delay of 24 seconds, counted separately, and back out of it; it does not wait for ever for a change that does not
+    happen."""
     choose_example(browser, "empty bench")
     loops = "".join(f"ISZ R{each}, loop\n" for each in range(5))
     lines_answered(browser, "wire\n[[rom]]\nchip = 0\nport = \"0000\"\n.\nasm\nJMS wait\nend: JUN end\n"
@@ -176,21 +177,21 @@ def check_far(browser):
         cycles = 16 * (cycles + 2)
     browser.script(SPEED, "full")
     browser.click("#over")
-    comes(browser, "Over a delay", STATUS, f"Returned to 002, after {counted(cycles + 9)}.", 60)
+    eventually(browser, "Over a delay", STATUS, f"Returned to 002, after {counted(cycles + 9)}.", 60)
     browser.script(SPEED, "real")
     browser.script(CHANGE, "#change-place", "r2")
     browser.click("#back-change")
-    comes(browser, "back to the last change in it", STATUS, re.compile("^Back at .*: this instruction changes r2 from F to 0"), 60)
+    eventually(browser, "back to the last change in it", STATUS, re.compile("^Back at .*: this instruction changes r2 from F to 0"), 60)
     browser.script(CHANGE, "#change-place", "R2 == 0xF")
     browser.click("#back-change")
-    comes(browser, "back to where a condition became true", STATUS, re.compile("^Back at .*: this instruction makes R2 == 0xF true"), 60)
+    eventually(browser, "back to where a condition became true", STATUS, re.compile("^Back at .*: this instruction makes R2 == 0xF true"), 60)
     browser.script(CHANGE, "#change-place", "ram0.0")
     browser.click("#until-change")
-    comes(browser, "what the board lacks", STATUS, "Nothing was done: this board has no ram0.0.")
+    eventually(browser, "what the board lacks", STATUS, "Nothing was done: this board has no ram0.0.")
 
 
 def check_stopwatch(browser):
-    """A hundredth of a second of the stopwatch is 926 cycles, measured between two marks."""
+    """Checks that a hundredth of a second of the stopwatch is 926 cycles, measured between two marks."""
     at_rest(browser, "stopwatch")
     lines_answered(browser, "test 0")
     browser.script(CHANGE, "#change-place", "lamps")
@@ -199,24 +200,24 @@ def check_stopwatch(browser):
         browser.click("#until-change")
         browser.until(STATUS, re.compile("after lamps changed, after"))
         browser.click("#mark")
-    verdict("from one hundredth to the next", browser.script(MARKED), re.compile(r"between the marks 926 cycles, 10\.001 ms$"))
+    verdict("from one hundredth to the next", browser.script(MARKED), re.compile(r"Between the marks 926 cycles, 10\.001 ms$"))
     lamps = lines_answered(browser, "lamps")
     browser.click("#back-change")
-    comes(browser, "back to the change of the lamps", STATUS, re.compile("^Back at ..., 1 cycle, 0.011 ms before: this instruction changes lamps"))
+    eventually(browser, "back to the change of the lamps", STATUS, re.compile("^Back at ..., 1 cycle, 0.011 ms earlier: this instruction changes lamps"))
     verdict("it is not done yet", lines_answered(browser, "lamps") != lamps, True)
     browser.click("#step")
     browser.until(STATUS, STEPPED)
     verdict("and it does it", lines_answered(browser, "lamps"), lamps)
     browser.script(CHANGE, "#change-place", "chain2.0")
     browser.click("#until-change")
-    comes(browser, "a line that the board lacks", STATUS, "Nothing was done: this board has no chain2.0.")
+    eventually(browser, "a line that the board lacks", STATUS, "Nothing was done: this board has no chain2.0.")
     browser.script(CHANGE, "#change-place", "r99")
     browser.click("#back-change")
-    comes(browser, "a name that is none", STATUS, "Nothing was done: r99: no such place; the registers are r0 to r15 (column 1).")
+    eventually(browser, "a name that is none", STATUS, "Nothing was done: r99: no such place; the registers are r0 to r15 (column 1).")
 
 
 def check_back(browser):
-    """Back and forward, over keys that were pressed while time ran: the same answers, and the same file."""
+    """Checks back and forward, over keys that were pressed while time ran: the same answers, and the same file."""
     at_rest(browser, "calculator")
     browser.click("#run")
     for legend in "12":
@@ -227,55 +228,55 @@ def check_back(browser):
     browser.script(KEPT)
     file = browser.until(KEPT_FILE, re.compile("."))
     browser.click("#back-stop")
-    comes(browser, "back before Run", STATUS, re.compile("^Back at the stop at 000, [0-9,]+ cycles"))
+    eventually(browser, "back before Run", STATUS, re.compile("^Back at the stop at 000, [0-9,]+ cycles"))
     verdict("the display is that of then", browser.script(DIGITS), "0")
     browser.click("#forward")
-    comes(browser, "forward again", STATUS, re.compile("^Forward again to ..., [0-9,]+ cycles"))
+    eventually(browser, "forward again", STATUS, re.compile("^Forward again to ..., [0-9,]+ cycles"))
     browser.script(KEPT)
     verdict("the bytes that are kept are the same", browser.until(KEPT_FILE, re.compile(".")) == file, True)
     verdict("and so are the answers", state(browser), there)
     for _ in range(3):
         browser.script("document.getElementById('status').firstChild.data = ''")
         browser.click("#back-instruction")
-        browser.until(STATUS, re.compile("^Back at ..., [12] cycles?, .* before: this instruction is not done.$"))
+        browser.until(STATUS, re.compile("^Back at ..., [12] cycles?, .* earlier: this instruction has not run yet.$"))
     verdict("three instructions back it is another moment", state(browser) != there, True)
     verdict("Forward is possible", browser.script("return document.getElementById('forward').disabled"), False)
     for _ in range(3):
         browser.click("#forward")
-    comes(browser, "forward as often, and no further", "return document.getElementById('forward').disabled", True)
+    eventually(browser, "forward as often, and no further", "return document.getElementById('forward').disabled", True)
     verdict("leads to the same again", state(browser), there)
     browser.click("#back-stop")
     browser.until("return document.getElementById('forward').disabled", False)
     lines_answered(browser, "poke r5 9")
-    comes(browser, "once something else is done, there is no forward", "return document.getElementById('forward').disabled", True)
+    eventually(browser, "once something else is done, there is no forward", "return document.getElementById('forward').disabled", True)
     browser.reload()
     until_ready(browser)
     verdict("the present is what is kept", re.search("r [0-9A-F]{5}9", lines_answered(browser, "regs")) is not None, True)
     browser.click("#back-stop")
-    comes(browser, "a page that was loaded anew goes back through the reload", STATUS, re.compile("^Back at the stop at 000"))
+    eventually(browser, "a page that was loaded anew goes back through the reload", STATUS, re.compile("^Back at the stop at 000"))
     verdict("to what was then", re.search("r [0-9A-F]{5}9", lines_answered(browser, "regs")), None)
 
 
 def check_never(browser):
-    """A goal that never comes is time that runs: Stop and F8 end it, a reload too, and no more than runs is left of it."""
+    """Checks that a goal that is never reached is running time: Stop and F8 end it, a reload too, and only runs are left of it."""
     choose_example(browser, "empty bench")
     lines_answered(browser, 'wire\n[[rom]]\nchip = 0\nport = "0000"\n.\nasm\nJMS round\nround: JUN round\n.\nstep')
     for what, stop in {"F8": lambda: browser.script(PRESS, "F8", False), "Stop": lambda: browser.click("#run")}.items():
         browser.click("#out")
-        comes(browser, f"what never comes is time that runs, before {what}", STATUS, "Running to the return from the subroutine.")
+        eventually(browser, f"what never comes is time that runs, before {what}", STATUS, "Running to the return from the subroutine.")
         browser.until(RATE, re.compile("^[0-9,]+ cycles"))
         stop()
-        comes(browser, f"{what} ends it", STATUS,
-              re.compile("^Paused at 002, after [0-9,]+ cycles, .*; the return from the subroutine was not reached.$"))
+        eventually(browser, f"{what} ends it", STATUS,
+                   re.compile("^Paused at 002, after [0-9,]+ cycles, .*; the return from the subroutine was not reached.$"))
     browser.click("#out")
     browser.until(STATUS, re.compile("^Running to"))
     browser.reload()
     until_ready(browser)
-    comes(browser, "a reload ends it, which is told", STATUS, re.compile("^Paused at 002: the return from the subroutine was not reached, as "
-                                                                         "the page was loaded again"))
+    eventually(browser, "a reload ends it, which is reported", STATUS, re.compile("^Paused at 002: the return from the subroutine was not reached, as "
+                                                                              "the page was loaded again"))
     browser.click("#back-stop")
     # How many cycles passed before the session was kept for the last time depends on the browser.
-    comes(browser, "and nothing is lost", STATUS, re.compile("^Back at the stop at 002"))
+    eventually(browser, "and nothing is lost", STATUS, re.compile("^Back at the stop at 002"))
     verdict("no breakpoint and no watch is left", state(browser)[-len("breaksbreaks -watcheswatches -"):], "breaksbreaks -watcheswatches -")
 
 
@@ -299,36 +300,36 @@ BBL 6
 
 
 def check_waiting(browser):
-    """Over a subroutine that waits for a key: time runs, and the key is pressed; a plain instruction returns from nothing."""
+    """Checks over a subroutine that waits for a key: time runs, and the key is pressed; a plain instruction returns from nothing."""
     choose_example(browser, "empty bench")
     browser.click("#first-board")
     browser.until("return document.querySelectorAll('#keys button').length", 2)
     lines_answered(browser, f"{WAITS}\nrun 8")
     browser.script(PRESS, "F10", False)
-    comes(browser, "Over a subroutine that waits for a key is time that runs", STATUS, "Running to the return from the subroutine.")
+    eventually(browser, "Over a subroutine that waits for a key is time that runs", STATUS, "Running to the return from the subroutine.")
     browser.until(RATE, re.compile("^9[0-4],"))
     browser.fingers([key("right")], 60)
-    comes(browser, "it returns once the key is pressed", STATUS, re.compile("^Returned to 00A, after [0-9,]+ cycles, "))
+    eventually(browser, "it returns once the key is pressed", STATUS, re.compile("^Returned to 00A, after [0-9,]+ cycles, "))
     verdict("no breakpoint and no watch stays", state(browser)[-len("breaksbreaks -watcheswatches -"):], "breaksbreaks -watcheswatches -")
     browser.script(PRESS, "F10", False)
-    comes(browser, "Over a plain instruction says where it is", STATUS, "At 00B, after 1 cycle, 0.011 ms.")
+    eventually(browser, "Over a plain instruction says where it is", STATUS, "At 00B, after 1 cycle, 0.011 ms.")
     browser.script(PRESS, "F10", False)
-    comes(browser, "and so at one that jumps to itself", STATUS, "At 00B, after 2 cycles, 0.022 ms.")
+    eventually(browser, "and so at one that jumps to itself", STATUS, "At 00B, after 2 cycles, 0.022 ms.")
     verdict("the lamps have what it gave", lines_answered(browser, "lamps"), re.compile(r"lamps \.\*\*\."))
 
 
 def check_slow(browser):
-    """Slow motion, and the line that runs is followed."""
+    """Checks slow motion, and the line that runs is followed."""
     at_rest(browser, "three lamps")
     verdict("the speeds", browser.script("return [...document.getElementById('speed').options].map((each) => each.textContent).join(', ')"),
             "real time, 1/10, 1/100, 1/1,000, an instruction a second, full speed")
     browser.click("#run")
     for speed, rate in {"tenth": "^9,?[12]..$", "hundredth": "^9[0-4].$", "thousandth": "^(8[89]|9[0-6])$"}.items():
         browser.script(SPEED, speed)
-        comes(browser, f"cycles a second at 1/{speed}", RATE, re.compile(rate.replace(",?", "")))
-    comes(browser, "the line that runs is marked", "return document.querySelectorAll('#lines-of-program .next').length", 1)
+        eventually(browser, f"cycles a second at 1/{speed}", RATE, re.compile(rate.replace(",?", "")))
+    eventually(browser, "the line that runs is marked", "return document.querySelectorAll('#lines-of-program .next').length", 1)
     browser.script("window.firstLine = document.querySelector('#lines-of-program .next').textContent")
-    comes(browser, "and followed", "return document.querySelector('#lines-of-program .next').textContent !== window.firstLine", True)
+    eventually(browser, "and followed", "return document.querySelector('#lines-of-program .next').textContent !== window.firstLine", True)
     stand(browser)
     browser.script(SPEED, "instruction")
     browser.click("#run")
@@ -337,7 +338,7 @@ def check_slow(browser):
     verdict("an instruction a second ends between instructions", re.search("owed 0", lines_answered(browser, "regs")) is not None, True)
     browser.script(SPEED, "real")
     browser.click("#run")
-    comes(browser, "and real time is held again", RATE, re.compile("^9[0-4]...$"))
+    eventually(browser, "and real time is held again", RATE, re.compile("^9[0-4]...$"))
     stand(browser)
 
 

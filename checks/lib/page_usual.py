@@ -1,11 +1,11 @@
-"""What checks/page looks at of the faults that everyone makes once: each is told as it happens, with its line, while time goes on; with its
+"""The checks of common mistakes on the page: each is reported as it happens, with its line, while time continues; with its
 switch time stops before it, and goes on with it; a program without them has none."""
 
 import re
 import time
 
-from page_in_browser import STATUS, choose_example, open_anew, show_text, stop_time, told_of, until_ready
-from verdicts import comes, verdict
+from page_in_browser import STATUS, choose_example, open_anew, show_text, stop_time, status_of, until_ready
+from verdicts import eventually, verdict
 
 ROWS = "return [...document.querySelectorAll('#usual-list li .words')].map((each) => each.textContent)"
 SHOWN = "return isShown(document.getElementById('usual'))"
@@ -27,28 +27,28 @@ def check(browser, page, _folder, _mcs4):
     choose_example(browser, "calculator")
     show_text(browser, "problems")
     time.sleep(1)
-    verdict("nothing is told of a program that is right", browser.script(SHOWN), False)
+    verdict("nothing is reported of a program that is right", browser.script(SHOWN), False)
     choose_example(browser, "empty bench")
-    told_of(browser, "#board-editor", BOARD)
-    told_of(browser, "#program-editor", PROGRAM)
-    comes(browser, "a fault is told with its line", ROWS, [f"004 (keys + 4, line 4) {WRITE}"])
+    status_of(browser, "#board-editor", BOARD)
+    status_of(browser, "#program-editor", PROGRAM)
+    eventually(browser, "a fault is reported with its line", ROWS, [f"004 (keys + 4, line 4) {WRITE}"])
     verdict("the tab counts it", browser.text("#problems-tab .mark"), "1")
     verdict("while time goes on", browser.script(STATUS), re.compile("^Running"))
     browser.click("#usual-list input")
     stop_time(browser)
     browser.click("#run")
-    comes(browser, "with its switch time stops before it", STATUS, "Paused at 004, before a fault that is reported.")
-    verdict("and it is told again", browser.script(ROWS), [f"004 (keys + 4, line 4) {WRITE}"])
+    eventually(browser, "with its switch time stops before it", STATUS, "Paused at 004, before a mistake that is reported.")
+    verdict("and it is reported again", browser.script(ROWS), [f"004 (keys + 4, line 4) {WRITE}"])
     browser.click("#run")
-    comes(browser, "it goes on with it, up to the next time", STATUS, re.compile("^Paused at 004"))
+    eventually(browser, "it goes on with it, up to the next time", STATUS, re.compile("^Paused at 004"))
     browser.reload()
     until_ready(browser)
     browser.click("#run")
-    comes(browser, "the switch is kept", STATUS, re.compile("^Paused at 004"))
+    eventually(browser, "the switch is kept", STATUS, re.compile("^Paused at 004"))
     browser.click("#usual-list input")
     browser.click("#run")
-    comes(browser, "and switched off again", STATUS, re.compile("^Running"))
-    comes(browser, "it is told once a run", ROWS, [f"004 (keys + 4, line 4) {WRITE}"])
+    eventually(browser, "and switched off again", STATUS, re.compile("^Running"))
+    eventually(browser, "it is reported once a run", ROWS, [f"004 (keys + 4, line 4) {WRITE}"])
     time.sleep(0.5)
     verdict("and no more", len(browser.script(ROWS)), 1)
     browser.click("#run")

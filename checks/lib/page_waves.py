@@ -10,10 +10,10 @@ import time
 
 from page_in_browser import NOTICE, STATUS, choose_example, lines_answered, of_file_menu, show_text, stop_time, until_ready
 from picture import write_picture
-from verdicts import comes, verdict
+from verdicts import eventually, verdict
 
 TOP = pathlib.Path(__file__).resolve().parent.parent.parent
-TOLD = "return document.getElementById('scope-told').textContent"
+SCOPE_STATUS = "return document.getElementById('scope-status').textContent"
 BETWEEN = "return document.getElementById('wave-between').textContent"
 FIRST = "return document.getElementById('wave-first').textContent"
 SPOKEN = "return document.getElementById('wave-canvas').getAttribute('aria-valuetext')"
@@ -40,20 +40,20 @@ return found.size"""
 def record(browser, cycles, where="after"):
     show_text(browser, "waves")
     browser.script("const w = document.getElementById('record-where'); w.value = arguments[0]; w.dispatchEvent(new Event('change'))", where)
-    browser.script("document.getElementById('record-cycles').value = arguments[0]; document.getElementById('scope-told').firstChild.data = ''",
+    browser.script("document.getElementById('record-cycles').value = arguments[0]; document.getElementById('scope-status').firstChild.data = ''",
                    str(cycles))
     browser.click("#record")
-    return browser.until(TOLD, re.compile("."), 60)
+    return browser.until(SCOPE_STATUS, re.compile("."), 60)
 
 
 def look_for(browser, words):
-    """Looks for lines by words."""
+    """Searches for lines by words."""
     browser.script("document.getElementById('wave-choice').open = true")
     browser.script("const f = document.getElementById('signal-search'); f.value = arguments[0]; f.dispatchEvent(new Event('input'))", words)
 
 
 def saved(browser, folder, selector, name):
-    """The bytes of a file that a button saves."""
+    """Returns the bytes of a file that a button saves."""
     file = folder / "downloads" / name
     file.unlink(missing_ok=True)
     if selector == "#save-session-button":
@@ -72,49 +72,49 @@ def saved(browser, folder, selector, name):
 
 
 def wave(mcs4, *words):
-    told = dict(os.environ, MCS4=str(mcs4))
-    return subprocess.run([TOP / "mcs4", "wave", *words], stdout=subprocess.PIPE, check=True, env=told).stdout
+    environment = dict(os.environ, MCS4=str(mcs4))
+    return subprocess.run([TOP / "mcs4", "wave", *words], stdout=subprocess.PIPE, check=True, env=environment).stdout
 
 
 def check_stopwatch(browser):
-    """It counts a hundredth of a second in exactly 926 cycles while TEST is 0."""
+    """Checks that it counts a hundredth of a second in exactly 926 cycles while TEST is 0."""
     choose_example(browser, "stopwatch")
     lines_answered(browser, "test 0")
-    verdict("a recording", record(browser, 30000), "30,000 cycles recorded, 324,000.0 microseconds.")
+    verdict("a recording", record(browser, 30000), "30,000 cycles recorded, 324.000 ms.")
     verdict("time stands still then", browser.text("#run"), "Continue")
     browser.script(CHOOSE, ["lamp15"])
-    comes(browser, "the lamp of the last digit", NAMES, "lamp15")
+    eventually(browser, "the lamp of the last digit", NAMES, "lamp15")
     browser.script(FOCUS)
     browser.keys(["n", "n", "b", HOME, "n"], 1, 1)
-    comes(browser, "from edge to edge it takes 926 cycles", BETWEEN, "A to B: 926 cycles, 10,000.8 microseconds")
+    eventually(browser, "from edge to edge it takes 926 cycles", BETWEEN, "A to B: 926 cycles, 10.001 ms")
     browser.keys(["n", "n", "p"], 1, 1)
-    comes(browser, "edges forward and back", BETWEEN, "A to B: 0 cycles, 0.0 microseconds")
+    eventually(browser, "edges forward and back", BETWEEN, "A to B: 0 cycles, 0.000 ms")
     browser.keys([*["n"] * 10], 1, 1)
-    comes(browser, "ten of them", BETWEEN, "A to B: 9,260 cycles, 100,008.0 microseconds")
+    eventually(browser, "ten of them", BETWEEN, "A to B: 9,260 cycles, 100.008 ms")
     browser.keys([LEFT], 1, 1)
-    comes(browser, "the cursor by a cycle", BETWEEN, "A to B: 9,259 cycles, 99,997.2 microseconds")
-    comes(browser, "the value in words", SPOKEN, re.compile(r"^lamp15 is [01], cycle [0-9,]+, [0-9A-F]{3} E1 WMP; line \d+ of the source: WMP"))
+    eventually(browser, "the cursor by a cycle", BETWEEN, "A to B: 9,259 cycles, 99.997 ms")
+    eventually(browser, "the value in words", SPOKEN, re.compile(r"^lamp15 is [01], cycle [0-9,]+, [0-9A-F]{3} E1 WMP; line \d+ of the source: WMP"))
     browser.keys([RIGHT, "0", "+", "+", END], 1, 1)
-    comes(browser, "the end of the recording", "return document.getElementById('wave-canvas').getAttribute('aria-valuenow')", "30000")
+    eventually(browser, "the end of the recording", "return document.getElementById('wave-canvas').getAttribute('aria-valuenow')", "30000")
     verdict("something is painted", browser.script(PAINTED) > 3, True)
     browser.click("#wave-values summary")
-    comes(browser, "the values at the cursors", "return document.getElementById('wave-table').textContent", re.compile("^lamp15[01][01]$"))
+    eventually(browser, "the values at the cursors", "return document.getElementById('wave-table').textContent", re.compile("^lamp15[01][01]$"))
 
 
 def check_long(browser):
-    """A recording of half a minute: the last hundredth of a second is as long as the first."""
-    verdict("a long recording", record(browser, 3000000), "3,000,000 cycles recorded, 32,400,000.0 microseconds.")
+    """Checks a recording of half a minute: the last hundredth of a second is as long as the first."""
+    verdict("a long recording", record(browser, 3000000), "3,000,000 cycles recorded, 32.400 s.")
     browser.script(FOCUS)
     browser.keys(["a", END, "p", "b", END, "p", "p"], 1, 1)
-    comes(browser, "its last hundredth of a second", BETWEEN, "A to B: 926 cycles, 10,000.8 microseconds")
-    comes(browser, "stands where it has to", FIRST, re.compile("^A: cycle 2,999,[0-9]{3}, "))
+    eventually(browser, "its last hundredth of a second", BETWEEN, "A to B: 926 cycles, 10.001 ms")
+    eventually(browser, "stands where it has to", FIRST, re.compile("^A: cycle 2,999,[0-9]{3}, "))
 
 
 def check_click(browser):
-    """A click on the waves puts the cursor there."""
+    """Checks that a click on the waves puts the cursor there."""
     browser.script(FOCUS)
     browser.keys(["a", HOME, "b", HOME, "0"], 1, 1)
-    comes(browser, "the cursor at the beginning", "return document.getElementById('wave-canvas').getAttribute('aria-valuenow')", "0")
+    eventually(browser, "the cursor at the beginning", "return document.getElementById('wave-canvas').getAttribute('aria-valuenow')", "0")
     box = browser.script("const b = document.getElementById('wave-canvas').getBoundingClientRect(); return [b.width, b.height]")
     browser.show("#wave-canvas")
     browser.click("#wave-canvas")
@@ -123,16 +123,16 @@ def check_click(browser):
     middle = 30000 * (box[0] / 2 - gutter) / (box[0] - gutter)
     found = int(browser.until("return document.getElementById('wave-canvas').getAttribute('aria-valuenow')", re.compile("[1-9]")))
     verdict("a click puts the cursor", abs(found - middle) < 30000 * 12 / (box[0] - gutter), True)
-    comes(browser, "and shows the instruction there", "return document.getElementById('wave-second').textContent",
-          re.compile(rf"^B: cycle {found:,}, [0-9,.]+ microseconds: [0-9A-F]{{3}} .*line \d+ of the source: "))
-    address = browser.text("#wave-second").split("microseconds: ")[1][:3]
+    eventually(browser, "and shows the instruction there", "return document.getElementById('wave-second').textContent",
+               re.compile(rf"^B: cycle {found:,}, [0-9.]+ m?s: [0-9A-F]{{3}} .*line \d+ of the source: "))
+    address = browser.text("#wave-second").split("s: ")[1][:3]
     browser.script(FOCUS)
     browser.keys([ENTER], 1, 1)
-    comes(browser, "the listing shows it", "return document.getElementById('lines-of-program').textContent", re.compile(address))
+    eventually(browser, "the listing shows it", "return document.getElementById('lines-of-program').textContent", re.compile(address))
 
 
 def check_file(browser, folder, mcs4):
-    """The saved recording is, to the byte, what mcs4 wave writes of the saved session."""
+    """Checks that the saved recording is, to the byte, what mcs4 wave writes of the saved session."""
     choose_example(browser, "calculator")
     stop_time(browser)
     session = folder / "waves.mcs"
@@ -146,8 +146,8 @@ def check_file(browser, folder, mcs4):
         look_for(browser, name)
         browser.script("document.querySelector('#wave-boxes input').click()")
     look_for(browser, "")
-    comes(browser, "values are recorded from the next recording on", "return document.getElementById('signals-told').textContent",
-          "acc, cy, r5 .. are recorded from the next recording on.")
+    eventually(browser, "values are recorded from the next recording on", "return document.getElementById('signals-status').textContent",
+               "acc, cy, r5 .. are recorded from the next recording on.")
     verdict("they are recorded", record(browser, 3000), re.compile("^3,000 cycles recorded"))
     browser.script("document.getElementById('waves-all').click()")
     names = browser.script(NAMES).split(" ")
@@ -164,21 +164,21 @@ def check_file(browser, folder, mcs4):
 
 
 def check_before(browser):
-    """The last cycles before a stop: they are done again, with the keys that were pressed."""
+    """Checks the last cycles before a stop: they are repeated, with the keys that were pressed."""
     choose_example(browser, "calculator")
     stop_time(browser)
     lines_answered(browser, "run 300\npress 0 0\nrun 5000\nrelease 0 0\nrun 3000")
-    verdict("what was before this stop", record(browser, 8200, "before"), "8,200 cycles recorded, 88,560.0 microseconds.")
+    verdict("what was before this stop", record(browser, 8200, "before"), "8,200 cycles recorded, 88.560 ms.")
     browser.script(CHOOSE, ["key.7", "pc"])
     browser.script(FOCUS)
     browser.keys(["a", HOME, "n"], 1, 1)
-    comes(browser, "the key goes down", SPOKEN, re.compile("^key.7 is 1, cycle [1-9]"))
+    eventually(browser, "the key goes down", SPOKEN, re.compile("^key.7 is 1, cycle [1-9]"))
     browser.keys(["b", HOME, "n", "n"], 1, 1)
-    comes(browser, "and up again", SPOKEN, re.compile("^key.7 is 0, cycle [1-9]"))
-    verdict("after 5,000 cycles", browser.script(BETWEEN), "A to B: 5,000 cycles, 54,000.0 microseconds")
+    eventually(browser, "and up again", SPOKEN, re.compile("^key.7 is 0, cycle [1-9]"))
+    verdict("after 5,000 cycles", browser.script(BETWEEN), "A to B: 5,000 cycles, 54.000 ms")
     browser.keys([HOME], 1, 1)
     browser.script("const f = document.getElementById('wave-search'); f.value = 'key scan = 7'; document.getElementById('find-after').click()")
-    comes(browser, "the key scan has found it", SPOKEN, re.compile(r"^scan\.keys is row 0: 7, cycle [1-9]"))
+    eventually(browser, "the key scan has found it", SPOKEN, re.compile(r"^scan\.keys is row 0: 7, cycle [1-9]"))
 
 
 # Puts values into fields of the waves, by their names.
@@ -187,29 +187,29 @@ COUNT = "return document.getElementById('scope-count').textContent"
 
 
 def check_live(browser, folder, mcs4):
-    """While time runs it is recorded, keys work, and what was recorded is what mcs4 wave writes of the session from where it began."""
+    """Checks that running time is recorded, keys work, and the recording is what mcs4 wave writes of the session from where it began."""
     choose_example(browser, "calculator")
     stop_time(browser)
     session = folder / "live.mcs"
     session.write_bytes(saved(browser, folder, "#save-session-button", "calculator.mcs"))
     browser.script(FILL, {"trigger": "", "behind": "500"})
-    verdict("before time runs", record(browser, 1000000, "live"), "It records as soon as time runs.")
+    verdict("before time runs", record(browser, 1000000, "live"), "Records as soon as the machine runs.")
     browser.click("#run")
-    comes(browser, "it records", TOLD, "It records.")
-    comes(browser, "and counts what it has", COUNT, re.compile(r"^[0-9,]{4,} cycles, [0-9,.]+ microseconds$"))
-    comes(browser, "time runs on", STATUS, re.compile("^Running \""))
-    comes(browser, "the tab says so", "return document.getElementById('waves-tab').textContent", "Wavesrecords")
+    eventually(browser, "it records", SCOPE_STATUS, "Recording.")
+    eventually(browser, "and counts what it has", COUNT, re.compile(r"^[0-9,]{4,} cycles, [0-9.]+ m?s$"))
+    eventually(browser, "time runs on", STATUS, re.compile("^Running \""))
+    eventually(browser, "the tab says so", "return document.getElementById('waves-tab').textContent", "Wavesrecords")
     browser.click("#keys button")
-    comes(browser, "keys work", "return document.getElementById('digits').textContent", re.compile("7"))
+    eventually(browser, "keys work", "return document.getElementById('digits').textContent", re.compile("7"))
     browser.click("#run")
-    comes(browser, "so does Stop", STATUS, re.compile("^Paused"))
+    eventually(browser, "so does Stop", STATUS, re.compile("^Paused"))
     browser.click("#record")
-    told = browser.until(TOLD, re.compile(r"^Recorded: ([0-9,]+) cycles, .*\. It was stopped\.$"))
-    count = re.match(r"Recorded: ([0-9,]+) ", told)[1].replace(",", "")
+    status = browser.until(SCOPE_STATUS, re.compile(r"^Recorded ([0-9,]+) cycles, .*\. Stopped by you\.$"))
+    count = re.match(r"Recorded ([0-9,]+) ", status)[1].replace(",", "")
     browser.script(CHOOSE, ["key.7"])
     browser.script(FOCUS)
     browser.keys(["a", HOME, "n", "b", HOME, "n", "n"], 1, 1)
-    comes(browser, "the key is there, down for 4,000 cycles at least", BETWEEN, re.compile(r"^A to B: ([4-9],|[0-9]+[0-9],)[0-9]{3} cycles"))
+    eventually(browser, "the key is there, down for 4,000 cycles at least", BETWEEN, re.compile(r"^A to B: ([4-9],|[0-9]+[0-9],)[0-9]{3} cycles"))
     down, up = (int(browser.script(f"return document.getElementById('{id}').textContent").split("cycle ")[1].split(", ")[0].replace(",", ""))
                 for id in ("wave-first", "wave-second"))
     names = ["rom0.0", "rom0[3:0]", "chain0[9:0]", "chain1.39", "lamp.minus", "pc"]
@@ -231,7 +231,7 @@ def check_live(browser, folder, mcs4):
 
 
 def changes_after(file, cycle):
-    """The changes behind a cycle, with the cycles from there on; of a number the code alone comes after its value."""
+    """Returns the changes behind a cycle, with the cycles from there on; of a number only the code follows its value."""
     lines = file.decode().split("$enddefinitions $end\n")[1].split("\n")
     found, now = [], 0
     for line in lines:
@@ -243,7 +243,7 @@ def changes_after(file, cycle):
 
 
 def difference(some, others):
-    """The first difference of two lists, in words; of empty ones, that they are so."""
+    """Returns the first difference of two lists, in words; of empty ones, that they are empty."""
     if not some or not others:
         return f"{len(some)} and {len(others)} changes"
     for one, other in zip(some, others):
@@ -253,76 +253,76 @@ def difference(some, others):
 
 
 def check_triggers(browser):
-    """A trigger ends a recording with cycles before and behind it, and stops time if that is wanted."""
+    """Checks that a trigger ends a recording with cycles before and behind it, and pauses time if that is wanted."""
     choose_example(browser, "stopwatch")
     lines_answered(browser, "test 0")
     stop_time(browser)
     browser.script(FILL, {"trigger": "lamp15 rises", "behind": "1000"})
     browser.script("document.getElementById('stops-time').checked = true")
-    verdict("it waits for its trigger", record(browser, 3000, "live"), "It records as soon as time runs. It waits for lamp15 rises.")
+    verdict("it waits for its trigger", record(browser, 3000, "live"), "Records as soon as the machine runs. Waiting for lamp15 rises.")
     browser.click("#run")
-    told = browser.until(TOLD, re.compile(r"^Recorded: [0-9,]+ cycles, .*\. The trigger came at cycle [0-9,]+\.$"))
-    comes(browser, "time stops with it", STATUS, re.compile(r"^Paused at .*, where the waves after the trigger are recorded\.$"))
+    status = browser.until(SCOPE_STATUS, re.compile(r"^Recorded [0-9,]+ cycles, .*\. The trigger was at cycle [0-9,]+\.$"))
+    eventually(browser, "time stops with it", STATUS, re.compile(r"^Paused at .*, because the waves after the trigger are recorded\.$"))
     browser.script(CHOOSE, ["lamp15"])
-    at = re.search(r"at cycle ([0-9,]+)", told)[1]
-    comes(browser, "the cursor stands at the trigger", FIRST, re.compile(f"^A: cycle {at}, "))
-    comes(browser, "where the lamp has become lit", SPOKEN, re.compile(f"^lamp15 is 1, cycle {at}, "))
+    at = re.search(r"at cycle ([0-9,]+)", status)[1]
+    eventually(browser, "the cursor stands at the trigger", FIRST, re.compile(f"^A: cycle {at}, "))
+    eventually(browser, "where the lamp has become lit", SPOKEN, re.compile(f"^lamp15 is 1, cycle {at}, "))
     browser.script(FOCUS)
     browser.keys(["b", END], 1, 1)
-    comes(browser, "a thousand cycles before the end", BETWEEN, "A to B: 1,000 cycles, 10,800.0 microseconds")
+    eventually(browser, "a thousand cycles before the end", BETWEEN, "A to B: 1,000 cycles, 10.800 ms")
     browser.keys(["a", LEFT], 1, 1)
-    comes(browser, "and was dark before", SPOKEN, re.compile("^lamp15 is 0, "))
+    eventually(browser, "and was dark before", SPOKEN, re.compile("^lamp15 is 0, "))
     for words, fault in (("lamp77 rises", "The trigger is not understood: nothing here is called lamp77"),
                          ("r5 = 16", "The trigger is not understood: "), ("@nowhere", "The trigger is not understood: ")):
         browser.script(FILL, {"trigger": words})
-        verdict(f"the trigger {words} is told", record(browser, 3000, "live"), re.compile(f"^{re.escape(fault)}"))
+        verdict(f"the trigger {words} is reported", record(browser, 3000, "live"), re.compile(f"^{re.escape(fault)}"))
         verdict(f"at its field, {words}", browser.script("return document.getElementById('trigger').getAttribute('aria-invalid')"), "true")
     browser.script(FILL, {"trigger": "lamp15 rises", "behind": "4000"})
-    verdict("more behind than is kept", record(browser, 3000, "live"), "3,000 cycles are kept: no more of them can come after the trigger.")
+    verdict("more behind than is kept", record(browser, 3000, "live"), "3,000 cycles are kept: no more of them can follow the trigger.")
     browser.script(FILL, {"trigger": "", "behind": "500"})
     browser.script("document.getElementById('stops-time').checked = false")
 
 
 def check_search(browser):
-    """A value is looked for by hand of the keyboard, in both directions, and what cannot be found is told."""
-    found = "return document.getElementById('wave-search-told').textContent"
+    """Checks that a value is searched by the keyboard, in both directions, and that one that cannot be found is reported."""
+    found = "return document.getElementById('wave-search-status').textContent"
     choose_example(browser, "stopwatch")
     lines_answered(browser, "test 0")
     browser.script(CHOOSE, ["r3"])
     verdict("a register is recorded", record(browser, 30000), re.compile("^30,000 cycles recorded"))
     browser.script(FOCUS)
     browser.keys(["a", HOME, "/"], 1, 1)
-    comes(browser, "a key goes to the search", "return document.activeElement.id", "wave-search")
+    eventually(browser, "a key goes to the search", "return document.activeElement.id", "wave-search")
     browser.script(FILL, {"wave-search": ""})
     browser.type_into("#wave-search", "r3 = 9" + ENTER)
-    comes(browser, "the value is found", SPOKEN, re.compile("^r3 is 9, cycle [1-9]"))
+    eventually(browser, "the value is found", SPOKEN, re.compile("^r3 is 9, cycle [1-9]"))
     first = browser.text("#wave-first")
     browser.type_into("#wave-search", ENTER)
-    comes(browser, "the next one is another", f"return document.getElementById('wave-first').textContent === {first!r}", False)
+    eventually(browser, "the next one is another", f"return document.getElementById('wave-first').textContent === {first!r}", False)
     browser.click("#find-before")
-    comes(browser, "and back to the first", FIRST, first)
+    eventually(browser, "and back to the first", FIRST, first)
     for words, fault in (("r77 = 3", "Nothing that was recorded is called r77: choose it, and record again."),
                          ("r3 = 16", "r3 has 4 bits: it is 15 at most."), ("cy = 1", "Nothing that was recorded is called cy"),
                          ("@nowhere", "The program of this recording has no label nowhere.")):
         browser.script(FILL, {"wave-search": words})
         browser.click("#find-after")
-        comes(browser, f"{words} is told", found, re.compile(f"^{re.escape(fault)}"))
+        eventually(browser, f"{words} is reported", found, re.compile(f"^{re.escape(fault)}"))
     browser.script(FILL, {"wave-search": "lamp0 = 1"})
     browser.script(FOCUS)
     browser.keys([END], 1, 1)
     browser.click("#find-after")
-    comes(browser, "what does not come is told", found, "lamp0 = 1: not after cycle 30,000 of this recording.")
+    eventually(browser, "what does not come is reported", found, "lamp0 = 1: not after cycle 30,000 of this recording.")
 
 
-# The middle of the first row, so many pixels from its left.
+# The middle of the first row, a number of pixels from its left.
 PLACE = """
 const { left, top } = document.getElementById("wave-canvas").getBoundingClientRect();
 return [Math.round(left + arguments[0]), Math.round(top + 26 * (1.5 + arguments[1]))]"""
-MEASURED = "const told = document.getElementById('wave-measure'); return told.hidden ? '' : told.textContent"
+MEASURED = "const shown = document.getElementById('wave-measure'); return shown.hidden ? '' : shown.textContent"
 
 
 def at(browser, x, row, *more, kind="mouse"):
-    """The pointer comes to a row, and does something there."""
+    """Moves the pointer to a row, and does something there."""
     place = dict(zip(("x", "y"), browser.script(PLACE, x, row)))
     browser.actions({"type": "pointer", "id": f"waves-{kind}", "parameters": {"pointerType": kind},
                      "actions": [{"type": "pointerMove", "duration": 0, **place}, *more]})
@@ -332,7 +332,7 @@ CLICK = ({"type": "pointerDown", "button": 0}, {"type": "pointerUp", "button": 0
 
 
 def cycles_between(browser, one, other):
-    """The cycles between two places of the picture, by its cursors."""
+    """Returns the cycles between two places of the picture, by its cursors."""
     browser.script(FOCUS)
     for key, x in (("a", one), ("b", other)):
         browser.keys([key], 1, 1)
@@ -348,18 +348,18 @@ def turn(browser, x, row, down, across=0):
 
 
 def check_pointer(browser):
-    """What is measured under the pointer; the wheel zooms there; rows are dragged, named, grouped and coloured, which is kept."""
+    """Checks the measurement under the pointer; the wheel zooms there; rows are dragged, named, grouped and coloured, which is kept."""
     choose_example(browser, "stopwatch")
     lines_answered(browser, "test 0")
     record(browser, 5000)
     browser.script(CHOOSE, ["lamp13", "lamp14", "lamp15"])
-    comes(browser, "three rows", NAMES, "lamp13 lamp14 lamp15")
+    eventually(browser, "three rows", NAMES, "lamp13 lamp14 lamp15")
     width = browser.script("return document.getElementById('wave-canvas').clientWidth")
     at(browser, 150 + (width - 150) * 0.5, 2)
-    comes(browser, "what is under the pointer is measured", MEASURED,
-          re.compile(r"^[01] for 926 cycles, 10\.001 ms; period 1,852 cycles, 20\.002 ms, 50\.00 Hz$"))
+    eventually(browser, "what is under the pointer is measured", MEASURED,
+               re.compile(r"^[01] for 926 cycles, 10\.001 ms; period 1,852 cycles, 20\.002 ms, 50\.00 Hz$"))
     at(browser, 40, 2)
-    comes(browser, "at the names nothing is", MEASURED, "")
+    eventually(browser, "at the names nothing is", MEASURED, "")
     before = cycles_between(browser, 250, 350)
     turn(browser, 250, 2, -100)
     now = cycles_between(browser, 250, 350)
@@ -371,35 +371,35 @@ def check_pointer(browser):
     verdict("Fit shows all again", abs(cycles_between(browser, 250, 350) - before) < 2, True)
     there = dict(zip(("x", "y"), browser.script(PLACE, 40, 0)))
     at(browser, 40, 2, {"type": "pointerDown", "button": 0}, {"type": "pointerMove", "duration": 50, **there}, {"type": "pointerUp", "button": 0})
-    comes(browser, "a row is dragged by its name", NAMES, "lamp15 lamp13 lamp14")
+    eventually(browser, "a row is dragged by its name", NAMES, "lamp15 lamp13 lamp14")
     at(browser, 40, 1, {"type": "pointerDown", "button": 2}, {"type": "pointerUp", "button": 2})
-    comes(browser, "a row has a menu", "return document.activeElement.textContent", "Rename")
+    eventually(browser, "a row has a menu", "return document.activeElement.textContent", "Rename")
     browser.keys([ENTER])
     browser.keys([*"tens", ENTER])
-    comes(browser, "by which it is named", NAMES, "lamp15 tens lamp14")
+    eventually(browser, "by which it is named", NAMES, "lamp15 tens lamp14")
     browser.chord("\ue00a", DOWN)
-    comes(browser, "Alt and an arrow move the row that is marked", NAMES, "lamp15 lamp14 tens")
+    eventually(browser, "Alt and an arrow move the row that is marked", NAMES, "lamp15 lamp14 tens")
     at(browser, 40, 0, {"type": "pointerDown", "button": 2}, {"type": "pointerUp", "button": 2})
     browser.until("return document.activeElement.textContent", "Rename")
     browser.keys([DOWN, ENTER])
     browser.keys([*"digit", ENTER])
-    comes(browser, "a group has a row of its own", SPOKEN, re.compile("^lamp15 is "))
+    eventually(browser, "a group has a row of its own", SPOKEN, re.compile("^lamp15 is "))
     browser.keys(["\ue013"])
-    comes(browser, "its heading", SPOKEN, re.compile("^group digit, cycle "))
+    eventually(browser, "its heading", SPOKEN, re.compile("^group digit, cycle "))
     browser.keys([ENTER])
-    comes(browser, "Enter folds it", NAMES, "lamp14 tens")
+    eventually(browser, "Enter folds it", NAMES, "lamp14 tens")
     browser.keys([ENTER])
-    comes(browser, "and unfolds it", NAMES, "lamp15 lamp14 tens")
+    eventually(browser, "and unfolds it", NAMES, "lamp15 lamp14 tens")
     time.sleep(1)
     browser.reload()
     until_ready(browser)
     record(browser, 5000)
     browser.script(CHOOSE, ["lamp13", "lamp14", "lamp15"])
-    comes(browser, "a reload keeps how rows are arranged", NAMES, "lamp15 lamp14 tens")
+    eventually(browser, "a reload keeps how rows are arranged", NAMES, "lamp15 lamp14 tens")
 
 
 def check_pictures(browser, folder):
-    """The picture as a file, as pixels and as lines."""
+    """Checks the picture as a file, as pixels and as lines."""
     text = saved(browser, folder, "#save-svg", "stopwatch.svg").decode()
     verdict("a picture that can be scaled has the names", [name in text for name in ("digit", "lamp15", "tens")], [True] * 3)
     data = saved(browser, folder, "#save-png", "stopwatch.png")
@@ -413,13 +413,13 @@ def check_refusals(browser):
     browser.script("document.getElementById('waves-none').click()")
     browser.click("#wave-files summary")
     browser.click("#save-waves")
-    comes(browser, "a file of no line is refused", TOLD, "No line is chosen: choose the lines for the file.")
-    browser.script("document.getElementById('record-cycles').value = '10000000'; document.getElementById('scope-told').firstChild.data = ''")
+    eventually(browser, "a file of no line is refused", SCOPE_STATUS, "No line is chosen: choose the lines for the file.")
+    browser.script("document.getElementById('record-cycles').value = '10000000'; document.getElementById('scope-status').firstChild.data = ''")
     browser.script("document.getElementById('record-where').value = 'after'")
     browser.click("#record")
     browser.until("return document.getElementById('work').hidden", False)
     browser.script("document.getElementById('cancel').click()")
-    verdict("a recording is cancelled", browser.until(TOLD, re.compile(".")), re.compile("cancelled, and nothing was recorded|10,000,000 cycles recorded"))
+    verdict("a recording is cancelled", browser.until(SCOPE_STATUS, re.compile(".")), re.compile("cancelled, and nothing was recorded|10,000,000 cycles recorded"))
     choose_example(browser, "empty bench")
     stop_time(browser)
     verdict("another session has no recording", browser.script("return document.getElementById('waves').hidden"), True)
@@ -445,7 +445,7 @@ def check(browser, page, folder, mcs4):
 
 
 def take_picture(browser, page, path):
-    """The stopwatch, with a hundredth of a second between the cursors."""
+    """Takes a picture of the stopwatch, with a hundredth of a second between the cursors."""
     browser.command("Emulation.setDeviceMetricsOverride", width=1440, height=900, deviceScaleFactor=1, mobile=False)
     browser.go(page.as_uri())
     until_ready(browser)
@@ -462,4 +462,4 @@ def take_picture(browser, page, path):
     clip = dict(zip(("x", "y", "width", "height", "scale"), [*box, 1]))
     taken = browser.command("Page.captureScreenshot", clip=clip, captureBeyondViewport=True)
     write_picture(base64.b64decode(taken["data"]), path)
-    browser.command("Emulation.clearDeviceMetricsOverride")
+    browser.resize_back()

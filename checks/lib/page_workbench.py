@@ -4,11 +4,11 @@ of it is remembered, and reset."""
 import re
 
 from page_in_browser import ENTER, ESCAPE, STATUS, choose_example, open_anew, show_text, stop_time, until_ready
-from verdicts import comes, verdict
+from verdicts import eventually, verdict
 
 HOME, UP, RIGHT, LEFT, F1 = "\ue011", "\ue013", "\ue014", "\ue012", "\ue031"
 END, BACKSPACE, CONTROL = "\ue010", "\ue003", "\ue009"
-DRAWN = "return document.getElementById('drawing-told').textContent"
+DRAWN = "return document.getElementById('drawing-status').textContent"
 SOURCE = "return document.querySelector('#program-editor .cm-editor').lineEditor.getValue()"
 SIZE = """
 const { width, height } = document.getElementById(arguments[0]).getBoundingClientRect();
@@ -18,7 +18,7 @@ const box = document.getElementById(arguments[0]).getBoundingClientRect();
 return [Math.round(box.x + box.width / 2), Math.round(box.y + box.height / 2)]"""
 SHOWN = "return arguments[0].filter((id) => isShown(document.getElementById(id)))"
 PANELS = ["front", "texts", "dock", "processor", "calls", "watched", "breakpoints", "memory", "ports", "history"]
-# Each border with the panel whose size it changes, how it stands, and how far the pointer goes to make that larger.
+# Each border with the panel whose size it changes, its direction, and how far the pointer moves to make that larger.
 BORDERS = (("front-splitter", "front", "vertical", (40, 0)), ("side-splitter", "side", "vertical", (-40, 0)),
            ("dock-splitter", "dock", "horizontal", (0, -40)), ("calls-splitter", "calls", "horizontal", (0, 40)))
 
@@ -52,14 +52,14 @@ def check_borders(browser):
 
 
 def in_menu(browser, panel, what):
-    """A panel's box in the menu of panels, or its button that makes it full size."""
+    """Clicks a panel's box in the menu of panels, or its button that makes it full size."""
     browser.click("#view-button")
     browser.script("document.querySelectorAll(`#view-menu li`)[arguments[0]].querySelector(arguments[1]).click()", PANELS.index(panel), what)
     browser.keys([ESCAPE])
 
 
 def check_panels(browser):
-    """Each panel can be closed, opened again and made full size; a new page is arranged as the last one was."""
+    """Checks that each panel can be closed, opened again and made full size; a new page is arranged as the last one was."""
     verdict("all panels are there", browser.script(SHOWN, PANELS), PANELS)
     for panel in PANELS:
         in_menu(browser, panel, "input")
@@ -102,7 +102,7 @@ def check_arrangement(browser):
 
 # --- what is seen at a first glance ---
 
-# Whether anything of an element is seen: it is shown, and no box that scrolls has all of it out of sight.
+# True if anything of an element is seen: it is shown, and no box that scrolls has all of it out of sight.
 IN_VIEW = """
 const inView = (element) => {
   if (!element.getClientRects().length || getComputedStyle(element).visibility !== "visible") return false;
@@ -152,20 +152,21 @@ MOST_CONTROLS, MOST_WORDS, LEAST_LINES = 60, 350, 25
 
 
 def check_first_glance(browser, page, at_size):
-    """What a newcomer meets: the debugger's panels together with the source and a trace, few controls and words, and nothing too small."""
+    """Checks what a newcomer meets: the debugger's panels together with the source and a trace, few controls and words, and nothing too
+    small."""
     browser.script("localStorage.clear()")
     at_size(browser, 1440, 900)
     open_anew(browser, page)
     choose_example(browser, "calculator")
     verdict(f"at most {MOST_CONTROLS} controls are seen", browser.script(CONTROLS) <= MOST_CONTROLS, True)
     # On a busy machine the status says at first that the tab was busy.
-    comes(browser, f"and at most {MOST_WORDS} words", WORDS.replace("return words", f"return words <= {MOST_WORDS}"), True)
+    eventually(browser, f"and at most {MOST_WORDS} words", WORDS.replace("return words", f"return words <= {MOST_WORDS}"), True)
     verdict("no target is below 24 pixels", browser.script(SMALL, 24), [])
     stop_time(browser)
     show_text(browser, "waves")
     browser.script("document.getElementById('record-where').value = 'before'")
     browser.click("#record")
-    comes(browser, "a trace is seen", TRACE, True)
+    eventually(browser, "a trace is seen", TRACE, True)
     verdict(f"with {LEAST_LINES} lines of the source", browser.script(LINES) >= LEAST_LINES, True)
     verdict("and these panels, whole", browser.script(WHOLE, TOGETHER), TOGETHER)
     show_text(browser, "disassembly")
@@ -195,14 +196,15 @@ WIDTH_OF_HELP = "return document.getElementById('help').getBoundingClientRect().
 
 
 def check_small_things(browser, at_size):
-    """All that can be set of twenty keys is in view, a display has its colour in the gallery, an empty bench offers one beginning .."""
+    """Checks that all settings of twenty keys are in view, a display has its colour in the gallery, an empty bench offers one beginning
+    .."""
     at_size(browser, 1440, 900)
     choose_example(browser, "calculator")
     show_text(browser, "wiring")
-    comes(browser, "the picture has the keys", "return document.querySelectorAll('#wiring-picture .of-keys').length", 1)
+    eventually(browser, "the picture has the keys", "return document.querySelectorAll('#wiring-picture .of-keys').length", 1)
     browser.script("document.querySelector('#wiring-picture .of-keys').focus()")
     browser.keys([ENTER])
-    comes(browser, "keys are chosen", "return document.querySelectorAll('#chosen input').length", 20)
+    eventually(browser, "keys are chosen", "return document.querySelectorAll('#chosen input').length", 20)
     verdict("nothing of them is hidden behind the edge of their box", browser.script(CHOSEN), [])
     show_text(browser, "program")
     browser.click("#sessions-button")
@@ -212,11 +214,18 @@ def check_small_things(browser, at_size):
     browser.click("#close-sessions")
     choose_example(browser, "empty bench")
     verdict("an empty bench offers what it can begin with, and nothing else", browser.script(OFFERS), ["board-offer"])
+    choose_example(browser, "first")
+    verdict("lines alone are seen where they can be sent", browser.script(SHOWN, ["lines"]), ["lines"])
     choose_example(browser, "three lamps")
+    show_text(browser, "disassembly")
+    before = browser.script(TOP_OF, "#program-editor .cm-scroller")
+    browser.click("#program-editor .send")
+    eventually(browser, "what was assembled is said", "return document.querySelector('#program-editor .status-text').textContent", re.compile("ssembled"))
+    verdict("above the source, which does not move", browser.script(TOP_OF, "#program-editor .cm-scroller"), before)
     browser.click("#program-editor .cm-content")
     browser.script("document.querySelector('#program-editor .cm-editor').lineEditor.setCursor(arguments[0])", first_word(browser, "SRC"))
     browser.keys([F1])
-    comes(browser, "F1 looks up the word at the caret", "return document.getElementById('help-search').value", "SRC")
+    eventually(browser, "F1 looks up the word at the caret", "return document.getElementById('help-search').value", "SRC")
     verdict("beside most of the page", browser.script(WIDTH_OF_HELP) <= 0.34, True)
     browser.keys([ESCAPE])
     check_watch_rows(browser)
@@ -225,28 +234,33 @@ def check_small_things(browser, at_size):
     found = browser.script(CONTROLS)
     verdict(f"a large window has at most {MOST_CONTROLS} controls, too", found <= MOST_CONTROLS or found, True)
     verdict("and no log in front", browser.script(SHOWN, ["log"]), [])
+    browser.resize_back()
+
+
+def check_narrow_things(browser, at_size):
+    """The same on a phone."""
     at_size(browser, 390, 844, True)
     browser.click("#region-debug")
     verdict("on a phone no button touches the edge of its panel", browser.script(NARROW), 0)
     browser.click("#region-source")
     verdict("and the source begins in the upper quarter", browser.script(TOP_OF, "#program-editor .cm-scroller") < 844 / 4, True)
     browser.click("#region-board")
-    browser.command("Emulation.clearDeviceMetricsOverride")
+    browser.resize_back()
 
 
 def first_word(browser, word):
-    """Where a word of the source is first."""
+    """Returns the position at which a word of the source is first."""
     lines = browser.script("return document.querySelector('#program-editor .cm-editor').lineEditor.getValue()").split("\n")
     line = next(at for at, text in enumerate(lines) if re.search(rf"^[^;]*\b{word}\b", text))
     return {"line": line, "ch": lines[line].index(word) + 1}
 
 
 def check_watch_rows(browser):
-    """Four values need as much room as four lines of text with a margin."""
+    """Checks that four values need as much room as four lines of text with a margin."""
     stop_time(browser)
     for words in ("count = R5", "R6", "acc", "P2"):
         browser.type_into("#watched-field", words + ENTER)
-    comes(browser, "four values are watched", WATCHED, 4)
+    eventually(browser, "four values are watched", WATCHED, 4)
     verdict("in rows of 24 pixels", browser.script("return Math.round(document.getElementById('watched-list').getBoundingClientRect().height)"), 96)
     for _ in range(4):
         browser.click("#watched-list .remove")
@@ -259,7 +273,7 @@ window.clicks = 0;
 if (!window.countsClicks) addEventListener("click", ({ isTrusted, detail }) => { window.clicks += Number(isTrusted && detail > 0); }, true);
 window.countsClicks = true"""
 COUNTED = "return [...new Set(window.counted)].sort().join(' ')"
-# Which lamps are seen to be lit.
+# The lamps that are seen to be on.
 COUNT_LAMPS = """
 window.counted = [];
 const note = () => window.counted.push([...document.querySelectorAll("#front .bulb")].map((bulb) => Number(bulb.classList.contains("lit"))).join(""));
@@ -268,7 +282,7 @@ window.noting.observe(document.getElementById("front"), { subtree: true, attribu
 
 
 def clicks_of(browser, what, most, path):
-    """A way of a newcomer takes at most so many clicks; what is typed is none."""
+    """Checks that a way of a newcomer needs at most a number of clicks; typing is no click."""
     browser.script(COUNT_CLICKS)
     path(browser)
     found = browser.script("return window.clicks")
@@ -276,39 +290,39 @@ def clicks_of(browser, what, most, path):
 
 
 def draw_board(browser):
-    """Four by four keys, four lamps and a shift register, with a program that scans the keys."""
+    """Draws four by four keys, four lamps and a shift register, with a program that scans the keys."""
     browser.click("#first-drawing")
     browser.click("#shelf-keys")
-    comes(browser, "keys are chosen", "return document.querySelectorAll('#chosen [aria-label=rows]').length", 1)
+    eventually(browser, "keys are chosen", "return document.querySelectorAll('#chosen [aria-label=rows]').length", 1)
     browser.type_into("#chosen [aria-label=rows]", "4")
-    comes(browser, "they have four rows", DRAWN, re.compile("The keys have 4 rows"))
+    eventually(browser, "they have four rows", DRAWN, re.compile("The keys have 4 rows"))
     for lamp in range(4):
         browser.click("#shelf-lamp")
-        comes(browser, f"lamp {lamp} comes", DRAWN, re.compile(f"^Lamp {lamp} was added"))
+        eventually(browser, f"lamp {lamp} comes", DRAWN, re.compile(f"^Lamp {lamp} was added"))
     browser.click("#drawing-wire")
-    comes(browser, "there are sixteen keys", "return document.querySelectorAll('#keys .key').length", 16)
+    eventually(browser, "there are sixteen keys", "return document.querySelectorAll('#keys .key').length", 16)
     browser.script("document.activeElement.blur()")
     browser.chord(CONTROL, "k")
     browser.until("return document.activeElement.getAttribute('role')", "combobox")
     browser.keys([*"scan", ENTER], 5, 5)
-    comes(browser, "the source has a routine", SOURCE, re.compile("keys_scan"))
+    eventually(browser, "the source has a routine", SOURCE, re.compile("keys_scan"))
     browser.click("#program-editor .send")
-    comes(browser, "it runs", STATUS, re.compile("^Running"))
+    eventually(browser, "it runs", STATUS, re.compile("^Running"))
 
 
 def mend_bug(browser):
     choose_example(browser, "a fault to find")
-    comes(browser, "it is paused at the breakpoint", "return document.querySelectorAll('#breakpoint-list li').length", 1)
+    eventually(browser, "it is paused at the breakpoint", "return document.querySelectorAll('#breakpoint-list li').length", 1)
     browser.click("#over")
-    comes(browser, "a step is done", STATUS, re.compile("^At 009"))
+    eventually(browser, "a step is done", STATUS, re.compile("^At 009"))
     browser.click("#program-editor .cm-line:nth-child(24)")
     browser.keys([END, BACKSPACE, "5"])
     browser.click("#breakpoint-list [aria-label^='remove']")
     browser.script(COUNT_LAMPS)
     browser.click("#program-editor .send")
     wanted = [f"{number:04b}" for number in range(10)]
-    comes(browser, "lamps count from 0 to 9", COUNTED, re.compile("^" + " ".join(wanted)), 60)
-    comes(browser, "and begin again", "return window.counted.lastIndexOf('0000') > window.counted.indexOf('1001')", True, 60)
+    eventually(browser, "lamps count from 0 to 9", COUNTED, re.compile("^" + " ".join(wanted)), 60)
+    eventually(browser, "and begin again", "return window.counted.lastIndexOf('0000') > window.counted.indexOf('1001')", True, 60)
     verdict("and no further", browser.script(COUNTED), " ".join(wanted))
     browser.script("window.noting.disconnect()")
 
@@ -317,7 +331,7 @@ def run_test(browser):
     browser.click("#tests-tab")
     browser.click("#first-test")
     browser.click("#tests-editor .send")
-    comes(browser, "the test was run", "return document.querySelectorAll('#test-list li').length", 1)
+    eventually(browser, "the test was run", "return document.querySelectorAll('#test-list li').length", 1)
 
 
 def search_property(browser):
@@ -326,11 +340,11 @@ def search_property(browser):
         browser.click("#first-properties")
     browser.script("document.getElementById('explore-seconds').value = '2'")
     browser.click("#explore")
-    comes(browser, "it is searched", "return isShown(document.getElementById('explore-results'))", True, 60)
+    eventually(browser, "it is searched", "return isShown(document.getElementById('explore-results'))", True, 60)
 
 
 def check_newcomer(browser):
-    """The first lamp has its own check, where the cards are looked at (page_commands)."""
+    """Checks the ways of a newcomer. The first lamp has its own check, with the cards (page_commands)."""
     choose_example(browser, "empty bench")
     clicks_of(browser, "a board of one's own", 12, draw_board)
     clicks_of(browser, "a bug", 6, mend_bug)
@@ -340,7 +354,7 @@ def check_newcomer(browser):
     show_text(browser, "program")
 
 
-# What moved though nobody had touched anything, if browsers measure more than 0.005 of it: 0 is nothing, 0.1 is much.
+# The elements that moved though nobody had touched anything, if browsers measure more than 0.005 of it: 0 is nothing, 0.1 is much.
 SHIFTS = """
 return new Promise((done) => {
   let sum = 0;
@@ -357,26 +371,26 @@ return new Promise((done) => {
 
 
 def check_shifts(browser, page, at_size):
-    """Nothing moves once it was painted."""
+    """Checks that nothing moves once it was painted."""
     for width, height in ((1440, 900), (390, 844)):
         at_size(browser, width, height, width < 700)
         browser.go("about:blank")
         browser.go(f"{page.as_uri()}#example=calculator")
         until_ready(browser)
-        comes(browser, "the example runs", STATUS, re.compile("^Running"))
+        eventually(browser, "the example runs", STATUS, re.compile("^Running"))
         verdict(f"at {width} nothing moves after the first paint", browser.script(SHIFTS), [])
-    browser.command("Emulation.clearDeviceMetricsOverride")
+    browser.resize_back()
 
 
 def check_by_finger(browser, at_size):
-    """On a phone and on a tablet what a finger meets has 44 pixels, but cells of values."""
+    """Checks that on a phone and on a tablet everything that a finger meets has 44 pixels, except cells of values."""
     browser.command("Emulation.setTouchEmulationEnabled", enabled=True)
     for width, height in ((390, 844), (820, 1180)):
         at_size(browser, width, height, True)
         verdict(f"at {width} a finger meets nothing below 44 pixels", browser.script(SMALL, 44), [])
         browser.script("document.getElementById('region-source').click(); document.getElementById('wiring-tab').click()")
-        comes(browser, f"at {width} the shelf is seen", "return isShown(document.getElementById('shelf'))", True)
+        eventually(browser, f"at {width} the shelf is seen", "return isShown(document.getElementById('shelf'))", True)
         verdict(f"at {width} nothing of Wiring is below 44 pixels", browser.script(SMALL, 44), [])
         browser.script("document.getElementById('program-tab').click(); document.getElementById('region-board').click()")
     browser.command("Emulation.setTouchEmulationEnabled", enabled=False)
-    browser.command("Emulation.clearDeviceMetricsOverride")
+    browser.resize_back()

@@ -8,7 +8,7 @@ COLOURS = 64
 
 
 def chunks(data):
-    """The parts of a PNG, each with its name."""
+    """Yields the parts of a PNG, each with its name."""
     at = 8
     while at < len(data):
         length, name = struct.unpack(">I4s", data[at:at + 8])
@@ -22,7 +22,7 @@ def paeth(left, above, corner):
 
 
 def unfilter(kind, row, above, step):
-    """A row as it was before its filter."""
+    """Returns a row as it was before its filter."""
     for at in range(len(row)):
         left = row[at - step] if at >= step else 0
         corner = above[at - step] if at >= step else 0
@@ -31,7 +31,7 @@ def unfilter(kind, row, above, step):
 
 
 def rows_of(data):
-    """The rows of a PNG of 8 bits a channel, as lists of colours."""
+    """Yields the rows of a PNG of 8 bits a channel, as lists of colours."""
     parts = list(chunks(data))
     width, height, depth, kind = struct.unpack(">IIBB", parts[0][1][:10])
     if depth != 8 or kind not in (2, 6):
@@ -46,7 +46,7 @@ def rows_of(data):
 
 
 def palette_of(rows):
-    """The colours that are there most often, each a little apart from the others."""
+    """Returns the colours that are there most often, each a little apart from the others."""
     counts = collections.Counter(colour for row in rows for colour in row)
     palette = []
     for colour, _ in counts.most_common():

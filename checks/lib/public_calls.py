@@ -11,18 +11,18 @@ import sys
 
 TOP = pathlib.Path(__file__).resolve().parent.parent.parent
 LIST = TOP / "checks/lib/public_calls.txt"
-# Where the head of an item ends: at a clause, at its body, or at a semicolon.
+# The end of the head of an item: a clause, its body, or a semicolon.
 END = re.compile(r"^\s*(?:requires|ensures|ghost|decreases)\b|[{;]\s*$")
 
 
 def without_comments(text):
-    """A source without comments, attributes and tests."""
+    """Returns a source without comments, attributes and tests."""
     text = re.sub(r"#\[cfg\(test\)\]\nmod \w+;\n", "", text)
     return re.sub(r"^\s*(?://.*|#!?\[.*\])\n", "", text, flags=re.M)
 
 
 def parts_of(text):
-    """The parts of a list, cut at the commas outside of brackets."""
+    """Returns the parts of a list, cut at the commas outside of brackets."""
     depth, parts, part = 0, [], ""
     for before, char in zip(" " + text, text):
         # the head of an arrow closes no bracket
@@ -35,12 +35,12 @@ def parts_of(text):
 
 
 def type_of(parameter):
-    """The type of a parameter: without its name."""
+    """Returns the type of a parameter, without its name."""
     return parameter if re.match(r"(?:&(?:'\w+ )?)?(?:mut )?self$", parameter) else parameter.split(": ", 1)[1]
 
 
 def call_of(head):
-    """A call, from the head of its function: its name, the types of its parameters, and that of its result."""
+    """Returns a call, from the head of its function: its name, the types of its parameters, and that of its result."""
     head = re.sub(r"\s+", " ", head).strip()
     name, _, rest = re.sub(r"^(?:pub )?(?:const )?fn ", "", head).partition("(")
     end = next(at for at in range(len(rest)) if rest[:at + 1].count(")") > rest[:at + 1].count("("))
@@ -48,7 +48,7 @@ def call_of(head):
 
 
 def head_at(lines, at):
-    """The head of the function that begins at a line."""
+    """Returns the head of the function that begins at a line."""
     head = []
     for line in lines[at:]:
         end = END.search(line)
@@ -61,18 +61,18 @@ def head_at(lines, at):
 
 
 def block_at(lines, at):
-    """The lines of the block that begins at a line of no indentation."""
+    """Returns the lines of the block that begins at a line of no indentation."""
     return lines[at + 1:next(end for end in range(at, len(lines)) if lines[end].startswith("}"))]
 
 
 def calls_in(lines, at, form):
-    """The calls of a block."""
+    """Returns the calls of a block."""
     block = block_at(lines, at)
     return [call_of(head_at(block, number)) for number, line in enumerate(block) if re.match(rf"    {form}fn ", line)]
 
 
 def fields_of(lines, at):
-    """The variants of an enum, or the public fields of a struct."""
+    """Returns the variants of an enum, or the public fields of a struct."""
     if lines[at].endswith(";"):
         # a struct without names for its fields
         return [lines[at][lines[at].index("("):-1]] if "(" in lines[at] else []
@@ -82,7 +82,7 @@ def fields_of(lines, at):
 
 @functools.cache
 def items_of_file(path):
-    """What a file declares as public: pairs of a name, and what others see of it."""
+    """Returns the public declarations of a file: pairs of a name, and what others see of it."""
     lines = without_comments(path.read_text()).splitlines()
     items = []
     for at, line in enumerate(lines):
@@ -105,14 +105,14 @@ def items_of_file(path):
 
 
 def handed_on(text):
-    """What the `pub use` of a root file hand on: pairs of the first word of a path and a name."""
+    """Yields what the `pub use` of a root file pass on: pairs of the first word of a path and a name."""
     for path, names in re.findall(r"^pub use ((?:\w+::)*)(\{[^}]*\}|\w+);", text, re.M):
         for name in re.findall(r"\w+", names):
             yield path.partition("::")[0], name
 
 
 def calls_of(crate):
-    """What a crate gives to others, each as a line."""
+    """Yields what a crate gives to others, each as a line."""
     source = TOP / "crates" / crate / "src"
     text = without_comments((source / "lib.rt").read_text())
     open_modules = set(re.findall(r"^pub mod (\w+);", text, re.M)) | {"lib"}
@@ -124,7 +124,7 @@ def calls_of(crate):
 
 
 def kept():
-    """The list: for each crate its lines."""
+    """Returns the list: for each crate its lines."""
     crates = {}
     for line in LIST.read_text().splitlines():
         if line.startswith("    "):
@@ -135,7 +135,7 @@ def kept():
 
 
 def missing():
-    """Lines of the list that no longer are what a crate gives: each with its crate."""
+    """Yields the lines of the list that a crate no longer gives, each with its crate."""
     for crate, lines in kept().items():
         given = set(calls_of(crate))
         yield from ((crate, line) for line in lines if line not in given)

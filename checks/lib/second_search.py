@@ -27,7 +27,8 @@ NO_LEVELS: Levels = (frozenset(), 1)
 
 @dataclass
 class Question:
-    """A board and a program, what is never to be met, all conditions of a row at once, at most how many states, and where a stretch is cut."""
+    """A board and a program; the conditions that are never to be met, all conditions of a row at once; the most states; and the cut of a
+    stretch."""
 
     board: list[str]
     program: list[str]
@@ -36,37 +37,37 @@ class Question:
     pause: int = 1000000
 
     def lines(self) -> list[str]:
-        """The question as the program reads it."""
+        """Returns the question as the program reads it."""
         nevers = [line for row in self.nevers for line in ("never", *(" ".join(map(str, words)) for words in row))]
         return [f"most {self.most}", f"pause {self.pause}", *self.begun(), *nevers, "prove"]
 
     def begun(self) -> list[str]:
-        """The lines that make a session of it."""
+        """Returns the lines that make a session of it."""
         return ["wire", *self.board, ".", "asm", *self.program, "."]
 
 
 @dataclass
 class Found:
-    """A verdict: `holds`, `may fail` or `too many`; how many states were found; the values on the way to where it fails."""
+    """A verdict: `holds`, `may fail` or `too many`; the number of states found; the values on the way to the failure."""
 
     verdict: str
     states: int
     way: list[int] = field(default_factory=list)
 
     def answer(self) -> str:
-        """The line that the program answers."""
+        """Returns the line that the program answers."""
         return {"holds": f"holds {self.states}", "may fail": " ".join(["may fail", *map(str, self.way)])}.get(self.verdict, self.verdict)
 
 
-# ---- what is looked at
+# ---- the values that are looked at
 
 def addresses(board: Board) -> list[int]:
-    """The counter and the return addresses, each in two bytes."""
+    """Returns the counter and the return addresses, each in two bytes."""
     return [half for address in (board.pc, *board.ret) for half in divmod(address, 256)]
 
 
 def cell(board: Board, name: str, index: int) -> int:
-    """The number that a cell of a list holds; 0 where the board lacks it."""
+    """Returns the number that a cell of a list holds; 0 if the board lacks it."""
     chips = board.chips
     if name.startswith("chain"):
         chain = chips.chains[int(name[5:])] if int(name[5:]) < len(chips.chains) else []
@@ -84,7 +85,7 @@ def cell(board: Board, name: str, index: int) -> int:
 
 # ---- mistakes, by the instruction table of the manual
 
-# At most so many calls are open: the processor keeps as many return addresses.
+# The most open calls: the processor keeps as many return addresses.
 OPEN_CALLS = 3
 # The instructions for a RAM chip: its characters, its status characters, and its port.
 FOR_RAM = {"WRM", "RDM", "ADM", "SBM", "WMP", *(f"{way}{k}" for way in ("WR", "RD") for k in range(4))}
@@ -94,23 +95,23 @@ CALLS = "calls"
 
 
 def calls_of(board: Board) -> int:
-    """How many calls are open."""
+    """Returns the number of open calls."""
     return getattr(board, CALLS, 0)
 
 
 def set_calls(board: Board, calls: int) -> None:
-    """Makes so many calls open."""
+    """Sets the number of open calls."""
     setattr(board, CALLS, calls)
 
 
 def read_by(board: Board, name: str) -> list[int]:
-    """The addresses of the ROM words that the instruction at the counter reads: its own, and of FIN what it loads."""
+    """Returns the addresses of the ROM words that the instruction at the counter reads: its own, and for FIN the one that it loads."""
     behind = (board.pc + 1) % ADDRESSES
     return [board.pc] + ([behind] if name in TWO_WORDS else []) + ([behind & 0xF00 | board.pair(0)] if name == "FIN" else [])
 
 
 def mistakes(board: Board) -> set[str]:
-    """The mistakes that the next cycle makes; none in the second cycle of an instruction."""
+    """Returns the mistakes that the next cycle makes; none in the second cycle of an instruction."""
     if board.owed:
         return set()
     if board.is_outside():
@@ -128,7 +129,7 @@ def mistakes(board: Board) -> set[str]:
 
 
 def cycle(board: Board) -> None:
-    """One cycle, which may open a call or close one. A fourth call takes the place of the first."""
+    """Does one cycle, which may open a call or close one. A fourth call replaces the first."""
     name = "" if board.owed else CODES[board.rom[board.pc]][0]
     change = {"JMS": 1, "BBL": -1}.get(name, 0)
     set_calls(board, min(max(calls_of(board) + change, 0), OPEN_CALLS))
@@ -138,7 +139,7 @@ def cycle(board: Board) -> None:
 # ---- conditions
 
 def is_met(board: Board, condition: Comparison | Mistakes) -> bool:
-    """Whether a condition is met."""
+    """Returns true if a condition is met."""
     if condition[0] == "mistake":
         return bool(mistakes(board) & set(condition[1:]))
     way, name, index, part, low, high = condition
@@ -149,25 +150,25 @@ def is_met(board: Board, condition: Comparison | Mistakes) -> bool:
 
 
 def condition_of(nevers: list[list[Comparison | Mistakes]]) -> Condition:
-    """Whether a row of conditions is met all at once."""
+    """Returns the function that tests if a row of conditions is met all at once."""
     return lambda board: any(all(is_met(board, each) for each in row) for row in nevers)
 
 
 # ---- what a machine reads
 
 def begins(board: Board) -> tuple[str, int]:
-    """The instruction whose work the next cycle does, and its lower half; no name where it does none."""
+    """Returns the instruction whose work the next cycle does, and its lower half; no name if it does none."""
     return ("", 0) if board.owed or board.is_outside() else CODES[board.rom[board.pc]]
 
 
 def is_reading(board: Board) -> bool:
-    """Whether the next cycle reads an input."""
+    """Returns true if the next cycle reads an input."""
     name, low = begins(board)
     return name == "RDR" or (name == "JCN" and low % 2 == 1)
 
 
 def port_values(board: Board) -> dict[int, Levels]:
-    """The values that RDR can read, each with keys that give it. Keys add up: what two of them pull is pulled by both together."""
+    """Returns the values that RDR can read, each with keys that give it. Keys add up: both together pull what each of two pulls."""
     chips = board.chips
     port = chips.rom_src >> 4
 
@@ -186,7 +187,7 @@ def port_values(board: Board) -> dict[int, Levels]:
 
 
 def values_read(board: Board) -> dict[int, Levels]:
-    """The values that the next cycle can read, each with levels that give it; 0 alone where it reads none."""
+    """Returns the values that the next cycle can read, each with levels that give it; only 0 if it reads none."""
     name, low = begins(board)
     if name == "RDR":
         return port_values(board)
@@ -196,7 +197,7 @@ def values_read(board: Board) -> dict[int, Levels]:
 # ---- from state to state
 
 def saved(board: Board) -> tuple:
-    """All that a machine holds but its inputs, and how many calls are open."""
+    """Returns all that a machine holds except its inputs, and the number of open calls."""
     chips = board.chips
     return (board.acc, board.cy, board.pc, board.dcl, board.owed, tuple(board.r), tuple(board.ret), chips.rom_src, tuple(chips.bank_src),
             tuple(chips.rom_latch.values()), tuple(chips.ram_latch.values()), tuple(map(tuple, chips.chains)),
@@ -215,7 +216,8 @@ def load(board: Board, state: tuple) -> None:
 
 
 def go_on(board: Board, levels: Levels, is_bad: Condition, pause: int) -> tuple[int, bool]:
-    """One cycle at these levels, then up to the next state: how many cycles, and whether what is never to be was met after the last."""
+    """Does one cycle at these levels, then continues up to the next state; returns the number of cycles, and true if the forbidden
+    conditions were met after the last."""
     board.chips.down, board.test = set(levels[0]), levels[1]
     at, state = board.pc, saved(board)
     for cycles in range(1, pause + 2):
@@ -231,7 +233,7 @@ def go_on(board: Board, levels: Levels, is_bad: Condition, pause: int) -> tuple[
 
 
 def power_on(question: Question) -> Board:
-    """The machine of a question."""
+    """Returns the machine of a question."""
     board = Board()
     board.wire("\n".join(question.board))
     bench4004.load(board, question.program)
@@ -241,7 +243,7 @@ def power_on(question: Question) -> Board:
 
 
 def search(question: Question) -> Found:
-    """What comes of a question."""
+    """Returns the verdict on a question."""
     board, is_bad = power_on(question), condition_of(question.nevers)
     if is_bad(board):
         return Found("may fail", 1)
@@ -265,7 +267,7 @@ def search(question: Question) -> Found:
 
 
 def way_to(came: list[tuple[int, int]], at: int) -> list[int]:
-    """The values that led to a state."""
+    """Returns the values that led to a state."""
     way = []
     while at:
         at, value = came[at]
@@ -274,7 +276,8 @@ def way_to(came: list[tuple[int, int]], at: int) -> list[int]:
 
 
 def is_met_when_driven(question: Question, chance: random.Random, cycles: int) -> bool:
-    """Whether what is never to be is met within so many cycles, before each of which keys and TEST are put at any levels."""
+    """Returns true if the forbidden conditions are met within a number of cycles, before each of which keys and TEST are put at any
+    levels."""
     board, is_bad = power_on(question), condition_of(question.nevers)
     chips = board.chips
     for _cycle in range(cycles):
@@ -290,14 +293,14 @@ def is_met_when_driven(question: Question, chance: random.Random, cycles: int) -
 # ---- a way, replayed
 
 def commands(levels: Levels, before: Levels) -> list[str]:
-    """The lines of a session that bring keys and TEST to these levels."""
+    """Returns the lines of a session that bring keys and TEST to these levels."""
     lines = [f"release {row} {column}" for row, column in sorted(before[0] - levels[0])]
     lines += [f"press {row} {column}" for row, column in sorted(levels[0] - before[0])]
     return lines + ([f"test {levels[1]}"] if levels[1] != before[1] else [])
 
 
 def replayed(question: Question, way: list[int]) -> tuple[list[str], str]:
-    """A way as lines of a session, up to the cycle after which it meets what is never to be; or what is wrong with it."""
+    """Returns a way as lines of a session, up to the cycle after which it meets the forbidden conditions; or what is wrong with it."""
     board, is_bad, before = power_on(question), condition_of(question.nevers), NO_LEVELS
     lines, bad = [*question.begun(), "reset"], is_bad(board)
     for n, value in enumerate(way):
@@ -312,5 +315,5 @@ def replayed(question: Question, way: list[int]) -> tuple[list[str], str]:
 
 
 def parts_of(cycles: int, most: int = 100000) -> list[int]:
-    """Cycles as runs that a session takes."""
+    """Returns cycles as runs that a session accepts."""
     return [min(most, cycles - done) for done in range(0, cycles, most)]

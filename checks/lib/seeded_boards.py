@@ -1,6 +1,6 @@
 """Boards, programs and what is done with them, by a generator: the same from the same number. All of it are texts, as a user types them.
 
-Many have what once was told wrongly: addresses such as 0E0 and 1E2, which are numbers to some readers, as the names `inf` and `nan` are;
+Many have what once was reported wrongly: addresses such as 0E0 and 1E2, which are numbers to some readers, as the names `inf` and `nan` are;
 one chain alone, of up to 80 bits, that is clocked often.
 """
 
@@ -15,12 +15,12 @@ OUTSIDE = [*range(1, 16), 0xE3, 0xFE, 0xFF]
 JUMPS = ("JUN", "JMS", "JCN", "ISZ")
 NAMES = ("inf", "nan", "INFINITY", "infinity", "NaN", "INF", "e0", "E1", "_0E0", "x1e2")
 ORIGINS = (0x00, 0x02, 0x1E, 0x40, 0xD9, 0xDE, 0xE0, 0xE1, 0xF0, 0xF9)
-# The texts of a board and of a program have at most so many bytes.
+# The greatest number of bytes of the texts of a board and of a program.
 LONGEST = 16384
 
 
 class Wiring:
-    """A board: its text, and what a program can use of it."""
+    """A board: its text, and the parts that a program can use."""
 
     def __init__(self, chance: random.Random) -> None:
         self.chance = chance
@@ -48,26 +48,26 @@ class Wiring:
         self.lamps = chance.choices(self.lines, k=chance.choice([0, 3, 8, 20])) if self.lines else []
 
     def chain(self) -> tuple[str, str, int]:
-        """A chain's clock and data, mostly of one port, and its chips."""
+        """Returns a chain's clock and data, mostly of one port, and its chips."""
         lines = self.chance.choice(self.outputs)
         others = lines if self.chance.random() < 0.8 else self.chance.choice(self.outputs)
         return self.chance.choice(lines), self.chance.choice(others), self.chance.choice([1, 2, 3, 8, 8])
 
     def text(self) -> list[str]:
-        """The text of the board."""
-        told: list[str] = []
+        """Returns the text of the board."""
+        lines: list[str] = []
         for chip, port in self.ports.items():
-            told += ["[[rom]]", f"chip = {chip}", f'port = "{port}"']
+            lines += ["[[rom]]", f"chip = {chip}", f'port = "{port}"']
         for bank, chips in self.banks.items():
-            told += ["[[ram]]", f"bank = {bank}", f"chips = {chips}"]
+            lines += ["[[ram]]", f"bank = {bank}", f"chips = {chips}"]
         for clock, data, chips in self.chains:
-            told += ["[[chain]]", f'clock = "{clock}"', f'data = "{data}"', f"chips = {chips}"]
+            lines += ["[[chain]]", f'clock = "{clock}"', f'data = "{data}"', f"chips = {chips}"]
         if self.columns:
             columns = ", ".join(f'"{line}"' for line in self.columns)
-            told += ["[keys]", f"chain = {self.driver}", f"first = {self.first}", f"rows = {self.rows}", f"columns = [{columns}]"]
+            lines += ["[keys]", f"chain = {self.driver}", f"first = {self.first}", f"rows = {self.rows}", f"columns = [{columns}]"]
         for line in self.lamps:
-            told += ["[[lamp]]", f'line = "{line}"']
-        return told
+            lines += ["[[lamp]]", f'line = "{line}"']
+        return lines
 
 
 class Program:
@@ -84,16 +84,17 @@ class Program:
                 self.put_part(256 * page + word, chance.randrange(4, 30))
             if chance.random() < 0.5:
                 self.put_end_of_page(256 * page)
-        self.begins = [at for at, told in self.statements.items() if not told.startswith("DB")]
+        self.begins = [at for at, statement in self.statements.items() if not statement.startswith("DB")]
         self.names = self.some_names()
 
     def put_part(self, at: int, phrases: int) -> None:
-        """Some phrases from an address on, as far as there is room, and an end: a jump, a code that is not an instruction, or what comes next."""
-        told = [word for _n in range(phrases) for word in self.phrase()]
-        self.put(at, told + self.chance.choice([["JUN"], ["JUN"], ["BBL 3"], [f"DB 0x{self.chance.choice(OUTSIDE):02X}"], []]))
+        """Puts some phrases from an address on, as far as there is room, and an end: a jump, a code that is not an instruction, or
+        whatever follows."""
+        statement = [word for _n in range(phrases) for word in self.phrase()]
+        self.put(at, statement + self.chance.choice([["JUN"], ["JUN"], ["BBL 3"], [f"DB 0x{self.chance.choice(OUTSIDE):02X}"], []]))
 
     def put(self, at: int, statements: list[str]) -> None:
-        """Statements from an address on, as far as there is room; `^4` goes back by four of them."""
+        """Puts statements from an address on, as far as there is room; `^4` jumps back by four of them."""
         put: list[int] = []
         for statement in statements:
             statement, _sign, back = statement.partition(" ^")
@@ -108,13 +109,13 @@ class Program:
             at += size
 
     def put_end_of_page(self, page: int) -> None:
-        """Instructions in the last words of a page, whose targets are on the next one."""
+        """Puts instructions in the last words of a page, whose targets are on the next one."""
         if (page >> 8) + 1 in self.wiring.pages and {page + 0xFC, page + 0xFD, page + 0xFE, page + 0xFF, page + 0x100} <= self.free:
             name = self.chance.choice(["ISZ R3", "JCN 12", "JCN 4", "JIN P2", "FIN P2"])
             self.put(page + 0xFC, [*self.chance.randrange(2, 4) * ["NOP"], name])
 
     def phrase(self) -> list[str]:
-        """A few instructions that do something together, or one of any kind."""
+        """Returns a few instructions that do something together, or one of any kind."""
         kind = self.chance.random()
         value, pair = self.chance.randrange(16), self.chance.randrange(8)
         if kind < 0.15:
@@ -132,11 +133,11 @@ class Program:
         return [self.any_instruction(value, pair)]
 
     def selected(self) -> int:
-        """An SRC byte, mostly of a chip that is there."""
+        """Returns an SRC byte, mostly of a chip that is there."""
         return self.chance.choice([16 * self.chance.choice([*self.wiring.ports]), self.chance.randrange(64), self.chance.randrange(256)])
 
     def clocked(self, pair: int) -> list[str]:
-        """A chain is clocked some times."""
+        """Returns instructions that clock a chain some times."""
         clock, data, _chips = self.chance.choice(self.wiring.chains)
         numbers = [int(word) for word in clock[3:].split(".")]
         up, down = (f"LDM {1 << numbers[-1] | self.chance.choice([0, 1 << int(data[-1])]) | self.chance.choice([0, 4])}", "LDM 0")
@@ -148,7 +149,7 @@ class Program:
         return begin + (self.chance.randrange(1, 6) * pulse if self.chance.random() < 0.5 else [*pulse, f"ISZ R{self.chance.randrange(16)} ^5"])
 
     def any_instruction(self, value: int, pair: int) -> str:
-        """One of the 45."""
+        """Returns one of the 45 instructions."""
         name = self.chance.choice([*ALONE, *ON_REGISTER, *ON_PAIR, *JUMPS, "FIM", "LDM", "BBL", "ISZ", "JMS"])
         if name == "FIM":
             return f"FIM P{pair}, 0x{self.chance.randrange(256):02X}"
@@ -156,12 +157,12 @@ class Program:
         return name + (operand or (f" {value}" if name in ("LDM", "BBL", "JCN") else ""))
 
     def some_names(self) -> dict[int, str]:
-        """Labels of some addresses: words that read as numbers among them."""
+        """Returns labels for some addresses, words that read as numbers among them."""
         there = self.chance.sample(self.begins, min(len(self.begins), self.chance.choice([0, 2, 12])))
         return {at: NAMES[i] if i < len(NAMES) else f"l{at:03X}" for i, at in enumerate(there)}
 
     def target(self, at: int, name: str) -> str:
-        """Where a jump goes: mostly to an instruction."""
+        """Returns the target of a jump: mostly an instruction."""
         if at in self.loops:
             return self.names.get(self.loops[at], f"0x{self.loops[at]:03X}")
         page = (at + 2) % ADDRESSES >> 8 if name in ("JCN", "ISZ") else self.chance.choice(self.wiring.pages)
@@ -174,23 +175,23 @@ class Program:
         return self.names.get(goal, f"0x{goal:03X}")
 
     def text(self) -> list[str]:
-        """The text of the program."""
-        told, here = [], 0
+        """Returns the text of the program."""
+        lines, here = [], 0
         for at in sorted(self.statements):
             statement = self.statements[at]
             name = statement.split()[0]
             if name in JUMPS:
                 statement += (", " if name in ("JCN", "ISZ") else " ") + self.target(at, name)
             if at != here:
-                told.append(f"        ORG 0x{at:03X}")
+                lines.append(f"        ORG 0x{at:03X}")
             label = f"{self.names[at]}:" if at in self.names else ""
-            told.append(f"{label:<10}{statement}" + ("" if self.chance.random() < 0.9 else " ; a comment"))
+            lines.append(f"{label:<10}{statement}" + ("" if self.chance.random() < 0.9 else " ; a comment"))
             here = at + (2 if name in (*JUMPS, "FIM") else 1)
-        return told
+        return lines
 
 
 class Seeded:
-    """A board, a program, and what is done before anything is asked."""
+    """A board, a program, and the commands before anything is asked."""
 
     def __init__(self, seed: int) -> None:
         self.chance = random.Random(seed)
@@ -200,12 +201,12 @@ class Seeded:
         self.program_text = self.program.text()
 
     def begun(self) -> list[str]:
-        """The lines that make the session."""
+        """Returns the lines that make the session."""
         return ["wire", *self.board_text, ".", "asm", *self.program_text, "."]
 
     def somewhere(self) -> int:
-        """An address, mostly one where an instruction begins; often before a loop that clocks a chain, or at
-        the end of a page."""
+        """Returns an address, mostly one at which an instruction begins; often before a loop that clocks a chain, or at the end of a
+        page."""
         loops = [goal - 3 for goal in self.program.loops.values()]
         if loops and self.chance.random() < 0.3:
             return self.chance.choice(loops)
@@ -215,12 +216,12 @@ class Seeded:
         return self.chance.choice(self.program.begins) if self.chance.random() < 0.95 else self.chance.randrange(ADDRESSES)
 
     def character(self) -> tuple[int, int]:
-        """A RAM character, mostly of a chip that is there."""
+        """Returns a RAM nibble, mostly of a chip that is there."""
         bank = self.chance.choice([*self.wiring.banks, self.chance.randrange(8)])
         return bank, self.chance.choice([self.program.selected(), self.chance.randrange(256)])
 
     def change(self) -> str:
-        """A command that changes something; some are refused."""
+        """Returns a command that changes something; some are rejected."""
         chance = self.chance
         bank, src = self.character()
         value = chance.randrange(16)
@@ -233,7 +234,7 @@ class Seeded:
         return chance.choice(kinds)
 
     def stop(self, board: Board) -> str:
-        """A breakpoint or a watch comes or goes: mostly one that the board comes to, or the one where it stands."""
+        """Returns a command that sets or removes a breakpoint or a watch: mostly one that the board reaches, or the one at which it is."""
         ahead, visited, written = board.copy(), [board.pc], [self.character()]
         ahead.breaks = set()
 
@@ -246,7 +247,7 @@ class Seeded:
         return self.chance.choice([f"break {at}"] * 2 + [f"unbreak {at}"] + [f"watch {bank} {src}"] * 2 + [f"unwatch {bank} {src}"])
 
     def place(self) -> str:
-        """What a trace looks at."""
+        """Returns a place for a trace."""
         chance = self.chance
         bank, src = self.character()
         line = chance.choice(self.wiring.lines + self.wiring.inputs + [f"chain{chance.randrange(4)}.{chance.randrange(80)}"])
@@ -257,5 +258,5 @@ class Seeded:
                               f"chain{chance.randrange(4)}"])
 
     def cycles(self) -> int:
-        """How long something is run."""
+        """Returns the length of a run."""
         return self.chance.choice([1, 2, 3, self.chance.randrange(1, 60), self.chance.randrange(1, 400), self.chance.randrange(1, 1500)])

@@ -15,7 +15,7 @@ TOP = pathlib.Path(__file__).resolve().parent.parent.parent
 
 
 def examples():
-    """The examples' programs: files of their own, and texts after `asm` in scripts."""
+    """Yields the examples' programs: files of their own, and texts after `asm` in scripts."""
     for path in sorted(TOP.glob("examples/**/*.asm")):
         yield path.name, path.read_text().splitlines()
     for path in sorted(TOP.glob("examples/**/*.txt")):
@@ -25,7 +25,7 @@ def examples():
 
 
 def seeded(number):
-    """A program by a generator: most have no fault, some have one or more."""
+    """Returns a program by a generator: most have no error, some have one or more."""
     chance = random.Random(number)
     names = [f"n{i}" for i in range(8)]
     # A name is defined where it is used alone, so that most programs are taken.
@@ -39,20 +39,37 @@ def seeded(number):
         return chance.choice([*names, value(300)]) if chance.random() < 0.7 else value(300)
 
     def line():
-        told = chance.choice(["NOP", "wrr", "ADD R3", "Src p1", "", f"LDM {value(15)}", f"FIM P2, {value(255)}", f"JUN {target()}",
+        statement = chance.choice(["NOP", "wrr", "ADD R3", "Src p1", "", f"LDM {value(15)}", f"FIM P2, {value(255)}", f"JUN {target()}",
                               f"JMS {target()}", f"ISZ r4, {value(255)}", f"JCN 4, {value(255)}",
                               "DB " + ", ".join(value(255) for _ in range(chance.randrange(1, 9)))])
         if chance.random() < 0.02:
-            told = chance.choice(["ORG 4096", "LDM 16", "DB 256", "DB", "NOP NOP", "ORG 4095", "JUN nowhere", "ORG 0", "n0 = 4096", "R1: NOP"])
+            statement = chance.choice(["ORG 4096", "LDM 16", "DB 256", "DB", "NOP NOP", "ORG 4095", "JUN nowhere", "ORG 0", "n0 = 4096", "R1: NOP"])
         if chance.random() < 0.06:
-            told = f"ORG {chance.randrange(0, 4000)}"
+            statement = f"ORG {chance.randrange(0, 4000)}"
         if free and chance.random() < 0.15:
             name = free.pop()
-            told = f"{name}: {told}" if chance.random() < 0.8 else f"{name} = {value(4095)}"
-        return chance.choice(["", " ", "\t"]) + told + chance.choice(["", "", " ; a comment", "\t;"])
+            statement = f"{name}: {statement}" if chance.random() < 0.8 else f"{name} = {value(4095)}"
+        return chance.choice(["", " ", "\t"]) + statement + chance.choice(["", "", " ; a comment", "\t;"])
 
     lines = [line() for _ in range(chance.randrange(1, 60))]
     return lines + [f"{name}:" for name in free if chance.random() < 0.98]
+
+
+# Lines with an error of each kind, by themselves or in most places.
+WRONG = ("FOO", "LDM", "NOP NOP", "1: NOP", "DB 1,, 2", "ORG 4096", "n9 = 5000", "n0: NOP", "n1 = 7", "P1 = 3", "ORG 4095", "JUN n20", "LDM 16",
+         "DB 256", "FIM P0, 300", "ISZ R1, 0xF00", "JCN 4, 2000", "BBL n21")
+
+
+def wrong(number):
+    """A program by a generator, with some lines that are wrong; in half of them each is wrong in its bytes alone."""
+    chance = random.Random(number)
+    lines = seeded(number)
+    rows = WRONG if chance.random() < 0.5 else WRONG[11:]
+    count = chance.choice([1, 2, 3, 5, 150])
+    for _n in range(count):
+        line = chance.choice(rows)
+        lines.insert(chance.randrange(len(lines) + 1), line if chance.random() < 0.9 else f"m{chance.randrange(4)}: {line}")
+    return lines
 
 
 def main():

@@ -12,11 +12,11 @@ from board4004 import Board
 from second_search import MISTAKES, Comparison, Question, cell, go_on, power_on, values_read
 from seeded_boards import OUTSIDE, Program, Seeded, Wiring
 
-# Most of what is not done with a chip.
+# Most of the statements that do nothing with a chip.
 HANDY = ["CLB", "CLC", "IAC", "CMC", "CMA", "RAL", "RAR", "TCC", "DAC", "TCS", "STC", "DAA", "KBP"]
 LENGTHS = {"character": 2048, "status": 512, "ramport": 32, "romport": 16, "banksrc": 8, "register": 16, "counter": 14,
            "chain0": 256, "chain1": 256, "chain2": 256, "chain3": 256}
-# How many states a walk that looks for numbers passes at most.
+# The most states that a walk for numbers passes.
 WALK = 12
 
 
@@ -28,21 +28,21 @@ class Asking(Program):
         self.statements, self.loops, self.names = {}, {}, {}
         self.free = set(range(0x1000))
         self.registers = chance.sample(range(16), 2)
-        told = [word for _n in range(chance.randrange(0, 3)) for word in self.prepared()]
-        told += [word for _n in range(chance.randrange(2, 7)) for word in self.asked()]
+        words = [word for _n in range(chance.randrange(0, 3)) for word in self.prepared()]
+        words += [word for _n in range(chance.randrange(2, 7)) for word in self.asked()]
         ends = [["JUN"]] * 8 + [["BBL 3"], [f"DB 0x{chance.choice(OUTSIDE):02X}"], []]
-        self.put(0, told + chance.choice(ends))
+        self.put(0, words + chance.choice(ends))
         self.begins = [at for at, statement in self.statements.items() if not statement.startswith("DB")]
 
     def prepared(self) -> list[str]:
-        """Phrases before the loop: a chain takes in bits, or a port gets a value."""
+        """Returns phrases before the loop: a chain shifts in bits, or a port gets a value."""
         if self.wiring.chains and self.chance.random() < 0.8:
             clock, data, _chips = self.chance.choice([self.wiring.chains[self.wiring.driver], self.chance.choice(self.wiring.chains)])
             return self.pulses(clock, data)
         return self.selected_by(self.chance.randrange(8)) + [f"LDM {self.chance.randrange(16)}", self.chance.choice(["WRR", "WMP", "WRM", "WR1"])]
 
     def pulses(self, clock: str, data: str) -> list[str]:
-        """A chain is clocked, mostly with its data line at 1."""
+        """Returns phrases that clock a chain, mostly with its data line at 1."""
         numbers = [int(word) for word in clock[3:].split(".")]
         pair = self.chance.randrange(8)
         begin = [f"FIM P{pair}, 0x{16 * numbers[0] if clock.startswith('rom') else 64 * numbers[1]:02X}", f"SRC P{pair}"]
@@ -53,12 +53,12 @@ class Asking(Program):
         return begin + self.chance.randrange(1, 4) * [f"LDM {one}", write, f"LDM {one | 1 << numbers[-1]}", write]
 
     def selected_by(self, pair: int) -> list[str]:
-        """A chip is selected, mostly one with inputs."""
+        """Returns phrases that select a chip, mostly one with inputs."""
         inputs = [16 * int(line[3:].split(".")[0]) for line in self.wiring.inputs]
         return [f"FIM P{pair}, 0x{self.chance.choice(inputs) if inputs and self.chance.random() < 0.8 else self.selected():02X}", f"SRC P{pair}"]
 
     def asked(self) -> list[str]:
-        """Phrases of the loop."""
+        """Returns phrases of the loop."""
         chance = self.chance
         register = chance.choice(self.registers)
         kind = chance.random()
@@ -77,7 +77,7 @@ class Asking(Program):
         return [self.any_instruction(register, register // 2)] if chance.random() < 0.3 else [chance.choice(HANDY)]
 
     def used(self, register: int) -> list[str]:
-        """What is done with a value that was read."""
+        """Returns what is done with a value that was read."""
         chance = self.chance
         written = [name for name in ALONE if name.startswith("W") and name != "WPM"]
         return chance.choice([
@@ -86,7 +86,7 @@ class Asking(Program):
 
 
 def walked(question: Question, chance: random.Random) -> Iterator[Board]:
-    """The machine at some states of one way, by any values."""
+    """Yields the machine at some states of one way, by any values."""
     board = power_on(question)
     yield board
     for _n in range(chance.randrange(WALK)):
@@ -96,7 +96,7 @@ def walked(question: Question, chance: random.Random) -> Iterator[Board]:
 
 
 def cells_of(wiring: Wiring) -> list[tuple[str, int]]:
-    """Cells that are worth a look: registers, ports, a few of RAM and chains; some of chips that are not there."""
+    """Returns cells that are worth a look: registers, ports, a few of RAM and chains; some of chips that are not there."""
     cells = [("register", k) for k in range(16)] + [("counter", k) for k in range(14)]
     cells += [("romport", chip) for chip in wiring.ports] + [("banksrc", bank) for bank in wiring.banks]
     cells += [("ramport", 4 * bank + chip) for bank, chips in wiring.banks.items() for chip in range(chips)]
@@ -106,7 +106,7 @@ def cells_of(wiring: Wiring) -> list[tuple[str, int]]:
 
 
 def comparison(chance: random.Random, wiring: Wiring, boards: list[dict[tuple[str, int], int]]) -> Comparison:
-    """A comparison, mostly of a cell that changes on the way, with a number that it has there or another one."""
+    """Returns a comparison, mostly of a cell that changes on the way, with a number that it has there or another one."""
     name, index = chance.choice(cells_of(wiring))
     changing = [each for each in boards[0] if len({seen[each] for seen in boards}) > 1]
     if changing and chance.random() < 0.8:
@@ -125,7 +125,7 @@ def comparison(chance: random.Random, wiring: Wiring, boards: list[dict[tuple[st
 
 
 def seeded_question(seed: int, most: int) -> Question:
-    """A question; of each eight one has a long program of any instructions."""
+    """Returns a question; one of each eight has a long program of any instructions."""
     chance = random.Random(seed)
     if seed % 8 == 7:
         seeded = Seeded(seed)

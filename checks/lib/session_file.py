@@ -37,7 +37,7 @@ def chain_line(chain, bit):
 
 
 def name_of(line):
-    """The name that a line has in texts."""
+    """Returns the name that a line has in texts."""
     kind, *numbers = line
     return ("rom{}.{}", "ram{}.{}.{}", "chain{}.{}")[kind].format(*numbers)
 
@@ -68,7 +68,7 @@ class Board:
         return self.keys[2] * len(self.keys[3]) if self.keys else 0
 
     def tables(self):
-        """The tables of its text, each with the key that it stands below: ROMs and banks by rising number, chains, keys, lamps."""
+        """Returns the tables of its text, each with the key that it is below: ROMs and banks by rising number, chains, keys, lamps."""
         found = [("rom", {"chip": chip, "port": self.roms[chip]}) for chip in sorted(self.roms)]
         found += [("ram", {"bank": bank, "chips": self.banks[bank]}) for bank in sorted(self.banks)]
         found += [("chain", {"clock": name_of(clock), "data": name_of(data), "chips": chips}) for clock, data, chips in self.chains]
@@ -78,7 +78,7 @@ class Board:
         return found + [("lamp", {"line": name_of(line)}) for line in self.lamps]
 
     def text(self):
-        """Its text as `board` tells it, in the form of the board in the manual's first hour."""
+        """Returns its text as `board` prints it, in the form of the board in the manual's first hour."""
         lines = []
         for below, table in self.tables():
             lines.append(f"[{below}]" if below == "keys" else f"[[{below}]]")
@@ -112,7 +112,7 @@ class State:
     watches: list = dataclasses.field(default_factory=list)
 
     def bytes(self, version=2):
-        """The bytes of the state; version 1 has no byte for the version, no watches and no count of them."""
+        """Returns the bytes of the state; version 1 has no byte for the version, no watches and no count of them."""
         assert version == 2 or not self.watches
         found = number(self.seq, 4) + (b"\x02" if version == 2 else b"") + self.board.bytes()
         found += self.rom + self.ram + self.status + self.ram_ports + self.rom_ports
@@ -125,13 +125,13 @@ class State:
             found += bytes([len(self.watches)]) + b"".join(bytes(watch) for watch in self.watches)
         return bytes(found)
 
-    def told(self):
-        """The answer to `regs`."""
+    def regs_answer(self):
+        """Returns the answer to `regs`."""
         return (f"acc {self.accumulator:X} cy {self.carry} pc {self.counter:03X} owed {self.owed} dcl {self.bank} test {self.test} "
                 f"r {''.join(f'{register:X}' for register in self.registers)} ret {' '.join(f'{address:03X}' for address in self.returns)}")
 
     def cycle(self):
-        """One cycle of the few instructions that the checks use."""
+        """Does one cycle of the few instructions that the checks use."""
         if self.owed:
             self.owed = 0
             return
@@ -151,7 +151,7 @@ class State:
             assert code == 0, f"the checks have no instruction {code:02X}"
 
     def run(self, cycles):
-        """Runs so many cycles, or to a breakpoint; tells how many were done, and why it stopped."""
+        """Runs a number of cycles, or to a breakpoint; returns the words for how many were done, and why it stopped."""
         begun = self.place()
         done = left_out = 0
         while done + left_out < cycles:
@@ -168,7 +168,7 @@ class State:
         return self.counter, self.owed, self.accumulator, self.carry, bytes(self.registers)
 
     def step(self):
-        """One instruction, or the second cycle of one; tells how many cycles it was."""
+        """Does one instruction, or the second cycle of one; returns the words for the number of its cycles."""
         was_owed = self.owed
         self.cycle()
         if not self.owed or was_owed:
@@ -177,7 +177,7 @@ class State:
         return " ran 2 end"
 
     def reset(self):
-        """A power cycle; ROM, keys, TEST, breakpoints, watches and wiring stay."""
+        """Does a power cycle; ROM, keys, TEST, breakpoints, watches and wiring stay."""
         new = State()
         for part in ("ram", "status", "ram_ports", "rom_ports", "accumulator", "carry", "registers", "counter", "returns", "bank", "rom_source",
                      "bank_sources", "owed"):
@@ -189,7 +189,7 @@ class State:
 
 @dataclasses.dataclass
 class Command:
-    """Its lines, its record, what it does to a state (and may answer after `ok N`), and the cycles that it counts in a log."""
+    """Its lines, its record, its effect on a state (which may answer after `ok N`), and the cycles that it counts in a log."""
     text: str
     record: bytes
     do: object
@@ -209,7 +209,7 @@ def wire(text, board):
 
 
 def load(text, image):
-    """A program, by the bytes that it spells."""
+    """Returns a load of a program, by the bytes that it spells."""
     addresses = sorted(image)
     there = bytearray(512)
     for address in addresses:
@@ -224,12 +224,12 @@ def load(text, image):
 
 
 def run(cycles):
-    """It counts all its cycles, also where a breakpoint stops it."""
+    """Returns a run. It counts all its cycles, also if a breakpoint stops it."""
     return Command(f"run {cycles}\n", bytes([5]) + number(cycles, 4), lambda state: state.run(cycles), cycles)
 
 
 def step():
-    """It counts two cycles."""
+    """Returns a step. It counts two cycles."""
     return Command("step\n", bytes([6]), State.step, 2)
 
 
@@ -266,7 +266,7 @@ def watch(bank, source):
 # --- files
 
 def read(file):
-    """The snapshot and the records that a file holds; None where it holds none."""
+    """Returns the snapshot and the records that a file holds; None if it holds none."""
     if len(file) != SIZE or file[:8] != NAME or any(file[9:16]):
         return None
     slot = SLOTS[file[8] % 2]
@@ -287,7 +287,7 @@ def read(file):
 
 
 def file_of(snapshot):
-    """A file that holds a snapshot in its first slot, and no record."""
+    """Returns a file that holds a snapshot in its first slot, and no record."""
     begin = SLOTS[0]
     file = bytearray(NAME + bytes(SIZE - len(NAME)))
     file[begin:begin + LENGTH_BYTES + len(snapshot)] = number(len(snapshot), LENGTH_BYTES) + snapshot
@@ -300,10 +300,10 @@ def put_record(file, at, record):
 
 
 class Kept:
-    """A session, and what its file has to hold."""
+    """A session, and the expected contents of its file."""
 
     def __init__(self, state=None, slot=0, version=2):
-        """A session that begins at this state, as a snapshot in one of the slots."""
+        """Begins a session at this state, as a snapshot in one of the slots."""
         self.state = state or State()
         self.version = version
         self.file = bytearray(SIZE)
@@ -325,14 +325,14 @@ class Kept:
         self.held = (snapshot, [])
 
     def checkpoint(self):
-        """A snapshot in the other slot takes the place of what is held."""
+        """Replaces the contents with a snapshot in the other slot."""
         self._put_snapshot(1 - self.slot, 2)
         self.file[8] = self.slot
         self.version = 2
         self.checkpoints += 1
 
     def accept(self, command):
-        """A command that is accepted, and its answer."""
+        """Does a command that is accepted, and returns its answer."""
         record = command.record
         if self.used + 3 + len(record) + 1 > LOG_BYTES or self.cycles + command.cycles > MOST_CYCLES:
             self.checkpoint()
@@ -348,7 +348,7 @@ class Kept:
         return "".join(self.accept(command) for command in commands)
 
     def fault(self, file):
-        """What is wrong with a file that has to be this one; nothing where it is."""
+        """Returns what is wrong with a file that must be this one; nothing if it is."""
         if len(file) != SIZE:
             return f"it has {len(file)} bytes"
         wanted = bytearray(self.file)

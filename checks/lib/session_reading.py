@@ -1,5 +1,5 @@
 """What a session file stands for, after docs/FORMAT.md: a second reading of the bytes of states and of commands. What the commands do, and what
-is answered then, bench4004.py tells.
+is answered then, bench4004.py says.
 """
 
 import re
@@ -20,17 +20,17 @@ COMMANDS = {3: ("press", 255, 255), 4: ("release", 255, 255), 5: ("run", 2**32 -
 
 
 class Refused(Exception):
-    """The number by which a file is refused."""
+    """The number by which a file is rejected."""
 
 
 def require(holds):
-    """What does not hold is damage."""
+    """Raises damage if this does not hold."""
     if not holds:
         raise Refused(51)
 
 
 class Reader:
-    """Bytes that are read one after the other."""
+    """A reader of bytes, one after the other."""
 
     def __init__(self, given):
         self.given, self.at = bytes(given), 0
@@ -41,13 +41,13 @@ class Reader:
         return self.given[self.at - count:self.at]
 
     def numbers(self, count, most):
-        """So many numbers of one byte each."""
+        """Returns `count` numbers of one byte each."""
         found = self.take(count)
         require(all(byte <= most for byte in {*found}))
         return bytearray(found)
 
     def number(self, most):
-        """A number of as many bytes as its greatest value needs: 1, 2 or 4."""
+        """Returns a number of as many bytes as its greatest value needs: 1, 2 or 4."""
         found = int.from_bytes(self.take(1 if most < 256 else 2 if most < 65536 else 4), "big")
         require(found <= most)
         return found
@@ -59,7 +59,7 @@ class Reader:
 # --- boards
 
 def has_line(board, line):
-    """Whether a board has a line. Where a number is not used, it is 0."""
+    """Returns true if a board has a line. A number that is not used is 0."""
     kind, number, second, third = line
     if kind == 0:
         return number in board.roms and second < 4 and third == 0
@@ -69,12 +69,12 @@ def has_line(board, line):
 
 
 def is_input(board, line):
-    """A port's text has line 3 first."""
+    """Returns true if a line is an input. A port's text has line 3 first."""
     return has_line(board, line) and line[0] == 0 and board.roms[line[1]][3 - line[2]] == "i"
 
 
 def is_board(board):
-    """Whether these parts make a board."""
+    """Returns true if these parts make a board."""
     def is_output(line):
         return has_line(board, line) and line[0] != 2 and not is_input(board, line)
 
@@ -105,7 +105,7 @@ def read_board(reader, version):
 # --- states
 
 def read_state(snapshot):
-    """The state that a snapshot spells, and its version."""
+    """Returns the state that a snapshot spells, and its version."""
     reader = Reader(snapshot)
     seq = reader.number(MOST_COMMANDS)
     version = 2 if snapshot[4:5] == b"\2" else 1
@@ -129,7 +129,7 @@ def read_state(snapshot):
 
 
 def absent_parts(state):
-    """What has to be 0, since its chip is absent, or since an input line keeps nothing."""
+    """Yields the parts that must be 0, because their chip is absent, or because an input line keeps nothing."""
     for chip in range(16):
         port = state.board.roms.get(chip, "iiii")
         yield b"" if chip in state.board.roms else state.rom[256 * chip:256 * chip + 256]
@@ -143,7 +143,7 @@ def absent_parts(state):
 
 
 def bench_of(state):
-    """A bench that stands at a state."""
+    """Returns a bench that is at a state."""
     bench = bench4004.Bench()
     bench.seq, board = state.seq, bench.board
     board.wire(state.board.text())
@@ -164,7 +164,8 @@ def bench_of(state):
 # --- commands
 
 def read_command(record, version):
-    """The words of the line that a record is of, and the cycles that it counts in a log. A text is a list of lines; of a board it is all."""
+    """Returns the words of the line that a record is of, and the cycles that it counts in a log. A text is a list of lines; of a board
+    it is all."""
     reader = Reader(record)
     tag = reader.number(13 if version == 2 else 11)
     if tag == 1:
@@ -186,10 +187,10 @@ def read_command(record, version):
 
 
 class Standing:
-    """What a file stands for: a bench, the text of its board, and the version."""
+    """The meaning of a file: a bench, the text of its board, and the version."""
 
     def __init__(self, file):
-        """A file that stands for no state raises `Refused`."""
+        """Reads a file; one that stands for no state raises `Refused`."""
         if len(file) != SIZE or file[:8] != NAME:
             raise Refused(50)
         held = read(file)
@@ -202,7 +203,7 @@ class Standing:
             self.accept(words)
 
     def accept(self, words):
-        """A command, which has to be accepted in its turn."""
+        """Does a command, which must be accepted in its turn."""
         board = self.bench.board
         require(self.bench.seq < MOST_COMMANDS)
         require(words[0] != "run" or 1 <= int(words[1]) <= 100_000)
@@ -211,8 +212,8 @@ class Standing:
         if words[0] == "wire":
             self.board = words[1]
 
-    def told(self, questions):
-        """The answers to the first line of a session and to questions."""
+    def answers_to(self, questions):
+        """Returns the answers to the first line of a session and to questions."""
         answers = [f"session {self.bench.seq}"]
         for question in questions:
             answers += ["board", *self.board] if question == "board" else self.bench.answer(*question.split())

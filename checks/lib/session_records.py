@@ -9,22 +9,22 @@ EACH_PART = Board({0: "1i0i"}, {1: 2}, [(rom_line(0, 1), rom_line(0, 3), 3)], (0
 
 
 def put(part, value):
-    """A part of a state gets a value."""
+    """Returns a change that sets a part of a state to a value."""
     return lambda state: setattr(state, part, value)
 
 
 def put_at(part, place, value):
-    """A place of a part of a state gets a value."""
+    """Returns a change that sets a place of a part of a state to a value."""
     return lambda state: getattr(state, part).__setitem__(place, value)
 
 
 def written(text, record, do):
-    """A command, by its line and by its bytes."""
+    """Returns a command, by its line and by its bytes."""
     return Command(f"{text}\n", bytes(record), do)
 
 
 def wired(board, record):
-    """A board, by its bytes."""
+    """Returns a board, by its bytes."""
     return Command(wire(board.text(), board).text, record, wire("", board).do)
 
 
@@ -66,7 +66,7 @@ COMMANDS = [
     written("poke ram.1.0xFF 3", [7, 6, 1, 0xFF, 3], put_at("ram", 256 + 0xFF, 3)),
     written("poke st.7.15.3 8", [7, 7, 7, 15, 3, 8], put_at("status", 511, 8)),
 ]
-# What spells no command. On the largest board a reader that takes such bytes for a command would find one that is accepted.
+# Bytes that spell no command. On the largest board a reader that accepts such bytes as a command would find one that is accepted.
 NEW_BOARD = b"\1" + Board().bytes()
 LOAD = bytes([2, 3, *bytes(513)])
 WRONG_RECORDS = [

@@ -13,7 +13,7 @@ ENDS = {"rom": (0, 4_095), "ram": (0, 2_047), "status": (0, 511), "ram_ports": (
 
 
 def zeros_but(size, values):
-    """So many bytes, which are 0 but at these places."""
+    """Returns bytes that are 0 except at these places."""
     found = bytearray(size)
     for place, value in values.items():
         found[place] = value
@@ -25,21 +25,21 @@ def registers(values):
 
 
 def chained(count, chips):
-    """A state on a board with ROM 0 and so many chains of so many chips, alone."""
+    """Returns a state on a board with ROM 0 and `count` chains of as many chips, and nothing else."""
     return State(board=Board({0: "0000"}, {}, [(rom_line(0, 1), rom_line(0, 3), chips)] * count), chains=[bytearray(10 * chips)] * count)
 
 
 def on_worked_board(**parts):
-    """A state on the worked board, with a 1 in the last bit of its chain and its last key down."""
+    """Returns a state on the worked board, with a 1 in the last bit of its chain and its last key down."""
     return State(board=WORKED, chains=[zeros_but(10, {9: 1})], keys=zeros_but(80, {79: 1}), **parts)
 
 
 def in_rom_0(port):
-    """A state on a board with ROM 0 alone, which has this port."""
+    """Returns a state on a board with ROM 0 alone, which has this port."""
     return State(board=Board({0: port}))
 
 
-# What is said of a state, and what is asked of its session and answered, which changes nothing. These are states of both versions.
+# The name of a state, and the questions to its session with their answers, which change nothing. These are states of both versions.
 STATES = [
     ("a new one", State(), "", ""),
     ("a count of commands of four bytes", State(seq=0xFF00_0000), "seq\n", "seq 4278190080\n"),
@@ -82,7 +82,7 @@ LATER_STATES = [
      f"lamps {64 * '*'}\n"),
 ]
 
-# What is said of a state that spells nothing, in either version.
+# The name of a state that spells nothing, in either version.
 WRONG_STATES = [
     ("R0 at 16", State(registers=registers({0: 16}))),
     ("R7 at 16", State(registers=registers({7: 16}))),
@@ -110,7 +110,7 @@ WRONG_STATES = [
     ("a bit of a chain at 2", State(board=WORKED, chains=[zeros_but(10, {9: 2})], keys=bytearray(80))),
     ("a key at 2", State(board=WORKED, chains=[bytearray(10)], keys=zeros_but(80, {79: 2}))),
 ]
-# The same of watches, which version 2 alone has.
+# The same of watches, which only version 2 has.
 WRONG_WATCHES = [
     ("a watch twice", [(0, 1), (5, 0x3F), (5, 0x3F)]),
     ("two watches that are one", [(5, 0x3F), (5, 0x3F)]),

@@ -1,11 +1,15 @@
 #!/usr/bin/env python3
-"""Runs the checks side by side: `checks/lib/side_by_side.py checks|long|quick FOLDER`, for ./test, which sets MCS4, the program that is checked.
+"""Runs the gate and the checks side by side: `checks/lib/side_by_side.py all|gate|checks|long|quick FOLDER`, for ./test.
 
-As many checks run at a time as there are processors, the longest first. Checks that measure, that type at a terminal, or that need the machine, run at the
-end, one after another. The output of a check comes in one piece when the check has ended. At a terminal a line says what is running and how long the
-rest takes, from the times of the last run (in the cache folder) or from the table below. Root gets missing packages by apt-get; otherwise the
-check counts as not run. A process that a check leaves is ended. FOLDER/summed gets the numbers of verdicts that passed and failed, and
-FOLDER/left_out the lines 'not run: ..'.
+The environment names the programs that are checked. Without a gate it is MCS4. With one it is BUILT_PROGRAM, which the gate builds, and beside the
+gate SHIPPED_PROGRAM; if that is empty, the checks begin after the gate.
+
+As many checks run at a time as there are processors, the longest first. Beside the gate there is one at a time, or more while processors are idle, and
+none on fewer than four. Checks that read what the gate builds run after it. Checks that measure, that type at a terminal, or that need the machine, run
+at the end, one after another. The output of a check is printed in one piece when the check has ended, that of the gate by lines. At a terminal
+a line says what is running and how long the rest takes, from the times of the last run (in the cache folder) or from the table below. Root gets
+missing packages by apt-get; otherwise the check counts as not run. A process that a check leaves is ended. FOLDER/summed gets the numbers of verdicts
+that passed and failed, and FOLDER/left_out the lines 'not run: ..'.
 
 Status 0: all checks have ended, whatever they found. 130: interrupted; what had passed is printed.
 """
@@ -29,6 +33,8 @@ CACHE = pathlib.Path(os.environ.get("XDG_CACHE_HOME") or pathlib.Path.home() / "
 # The least time that a check gets, and how many times its usual one.
 LEAST, TIMES = 900, 5
 PATIENCE = 5
+# The fewest processors with which checks run beside the gate.
+ENOUGH = 4
 SUMMED = re.compile(r"^(\d+) passed, (\d+) failed", re.M)
 
 # Debian's packages that have a command, or a file; a command that is not here is in the package of its name.
@@ -48,7 +54,7 @@ PACKAGES = {
 @dataclass(frozen=True)
 class Check:
     """A script of checks/: the commands and files that it needs, and those that parts of it need; its usual seconds; its words, by mode if they
-    differ; if it runs alone."""
+    differ; if it runs alone; if it reads what the gate builds; which part of it this is, if parts run side by side."""
 
     name: str
     needs: str = ""
@@ -57,7 +63,14 @@ class Check:
     long: str | None = None
     quick: str | None = None
     alone: bool = False
+    reads_built: bool = False
     parts_need: str = ""
+    part: str = ""
+
+    @property
+    def label(self):
+        """The name, with the part."""
+        return f"{self.name} {self.part}".rstrip()
 
     def command(self, mode):
         words = self.long if mode == "long" and self.long is not None else self.quick if mode == "quick" else self.words
@@ -73,14 +86,16 @@ class Check:
 
 
 CHECKS = [
-    Check("page", "python3 node esbuild", 700, "--scripts 100", long="--scripts 400 --anew", quick="--only layout use --browser Chromium"),
+    Check("page", "python3 node esbuild", 350, "--half 1", quick="--only layout use --browser Chromium", part="1"),
+    Check("page", "python3 node esbuild", 350, "--half 2 --scripts 100", long="--half 2 --scripts 400 --anew", part="2"),
     Check("explore", "node parallel", 230, "3", long="60"),
     Check("power", "python3 cc", 240, "--seconds 240", long="--long", alone=True),
     Check("installed", "prove flock lintian zsh fish", 300),
     Check("page_source", "python3 node", 120, parts_need="tsc eslint esbuild", quick=""),
     Check("tools", "flock", 120),
-    Check("allocations", "cc", 60),
+    Check("allocations", "cc", 60, reads_built=True),
     Check("assembler", "python3", 60, "300", long="2000", quick="30"),
+    Check("wiring", "python3", 20, "2000", long="20000", quick="200"),
     Check("time", "python3", 60, "300 30", long="2000 200", quick="30 5"),
     Check("prove", "python3", 40, "200", long="2000", quick="30"),
     Check("calculator", "", 60, "300", long="2000", quick="30"),
@@ -89,14 +104,14 @@ CHECKS = [
     Check("runs", "python3", 50, quick=""),
     Check("locks", "", 45, "100", long="1000", alone=True),
     Check("testing", "prove", 40, quick=""),
-    Check("aarch64", "aarch64-linux-gnu-gcc /usr/aarch64-linux-gnu/lib/libc.a", 40),
+    Check("aarch64", "aarch64-linux-gnu-gcc /usr/aarch64-linux-gnu/lib/libc.a", 40, reads_built=True),
     Check("project", "node", 30, quick=""),
     Check("scripts", "python3", 30, quick=""),
     Check("panel", "tmux node", 30, alone=True),
     Check("session_prompt", "python3 node", 60, quick="", alone=True),
     Check("prompt", "python3 node", 30, quick="", alone=True),
     Check("waves", "vcd2fst sigrok-cli sox", 25),
-    Check("shipped", "", 25, quick=""),
+    Check("shipped", "", 25, quick="", reads_built=True),
     Check("stopped", "python3", 25),
     Check("editors", "node nvim", 20, quick=""),
     Check("debugging", "node", 50, quick=""),
@@ -106,6 +121,8 @@ CHECKS = [
     Check("sizes", "python3", 10, quick=""),
     Check("memory", "", 5, quick=""),
 ]
+# Its end has no limit: from nothing it takes an hour and more.
+GATE = Check("lib/gate", "rt", 3000)
 
 
 @dataclass
@@ -120,6 +137,9 @@ class Running:
 
     def seconds(self):
         return time.monotonic() - self.begun
+
+    def is_late(self):
+        return self.check is not GATE and self.seconds() > self.check.limit()
 
 
 def is_there(need):
@@ -177,16 +197,39 @@ def end_processes(mark):
 
 
 class Run:
-    """All checks of a mode, on their way."""
+    """The gate and the checks of a mode, on their way."""
 
     def __init__(self, mode, folder):
         self.mode = mode
         self.folder = folder
-        self.checks = [check for check in CHECKS if mode != "quick" or check.quick is not None]
-        self.usual = {**{check.name: check.seconds for check in CHECKS}, **times_before(mode)}
+        self.checks = [] if mode == "gate" else [check for check in CHECKS if mode != "quick" or check.quick is not None]
+        self.usual = {**{check.label: check.seconds for check in [*CHECKS, GATE]}, **times_before(mode)}
+        self.waiting = sorted(self.checks, key=lambda check: -self.usual[check.label])
+        self.gate = None
+        self.processors = len(os.sched_getaffinity(0))
         self.running, self.ended, self.times = [], [], {}
         self.passed = self.failed = 0
         self.left_out = []
+
+    def program(self):
+        """Returns the program that a check of now looks at."""
+        if self.mode not in ("all", "gate"):
+            return os.environ["MCS4"]
+        return os.environ["SHIPPED_PROGRAM"] if self.gate and not self.gate.is_over else os.environ["BUILT_PROGRAM"]
+
+    def begin(self, check, words):
+        """Starts a check, or the gate, with its output in a file."""
+        output = self.folder / f"output.{check.label.replace('/', '.')}"
+        mark = f"{os.getpid()}.{check.label}"
+        environment = {**os.environ, "CHECK_MARK": mark}
+        if check is not GATE:
+            environment["MCS4"] = self.program()
+        with output.open("wb") as file:
+            # Signals that this process ignores, as in the background, are served by a check: env gives them back.
+            process = subprocess.Popen(["env", "--default-signal=INT,QUIT", *words], cwd=TOP, env=environment, stdin=subprocess.DEVNULL, stdout=file,
+                                       stderr=subprocess.STDOUT)
+        self.running.append(Running(check, process, output, mark))
+        return self.running[-1]
 
     def start(self, check):
         """Starts a check, or notes that it is not run."""
@@ -196,16 +239,10 @@ class Run:
             self.ended.append(check)
             self.show(f"== {check.title(self.mode)}\n{self.left_out[-1]}")
             return
-        output = self.folder / f"output.{check.name}"
-        mark = f"{os.getpid()}.{check.name}"
-        with output.open("wb") as file:
-            # Signals that this process ignores, as in the background, are served by a check: env gives them back.
-            process = subprocess.Popen(["env", "--default-signal=INT,QUIT", *check.command(self.mode)], cwd=TOP, env={**os.environ, "CHECK_MARK": mark},
-                                       stdin=subprocess.DEVNULL, stdout=file, stderr=subprocess.STDOUT)
-        self.running.append(Running(check, process, output, mark))
+        self.begin(check, check.command(self.mode))
 
     def end(self, each):
-        """Counts what a check has found, and shows its output."""
+        """Counts what a check, or the gate, found, and shows the output of a check."""
         self.running.remove(each)
         end_processes(each.mark)
         self.ended.append(each.check)
@@ -215,59 +252,116 @@ class Run:
         passed, failed = map(int, sums[-1]) if sums else (0, 1)
         self.passed += passed
         self.failed += failed if status == 0 or failed else 1
-        self.left_out += re.findall(r"^not run: .*$", text, re.M)
+        self.left_out += [line for line in re.findall(r"^not run: .*$", text, re.M) if line not in self.left_out]
         if sums:
-            self.times[each.check.name] = seconds
-        self.show(f"== {each.check.title(self.mode)}\n{text}checks/{each.check.name} took {seconds:.0f} s")
+            self.times[each.check.label] = seconds
+        if each.check is GATE:
+            self.gate.end()
+            if self.waiting and not pathlib.Path(os.environ["BUILT_PROGRAM"]).exists():
+                self.waiting.clear()
+                self.show("test: the gate built no program, so no more checks run")
+            self.show(f"the gate took {seconds / 60:.0f} min; the checks run on {self.program()}" if self.checks else f"the gate took {seconds / 60:.0f} min")
+        else:
+            self.show(f"== {each.check.title(self.mode)}\n{text}checks/{each.check.label} took {seconds:.0f} s")
 
-    def turn(self, waiting, most):
+    def most(self):
+        """Returns how many may run now, the gate among them."""
+        if self.gate is None or self.gate.is_over:
+            return self.processors
+        if self.processors < ENOUGH or not os.environ["SHIPPED_PROGRAM"]:
+            return 1
+        return self.processors if os.getloadavg()[0] < self.processors - 1 else 2
+
+    def next(self):
+        """Takes the next check from those that wait, if one can begin now."""
+        is_gate_over = self.gate is None or self.gate.is_over
+        if len(self.running) >= self.most():
+            return None
+        for check in self.waiting:
+            if not check.alone and (is_gate_over or not check.reads_built):
+                self.waiting.remove(check)
+                return check
+        if is_gate_over and not self.running and self.waiting:
+            return self.waiting.pop(0)
+        return None
+
+    def turn(self):
         """Ends the checks that are over, and starts others in their places."""
         for each in list(self.running):
-            if each.process.poll() is None and each.seconds() > each.check.limit():
+            if each.process.poll() is None and each.is_late():
                 with each.output.open("a") as file:
-                    file.write(f"checks/{each.check.name}: not done after {each.check.limit()} s. It was running:\n")
+                    file.write(f"checks/{each.check.label}: not done after {each.check.limit()} s. It was running:\n")
                     file.writelines(f"  {command_of(process)}\n" for process in processes_with(each.mark))
                 end_processes(each.mark)
                 each.process.wait()
-            if each.process.poll() is not None:
+            is_over = each.process.poll() is not None
+            if each.check is GATE:
+                self.gate.show(self.show)
+            if is_over:
                 self.end(each)
-        while waiting and len(self.running) < most:
-            self.start(waiting.pop(0))
-
-    def serve(self, waiting, most):
-        """Runs these checks, so many at a time."""
-        while waiting or self.running:
-            self.turn(waiting, most)
-            self.progress()
-            time.sleep(0.2)
+        if (check := self.next()) is not None:
+            self.start(check)
 
     def all(self):
-        """Runs all checks; those that run alone come last."""
+        """Runs the gate and all checks; those that run alone come last."""
+        if self.mode in ("all", "gate"):
+            self.show("== rt ci")
+            self.gate = Gate(self.begin(GATE, [f"checks/{GATE.name}"]).output)
         install(self.checks)
-        by_length = sorted(self.checks, key=lambda check: -self.usual[check.name])
-        self.serve([check for check in by_length if not check.alone], len(os.sched_getaffinity(0)))
-        self.serve([check for check in by_length if check.alone], 1)
+        while self.waiting or self.running:
+            self.turn()
+            self.progress()
+            time.sleep(0.2)
 
     def show(self, text):
         """Prints a text, over the line of progress."""
         print(f"\r\033[K{text}" if sys.stdout.isatty() else text, flush=True)
 
     def progress(self):
-        """At a terminal, what is done, what is running, and about how long the rest takes."""
+        """At a terminal, prints what is done, what is running, and about how long the rest takes."""
         if not sys.stdout.isatty():
             return
-        done = {each.check.name: each.seconds() for each in self.running}
-        left = sum(max(self.usual[check.name] - done.get(check.name, 0), 5) for check in self.checks if check not in self.ended)
-        minutes = left / min(len(os.sched_getaffinity(0)), max(len(self.checks) - len(self.ended), 1)) / 60
-        line = f"checks {len(self.ended)} of {len(self.checks)} done, {len(done)} running ({', '.join(done)}), about {minutes:.0f} min left"
+        begun = {each.check.label: each.seconds() for each in self.running}
+        left = {check: max(self.usual[check.label] - begun.get(check.label, 0), 5) for check in [*self.checks, GATE] if check in self.waiting or check.label in begun}
+        beside = sum(seconds for check, seconds in left.items() if check is not GATE) / min(self.processors, max(len(left), 1))
+        names = ", ".join(name for name in begun if name != GATE.label)
+        gate = f"gate {self.gate.passed} of {self.gate.crates} crates, " if self.gate and not self.gate.is_over else ""
+        done = sum(check is not GATE for check in self.ended)
+        line = f"{gate}checks {done} of {len(self.checks)} done, running: {names or 'none'}, about {max(beside, left.get(GATE, 0)) / 60:.0f} min left"
         print(f"\r\033[K{line[: shutil.get_terminal_size().columns - 1]}", end="", flush=True)
 
     def sum_up(self):
-        """Notes the numbers for ./test and the times for the next run, and shows the longest."""
+        """Writes the numbers for ./test, and prints the longest checks."""
         (self.folder / "summed").write_text(f"{self.passed} {self.failed}\n")
         (self.folder / "left_out").write_text("".join(f"{line}\n" for line in self.left_out))
         longest = sorted(self.times.items(), key=lambda pair: -pair[1])[:10]
-        self.show("longest checks: " + ", ".join(f"{name} {seconds:.0f} s" for name, seconds in longest))
+        self.show("longest: " + ", ".join(f"{name} {seconds:.0f} s" for name, seconds in longest))
+
+
+class Gate:
+    """The output of the gate as it grows, and how many crates it has passed."""
+
+    def __init__(self, output):
+        self.output = output
+        self.shown = 0
+        self.passed = 0
+        self.is_over = False
+        self.crates = len(re.findall(r"^\w+:", (TOP / "crates.txt").read_text(), re.M))
+
+    def show(self, show):
+        """Shows the whole lines that are new."""
+        with self.output.open("rb") as file:
+            file.seek(self.shown)
+            text = file.read()
+        lines = text[: text.rfind(b"\n") + 1]
+        if lines:
+            self.shown += len(lines)
+            self.passed += len(re.findall(rb"^rt: \w+ (?:proved|as before)", lines, re.M))
+            show(lines.decode(errors="replace").rstrip("\n"))
+
+    def end(self):
+        """Notes that the gate is over."""
+        self.is_over = True
 
 
 def times_before(mode):
@@ -293,7 +387,7 @@ def keep_times(mode, times):
 
 def main():
     parser = argparse.ArgumentParser()
-    parser.add_argument("mode", choices=("checks", "long", "quick"))
+    parser.add_argument("mode", choices=("all", "gate", "checks", "long", "quick"))
     parser.add_argument("folder", type=pathlib.Path)
     words = parser.parse_args()
     signal.signal(signal.SIGTERM, signal.default_int_handler)
@@ -306,7 +400,9 @@ def main():
             signal.signal(number, signal.SIG_IGN)
         for each in run.running:
             end_processes(each.mark)
-        print(f"test: stopped. {len(run.ended)} of {len(run.checks)} checks had ended: {run.passed} passed, {run.failed} failed so far", flush=True)
+        ended = sum(check is not GATE for check in run.ended)
+        gate = f", and the gate {run.gate.passed} of {run.gate.crates} crates" if run.gate else ""
+        print(f"test: stopped. {ended} of {len(run.checks)} checks had ended{gate}: {run.passed} passed, {run.failed} failed so far", flush=True)
         return 130
     run.sum_up()
     keep_times(words.mode, run.times)

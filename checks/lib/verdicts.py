@@ -1,32 +1,32 @@
-"""What the checks in Python share: verdicts are counted, and those that are wrong are told."""
+"""What the checks in Python share: verdicts are counted, and those that are wrong are reported."""
 
 import pathlib
 import sys
 
-from driven import fits
+from driven import matches
 
 CHECK = f"checks/{pathlib.Path(sys.argv[0]).name}"
-# So much is told of a value: its end.
-TOLD = 2000
+# The part of a value that is printed: its end.
+LONGEST_SHOWN = 2000
 
-# `again` counts the topics of checks/page that passed at the second try only.
+# `again` counts the topics of checks/page that passed only at the second try.
 counts = {"passed": 0, "failed": 0, "again": 0}
 
 
 def judge(is_right, what):
-    """Counts a check, and tells what is wrong."""
+    """Counts a check, and prints what is wrong."""
     counts["passed" if is_right else "failed"] += 1
     if not is_right:
         print(f"{CHECK}: {what}", file=sys.stderr)
 
 
 def verdict(what, found, wanted):
-    """Counts a check; a wanted pattern has to be found in what there is."""
-    judge(fits(found, wanted), f"{what}: is {repr(found)[-TOLD:]}, has to be {repr(wanted)[-TOLD:]}")
+    """Counts a check; an expected pattern must be found in the value."""
+    judge(matches(found, wanted), f"{what}: is {repr(found)[-LONGEST_SHOWN:]}, has to be {repr(wanted)[-LONGEST_SHOWN:]}")
 
 
-def comes(browser, what, code, wanted, seconds=30):
-    """Counts a check of what a script answers, now or in so many seconds."""
+def eventually(browser, what, code, wanted, seconds=30):
+    """Counts a check of a script's answer, now or within a number of seconds."""
     verdict(what, browser.until(code, wanted, seconds), wanted)
 
 

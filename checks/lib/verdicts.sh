@@ -1,4 +1,4 @@
-# What the checks in shell share: verdicts are counted, and those that are wrong are told; parts of a check can be run alone. A check reads
+# What the checks in shell share: verdicts are counted, and those that are wrong are reported; parts of a check can be run alone. A check reads
 # this by `.`, after it has set `top`, the folder of the repository.
 # shellcheck shell=sh disable=SC1090,SC2154
 
@@ -50,13 +50,13 @@ verdict_of_files() {
 
 # Runs a client of the check's own, which writes lines `ok ..` and `fault: ..` into a file, and counts these: the file, the command.
 run_client() {
-    told=$1
+    report=$1
     shift
     status=0
-    "$@" > "$told" || status=$?
-    sed -n '/^fault: /p' "$told" >&2
-    passed=$((passed + $(grep -c '^ok ' "$told" || :)))
-    failed=$((failed + $(grep -c '^fault: ' "$told" || :)))
+    "$@" > "$report" || status=$?
+    sed -n '/^fault: /p' "$report" >&2
+    passed=$((passed + $(grep -c '^ok ' "$report" || :)))
+    failed=$((failed + $(grep -c '^fault: ' "$report" || :)))
     if [ "$status" -ne 0 ]; then failed=$((failed + 1)); fi
 }
 

@@ -1,5 +1,5 @@
-// A stand-in for the module `vscode`, as far as the extension of editors/vscode calls it: `standIn()` makes one. What the extension registers
-// is in `registered`, by its kind and name; the stand-in keeps the texts that are open, and what is shown to the user.
+// A stand-in for the module `vscode`, as far as the extension of editors/vscode calls it: `standIn()` makes one. The registrations of the
+// extension are in `registered`, by kind and name; the stand-in keeps the open texts, and what is shown to the user.
 import { readFileSync, readdirSync, statSync } from "node:fs";
 import { basename, join, sep } from "node:path";
 import { pathToFileURL } from "node:url";
@@ -10,7 +10,7 @@ class Disposable {
   }
 }
 
-/** An event: those who listen are called by `fire`. */
+/** An event: `fire` calls its listeners. */
 function eventOf() {
   const listeners = new Set();
   const event = (act) => {
@@ -25,7 +25,7 @@ class Uri {
     Object.assign(this, { scheme, fsPath, path: fsPath, text });
   }
   static file(path) {
-    // As the editor writes addresses: a colon is %3A, blanks are %20.
+    // In the editor's spelling of addresses: a colon is %3A, blanks are %20.
     return new Uri("file", path, String(pathToFileURL(path)).replace(/(?<=^file:\/\/\/[A-Za-z]):/, "%3A"));
   }
   static parse(text) {
@@ -89,11 +89,11 @@ function testItem(id, label, uri) {
 /** The files below a folder that end as a pattern does, `**` and a name or `*.ending`. */
 function filesIn(folder, pattern) {
   const [, name] = /^\*\*\/(.*)$/.exec(pattern);
-  const fits = (each) => (name.startsWith("*") ? each.endsWith(name.slice(1)) : each === name);
+  const matches = (each) => (name.startsWith("*") ? each.endsWith(name.slice(1)) : each === name);
   return readdirSync(folder).sort().flatMap((each) => {
     const whole = join(folder, each);
     if (statSync(whole).isDirectory()) return filesIn(whole, pattern);
-    return fits(each) ? [Uri.file(whole)] : [];
+    return matches(each) ? [Uri.file(whole)] : [];
   });
 }
 
@@ -113,7 +113,7 @@ const PLAIN = ["Location", "Diagnostic", "Hover", "CompletionItem", "SnippetStri
  */
 export function standIn(folder, settings = {}) {
   const registered = {};
-  const told = { errors: [], words: [], launched: [], diagnostics: new Map(), runs: [], panels: [] };
+  const shown = { errors: [], words: [], launched: [], diagnostics: new Map(), runs: [], panels: [] };
   const events = Object.fromEntries(["open", "close", "change", "custom", "terminate"].map((name) => [name, eventOf()]));
   const documents = [];
   const register = (kind) => (...given) => {
@@ -122,7 +122,7 @@ export function standIn(folder, settings = {}) {
     return new Disposable();
   };
   const languages = new Proxy({
-    createDiagnosticCollection: () => ({ set: (uri, list) => told.diagnostics.set(uri.toString(), list), dispose: () => {} }),
+    createDiagnosticCollection: () => ({ set: (uri, list) => shown.diagnostics.set(uri.toString(), list), dispose: () => {} }),
     // A text that gets another language is closed and opened again.
     setTextDocumentLanguage: async (document, languageId) => {
       events.close.fire(document);
@@ -149,7 +149,7 @@ export function standIn(folder, settings = {}) {
       registerDebugAdapterDescriptorFactory: register("adapter"), registerDebugConfigurationProvider: register("configuration"),
       registerDebugAdapterTrackerFactory: register("tracker"), onDidReceiveDebugSessionCustomEvent: events.custom.event,
       onDidTerminateDebugSession: events.terminate.event, activeDebugSession: undefined,
-      startDebugging: async (_, configuration) => told.launched.push(configuration),
+      startDebugging: async (_, configuration) => shown.launched.push(configuration),
     },
     commands: { registerCommand: register("command") },
     tasks: { registerTaskProvider: register("tasks") },
@@ -162,7 +162,7 @@ export function standIn(folder, settings = {}) {
           },
           createTestRun: () => {
             const run = { output: "", results: [], isEnded: false };
-            told.runs.push(run);
+            shown.runs.push(run);
             return {
               started: () => {}, appendOutput: (text) => { run.output += text; }, end: () => { run.isEnded = true; },
               passed: ({ label: name }) => run.results.push(["passed", name]),
@@ -177,16 +177,16 @@ export function standIn(folder, settings = {}) {
     },
     window: {
       activeTextEditor: undefined, registerWebviewViewProvider: register("view"),
-      showErrorMessage: (words) => told.errors.push(words), showInformationMessage: (words) => told.words.push(words),
+      showErrorMessage: (words) => shown.errors.push(words), showInformationMessage: (words) => shown.words.push(words),
       showInputBox: async () => undefined,
       createWebviewPanel: (viewType, title, column, options) => {
         const panel = { viewType, title, column, options, webview: webview(), onDidDispose: eventOf().event };
-        told.panels.push(panel);
+        shown.panels.push(panel);
         return panel;
       },
     },
   };
-  /** A page within the editor: what it is told is in `posted`, and `say` is what it says. */
+  /** A page within the editor: `posted` has what it receives, and `say` sends its messages. */
   function webview() {
     const said = eventOf();
     const own = {
@@ -206,5 +206,5 @@ export function standIn(folder, settings = {}) {
     events.open.fire(document);
     return document;
   }
-  return { vscode, registered, told, events, open };
+  return { vscode, registered, shown, events, open };
 }

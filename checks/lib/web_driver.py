@@ -16,7 +16,7 @@ from driven import BEFORE_SCRIPTS, ELEMENT, Driven, Fault
 
 
 def free_port():
-    """A port that nothing listens at; drivers that are asked to choose one do not all say which."""
+    """Returns a port that nothing listens at; drivers that are asked to choose one do not all say which."""
     with socket.socket() as line:
         line.bind(("127.0.0.1", 0))
         return line.getsockname()[1]
@@ -32,8 +32,8 @@ class WebDriver(Driven):
             with urllib.request.urlopen(request, timeout=120) as answer:
                 return json.load(answer)["value"]
         except urllib.error.HTTPError as fault:
-            told = json.load(fault)["value"]
-            raise Fault(f"{told['error']}: {told['message']}".split("\n")[0]) from None
+            fault_value = json.load(fault)["value"]
+            raise Fault(f"{fault_value['error']}: {fault_value['message']}".split("\n")[0]) from None
 
     def do(self, method, path, body=None):
         return self._ask(method, self.session + path, body)
@@ -43,6 +43,9 @@ class WebDriver(Driven):
 
     def reload(self):
         self.do("POST", "/refresh", {})
+
+    def back(self):
+        self.do("POST", "/back", {})
 
     def script(self, code, *words):
         return self.do("POST", "/execute/sync", {"script": BEFORE_SCRIPTS + code, "args": list(words)})
@@ -58,6 +61,13 @@ class WebDriver(Driven):
 
     def actions(self, *sources):
         self.do("POST", "/actions", {"actions": list(sources)})
+
+    def window_size(self):
+        rect = self.do("GET", "/window/rect")
+        return rect["width"], rect["height"]
+
+    def set_window_size(self, width, height):
+        self.do("POST", "/window/rect", {"x": 0, "y": 0, "width": width, "height": height})
 
     def tab(self):
         return self.do("GET", "/window")
@@ -78,7 +88,7 @@ class WebDriver(Driven):
         return base64.b64decode(self.do("GET", "/screenshot"))
 
     def process(self):
-        """The number of the process that started all of it."""
+        """Returns the number of the process that started all of it."""
         return self.driver.pid
 
     def end(self):
@@ -112,8 +122,14 @@ class Chromium(WebDriver):
         self.version = begun["capabilities"]["browserVersion"]
 
     def command(self, name, **words):
-        """A command of the browser's own protocol."""
+        """Sends a command of the browser's own protocol, and returns the answer."""
         return self.do("POST", "/goog/cdp/execute", {"cmd": name, "params": words})
+
+    def resize(self, width, height, mobile=False):
+        self.command("Emulation.setDeviceMetricsOverride", width=width, height=height, deviceScaleFactor=1, mobile=mobile)
+
+    def resize_back(self):
+        self.command("Emulation.clearDeviceMetricsOverride")
 
     def log(self):
         return [entry["message"] for entry in self.do("POST", "/se/log", {"type": "browser"})]
@@ -145,10 +161,10 @@ class WebKit(WebDriver):
         begun = self._begin()
         self.session = "/session/" + begun["sessionId"]
         self.version = begun["capabilities"]["browserVersion"]
-        self.do("POST", "/window/rect", {"x": 0, "y": 0, "width": 1280, "height": 900})
+        self.resize_back()
 
     def _display(self):
-        """A screen of its own, whose number Xvfb chooses."""
+        """Opens a screen of its own, whose number Xvfb chooses, and returns its name."""
         self.screen = subprocess.Popen(["Xvfb", "-displayfd", "1", "-screen", "0", "1920x1200x24"], stdout=subprocess.PIPE,
                                        stderr=subprocess.DEVNULL, text=True)
         number = self.screen.stdout.readline().strip()

@@ -1,5 +1,5 @@
-// How commands of the bench are started: by the command that the user's setting names, else by those that are in the extension, on the
-// editor's own Node. So nothing else has to be installed.
+// The start of commands of the bench: by the command in the user's setting, otherwise by those in the extension, on the editor's own Node.
+// So nothing else needs to be installed.
 "use strict";
 const { spawn } = require("node:child_process");
 const { join } = require("node:path");
@@ -15,7 +15,7 @@ class BenchCommand {
   constructor(vscode, folder) {
     this.vscode = vscode;
     this.own = join(folder, "bench", "js", "node", "mcs4.cjs");
-    /** Whether the command that the setting names was not started: the extension's own takes its place. */
+    /** True if the command in the setting was not started: the extension's own replaces it. */
     this.isGivenUp = false;
   }
 
@@ -24,7 +24,7 @@ class BenchCommand {
     return this.isGivenUp ? "" : this.vscode.workspace.getConfiguration("mcs4").get("command") || "";
   }
 
-  /** The program that is started, the words before those of the command, and what is added to the environment. */
+  /** The program that is started, the words before those of the command, and additions to the environment. */
   get form() {
     const { named, own } = this;
     return named === "" ? { program: process.execPath, words: [own], env: AS_NODE } : { program: named, words: [], env: {} };
@@ -33,7 +33,7 @@ class BenchCommand {
   /**
    * Starts a command; returns the process.
    * @param {string[]} words
-   * @param {"pipe" | "ignore"} errors what is done with its standard error
+   * @param {"pipe" | "ignore"} errors the handling of its standard error
    */
   start(words, errors) {
     const { program, words: before, env } = this.form;
@@ -41,9 +41,9 @@ class BenchCommand {
   }
 
   /**
-   * Runs a command to its end; returns its exit status and what it has printed.
+   * Runs a command to its end; returns its exit status and its output.
    * @param {string[]} words
-   * @param token says when it is to be ended
+   * @param token says when it is to end
    */
   run(words, token) {
     return new Promise((settle) => {

@@ -1,4 +1,5 @@
-// Which files belong to the bench, and what a text of tests is about: by board.toml beside it, or by mcs4.toml there or in a folder above.
+// The files that belong to the bench, and the subject of a text of tests: by board.toml in its folder, or by mcs4.toml there or in a folder
+// above.
 "use strict";
 const { existsSync, readFileSync } = require("node:fs");
 const { dirname, join } = require("node:path");
@@ -32,7 +33,8 @@ function testsOfProject(folder) {
 }
 
 /**
- * The words of `mcs4 test` for a text of tests. Its results are the last ones: texts before it in the project may have steps that it does.
+ * Returns the words of `mcs4 test` for a text of tests. Its results are the last ones: texts before it in the project may have steps that
+ * it uses.
  * @param {string} file
  */
 function wordsOfTests(file) {

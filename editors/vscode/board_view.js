@@ -1,6 +1,6 @@
-// The front panel, "Lamps and keys": it draws the board of the program that is debugged, and its keys are pressed there. It is a view beside
-// the debugger's, and a panel of its own. Its page is board_view.html, whose script and style editors/vsix makes out of those of the bench's
-// page.
+// The front panel, "Lamps and keys": it draws the board of the program that is debugged, and its keys can be pressed there. It is a view
+// next to the debugger's, and a panel of its own. Its page is board_view.html, whose script and style editors/vsix makes from those of the
+// bench's page.
 "use strict";
 const { readFileSync } = require("node:fs");
 const { join } = require("node:path");
@@ -14,7 +14,7 @@ class BoardView {
     this.folder = folder;
     /** The pages that are there: of the view, and of panels. */
     this.pages = new Set();
-    /** The session that is drawn, and all that it told of its board. */
+    /** The session that is drawn, and all that it reported about its board. */
     this.session = null;
     this.shown = null;
   }
@@ -48,7 +48,7 @@ class BoardView {
     else window.showInformationMessage("There is no MCS-4 program here: open one, or a folder with mcs4.toml.");
   }
 
-  /** What is launched for a panel; null where there is no program. */
+  /** Resolves to the launch request of a panel; null if there is no program. */
   async launched() {
     const { window, workspace } = this.vscode;
     const form = { type: "mcs4", request: "launch", name: TITLE, realTime: true, stopOnEntry: false };
@@ -61,7 +61,7 @@ class BoardView {
     return first ? { ...form, project: first.fsPath } : null;
   }
 
-  /** What a page says: that it is there, that a finger is on a key, or that the paper is torn off. */
+  /** Handles a message of the page: that it is there, that a finger is on a key, or that the printout is cleared. */
   async take(message, webview) {
     if (message.isReady) {
       webview.postMessage({ kind: "boardShown", news: this.shown });
@@ -69,7 +69,7 @@ class BoardView {
     }
     if (!this.session) return;
     try {
-      if (message.isTorn) await this.session.customRequest("tearPaper");
+      if (message.isTorn) await this.session.customRequest("clearPrintout");
       else await this.session.customRequest("changeKey", { place: message.place, isDown: message.isDown });
     } catch (fault) {
       this.vscode.window.showErrorMessage(fault.message);
@@ -80,7 +80,7 @@ class BoardView {
     for (const webview of this.pages) webview.postMessage({ kind: "boardShown", news });
   }
 
-  /** A program is debugged: its board is drawn from here on. */
+  /** A program is debugged: its board is drawn from now on. */
   async follow(session) {
     try {
       const news = await session.customRequest("watchBoard");
@@ -92,7 +92,7 @@ class BoardView {
     }
   }
 
-  /** What is new of the board of a session. */
+  /** Sends a session's board news to its view. */
   news({ session, event, body }) {
     if (event !== "boardShown" || session !== this.session) return;
     this.shown = { ...this.shown, ...body };
@@ -106,7 +106,7 @@ class BoardView {
     this.post(null);
   }
 
-  /** What the editor tells it, and is told by it. */
+  /** Registers the handlers of the editor's events. */
   register() {
     const { commands, debug, window } = this.vscode;
     return [

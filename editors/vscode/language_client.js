@@ -1,8 +1,8 @@
-// A client of `mcs4 lsp` for Visual Studio Code, without a package: what the editor asks is asked of the server.
+// A client of `mcs4 lsp` for Visual Studio Code, without a package: the editor's requests are sent to the server.
 "use strict";
 const { LanguageFeatures } = require("./language_features.js");
 
-/** What the editor can, as far as an answer hangs on it. */
+/** The editor's capabilities that an answer depends on. */
 const CAPABILITIES = {
   textDocument: { hover: { contentFormat: ["markdown", "plaintext"] } },
   experimental: { commands: { commands: ["editor.action.showReferences"] } },
@@ -42,7 +42,7 @@ class LanguageClient {
     this.provide(capabilities);
   }
 
-  /** Starts the server; if the command that the setting names is not started, the extension's own. */
+  /** Starts the server; if the command in the setting does not start, the extension's own. */
   async start() {
     const { bench } = this;
     const { named } = bench;
@@ -96,7 +96,7 @@ class LanguageClient {
       const message = JSON.parse(this.input.subarray(end + 4, end + 4 + size).toString());
       this.input = this.input.subarray(end + 4 + size);
       if (message.method === "textDocument/publishDiagnostics") this.show(message.params);
-      if (message.method === "window/showMessage") this.tell(message.params);
+      if (message.method === "window/showMessage") this.showMessage(message.params);
       const waiting = message.method === undefined && this.waiting.get(message.id);
       if (!waiting) continue;
       this.waiting.delete(message.id);
@@ -105,7 +105,7 @@ class LanguageClient {
     }
   }
 
-  tell({ type, message }) {
+  showMessage({ type, message }) {
     const { window } = this.vscode;
     if (type === 1) window.showErrorMessage(message);
     else window.showInformationMessage(message);
@@ -168,7 +168,7 @@ class LanguageClient {
       new vscode.Diagnostic(this.rangeOf(range), message, levels[severity] ?? vscode.DiagnosticSeverity.Error))));
   }
 
-  // --- the same in the words of the editor and of the protocol
+  // --- conversions between the editor's and the protocol's terms
 
   plainRange({ start, end }) {
     const plain = ({ line, character }) => ({ line, character });
@@ -195,7 +195,7 @@ class LanguageClient {
     return { textDocument: { uri: document.uri.toString() }, position: { line, character } };
   }
 
-  // --- what the editor asks
+  // --- requests of the editor
 
   provide(capabilities) {
     const { languages } = this.vscode;
@@ -229,16 +229,16 @@ class LanguageClient {
   provideColours(selector, { tokenTypes, tokenModifiers }) {
     const { vscode } = this;
     const legend = new vscode.SemanticTokensLegend(tokenTypes, tokenModifiers);
-    const tokensOf = (told) => new vscode.SemanticTokens(new Uint32Array(told ? told.data : []), told ? told.resultId : undefined);
+    const tokensOf = (tokens) => new vscode.SemanticTokens(new Uint32Array(tokens ? tokens.data : []), tokens ? tokens.resultId : undefined);
     const asked = (document, more) => ({ textDocument: { uri: document.uri.toString() }, ...more });
     this.disposables.push(vscode.languages.registerDocumentSemanticTokensProvider(selector, {
       provideDocumentSemanticTokens: async (document) => tokensOf(await this.ask("textDocument/semanticTokens/full", asked(document))),
       provideDocumentSemanticTokensEdits: async (document, previousResultId) => {
-        const told = await this.ask("textDocument/semanticTokens/full/delta", asked(document, { previousResultId }));
-        if (!told || !told.edits) return tokensOf(told);
-        const edits = told.edits.map(({ start, deleteCount, data }) => (
+        const tokens = await this.ask("textDocument/semanticTokens/full/delta", asked(document, { previousResultId }));
+        if (!tokens || !tokens.edits) return tokensOf(tokens);
+        const edits = tokens.edits.map(({ start, deleteCount, data }) => (
           new vscode.SemanticTokensEdit(start, deleteCount, new Uint32Array(data))));
-        return new vscode.SemanticTokensEdits(edits, told.resultId);
+        return new vscode.SemanticTokensEdits(edits, tokens.resultId);
       },
     }, legend), vscode.languages.registerDocumentRangeSemanticTokensProvider(selector, {
       provideDocumentRangeSemanticTokens: async (document, range) => (

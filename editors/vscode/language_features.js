@@ -1,5 +1,5 @@
-// What Visual Studio Code asks beside help, names and errors, asked of `mcs4 lsp`: layout, hints, folds, names of the workspace, calls,
-// lenses, links, selections, the form of a statement. Each answer is put into the editor's own classes.
+// The requests of Visual Studio Code other than help, names and errors, sent to `mcs4 lsp`: layout, hints, folds, names of the workspace,
+// calls, lenses, links, selections, the form of a statement. Each answer is converted to the editor's own classes.
 "use strict";
 
 class LanguageFeatures {
@@ -91,7 +91,7 @@ class LanguageFeatures {
       new this.vscode.CodeLens(this.client.rangeOf(range), this.command(command))));
   }
 
-  /** A command of the editor's own takes its own classes. */
+  /** A command of the editor itself accepts its own classes. */
   command({ title, command, arguments: given = [] }) {
     if (command !== "editor.action.showReferences") return { title, command, arguments: given };
     const [uri, position, places] = given;

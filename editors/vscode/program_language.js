@@ -1,5 +1,5 @@
-// Which texts are programs, tests and properties of the bench: others have .asm, .test and .props, too, so they are claimed only beside a
-// project or a board. A program may have .4004, which nobody else has: package.json claims it.
+// The texts that are programs, tests and properties of the bench: others have .asm, .test and .props, too, so they are claimed only in the
+// folder of a project or a board. A program may have .4004, which nobody else has: package.json claims it.
 "use strict";
 const { extname } = require("node:path");
 const { belongsToBench } = require("./bench_files.js");

@@ -1,4 +1,4 @@
-// The results of tests as `mcs4 test` prints them: TAP, version 13, with what is wrong below `not ok`.
+// The results of tests as `mcs4 test` prints them: TAP, version 13, with the error below `not ok`.
 "use strict";
 
 const RESULT = /^(not )?ok \d+ - (.*)$/;

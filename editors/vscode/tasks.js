@@ -1,11 +1,11 @@
-// Tasks of the projects in the workspace: their tests, what these have run, the search for what breaks a property, and the proof of it.
+// Tasks of the projects in the workspace: their tests, their coverage, the search for counterexamples, and the proof.
 "use strict";
 const { basename, dirname } = require("node:path");
 const { PROJECT } = require("./bench_files.js");
 
 const TYPE = "mcs4";
 const COMMANDS = ["test", "cover", "profile", "explore", "prove"];
-/** What finds errors in the output: package.json has them. */
+/** The matchers of errors in the output, from package.json. */
 const MATCHERS = ["$mcs4", "$mcs4-line", "$mcs4-test"];
 
 class Tasks {
@@ -45,7 +45,7 @@ class Tasks {
     const folder = definition.folder || (uri ? uri.fsPath : "");
     if (!COMMANDS.includes(definition.command) || folder === "") return undefined;
     const made = this.task({ ...definition, folder }, uri || vscode.Uri.file(folder));
-    // The editor knows the task by the definition that it has given.
+    // The editor knows the task by the definition that it received.
     made.definition = definition;
     return made;
   }

@@ -9,7 +9,7 @@ const PATTERN = "**/*.test";
 const HEAD = /^([ \t]*test[ \t]+)(\S.*?)[ \t]*$/;
 
 /**
- * The tests in a text, each with its place.
+ * Returns the tests in a text, each with its place.
  * @param {string} text
  */
 function testsIn(text) {
@@ -80,7 +80,7 @@ class TestExplorer {
     controller.items.add(file);
   }
 
-  // --- what is run
+  // --- runs
 
   /** The tests that a request is about, by their texts: each text's item, and those of its tests that are wanted. */
   wantedOf({ include, exclude = [] }) {
@@ -112,7 +112,7 @@ class TestExplorer {
     run.end();
   }
 
-  /** Runs a text of tests; those that are wanted get their results. */
+  /** Runs a text of tests; the requested ones get their results. */
   async runText(run, file, tests, token) {
     await this.vscode.workspace.saveAll(false);
     for (const test of tests) run.started(test);
@@ -120,7 +120,7 @@ class TestExplorer {
     run.appendOutput((output + errors).replace(/\r?\n/g, "\r\n"));
     const names = [];
     file.children.forEach((child) => names.push(child.label));
-    // What the texts before this one have comes first.
+    // The texts before this one are first.
     const results = resultsOf(output).slice(-names.length);
     for (const test of tests) {
       const result = results[names.indexOf(test.label)];
@@ -137,7 +137,7 @@ class TestExplorer {
     return message;
   }
 
-  /** Debugs the first test of a request: it stands where it failed, or at its end, and time goes back from there. */
+  /** Debugs the first test of a request: time is paused at its failure, or at its end, and can go back from there. */
   async debug(request) {
     const { workspace, debug } = this.vscode;
     const run = this.controller.createTestRun(request);

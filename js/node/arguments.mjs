@@ -1,4 +1,4 @@
-// What commands ask of their arguments: how many there are, numbers, and the files of a project where they are left out.
+// The arguments of commands: their count, numbers, and the files of a project if they are left out.
 import { existsSync } from "node:fs";
 import * as say from "../words/commands.js";
 import { CommandError, UsageError } from "./output.mjs";
@@ -10,9 +10,9 @@ const NO_FILES = new Set(["CYCLES", "N", "KEYS", "FIRST", "LAST", "COUNT"]);
 /**
  * Rejects too few and too many arguments, and empty ones.
  * @param {string[]} words
- * @param {string[]} names of those that are needed; one that may be left out ends with a question mark
+ * @param {string[]} names of the required ones; an optional one ends with a question mark
  * @param {number} most
- * @param {boolean} [hasProject] whether a project could name what is missing
+ * @param {boolean} [hasProject] whether a project could name the missing ones
  */
 export function needWords(words, names, most = names.length, hasProject = false) {
   const lack = names.slice(words.length).filter((name) => !name.endsWith("?"));
@@ -23,13 +23,13 @@ export function needWords(words, names, most = names.length, hasProject = false)
 
 /**
  * Returns a decimal number from 1 to a limit.
- * @param {string} name what help calls it
+ * @param {string} name its name in the help
  * @param {string} word
  * @param {number} most
  */
 export function needCount(name, word, most) {
   const number = /^[1-9]\d{0,8}$/.test(word) ? Number(word) : 0;
-  if (number < 1 || number > most) throw new UsageError(say.notInRange(name, most));
+  if (number < 1 || number > most) throw new UsageError(say.notInRange(name, word, most));
   return number;
 }
 
@@ -50,17 +50,17 @@ export async function projectFor(folder, words, fewest) {
 }
 
 /**
- * Returns files that a project names, of which a command needs some.
+ * Returns the files of a project, some of which a command needs.
  * @param {import("./project_on_disk.mjs").DiskProject} project
  * @param {"tests" | "properties"} what
  */
 export function needNamed(project, what) {
-  if (project[what].length === 0) throw new CommandError(say.namesNone(project.file, what));
+  if (project[what].length === 0) throw new CommandError(say.projectLacks(project.file, what));
   return project[what];
 }
 
 /**
- * Returns the names of board, program and properties: those that are given, and those of the project.
+ * Returns the names of board, program and properties: the given ones, and those of the project.
  * @param {string | undefined} folder
  * @param {string[]} words
  */

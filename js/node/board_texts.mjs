@@ -1,4 +1,5 @@
-// The text of a board for commands: what the bench says of it, and its face. A rejected text is an error that names its file and line.
+// The text of a board for commands: the bench's answer to it, and its front panel. A rejected text is an error that names its file and
+// line.
 import { readBoard } from "../core/bench/answers.js";
 import { Face } from "../core/board/face.js";
 import { faultsOfNames, wiredBoard } from "../core/testing/prepared.js";
@@ -10,7 +11,7 @@ import { CommandError } from "./output.mjs";
 /** @typedef {import("./given_texts.mjs").GivenText} GivenText */
 
 /**
- * Reads a board and its face; returns them with the answers to `board`.
+ * Reads a board and its front panel; returns them with the answers to `board`.
  * @param {import("../core/engine/engine_host.js").EngineHost} engine
  * @param {GivenText} given
  */

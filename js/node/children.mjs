@@ -1,16 +1,16 @@
-// Commands that a tool by node starts: each has a process group of its own, so that a signal to the tool ends all that it started.
-import { spawn } from "node:child_process";
+// Commands that a Node tool starts: each has a process group of its own, so that a signal to the tool ends all that it started.
+import { processes } from "./processes.mjs";
 
 /** The most bytes that a command may print. */
 const MOST_OUTPUT = 1048576;
-/** Names an environment variable of commands that are run here: what is said once is not said to them. */
+/** An environment variable of the commands that are run here: messages that appear once are not printed to them. */
 export const IS_RUN_BY_COMMAND = "MCS4_IS_RUN_BY_COMMAND";
 /** Windows has no process groups. */
 const HAS_GROUPS = process.platform !== "win32";
-/** A command that ignores the signal is killed after this time, in milliseconds; this tool itself, which ends what it has started, later. */
+/** A command that ignores the signal is killed after this time, in milliseconds; this tool itself, which ends its children, later. */
 const PATIENCE = { command: 1000, tool: 10000 };
 
-/** @type {Map<number, { child: import("node:child_process").ChildProcess, hasGroup: boolean }>} those that run, by their process ids */
+/** @type {Map<number, { child: import("node:child_process").ChildProcess, hasGroup: boolean }>} the running ones, by their process ids */
 const running = new Map();
 let isEnding = false;
 
@@ -50,14 +50,14 @@ function follow(child, hasGroup) {
 }
 
 /**
- * Runs a command with an input; its status or its signal, and what it has printed. One that prints too much is ended.
+ * Runs a command with an input; returns its status or its signal, and its output. A command that prints too much is ended.
  * @param {string} command
  * @param {string[]} words
  * @param {string} [input]
  */
 export async function runCommand(command, words, input = "") {
   const env = { ...process.env, [IS_RUN_BY_COMMAND]: "1" };
-  const child = spawn(command, words, { detached: HAS_GROUPS, env, stdio: ["pipe", "pipe", "pipe"] });
+  const child = processes().spawn(command, words, { detached: HAS_GROUPS, env, stdio: ["pipe", "pipe", "pipe"] });
   const ended = follow(child, true);
   const printed = [child.stdout, child.stderr].map((stream) => {
     const taken = { text: "" };
@@ -76,11 +76,12 @@ export async function runCommand(command, words, input = "") {
 }
 
 /**
- * Runs this command again, without its arguments, in a process of its own, which gets the same Ctrl-C; its status, null if a signal ended it.
+ * Runs this command again, without its arguments, in a process of its own, which gets the same Ctrl-C; returns its status, null if a signal
+ * ended it.
  * @param {Record<string, string | undefined>} env
  */
 export async function runAgain(env) {
-  const child = spawn(process.execPath, process.argv.slice(1, 3), { env, stdio: ["ignore", "ignore", "inherit"] });
+  const child = processes().spawn(process.execPath, process.argv.slice(1, 3), { env, stdio: ["ignore", "ignore", "inherit"] });
   const { status } = await follow(child, false);
   if (isEnding) await never();
   return status;
@@ -91,8 +92,8 @@ export function interrupt() {
   for (const [pid, { hasGroup }] of running) if (hasGroup) send(pid, "SIGINT");
 }
 
-/** Lets others have their turn, and never comes back if the process is ending. */
-export function breathe() {
+/** Yields to others, and never returns if the process is ending. */
+export function yieldToMessages() {
   return new Promise((resume) => {
     setImmediate(() => {
       if (!isEnding) resume(undefined);

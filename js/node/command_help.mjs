@@ -19,7 +19,7 @@ export function paragraphsOf(text) {
 }
 
 /**
- * Returns how a command is called, each form on its own.
+ * Returns the usage of a command, each form on its own line.
  * @param {string} name
  */
 export function formsOf(name) {
@@ -40,7 +40,7 @@ export function usageOfAll() {
 }
 
 /**
- * Returns the options of a command as they are typed, each with what it does.
+ * Returns the options of a command as they are typed, each with its description.
  * @param {string} name
  */
 export function optionsOf(name) {
@@ -51,7 +51,7 @@ export function optionsOf(name) {
   return [...rows, ["-h, --help", say.HELP_OPTION]];
 }
 
-/** @type {(head: string, rows: string[][]) => string} a list of words, each with what they mean */
+/** @type {(head: string, rows: string[][]) => string} a list of words, each with its description */
 const listed = (head, rows) => `${head}\n${rows.map(([word, does]) => `${INDENT}${word}\n${folded(does, DEEP)}`).join("\n")}`;
 
 /** @type {(head: string, lines: string[]) => string} */
@@ -72,7 +72,7 @@ export function helpOf(name) {
   ].join("\n\n")}\n`;
 }
 
-/** Returns all commands by their groups: the title of each group, and names with what they do. */
+/** Returns all commands by their groups: the title of each group, and names with descriptions. */
 export function commandsByGroup() {
   const all = Object.entries(COMMANDS).map(([name, { group }]) => ({ name, group, does: say.COMMAND_WORDS[name].summary }));
   return Object.entries(say.GROUPS).map(([each, title]) => ({ title, commands: all.filter(({ group }) => group === each) }));
@@ -80,7 +80,7 @@ export function commandsByGroup() {
 
 /**
  * Returns the help of mcs4 itself.
- * @param {string} top where it stands
+ * @param {string} top its location
  */
 export function helpOfAll(top) {
   const width = Math.max(...say.MCS4_FORMS.map(([form]) => form.length));

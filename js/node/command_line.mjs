@@ -16,7 +16,7 @@ const WRONG_ARGUMENTS = 2;
 const HELP = { type: "boolean", short: "h" };
 
 /**
- * Returns the words that a mistyped one may stand for. (They are looked for only then.)
+ * Returns suggestions for a mistyped word. (They are searched for only then.)
  * @param {string} word
  * @param {string[]} words
  */
@@ -36,11 +36,11 @@ async function noOption(word, options) {
   return new UsageError(say.noOption(word, meant.map((name) => `--${name}`)));
 }
 
-/** @type {(value: string | undefined, isInline: boolean) => boolean} whether a value is none: the next option stands in its place */
+/** @type {(value: string | undefined, isInline: boolean) => boolean} whether the value is missing: the next option is in its place */
 const isMissing = (value, isInline) => value === undefined || value === "" || (!isInline && /^-[^\d]/.test(value));
 
 /**
- * Throws what is wrong with an option.
+ * Throws the error of an option.
  * @param {{ name: string, rawName: string, value?: string, inlineValue?: boolean }} token
  * @param {Command["options"]} options
  */
@@ -73,7 +73,7 @@ async function parsed(command, words) {
 }
 
 /**
- * Prints an error, each of its lines behind the command's name.
+ * Prints an error, each of its lines after the command's name.
  * @param {string} name
  * @param {string} message
  */
@@ -82,7 +82,7 @@ function complain(name, message) {
 }
 
 /**
- * Reports an error; returns the exit status. What nobody expects goes on its way.
+ * Reports an error; returns the exit status. Unexpected errors are rethrown.
  * @param {string} name
  * @param {unknown} thrown
  */
@@ -139,7 +139,7 @@ async function refuseCommand(word) {
 async function help([name, ...others]) {
   const { helpOf, helpOfAll, usageOfAll } = await import("./command_help.mjs");
   if (others.length > 0) {
-    complain("mcs4", say.tooMuchBehind("help"));
+    complain("mcs4", say.oneTooMany(others[0]));
     printError(`${usageOfAll()}\n`);
     return WRONG_ARGUMENTS;
   }
@@ -155,7 +155,7 @@ async function help([name, ...others]) {
 }
 
 /**
- * Runs what `mcs4` was called with; returns the exit status.
+ * Runs the command line of `mcs4`; returns the exit status.
  * @param {string[]} words
  */
 export async function runLine([name = "", ...words]) {
@@ -163,7 +163,7 @@ export async function runLine([name = "", ...words]) {
   if (name === "help") return help(words);
   if (name !== "" && name !== "version") return refuseCommand(name);
   const { usageOfAll } = await import("./command_help.mjs");
-  if (name === "version") complain("mcs4", say.tooMuchBehind(name));
+  if (name === "version") complain("mcs4", say.oneTooMany(words[0]));
   printError(`${usageOfAll()}\n`);
   return WRONG_ARGUMENTS;
 }

@@ -1,5 +1,5 @@
-// Makes what is installed of the help of mcs4: `node command_pages.mjs FOLDER` writes texts for where there is no Node (help/), manual pages
-// (man/) and completions (completions/) into a folder. tools/ship calls it.
+// Makes the installed files of the help of mcs4: `node command_pages.mjs FOLDER` writes texts for systems without Node (help/), manual
+// pages (man/) and completions (completions/) into a folder. tools/ship calls it.
 import { mkdirSync, writeFileSync } from "node:fs";
 import { join } from "node:path";
 import * as say from "../words/commands.js";
@@ -15,7 +15,7 @@ const PLAIN = "\\fR";
 const ROFF = { "\\": "\\e", "-": "\\-", "`": "\\(ga", "^": "\\(ha", "~": "\\(ti", "'": "\\(aq" };
 
 /**
- * Writes a text for roff; what is between back quotes is bold.
+ * Writes a text for roff; text between back quotes is bold.
  * @param {string} text
  */
 function roff(text) {
@@ -76,7 +76,7 @@ function manualPageOfAll() {
 
 // --- completions ---
 
-/** Returns all words behind `mcs4`, with what each does and the words that may follow it. */
+/** Returns all words after `mcs4`, with the description of each and the words that may follow it. */
 function completedWords() {
   const commands = Object.entries(COMMANDS).map(([name, { options, usage }]) => ({
     name,

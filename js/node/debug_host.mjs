@@ -1,4 +1,4 @@
-// What a debugger that runs by node needs of its host: files, and session files that the program itself writes (`mcs4 open`).
+// The host functions of a debugger that runs on Node: files, and session files that the program itself writes (`mcs4 open`).
 import { closeSync, existsSync, fsyncSync, openSync, realpathSync } from "node:fs";
 import { dirname, isAbsolute, join, resolve, sep } from "node:path";
 import { holderOf, readUnlocked } from "./file_locks.mjs";
@@ -10,7 +10,7 @@ import { isInside, readUserFile, readUserText, replacementOf } from "./user_file
 /** The most bytes that a session can have. */
 const MOST_SESSION = 1048576;
 
-/** The file of a session, whole at each moment: another one takes its place, under a lock that the program has already. */
+/** The file of a session, complete at each moment: it is replaced by a new file, under a lock that the program holds already. */
 class SessionFile {
   constructor(name, program) {
     this.name = name;
@@ -45,7 +45,7 @@ class SessionFile {
   }
 }
 
-/** @type {(name: string) => string} Windows takes names with slashes, too, and all parts of the debugger have them */
+/** @type {(name: string) => string} Windows accepts names with slashes, too, and all parts of the debugger use them */
 const withSlashes = (name) => (sep === "/" ? name : name.split(sep).join("/"));
 
 function syncFolder(name) {
@@ -54,7 +54,7 @@ function syncFolder(name) {
   closeSync(folder);
 }
 
-/** Starts the program on a session file; an error says who has the file, if somebody has. */
+/** Starts the program on a session file; an error says which process has the file, if one has. */
 async function openFile(name) {
   try {
     return await openProgram("open", name);
@@ -64,7 +64,7 @@ async function openFile(name) {
   }
 }
 
-/** What a debugger needs of the host that it runs on; see js/core/adapter/launching.js. */
+/** The host functions that a debugger needs; see js/core/adapter/launching.js. */
 export const host = {
   nameOf: (name, folder) => {
     const whole = isAbsolute(name) ? name : resolve(folder || ".", name);
@@ -76,6 +76,14 @@ export const host = {
       return readUserText(name);
     } catch {
       return null;
+    }
+  },
+  whyUnread: (name) => {
+    try {
+      readUserText(name);
+      return "";
+    } catch (fault) {
+      return fault.message;
     }
   },
   isThere: existsSync,

@@ -1,16 +1,17 @@
-// The search of `mcs4 explore`: one in this process, or several, each a job in a process of its own; what is found is confirmed by `mcs4 test`.
+// The search of `mcs4 explore`: one in this process, or several, each a job in a process of its own; `mcs4 test` confirms each
+// counterexample.
 import { createHash } from "node:crypto";
 import { writeFileSync } from "node:fs";
 import { dirname, join } from "node:path";
 import { Engine } from "../core/engine/engine.js";
 import { begun } from "../core/explore/beginning.js";
 import { readCampaign } from "../core/explore/campaign.js";
-import { CampaignRun, patienceOf } from "../core/explore/campaign_run.js";
+import { CampaignRun, patienceOf, proofTimeOf } from "../core/explore/campaign_run.js";
 import { joinReports, lineOfProperty, stepsOf } from "../core/explore/report.js";
 import { subjectOf } from "../core/explore/subject.js";
 import { prepare } from "../core/testing/prepared.js";
 import * as say from "../words/commands.js";
-import { breathe, interrupt, runAgain, runCommand } from "./children.mjs";
+import { yieldToMessages, interrupt, runAgain, runCommand } from "./children.mjs";
 import { errorOfTexts } from "./native_program.mjs";
 import { CommandError, printError } from "./output.mjs";
 import { moduleOfPage } from "./page_parts.mjs";
@@ -19,14 +20,14 @@ import { readUserText, writeUserFile } from "./user_files.mjs";
 /**
  * @typedef {import("./given_texts.mjs").GivenText} GivenText
  *
- * What is searched, in which texts; `folder` is a temporary one. A job has the name of the file for its report.
+ * The subject of a search, and its texts; `folder` is a temporary one. A job has the name of the file for its report.
  * @typedef {{ seconds: number, jobs: number, seed: number, allowsModel: boolean, folder: string,
  *   texts: { board: GivenText, program: GivenText, properties: { name: string, text: string } }, report?: string }} Settings
  */
 
-/** Between two looks at the clock, and at what was asked for, are so many milliseconds. */
+/** The milliseconds between two checks of the clock and of the requests. */
 const SLICE = 50;
-/** The most bytes that a text of tests, and a report, can have. */
+/** The most bytes of a text of tests, and of a report. */
 const MOST_TESTS = 1048576;
 const MOST_REPORT = 16777216;
 /** Passes the name of its settings to a job. */
@@ -35,7 +36,7 @@ const JOB = "MCS4_EXPLORE_JOB";
 let isStopped = false;
 
 /**
- * Returns the text of the tests that a campaign goes on from: in the file that it names, or the one beside the properties.
+ * Returns the text of the tests from which a campaign continues: in the file that it names, or the one next to the properties.
  * @param {{ from: { file: string, line: number, state: string } | null }} campaign
  * @param {string} name of the properties
  */
@@ -49,7 +50,7 @@ function testsFor({ from }, name) {
   }
 }
 
-/** Returns what a model says of chains of keys, a line each. */
+/** Returns a model's answers about chains of keys, a line each. */
 async function askModel(command, chains) {
   const { status, stdout, stderr, signal } = await runCommand("sh", ["-c", command], `${chains.join("\n")}\n`);
   const lines = stdout.split("\n").slice(0, -1);
@@ -72,7 +73,7 @@ class Exploration {
     this.files = { board: join(settings.folder, "board_text"), program: join(settings.folder, "program_text") };
   }
 
-  /** Reads the texts; returns what is searched, where it begins, and all texts that it depends on. */
+  /** Reads the texts; returns the subject of the search, its starting state, and all texts that it depends on. */
   async begin() {
     const { engine, settings: { texts: { board, program, properties } } } = this;
     const { prepared, faults: wrong } = prepare(engine, { boardText: board.text, programText: program.text });
@@ -93,7 +94,7 @@ class Exploration {
     printError(`# ${say.runsModel(this.names.properties, line, command)}\n`);
   }
 
-  /** Returns whether `mcs4 test` judges a test as it should; one that was stopped, by a key that stops all, is tried once more. */
+  /** Returns whether `mcs4 test` judges a test as expected; a run that a key stopped, as it stops all, is repeated once. */
   async confirm(test, isGoal) {
     const name = join(this.settings.folder, `find.${process.pid}.test`);
     writeFileSync(name, test);
@@ -109,14 +110,14 @@ class Exploration {
     const { settings: { seconds, seed, allowsModel }, names } = this;
     const asked = allowsModel ? (chains) => askModel(campaign.command, chains) : null;
     const confirm = (test, isGoal) => this.confirm(test, isGoal);
-    const run = new CampaignRun(subject, campaign, seed, confirm, patienceOf(seconds), asked, breathe);
+    const run = new CampaignRun(subject, campaign, seed, confirm, patienceOf(seconds), asked, yieldToMessages, proofTimeOf(seconds));
     const from = process.cpuUsage();
     const end = performance.now() + 1000 * seconds;
     while (performance.now() < end && !isStopped && !run.isDone) {
       const found = await run.goOn(SLICE);
       if (run.fault && !isStopped) throw new CommandError(`${names.properties}:${campaign.properties[run.modelled].line}: ${run.fault}`);
       if (found) this.show(campaign.properties[found.property], found.found);
-      await breathe();
+      await yieldToMessages();
     }
     const { user, system } = process.cpuUsage(from);
     for (const test of run.doubts) printError(`explore: ${say.notSeenToFail(test)}`);
@@ -124,7 +125,7 @@ class Exploration {
     return run.report({ names, sums, seconds: (user + system) / 1e6, isStopped });
   }
 
-  /** Prints what was found. */
+  /** Prints the counterexamples. */
   show(property, { steps }) {
     printError(`# ${say.wasFound(lineOfProperty(property, { names: this.names }), property.text, property.isGoal, stepsOf(steps))}\n`);
   }
@@ -193,7 +194,7 @@ export async function exploreTexts(settings) {
   return (await explorationBy(settings)).searchAll();
 }
 
-/** Returns the settings of this process if it is a job of another one; else null. */
+/** Returns the settings of this process if it is a job of another one; otherwise null. */
 export function jobOf() {
   const name = process.env[JOB];
   return name ? JSON.parse(readUserText(name, 2 * MOST_REPORT)) : null;

@@ -1,12 +1,12 @@
-// The lock of a session file (`flock`, which the program holds while it serves the file): bytes are read only while nobody has it, and who
-// has it is looked up in /proc.
+// The lock of a session file (`flock`, which the program holds while it serves the file): bytes are read only while nobody has the lock;
+// its holder is looked up in /proc.
 import { spawnSync } from "node:child_process";
 import { readFileSync, statSync } from "node:fs";
 import { CommandError } from "./output.mjs";
 import { readUserFile } from "./user_files.mjs";
 import { sessionInUse } from "../words/adapter.js";
 
-/** The status of `flock` where another process has the lock. */
+/** The status of `flock` if another process has the lock. */
 const LOCKED = 75;
 /** A line of /proc/locks has the process, and the device and the inode of the file. */
 const FLOCK = /^\d+: FLOCK +\w+ +\w+ +(\d+) +([0-9a-f]+):([0-9a-f]+):(\d+) /;
@@ -36,7 +36,8 @@ function holdersOf(name) {
 }
 
 /**
- * Returns who has the lock of a file: the name of a program with its process and its arguments; "" if nobody has, or it cannot be seen.
+ * Returns the process that has the lock of a file: the name of a program with its process and its arguments; "" if there is none, or it
+ * cannot be seen.
  * @param {string} name
  */
 export function holderOf(name) {
@@ -53,13 +54,13 @@ export function holderOf(name) {
  * @returns {Uint8Array}
  */
 export function readUnlocked(name, most) {
-  // What is no regular file, or too large, is rejected before a command opens it.
+  // A file that is not regular, or too large, is rejected before a command opens it.
   const bytes = readUserFile(name, most);
   const { status, stdout, error } = spawnSync("flock", ["--shared", "--nonblock", "--conflict-exit-code", String(LOCKED), name, "cat", name],
     { maxBuffer: most + 1, stdio: ["ignore", "pipe", "ignore"] });
   if (status === LOCKED) throw new CommandError(sessionInUse(name, holderOf(name)));
   if (!error && status === 0) return new Uint8Array(stdout);
-  // Without this command: a lock is looked for, and what changes meanwhile is in use.
+  // Without this command: checks for a lock; a file that changes meanwhile is in use.
   const holder = holderOf(name);
   if (holder !== "" || !bytes.equals(readUserFile(name, most))) throw new CommandError(sessionInUse(name, holder));
   return new Uint8Array(bytes);

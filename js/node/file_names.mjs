@@ -1,4 +1,4 @@
-// Names of files that a line at a prompt can go on with.
+// Names of files that complete a line at a prompt.
 import { readdirSync, statSync } from "node:fs";
 import { homedir } from "node:os";
 import { join } from "node:path";
@@ -6,7 +6,7 @@ import { escaped } from "../core/text/escaped.js";
 
 const MOST = 1000;
 
-/** Returns a name with the user's folder in the place of `~`. */
+/** Returns a name with the user's folder in place of `~`. */
 export function withoutTilde(name) {
   return name === "~" || name.startsWith("~/") ? homedir() + name.slice(1) : name;
 }
@@ -21,7 +21,7 @@ function isFolder(name) {
 }
 
 /**
- * Returns the names that begin so, of folders with a slash at their ends; hidden ones if their dot is there.
+ * Returns the names with this beginning, of folders with a slash at their ends; hidden ones if the dot is typed.
  * @param {string} begin
  */
 export function fileNames(begin) {

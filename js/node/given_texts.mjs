@@ -6,18 +6,18 @@ import { noAnswers } from "../words/commands.js";
 
 /** The most bytes of a script of lines, and of a text. */
 export const MOST_SCRIPT = 16777216;
-const MOST_ANSWERS = 67108864;
+export const MOST_ANSWERS = 67108864;
 export const MOST_GIVEN = 1048576;
-const STANDARD_INPUT = 0;
+export const STANDARD_INPUT = 0;
 const MARK = Buffer.from([0xEF, 0xBB, 0xBF]);
 
 /**
- * The text of a board or a program, with the name of its file, the number of its lines before the text, and how its bytes are characters.
+ * The text of a board or a program, with the name of its file, the number of lines before it, and the encoding of its bytes.
  * @typedef {{ name: string, text: string, before: number, encoding: BufferEncoding }} GivenText
  */
 
 /**
- * Returns bytes as a text, without a byte order mark; what is not UTF-8 is taken as Latin 1.
+ * Returns bytes as a text, without a byte order mark; bytes that are not UTF-8 are read as Latin 1.
  * @param {Buffer} bytes
  * @returns {{ text: string, encoding: BufferEncoding }}
  */
@@ -52,7 +52,7 @@ export class GivenTexts {
   }
 
   /**
-   * Returns what a name leads to.
+   * Returns the target of a name.
    * @param {string} name
    * @param {number} most bytes
    */

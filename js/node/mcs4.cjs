@@ -1,7 +1,7 @@
 // The commands of mcs4 by Node: `node mcs4.cjs COMMAND ..`, which the starter at the top calls. This file itself is read by older ones, too.
 // It and the joined files are CommonJS, which node starts faster than ES modules.
 "use strict";
-const { joinedFile } = require("./joined.cjs");
+const { joinedCommand } = require("./joined.cjs");
 
 const LOWEST_NODE = 18;
 
@@ -11,8 +11,8 @@ const LOWEST_NODE = 18;
  * @param {string[]} words
  */
 async function runCommand(name, words) {
-  const joined = joinedFile(name);
-  if (joined) return require(joined).run(words);
+  const joined = joinedCommand(name);
+  if (joined) return joined.run(words);
   const { runLine } = await import("./command_line.mjs");
   return runLine([name, ...words]);
 }

@@ -1,12 +1,24 @@
-// What `mcs4 lsp` and `mcs4 dap` do alike with standard input and output: bytes go to a connection, and the process ends, with the reason on
-// standard error, once no message can follow.
+// The common part of `mcs4 lsp` and `mcs4 dap` on standard input and output: bytes go to a connection, and the process ends, with the
+// reason on standard error, once no message can follow.
+import { isatty } from "node:tty";
 import { escaped } from "../core/text/escaped.js";
+import { WAITS_FOR_EDITOR } from "../words/commands.js";
+import { printError } from "./output.mjs";
 
-/** For the rest of a message it waits so many milliseconds after each part. */
+/** The milliseconds after each part in which it waits for the rest of a message. */
 const PATIENCE = 10000;
+const INPUT = 0;
 
 /**
- * Returns what ends the process once all that was written has gone.
+ * Prints at a terminal what the command waits for; an editor is not a terminal.
+ * @param {string} name of the command
+ */
+export function sayAtTerminal(name) {
+  if (isatty(INPUT)) printError(`${name}: ${WAITS_FOR_EDITOR}\n`);
+}
+
+/**
+ * Returns a function that ends the process once all output is written.
  * @param {string} name of the command
  * @returns {(status: number, words?: string) => void}
  */
@@ -20,7 +32,7 @@ export function endOf(name) {
 }
 
 /**
- * Gives a connection the bytes of standard input.
+ * Passes the bytes of standard input to a connection.
  * @param {import("../core/server/message_stream.js").MessageStream} connection
  * @param {(words: string) => void} lost is called once, with the reason: the stream has ended ("" between messages), or no message can follow
  */
@@ -34,7 +46,7 @@ export function listen(connection, lost) {
     if (!isLost) lost(words);
     isLost = true;
   };
-  // Where this process itself was stopped or busy, the rest is in the pipe, and is read before anything is refused.
+  // If this process itself was stopped or busy, the rest is in the pipe, and is read before anything is rejected.
   const refuse = (seen) => setImmediate(() => seen === parts && !isLost && lose(connection.refuseIncomplete()));
   process.stdin.on("data", (bytes) => {
     if (isLost) return;

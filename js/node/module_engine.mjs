@@ -1,4 +1,4 @@
-// The proved module as the engine of commands, where no native program is for this system. It is said once to each user.
+// The proved module as the engine of commands, if there is no native program for this system. A message says so once to each user.
 /* global WebAssembly */
 import { closeSync, existsSync, openSync } from "node:fs";
 import { join } from "node:path";
@@ -10,7 +10,9 @@ import { moduleOfPage } from "./page_parts.mjs";
 
 const OWNER_ALONE = 0o600;
 
-/** Returns whether something is said for the first time to this user; where that cannot be noted, it is not said, as tools/lib/start.sh does. */
+/**
+ * Returns whether a message appears for the first time to this user; if that cannot be noted, it does not appear, as in tools/lib/start.sh.
+ */
 function isFirstTime() {
   try {
     const folder = joined.rememberedFolder();
@@ -25,7 +27,7 @@ function isFirstTime() {
 
 /**
  * Starts the module.
- * @param {string} words say that it is used, and why; "" if that need not be said
+ * @param {string} words says that it is used, and why; "" if that need not be said
  */
 export function startModule(words) {
   const engine = new Engine(new WebAssembly.Module(moduleOfPage()));

@@ -1,11 +1,11 @@
-// The search of `mcs4 prove` by the proved module, where no program that searches is for this system.
+// The search of `mcs4 prove` by the proved module, if no program that searches is for this system.
 import { startModule } from "./module_engine.mjs";
 
 const SIGNALS = /** @type {const} */ (["SIGHUP", "SIGINT", "SIGTERM"]);
 
 /**
- * Returns a call that answers questions to the prover. A search is one call of the module, in which no handler of a signal can run, so a
- * signal ends the process at once meanwhile.
+ * Returns a function that answers questions to the prover. A search is one call of the module, during which no signal handler can run, so a
+ * signal ends the process at once.
  * @returns {(question: string) => string}
  */
 export function moduleProver() {

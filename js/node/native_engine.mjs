@@ -1,12 +1,11 @@
-// The native program as a host of sessions (the form is in js/core/engine/engine_host.js), by calls of the system that wait.
+// The native program as a host of sessions (the interface is in js/core/engine/engine_host.js), by blocking system calls.
 //
-// A state is a token here, the number of a node in a tree: its parent, and the commands that lead from there. A process stands on a state;
-// serving lines moves it on. A state without a process is made again: a copy of a session file above it, and the commands since. So files are
-// copied only when a state is wanted a second time.
+// A state is a token here, the number of a node in a tree: its parent, and the commands that lead from there. A process is at a
+// state; serving lines moves it to the next one. A state without a process is rebuilt from a copy of a session file above it and the
+// commands since. So files are copied only when a state is needed a second time.
 //
-// One shell starts the program for each session, which costs a tenth of a fork of node's, and node talks with it over named pipes. All files
-// are in a folder of the user's alone. The shell removes it when node has ended, by whatever signal.
-import { spawnSync } from "node:child_process";
+// One shell starts the program for each session, which costs a tenth of a fork by node; node communicates with it over named pipes. All
+// files are in a private folder of the user. The shell removes it when node has ended, by whatever signal.
 import {
   closeSync, constants, copyFileSync, openSync, readFileSync, readSync, renameSync, rmSync, writeFileSync, writeSync,
 } from "node:fs";
@@ -16,24 +15,27 @@ import { isQuestion } from "../core/bench/answer_table.js";
 import { BenchRefusal } from "../core/bench/faults.js";
 import { endOfInputs, isSeq, opensText, withoutReturn } from "../core/bench/inputs.js";
 import { CommandError } from "./output.mjs";
+import { processes } from "./processes.mjs";
 import { removeFolder, temporaryFolder, temporaryPlace } from "./temporary.mjs";
+import { TOP } from "./top.mjs";
 
 /**
  * @typedef {import("../core/engine/engine_host.js").EngineHost} EngineHost
  * @typedef {import("../core/engine/engine_host.js").State} State
  *
- * A node of the tree. `copy` is a session file of it, "" for none; `count` is the number of its commands, -1 while nobody has asked.
+ * A node of the tree. `copy` is a session file of it, "" for none; `count` is the number of its commands, -1 if not asked for yet.
  * @typedef {{ parent: number, commands: string, copy: string, count: number }} StateNode
  *
- * What lines are: their commands with their texts, how many `seq` among them are answered, and whether the last line and text have ended.
+ * The parts of lines: their commands with their texts, how many `seq` among them are answered, and whether the last line and text have
+ * ended.
  * @typedef {{ commands: string, seqs: number, isWhole: boolean }} Judged
  */
 
-/** This many processes stand on states at most. */
+/** The most processes, each at a state. */
 const MOST_PROCESSES = 3;
-/** This many states keep a copy that nobody has asked for. */
+/** The number of states with a copy that was never asked for. */
 const MOST_COPIES = 32;
-/** A pipe takes at least this many bytes while nobody reads. */
+/** A pipe accepts at least this many bytes while nobody reads. */
 const PIPE_ROOM = 4096;
 const BUFFER_SIZE = 1 << 16;
 const TOKEN_SIZE = 4;
@@ -66,7 +68,7 @@ function judge(lines) {
 }
 
 /**
- * Cuts lines where a pipe may be full: each piece fits into a pipe, or is one text, which is answered only at its end.
+ * Cuts lines before a pipe is full: each piece fits into a pipe, or is one text, which is answered only at its end.
  * @param {string} lines
  */
 function piecesOf(lines) {
@@ -88,33 +90,52 @@ function piecesOf(lines) {
 
 // --- processes ---
 
-/** The shell's work: `$0` is the program, `$1` the folder. A line is a word of the program, the name of a file, and the number of its pipes. */
+/** The shell's script. A line is a word of the program, the name of a file, and the number of its pipes. */
 const STARTING = `while read -r word name slot; do
     eval "ended=\\\${pid$slot-}"
     if [ -n "$ended" ]; then wait "$ended"; fi
-    "$0" "$word" "$1/$name" < "$1/in$slot" > "$1/out$slot" 2>> "$1/words" &
+    "$program" "$word" "$folder/$name" < "$folder/in$slot" > "$folder/out$slot" 2>> "$folder/words" &
     eval "pid$slot=$!"
-done < "$1/control"
-rm -rf -- "$1"`;
+done < "$folder/control"
+if [ -e "$folder" ]; then rm -rf -- "$folder"; fi`;
+
+/** The name of the shell, which its messages begin with. */
+const SHELL = "starter";
+/** The shell's status if it must find the program and does not know it. */
+const NOT_KNOWN = 3;
+/** The first part of the shell's script: it finds the program if none is named, makes the pipes, and prints the program. */
+const BEGINNING = `trap "" HUP INT TERM
+program=$1 top=$2 folder=$3
+shift 3
+if [ -z "$program" ]; then
+    . "$top/tools/lib/start.sh"
+    find_known || exit ${NOT_KNOWN}
+fi
+mkfifo -- "$@" || exit 1
+{ ${STARTING}
+} > /dev/null 2>> "$folder/words" &
+printf %s "$program"`;
 
 /** The shell that starts the program. */
 class Starter {
-  /** @param {string} program */
+  /** @param {string} program "" for the one that ./mcs4 starts, if that is known: otherwise nothing is checked */
   constructor(program) {
-    this.program = program;
     this.place = temporaryPlace();
     this.folder = temporaryFolder("mcs4");
     this.free = [...Array(MOST_PROCESSES + 1).keys()];
     const pipes = ["control", ...this.free.flatMap((slot) => [`in${slot}`, `out${slot}`])].map((name) => join(this.folder, name));
-    const { status, signal } = spawnSync("/bin/sh", ["-c", `trap "" HUP INT TERM; folder=$1; shift
-      mkfifo -- "$@" || exit 1; set -- "$folder"; { ${STARTING}\n} 2>> "$1/words" &`, program, this.folder, ...pipes], { stdio: "ignore" });
+    const { status, signal, stdout } = processes().spawnSync(
+      "/bin/sh", ["-c", BEGINNING, SHELL, program, TOP, this.folder, ...pipes], { encoding: "utf8", stdio: ["ignore", "pipe", "ignore"] });
     // A signal to the group, as of Ctrl-C, may end the shell before it ignores signals. This process has got the same one.
     if (signal) {
       removeFolder(this.folder);
       process.exit(128 + system.signals[signal]);
     }
-    if (status !== 0) throw new ProgramError(`cannot make pipes in ${this.folder}; TMPDIR names another place for temporary files`);
-    this.control = openSync(join(this.folder, "control"), "w");
+    this.program = stdout;
+    this.control = -1;
+    if (status === NOT_KNOWN) removeFolder(this.folder);
+    else if (status !== 0) throw new ProgramError(`cannot make pipes in ${this.folder}; TMPDIR names another place for temporary files`);
+    else this.control = openSync(join(this.folder, "control"), "w");
   }
 
   /**
@@ -128,10 +149,10 @@ class Starter {
     return { slot, input: openSync(join(this.folder, `in${slot}`), "w"), output: openSync(join(this.folder, `out${slot}`), "r") };
   }
 
-  /** What the program has printed on standard error, without what the shell says of it, and without lines that name this folder. */
+  /** Returns the program's output on standard error, without the shell's own messages, and without lines that name this folder. */
   get words() {
     const lines = readFileSync(join(this.folder, "words"), "latin1").split("\n");
-    return lines.filter((line) => line !== "" && !line.startsWith(`${this.program}: `) && !line.includes(this.folder));
+    return lines.filter((line) => line !== "" && !line.startsWith(`${SHELL}: `) && !line.includes(this.folder));
   }
 
   end() {
@@ -151,7 +172,7 @@ class Session {
     this.starter = starter;
     this.name = name;
     this.file = join(starter.folder, name);
-    /** The number of the state that it stands on, -1 for none. */
+    /** The number of the state that it is at, -1 for none. */
     this.at = -1;
     this.buffer = Buffer.allocUnsafe(BUFFER_SIZE);
     const { slot, input, output } = starter.start(word, name);
@@ -185,7 +206,7 @@ class Session {
   }
 
   /**
-   * Reads answers until they are whole, or the program has ended.
+   * Reads answers until they are complete, or the program has ended.
    * @param {(text: string) => boolean} isWhole
    */
   readUntil(isWhole) {
@@ -199,7 +220,8 @@ class Session {
   }
 
   /**
-   * Serves lines, and `seq` behind them, whose answer ends theirs. Of lines that are answered by counts, too, each count is awaited.
+   * Serves lines, and `seq` after them, whose answer marks the end of theirs. Of lines that are answered by counts, too, each count is
+   * awaited.
    * @param {string} lines
    */
   talk(lines) {
@@ -207,13 +229,13 @@ class Session {
     let answers = [];
     for (const piece of piecesOf(lines)) {
       const { seqs } = judge(piece);
-      const text = this.send(`${piece}seq\n`, (told) => (
-        /(?:^|\n)seq \d+\n$/.test(told.slice(-30)) && (seqs === 0 || (told.match(/^seq \d+$/gm) || []).length > seqs)));
+      const text = this.send(`${piece}seq\n`, (output) => (
+        /(?:^|\n)seq \d+\n$/.test(output.slice(-30)) && (seqs === 0 || (output.match(/^seq \d+$/gm) || []).length > seqs)));
       if (this.hasEnded) throw this.noMoreAnswers();
-      const told = text.split("\n");
-      this.count = Number(told[told.length - 2].slice("seq ".length));
-      told.length -= 2;
-      answers = answers.length === 0 ? told : answers.concat(told);
+      const outputLines = text.split("\n");
+      this.count = Number(outputLines[outputLines.length - 2].slice("seq ".length));
+      outputLines.length -= 2;
+      answers = answers.length === 0 ? outputLines : answers.concat(outputLines);
     }
     return answers;
   }
@@ -246,7 +268,7 @@ class Session {
     return this.readUntil(isWhole);
   }
 
-  /** Takes what a program that ended too soon left in its pipe: the next one at this pipe would read it. */
+  /** Reads the rest that a program that ended too soon left in its pipe: the next one at this pipe would read it. */
   drain() {
     const rest = openSync(join(this.starter.folder, `in${this.slot}`), constants.O_RDONLY | constants.O_NONBLOCK);
     try {
@@ -266,7 +288,7 @@ class Session {
     this.close(this.output);
   }
 
-  /** @param {number} pipe the last one that is open */
+  /** @param {number} pipe the last open one */
   close(pipe) {
     closeSync(pipe);
     this.starter.free.push(this.slot);
@@ -278,18 +300,24 @@ class Session {
 /** @implements {EngineHost} */
 export class NativeEngine {
   /** @param {string} program its path */
-  constructor(program) {
+  constructor(program, starter = new Starter(program)) {
     this.size = TOKEN_SIZE;
-    this.starter = new Starter(program);
+    this.starter = starter;
     /** @type {StateNode[]} the first one is a new session */
     this.states = [{ parent: -1, commands: "", copy: "", count: 0 }];
-    /** @type {Session[]} the one that was used last comes first */
+    /** @type {Session[]} the one that was used last is first */
     this.sessions = [];
-    /** @type {number[]} states with copies that nobody has asked for, the oldest first */
+    /** @type {number[]} states with copies that were never asked for, the oldest first */
     this.copied = [];
     this.files = 0;
     /** @type {Map<string, Judged>} */
     this.judged = new Map();
+  }
+
+  /** Returns the engine on the program that ./mcs4 starts, if that can be known without a comparison of all sources; else null. */
+  static ofKnown() {
+    const starter = new Starter("");
+    return starter.control < 0 ? null : new NativeEngine(starter.program, starter);
   }
 
   // --- the form of an engine ---
@@ -355,7 +383,7 @@ export class NativeEngine {
     return this.setNumber(new Uint8Array(this.size), this.addState({ parent: -1, commands: "", copy, count: -1 }));
   }
 
-  /** Why there is no room for a session among the temporary files, in words; "" where there is. */
+  /** Returns why there is no room for a session among the temporary files, in words; "" if there is. */
   get lackOfRoom() {
     const { folder, place } = this.starter;
     const room = join(folder, "room");
@@ -440,7 +468,7 @@ export class NativeEngine {
   }
 
   /**
-   * Returns a session that stands on a state.
+   * Returns a session at a state.
    * @param {number} number
    */
   sessionAt(number) {
@@ -481,7 +509,7 @@ export class NativeEngine {
   }
 
   /**
-   * Keeps a copy of a state that was wanted again: the next time needs no commands. Only the last ones are kept.
+   * Stores a copy of a state that was needed again: the next time needs no commands. Only the last ones are stored.
    * @param {number} number
    * @param {string} file
    */

@@ -1,13 +1,12 @@
-// Which program runs the sessions of commands, and the engine on it: the native program, or the proved module where no program is for the system.
-import { spawnSync } from "node:child_process";
+// The program that runs the sessions of commands, and the engine on it: the native program, or the proved module if there is no program for
+// this system.
 import { existsSync } from "node:fs";
 import { type } from "node:os";
 import { join } from "node:path";
 import { BenchRefusal } from "../core/bench/faults.js";
-import { readSource, sessionProgram } from "../core/engine/session_program.js";
 import { MOST_GIVEN } from "./given_texts.mjs";
-import { NativeEngine } from "./native_engine.mjs";
 import { CommandError } from "./output.mjs";
+import { processes } from "./processes.mjs";
 import { TOP } from "./top.mjs";
 import {
   NO_PROGRAM_IN_COPY, inUse, needsProgram, noNamedProver, noProver, notForSystem, otherProgram, runsOnModule, sessionRefused,
@@ -25,36 +24,37 @@ const STARTER = 'top=$0; . "$top/tools/lib/start.sh"; ';
 const FIND_PROGRAM = `${STARTER}find_or_build >&2; printf "%s\\n%s" "$program" "$fault"`;
 const FIND_PROVER = `${STARTER}find_prover; printf "%s\\n%s\\n" "$program" "$fault"; if is_without_program; then echo 1; fi`;
 
+const IS_WINDOWS = process.platform === "win32";
 const hasStarter = existsSync(join(TOP, "tools/lib/start.sh"));
 
 /**
- * Runs a script of the starter, which prints a program and why there is none; null where the starter or the shell is missing.
+ * Runs a script of the starter, which prints a program and why there is none; null if the starter or the shell is missing.
  * @param {string} script
  * @returns {Found | null}
  */
 function ask(script) {
   if (!hasStarter) return null;
-  const { status, stdout, error } = spawnSync("/bin/sh", ["-c", script, TOP], { encoding: "utf8", stdio: ["ignore", "pipe", "inherit"] });
+  const { status, stdout, error } = processes().spawnSync("/bin/sh", ["-c", script, TOP], { encoding: "utf8", stdio: ["ignore", "pipe", "inherit"] });
   if (error) return null;
   if (status !== 0) process.exit(status || 1);
   const [program, fault, isForOthers = "1"] = stdout.split("\n");
   return { program, fault, isForOthers: program === "" && isForOthers === "1" };
 }
 
-/** @returns {Found} what is found where no starter runs: in an editor's extension there is none, and Windows has no shell for it */
+/** @returns {Found} the result if no starter runs: an editor's extension has none, and Windows has no shell for it */
 const noneHere = () => ({ program: "", fault: hasStarter ? notForSystem(type(), process.arch) : NO_PROGRAM_IN_COPY, isForOthers: true });
 
-/** @type {Found | null} the program, once it was looked for */
+/** @type {Found | null} the program, once it was searched for */
 let found = null;
 
-/** Finds the program: MCS4 names it, or it is the one that ./mcs4 starts, which is built first if it has to be. */
+/** Finds the program: MCS4 names it, or it is the one that ./mcs4 starts, which is built first if necessary. */
 function findProgram() {
   if (process.env.MCS4) return { program: process.env.MCS4, fault: "", isForOthers: false };
   found ||= ask(FIND_PROGRAM) || noneHere();
   return found;
 }
 
-/** Returns the program; where none is for this system, that is an error. */
+/** Returns the program; throws an error if there is none for this system. */
 export function programPath() {
   const { program, fault } = findProgram();
   if (program === "") throw new CommandError(needsProgram(fault));
@@ -62,8 +62,8 @@ export function programPath() {
 }
 
 /**
- * Returns the program that searches for `mcs4 prove`: MCS4_PROVE names it, or it was built here, or it is the shipped one; "" where none is
- * for this system.
+ * Returns the program that searches for `mcs4 prove`: MCS4_PROVE names it, or it was built here, or it is the shipped one; "" if there is
+ * none for this system.
  */
 export function proverPath() {
   const { MCS4_PROVE: named } = process.env;
@@ -74,23 +74,25 @@ export function proverPath() {
   return program;
 }
 
-/** @type {NativeEngine | null} */
+/** @type {import("./native_engine.mjs").NativeEngine | null} */
 let started = null;
 
 /**
- * Starts the engine: the native program, or the proved module where no program is for this system, which is said once to each user. (The
- * module is loaded only then.) Its processes and files are gone when this process ends.
+ * Starts the engine: the native program, or the proved module if there is no program for this system, which is reported once to each user.
+ * (The module is loaded only then.) Its processes and files are removed when this process ends.
  * @returns {Promise<EngineHost>}
  */
 export async function startEngine() {
-  const { program, fault } = findProgram();
-  // Before there is a folder: a signal that comes while it is made must not leave it.
+  // Before the folder exists: a signal while it is made must not leave it.
   endOnSignals();
+  const { NativeEngine } = await import("./native_engine.mjs");
+  const known = process.env.MCS4 || found || !hasStarter || IS_WINDOWS ? null : NativeEngine.ofKnown();
+  const { program, fault } = known ? { program: known.starter.program, fault: "" } : findProgram();
   if (program === "") {
     const { startModule } = await import("./module_engine.mjs");
     return startModule(hasStarter ? runsOnModule(fault) : "");
   }
-  const engine = new NativeEngine(program);
+  const engine = known || new NativeEngine(program);
   started = engine;
   process.on("exit", endEngine);
   return engine;
@@ -106,8 +108,8 @@ export function endEngine() {
 let atSignal = null;
 
 /**
- * Ends the process on a signal, but not in the middle of a piece of work: what is not in its place yet is removed then.
- * @param {(status: number) => void} [act] what ends it
+ * Ends the process on a signal, but not in the middle of a piece of work: unfinished files are removed then.
+ * @param {(status: number) => void} [act] ends the process
  */
 export function endOnSignals(act = process.exit) {
   const isFirst = atSignal === null;
@@ -116,13 +118,13 @@ export function endOnSignals(act = process.exit) {
   for (const [signal, status] of Object.entries(SIGNALS)) process.on(signal, () => atSignal(status));
 }
 
-/** Returns why the engine that was started has no room among the temporary files, in words; "" if it has, or none was started. */
+/** Returns why the present engine has no room among the temporary files, in words; "" if it has, or none was started. */
 export function lackOfRoom() {
   return started ? started.lackOfRoom : "";
 }
 
 /**
- * Opens a session, of which a copy is used; a rejected one is named.
+ * Opens a session, of which a copy is used; an error names the file.
  * @param {EngineHost} engine
  * @param {import("./given_texts.mjs").GivenTexts} texts
  * @param {string} session its file
@@ -142,7 +144,7 @@ export async function openSession(engine, texts, session) {
 }
 
 /**
- * Returns the error of texts that are rejected. (What finds its words is loaded only then.)
+ * Returns the error of texts that are rejected. (The modules for its words are loaded only then.)
  * @param {EngineHost} engine
  * @param {ConstructorParameters<typeof import("./refused_texts.mjs").RefusedTexts>[1]} given
  * @param {import("../core/testing/prepared.js").TextFault[]} faults
@@ -153,12 +155,13 @@ export async function errorOfTexts(engine, given, faults) {
 }
 
 /**
- * Returns the map of a program that has to be the one in ROM.
+ * Returns the map of a program that must be the one in ROM.
  * @param {EngineHost} engine
  * @param {Uint8Array} codes the bytes in ROM
  * @param {import("./given_texts.mjs").GivenText} program
  */
 export async function programOf(engine, codes, program) {
+  const { sessionProgram } = await import("../core/engine/session_program.js");
   const { faults, other, map } = sessionProgram(engine, codes, program.text);
   if (faults.length > 0) throw await errorOfTexts(engine, { program }, faults);
   if (other) throw new CommandError(otherProgram(program.name, other.address, other.is, other.line + program.before, other.makes));
@@ -166,7 +169,7 @@ export async function programOf(engine, codes, program) {
 }
 
 /** Lets signals be heard between pieces of long work. */
-export async function breathe() {
+export async function yieldToMessages() {
   await new Promise((resume) => {
     setImmediate(resume);
   });
@@ -179,13 +182,14 @@ export async function breathe() {
  * @param {import("./given_texts.mjs").GivenText} program
  */
 export async function mappedProgram(engine, program) {
+  const { readSource } = await import("../core/engine/session_program.js");
   const { faults, map, bytes } = readSource(engine, program.text);
   if (faults.length > 0) throw await errorOfTexts(engine, { program }, faults);
   return { map, bytes };
 }
 
 /**
- * Reads a program that has to be the one in the ROM of a session; returns what names addresses by it.
+ * Reads a program that must be the one in the ROM of a session; returns the function that names addresses by it.
  * @param {import("./given_texts.mjs").GivenTexts} texts
  * @param {EngineHost} engine
  * @param {string} programName

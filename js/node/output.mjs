@@ -1,4 +1,4 @@
-// What tools by node print. All of it is written before they go on, or they end: control characters of texts are shown as `\x1B`.
+// The output of Node tools. They continue or end only after all of it is written; control characters of texts are shown as `\x1B`.
 import { fstatSync, writeSync } from "node:fs";
 import { escaped } from "../core/text/escaped.js";
 
@@ -7,7 +7,7 @@ const ERRORS = 2;
 /** Standard output is read no further: the status that a shell has for SIGPIPE. */
 const PIPE_STATUS = 141;
 
-/** A command cannot continue; each line of the message is printed behind its name, and the exit status is 1. */
+/** A command cannot continue; each line of the message is printed after its name, and the exit status is 1. */
 export class CommandError extends Error {}
 
 /** The arguments of a command are wrong: its use is printed below the message, and the exit status is 2. */
@@ -52,7 +52,7 @@ export function print(text) {
 }
 
 /**
- * Writes to standard error; where that takes nothing, nobody is told.
+ * Writes to standard error; if that is closed, nobody is informed.
  * @param {string} text
  */
 export function printError(text) {

@@ -1,4 +1,4 @@
-// What the tools that run by node take out of the page: the proved module, and the tables that page/build has put beside it.
+// The parts of the page that Node tools use: the proved module, and the tables that page/build has put next to it.
 import { readFileSync } from "node:fs";
 import { inflateRawSync } from "node:zlib";
 
@@ -17,5 +17,5 @@ const unpackedPart = (id) => inflateRawSync(Buffer.from(partOfPage(id), "base64"
 /** The proved module, as bytes. */
 export const moduleOfPage = () => unpackedPart("module");
 
-/** The words of refusals, the tables of the manual, the examples. */
+/** The messages of refusals, the tables of the manual, the examples. */
 export const dataOfPage = () => JSON.parse(unpackedPart("data").toString());

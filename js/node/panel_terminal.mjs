@@ -1,4 +1,4 @@
-// The terminal of the panel: it draws on the whole screen, takes keys one by one, and is as it was before however the panel ends.
+// The terminal of the panel: it draws on the whole screen, reads keys one by one, and is restored however the panel ends.
 import { writeSync } from "node:fs";
 import { keysIn } from "../core/panel/terminal_keys.js";
 import { LEAST_SIZE, hasRoom } from "../core/panel/screen.js";
@@ -13,7 +13,7 @@ import { isDumb } from "./terminal.mjs";
  */
 
 const OUTPUT = 1;
-/** The alternate screen without a cursor and without wrapping; and what was there before. */
+/** The alternate screen without a cursor and without wrapping; and the former screen. */
 const BEGIN = "\x1b[?1049h\x1b[?25l\x1b[?7l\x1b[2J";
 const END = "\x1b[0m\x1b[?7h\x1b[?25h\x1b[?1049l";
 const CLEAR = "\x1b[2J";
@@ -35,7 +35,7 @@ const paintOfMany = (colour, level) => `\x1b[${level === 3 ? "1;" : ""}38;5;${OF
 const paintOfFew = (colour, level) => `\x1b[${["2;", "", colour === "amber" ? "" : "1;"][level - 1]}${OF_FEW[colour]}m`;
 
 /**
- * Returns what sets the colour of a lamp on this terminal, null if it has no colours or none are wanted.
+ * Returns the function that sets the colour of a lamp on this terminal, null if it has no colours or none are wanted.
  * @param {import("node:tty").WriteStream} output
  * @param {Record<string, string | undefined>} env
  */
@@ -57,10 +57,10 @@ export class PanelTerminal {
     if (!hasRoom(this.size)) throw new CommandError(say.tooSmall(LEAST, this.size.columns, this.size.rows));
     this.paint = paintFor(stdout, env);
     this.isOn = false;
-    /** Whether nobody is there any more; and whether the terminal cannot even be given back. */
+    /** True if the terminal is gone; and whether it cannot even be restored. */
     this.isGone = false;
     this.isLost = false;
-    /** @type {TypedKey[]} keys that nobody has taken yet */
+    /** @type {TypedKey[]} keys that are not read yet */
     this.keys = [];
     /** @type {string[]} the rows that are shown */
     this.shown = [];
@@ -74,7 +74,7 @@ export class PanelTerminal {
   }
 
   /**
-   * Takes the whole screen, and keys from here on.
+   * Takes over the whole screen, and keys from now on.
    * @param {() => void} resized is called when the terminal has another size
    */
   begin(resized) {
@@ -100,14 +100,14 @@ export class PanelTerminal {
     this.output.write(BEGIN);
   }
 
-  /** The panel has to end: the terminal is given back at once. */
+  /** The panel must end: the terminal is restored at once. */
   leave() {
     this.isGone = true;
     this.end();
     this.wake();
   }
 
-  /** Gives the terminal back as it was. */
+  /** Restores the terminal. */
   end() {
     if (!this.isOn) return;
     this.isOn = false;
@@ -155,7 +155,7 @@ export class PanelTerminal {
     if (changed !== "") this.output.write(begin + changed);
   }
 
-  /** Says that there is no room. */
+  /** Reports that there is no room. */
   drawLack() {
     const { columns, rows } = this.size;
     this.shown = [];

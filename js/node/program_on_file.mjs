@@ -1,4 +1,4 @@
-// The native program at work on a session file of the user: lines go in, and answers come out.
+// The native program on a session file of the user: lines go in, and answers come out.
 import { spawn } from "node:child_process";
 import { constants } from "node:os";
 import { refusalOf } from "../core/bench/answers.js";
@@ -23,10 +23,10 @@ export class SessionProgram {
   constructor(word, name, isAtTerminal = false) {
     this.child = spawn(programPath(), [word, name], { stdio: ["pipe", "pipe", isAtTerminal ? "inherit" : "pipe"], detached: isAtTerminal });
     this.child.stdout.setEncoding("utf8");
-    /** @type {string[]} answers that nobody has taken yet */
+    /** @type {string[]} answers that are not read yet */
     this.lines = [];
     this.rest = "";
-    /** What it has printed on standard error. */
+    /** The program's output on standard error. */
     this.words = "";
     /** The first line of its answers. */
     this.opened = "";
@@ -62,7 +62,7 @@ export class SessionProgram {
   }
 
   /**
-   * Returns the next lines of its answers; it throws if the program ends before.
+   * Returns the next lines of its answers; throws if the program ends before.
    * @param {number} count
    */
   async take(count) {
@@ -86,9 +86,9 @@ export class SessionProgram {
   }
 
   /**
-   * Serves one input, or several that do not ask for the count, however long the answer is; `seq` behind it shows where the answer ends.
+   * Serves one input, or several that do not ask for the count, however long the answer is; a `seq` after it shows where the answer ends.
    * @param {string} input
-   * @param {(line: string) => void} each is called with each line of the answer, as it comes
+   * @param {(line: string) => void} each is called with each line of the answer, as it arrives
    */
   async serve(input, each) {
     this.child.stdin.write(`${input}seq\n`);
@@ -116,7 +116,7 @@ export class SessionProgram {
 }
 
 /**
- * Returns a refusal with what it means. (Its words are loaded only then.)
+ * Returns a refusal with its message. (The messages are loaded only then.)
  * @param {string} answer
  */
 async function inWords(answer) {
@@ -127,7 +127,7 @@ async function inWords(answer) {
 }
 
 /**
- * Starts the program on a session file; throws what it says if it rejects it.
+ * Starts the program on a session file; throws its message if it rejects the file.
  * @param {"new" | "open"} word
  * @param {string} name
  */

@@ -1,4 +1,4 @@
-// A project in a folder of the disk, for the tools that run by node: its `mcs4.toml`, and what that names, which has to be there.
+// A project in a folder of the disk, for the Node tools: its `mcs4.toml`, and the files that it names, which must exist.
 import { existsSync, statSync } from "node:fs";
 import { join } from "node:path";
 import { ProjectFault, readProject } from "../core/project/project_folder.js";
@@ -6,7 +6,7 @@ import { PROJECT_FILE } from "../core/project/project_toml.js";
 import { leadsOut } from "../words/server.js";
 import { MOST_TEXT, isInside, readUserFile } from "./user_files.mjs";
 
-/** Why a path names no file of a folder, in words; "" where it does. */
+/** Returns why a path names no file of a folder, in words; "" if it does. */
 export function lookInFolder(folder, path) {
   const place = join(folder, path);
   if (!existsSync(place)) return `there is no file ${path}`;
@@ -14,7 +14,7 @@ export function lookInFolder(folder, path) {
   return isInside(place, folder) ? "" : leadsOut(path);
 }
 
-/** Whether a folder has a project file. */
+/** Returns whether a folder has a project file. */
 export function hasProject(folder) {
   return existsSync(join(folder, PROJECT_FILE));
 }
@@ -22,7 +22,7 @@ export function hasProject(folder) {
 /** @typedef {ReturnType<typeof projectIn>} DiskProject */
 
 /**
- * The project in a folder, its paths from the folder that the process runs in. It throws a ProjectFault with file, line and words.
+ * Returns the project in a folder, its paths relative to the process's folder. Throws a ProjectFault with file, line and words.
  */
 export function projectIn(folder) {
   const file = join(folder, PROJECT_FILE);

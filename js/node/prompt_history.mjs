@@ -1,5 +1,5 @@
-// The lines that were typed at prompts, in a file of the user's alone: $XDG_STATE_HOME/mcs4/history. Several prompts add lines at the same time,
-// each under a lock. A prompt that begins shortens a file that has become too long. Where there can be no such file, lines are
+// The lines that were typed at prompts, in a file of the user's alone: $XDG_STATE_HOME/mcs4/history. Several prompts add lines at the same
+// time, each under a lock. A prompt that begins shortens a file that has become too long. If there can be no such file, lines are
 // remembered up to the end of the prompt.
 import { closeSync, constants, existsSync, fchmodSync, fstatSync, mkdirSync, openSync, readSync, rmSync, statSync, writeSync } from "node:fs";
 import { dirname, isAbsolute, join } from "node:path";
@@ -27,7 +27,7 @@ function nameOfFile({ XDG_STATE_HOME = "", HOME = "" }) {
   return isAbsolute(HOME) ? join(HOME, ".local/state/mcs4/history") : "";
 }
 
-/** Makes a folder that is not there, in one of this user's own: root leaves no files in the home of others. */
+/** Makes a missing folder, in one of this user's own: root leaves no files in the home of others. */
 function makeFolder(folder) {
   const lacking = [];
   for (let at = folder; !existsSync(at); at = dirname(at)) lacking.unshift(at);
@@ -35,7 +35,7 @@ function makeFolder(folder) {
   for (const each of lacking) mkdirSync(each, 0o700);
 }
 
-/** Opens the file, which is a regular one, the user's own, and for nobody else. */
+/** Opens the file, which is regular, the user's own, and not accessible to others. */
 function openFile(name) {
   const file = openSync(name, APPEND, OWNER_ALONE);
   const stat = fstatSync(file);
@@ -53,14 +53,14 @@ function readFrom(file, first) {
   return bytes.subarray(0, readSync(file, bytes, 0, bytes.length, first));
 }
 
-/** The last whole lines of bytes. */
+/** Returns the last complete lines of bytes. */
 function lastLines(bytes, most) {
   if (bytes.length <= most) return bytes;
   const tail = bytes.subarray(bytes.length - most);
   return tail.subarray(tail.indexOf("\n") + 1);
 }
 
-/** Takes the lock of a file; false if others hold it for too long. */
+/** Takes the lock of a file; returns false if others hold it for too long. */
 function takeLock(lock) {
   for (let waited = 0; waited < PATIENCE; waited += TURN) {
     try {
@@ -76,12 +76,12 @@ function takeLock(lock) {
   return false;
 }
 
-/** Puts a shorter file in the place of one that is too long. */
+/** Replaces a file that is too long by a shorter one. */
 function shorten(name, file) {
   if (fstatSync(file).size > MOST_BYTES) replacementOf(name, lastLines(readFrom(file, 0), KEPT_BYTES)).put();
 }
 
-/** Lines that can be shown at a terminal; others may come from a file that was changed by hand. */
+/** Lines that can be shown at a terminal; others may come from a file that the user has edited. */
 const isShown = (line) => line !== "" && escaped(line) === line;
 
 export class PromptHistory {
@@ -119,7 +119,7 @@ export class PromptHistory {
     }
   }
 
-  /** Adds a line, unless it is the last one again. */
+  /** Adds a line, unless it repeats the last one. */
   add(line) {
     if (line.trim() === "" || line === this.last || line.length > LONGEST) return;
     this.last = line;

@@ -1,38 +1,39 @@
-// The search of `mcs4 prove`: questions to the program mcs4-prove, or to the proved module where no such program is for this system; and
-// counterexamples on the bench, which `mcs4 test` has to confirm.
+// The search of `mcs4 prove`: questions to the program mcs4-prove, or to the proved module if there is no such program for this system; and
+// counterexamples on the bench, which `mcs4 test` must confirm.
 import { writeFileSync } from "node:fs";
 import { join } from "node:path";
 import { Judging } from "../core/prove/judging.js";
-import { allMistakes } from "../core/prove/mistakes.js";
-import { questionOf, readAnswer } from "../core/prove/question.js";
+import { MOST_SETS, questionOf, readAnswer } from "../core/prove/question.js";
 import { readCampaign } from "../core/explore/campaign.js";
 import { grouped } from "../core/explore/report.js";
 import { subjectOf } from "../core/explore/subject.js";
 import { prepare } from "../core/testing/prepared.js";
 import * as say from "../words/prove.js";
 import { interrupt, runCommand } from "./children.mjs";
-import { breathe, errorOfTexts, proverPath, startEngine } from "./native_program.mjs";
+import { yieldToMessages, errorOfTexts, proverPath, startEngine } from "./native_program.mjs";
 import { CommandError } from "./output.mjs";
 import { removeFolder, temporaryFolder } from "./temporary.mjs";
 
 /**
  * @typedef {import("./given_texts.mjs").GivenText} GivenText
  * @typedef {{ board: GivenText, program: GivenText, properties: { name: string, text: string } }} Texts
+ *
+ * The most states, and the most memory for them in MB; 0 is all that there is.
+ * @typedef {{ most: number, memory: number }} Limits
  */
 
 class Proving {
   /**
    * @param {Texts} texts
-   * @param {number} most states
+   * @param {Limits} limits
    */
-  constructor(texts, most) {
+  constructor(texts, limits) {
     this.texts = texts;
-    this.most = most;
-    this.reasons = { more: say.moreStates(grouped(most)), lost: say.GAVE_UP, full: say.NO_MEMORY };
+    this.limits = limits;
     this.program = proverPath();
     /** @type {((question: string) => string) | null} */
     this.module = null;
-    // Before the engine's own end on this signal: the search has a group of its own, which Ctrl-C does not reach.
+    // Runs before the engine's own handler of this signal: the search has a group of its own, which Ctrl-C does not reach.
     process.on("SIGINT", interrupt);
   }
 
@@ -47,15 +48,28 @@ class Proving {
     const { campaign, faults } = readCampaign(properties.text, subject, false);
     if (faults.length > 0) throw new CommandError(faults.map(({ line, words }) => `${properties.name}:${line}: ${words}`).join("\n"));
     return new Judging(subject, campaign, {
-      ask: (nevers) => this.ask(nevers, []),
+      ask: (nevers, mistakes) => this.ask(nevers, mistakes, this.limits),
+      askBySets: (nevers, mistakes) => this.ask(nevers, mistakes, { most: 0, sets: MOST_SETS }),
       confirms: (found, isGoal) => this.confirms(found, isGoal),
-      reason: (kind) => this.reasons[kind],
-      breathe,
+      reason: (answer) => this.reason(answer),
+      yieldToMessages,
     });
   }
 
   /**
-   * Returns what the prover prints for a question, and what it reports of itself.
+   * Returns why an answer decides nothing.
+   * @param {import("../core/prove/question.js").NoAnswer} answer
+   */
+  reason(answer) {
+    const { most, memory } = this.limits;
+    if (answer.kind === "more") return say.moreStates(grouped(most));
+    if (answer.kind === "lost") return say.GAVE_UP;
+    if (answer.states === 0) return say.NO_MEMORY;
+    return memory > 0 ? say.noRoomIn(grouped(answer.states), memory) : say.noRoom(grouped(answer.states));
+  }
+
+  /**
+   * Returns the prover's output for a question, and its report about itself.
    * @param {string} question
    */
   async search(question) {
@@ -66,10 +80,11 @@ class Proving {
    * Asks the prover; returns its answer.
    * @param {import("../core/prove/cells.js").All[]} nevers
    * @param {string[]} mistakes their words
+   * @param {import("../core/prove/question.js").QuestionLimits} limits
    */
-  async ask(nevers, mistakes) {
+  async ask(nevers, mistakes, limits) {
     const { board, program } = this.texts;
-    const question = questionOf({ board: board.text, program: program.text }, nevers, this.most, mistakes);
+    const question = questionOf({ board: board.text, program: program.text }, nevers, mistakes, limits);
     const { stdout, stderr, signal } = await this.search(question);
     const answer = readAnswer(stdout);
     if (!answer) throw new CommandError(say.proverEnded([stdout.trim(), stderr.trim(), signal].filter(Boolean).join("; ")));
@@ -77,7 +92,7 @@ class Proving {
   }
 
   /**
-   * Whether `mcs4 test` judges a counterexample as it should; lines of a session were run on the bench as they are.
+   * Resolves to whether `mcs4 test` judges a counterexample as it should; lines of a session were run on the bench as they are.
    * @param {import("../core/prove/counterexample.js").Counterexample} found
    * @param {boolean} isGoal
    */
@@ -93,31 +108,14 @@ class Proving {
       removeFolder(folder);
     }
   }
-
-  /**
-   * Judges what every program is asked: all of it at once, and each alone if that decides nothing of it.
-   * @param {Judging} judging
-   */
-  async judgeMistakes(judging) {
-    const mistakes = allMistakes();
-    const together = await this.ask([], mistakes.map(({ word }) => word));
-    /** @type {import("../core/prove/verdicts.js").Judged[]} */
-    const judged = [];
-    for (const { property, word } of mistakes) {
-      const answer = together.kind === "fails" ? await this.ask([], [word]) : together;
-      judged.push({ property, verdict: await judging.verdictOf(property, answer, { ...judging.campaign, properties: [property] }, word) });
-    }
-    return judged;
-  }
 }
 
 /**
- * Proves properties; returns what came of each.
+ * Begins to prove properties.
  * @param {Texts} texts
- * @param {number} most states
+ * @param {Limits} limits
+ * @returns {Promise<Judging>}
  */
-export async function proveTexts(texts, most) {
-  const proving = new Proving(texts, most);
-  const judging = await proving.begin();
-  return [...await judging.judgeAll(), ...await proving.judgeMistakes(judging)];
+export function beginProving(texts, limits) {
+  return new Proving(texts, limits).begin();
 }

@@ -1,7 +1,6 @@
-// What was refused of a script of lines: the line, the line of its text or the part of its board that is at fault, and why.
+// The rejected parts of a script of lines: the line, the wrong line of its text or part of its board, and the reason.
 import { refusalOf } from "../core/bench/answers.js";
-import { opensText } from "../core/bench/inputs.js";
-import { LONGEST_LINE } from "../core/bench/inputs.js";
+import { FOREIGN, LINE_TOO_LONG, LONGEST_LINE, NOT_ASCII, opensText } from "../core/bench/inputs.js";
 import { numberOf } from "../core/bench/numbers.js";
 import { ADDRESSES } from "../core/bench/rom_bytes.js";
 import * as say from "../words/commands.js";
@@ -11,12 +10,9 @@ import { LONGEST_SHOWN, NO_FORM, RefusedTexts, spellingHint, wordsOfRefusal } fr
  * @typedef {import("../core/bench/answered_script.js").AnsweredInput} AnsweredInput
  */
 
-const LINE_TOO_LONG = 12;
-const NOT_ASCII = 14;
-const FOREIGN = /[^\t -~]/u;
-const TEXTS = { wire: "board", asm: "program", map: "program" };
+const TEXTS = { wire: "board", wiring: "board", asm: "program", map: "program", errors: "program" };
 
-/** @type {(line: string) => string} the character for which a line is refused, in words */
+/** @type {(line: string) => string} the character for which a line is rejected, in words */
 function foreignCharacter(line) {
   const [character = ""] = FOREIGN.exec(line) || [];
   if (character === "") return "";
@@ -34,26 +30,27 @@ export class RefusedLines {
     this.engine = engine;
     this.lines = lines;
     this.placeOf = placeOf;
-    /** The text of the board that was wired last; null if the session had one before that is not known. */
+    /** The text of the last wired board; null if the session had one before that is not known. */
     this.boardText = null;
   }
 
   /**
-   * Returns the lines of a text that are at fault, counted in the text; null where none is known.
+   * Returns the error of a text, with its line, counted in the text; null if no line is known.
    * @param {AnsweredInput} answered
    * @param {{ number: number, line: number }} refusal
    */
-  linesAtFault({ input }, { number, line }) {
+  errorOfText({ input }, { number, line }) {
     const { text: own, kind } = input;
     if (number === LINE_TOO_LONG || number === NOT_ASCII) {
       const found = own.findIndex((each) => (number === NOT_ASCII ? FOREIGN.test(each) : each.length > LONGEST_LINE));
-      return found < 0 ? null : { from: found + 1, to: found + 1 };
+      return found < 0 ? null : { line: found + 1, words: wordsOfRefusal(number) };
     }
     const given = (/** @type {string} */ text) => ({ name: "", text, before: 0, encoding: /** @type {const} */ ("utf8") });
     const text = own.map((each) => `${each}\n`).join("");
     const board = this.boardText === null ? undefined : given(this.boardText);
     const texts = new RefusedTexts(this.engine, { board, program: given(text) });
-    return texts.linesAt({ text: TEXTS[kind], line, number, words: "" }, text);
+    const of = TEXTS[kind];
+    return texts.errorOf({ text: of, line: of === "board" ? 0 : line, number, words: "" }, text);
   }
 
   /**
@@ -69,25 +66,24 @@ export class RefusedLines {
   }
 
   /**
-   * Returns the lines about an input that was refused.
+   * Returns the lines about a rejected input.
    * @param {AnsweredInput} answered
    * @param {{ number: number, line: number }} refusal
    */
   linesAbout(answered, refusal) {
     const { input, at } = answered;
     const { number } = refusal;
-    const found = opensText(input.line) ? this.linesAtFault(answered, refusal) : null;
-    const [from, to] = found ? [at + found.from, at + found.to] : [at, at];
-    const shown = this.lines.slice(from - 1, to);
-    const hint = number === NOT_ASCII ? foreignCharacter(shown[0]) : number === NO_FORM && found ? spellingHint(shown[0]) : "";
+    const found = opensText(input.line) ? this.errorOfText(answered, refusal) : null;
+    const shown = this.lines[at + (found ? found.line : 0) - 1];
+    const hint = number === NOT_ASCII ? foreignCharacter(shown) : number === NO_FORM && found ? spellingHint(shown) : "";
     return [
-      say.refusedLine(at, number, found, `${wordsOfRefusal(number)}${hint}`),
-      ...shown.map((line) => `    ${line.slice(0, LONGEST_SHOWN)}`), ...this.placeOfInput(answered),
+      say.refusedLine(at, number, found ? found.line : 0, `${found ? found.words : wordsOfRefusal(number)}${hint}`),
+      `    ${shown.slice(0, LONGEST_SHOWN)}`, ...this.placeOfInput(answered),
     ];
   }
 
   /**
-   * Returns the lines about all inputs that were refused, or not answered.
+   * Returns the lines about all inputs that were rejected, or not answered.
    * @param {AnsweredInput[]} inputs
    * @param {string} opened the first line of the answers
    */

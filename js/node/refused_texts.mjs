@@ -1,34 +1,49 @@
-// Why texts are refused, in lines for a terminal: the file, the line, the number of the refusal with its words, and the line itself.
+// Why texts are rejected, in lines for a terminal: the file, the line, the number of the refusal with its message, and the line itself.
 import { readFileSync } from "node:fs";
-import { readBoard, refusalOf } from "../core/bench/answers.js";
-import { findBoardFault } from "../core/bench/board_fault.js";
+import { readBoard } from "../core/bench/answers.js";
+import { readWiring } from "../core/bench/text_judgement.js";
 import { Words } from "../core/bench/words.js";
 import { readProgram } from "../core/engine/program_check.js";
+import { instructionsOf } from "../core/help/manual.js";
 import { SourceMap } from "../core/machine/source_map.js";
-import { LACKS_ROM, lacksOfRom } from "../core/text/program_faults.js";
-import { sentText } from "../core/text/text_fault.js";
-import { nameGetsNumber } from "../words/text.js";
+import { namesOf } from "../core/text/assembly.js";
+import { errorOfBoard } from "../core/text/board_error.js";
+import { LACKS_ROM, errorOfLine, lacksOfRom } from "../core/text/program_faults.js";
+import { alignedText, sentText } from "../core/text/text_fault.js";
+import { boardTables } from "../core/text/text_help.js";
+import { dataOfPage } from "./page_parts.mjs";
 
 /**
  * @typedef {import("../core/engine/engine_host.js").EngineHost} EngineHost
  * @typedef {import("../core/testing/prepared.js").TextFault} TextFault
- * @typedef {import("../core/text/text_fault.js").Lines} Lines
+ * @typedef {import("../core/text/text_fault.js").Fault} Fault
  * @typedef {import("./given_texts.mjs").GivenText} GivenText
  */
 
 const MOST_FAULTS = 20;
 export const LONGEST_SHOWN = 120;
 export const NO_FORM = 30;
-/** Refusals of a part of a board. */
-const OF_PARTS = { from: 20, to: 27 };
-/** What other assemblers write in their own way. */
+/** The spellings of other assemblers. */
 const OTHER_SPELLING = new RegExp("[ \\t,][0-7]P([ \\t,]|$)|[0-9]<|[ \\t,][0-9][0-9A-F]*H([ \\t,]|$)|[ \\t,][$][0-9A-F]|^[A-Z_][A-Z0-9_]*,|"
   + "[ \\t]/|[ \\t](TZ|TN|CZ|CN|AZ|AN)[ \\t,]");
 
 /** @type {Words | null} */
 let words = null;
+/** @type {ReturnType<typeof boardTables> | null} */
+let tables = null;
+/** @type {ReturnType<typeof instructionsOf> | null} */
+let instructions = null;
 
-/** Returns what a refusal means. */
+/** Returns the tables and instructions of the manual. */
+function readManual() {
+  if (!tables || !instructions) {
+    const { manual } = dataOfPage();
+    [tables, instructions] = [boardTables(manual), instructionsOf(manual)];
+  }
+  return { tables, instructions };
+}
+
+/** Returns the meaning of a refusal. */
 export function wordsOfRefusal(number) {
   if (!words) {
     const rows = readFileSync(new URL("../../tools/lib/refusals.txt", import.meta.url), "utf8").split("\n");
@@ -38,14 +53,11 @@ export function wordsOfRefusal(number) {
 }
 
 /**
- * Returns what helps with a line in the spelling of another assembler, "" for another line.
+ * Returns advice on a line in the spelling of another assembler, "" for another line.
  * @param {string} line
  */
 export function spellingHint(line) {
-  const code = line.replace(/;.*/, "");
-  const [name, word = "", number] = code.trim().split(/[ \t]+/);
-  if (/^(EQU|SET)$/i.test(word) && number) return `; ${nameGetsNumber(name, number)}`;
-  return OTHER_SPELLING.test(code.toUpperCase()) ? "; mcs4 import takes programs in Intel's and AS's spelling" : "";
+  return OTHER_SPELLING.test(line.replace(/;.*/, "").toUpperCase()) ? "; mcs4 import takes programs in Intel's and AS's spelling" : "";
 }
 
 /** The texts that were tried, on an engine. */
@@ -60,19 +72,17 @@ export class RefusedTexts {
   }
 
   /**
-   * The part of the board that is refused by a number.
+   * Returns the error of a board's text, with its line and words; null if the bench names no part.
    * @param {string} text
-   * @param {number} number
    */
-  partOfBoard(text, number) {
-    return findBoardFault(sentText(text, "#"), number, (part) => {
-      const refusal = refusalOf(this.engine.ask(this.engine.begin(), `wire\n${part}.\n`).answers[0]);
-      return refusal ? refusal.number : 0;
-    });
+  errorOfBoard(text) {
+    const { engine } = this;
+    const error = readWiring(engine.ask(engine.begin(), `wiring\n${sentText(text, "#")}.\n`).answers[0]);
+    return error && error.line > 0 ? errorOfBoard(alignedText(text, "#"), error, readManual().tables, wordsOfRefusal) : null;
   }
 
   /**
-   * The first line of a program that puts bytes into a ROM which the board lacks.
+   * Returns the error of the first line of a program that puts bytes into a ROM that the board lacks.
    * @param {string} text
    */
   lineWithoutRom(text) {
@@ -82,41 +92,45 @@ export class RefusedTexts {
     engine.serve(file, `wire\n${sentText(board.text, "#")}.\n`, file);
     const roms = new Set(readBoard(engine.ask(file, "board\n").answers).roms.map(({ chip }) => chip));
     const sent = sentText(text, ";");
-    const [fault] = lacksOfRom(sent.split("\n"), new SourceMap(readProgram(engine, sent).map, sent), roms)
+    const [error = null] = lacksOfRom(sent.split("\n"), new SourceMap(readProgram(engine, sent).map, sent), roms)
       .sort((one, other) => one.line - other.line);
-    return fault ? { from: fault.line, to: fault.line } : null;
+    return error;
   }
 
   /**
-   * The lines at fault; null where none is known.
+   * Returns the error of a text, with its line and words; null if no line is known.
    * @param {TextFault} fault
    * @param {string} text
-   * @returns {Lines | null}
+   * @returns {Fault | null}
    */
-  linesAt({ text: kind, line, number }, text) {
-    if (line > 0) return { from: line, to: line };
-    if (kind === "board" && number >= OF_PARTS.from && number <= OF_PARTS.to) return this.partOfBoard(text, number);
-    return kind === "program" && number === LACKS_ROM ? this.lineWithoutRom(text) : null;
+  errorOf({ text: kind, line, number }, text) {
+    if (kind === "board") return line > 0 ? null : this.errorOfBoard(text);
+    if (number === LACKS_ROM) return this.lineWithoutRom(text);
+    if (line === 0 || number < NO_FORM) return null;
+    const lines = alignedText(text, ";").split("\n");
+    const facts = { instructions: readManual().instructions, names: namesOf(lines) };
+    return errorOfLine(lines, { line, number }, facts, wordsOfRefusal);
   }
 
   /**
-   * The message of a fault.
+   * Returns the message of an error.
    * @param {TextFault} fault
    */
   messageOf(fault) {
     const { text: kind, file, line, number } = fault;
     if (kind === "tests") return `${file}:${line}: ${fault.words}`;
     const { name, text, before } = this.given[kind];
-    const at = this.linesAt(fault, text);
-    const shown = at && number > 0 ? text.split("\n").slice(at.from - 1, at.to) : [];
+    const error = number > 0 ? this.errorOf(fault, text) : null;
+    const at = line || (error ? error.line : 0);
+    const shown = at > 0 && number > 0 ? [text.split("\n")[at - 1]] : [];
     const hint = number === NO_FORM && shown.length > 0 ? spellingHint(shown[0]) : "";
-    const why = `${number > 0 ? `no ${number}: ` : ""}${fault.words || wordsOfRefusal(number)}${hint}`;
-    const where = !at ? "" : at.from === at.to ? `line ${at.from + before}: ` : `lines ${at.from + before} to ${at.to + before}: `;
+    const why = `${number > 0 ? `no ${number}: ` : ""}${fault.words || (error ? error.words : wordsOfRefusal(number))}${hint}`;
+    const where = at > 0 ? `line ${at + before}: ` : "";
     return [`${name}: ${where}${why}`, ...shown.map((each) => `    ${each.slice(0, LONGEST_SHOWN)}`)].join("\n");
   }
 
   /**
-   * The message of all faults.
+   * Returns the message of all errors.
    * @param {TextFault[]} faults
    */
   message(faults) {

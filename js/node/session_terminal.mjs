@@ -1,5 +1,5 @@
-// `mcs4 new` and `mcs4 open` at a terminal: the program serves the lines, and what it answers is on standard output, as it comes. The prompt, and
-// all words beside the answers, are on standard error.
+// `mcs4 new` and `mcs4 open` at a terminal: the program serves the lines, and its answers go to standard output, as they arrive. The
+// prompt, and all other words, go to standard error.
 import { linesOf } from "../core/bench/inputs.js";
 import { SessionPrompt } from "../core/prompt/bench_prompt.js";
 import { BEGINNING } from "../words/session_prompt.js";
@@ -49,7 +49,7 @@ function callsOn(program, terminal) {
   };
 }
 
-/** Ends the program: it gets the rest of input, and what it still answers is printed. */
+/** Ends the program: it receives the rest of input, and its last answers are printed. */
 async function finish(program, rest) {
   program.child.stdin.write(rest);
   await program.end();

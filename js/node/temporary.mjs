@@ -1,4 +1,4 @@
-// Temporary folders of commands: in memory if possible, of the user's alone, and removed when the process exits.
+// Temporary folders of commands: in memory if possible, private to the user, and removed when the process exits.
 import { accessSync, constants, mkdtempSync, rmSync } from "node:fs";
 import { tmpdir } from "node:os";
 import { join } from "node:path";
@@ -12,7 +12,7 @@ process.on("exit", () => {
   for (const folder of folders) rmSync(folder, { recursive: true, force: true });
 });
 
-/** Returns where temporary files are: in memory, unless the user names another place. */
+/** Returns the folder of temporary files: in memory, unless the user names another one. */
 export function temporaryPlace() {
   if (process.env.TMPDIR) return process.env.TMPDIR;
   try {
@@ -25,7 +25,7 @@ export function temporaryPlace() {
 
 /**
  * Makes a folder.
- * @param {string} name with which its name begins
+ * @param {string} name the beginning of its name
  */
 export function temporaryFolder(name) {
   const place = temporaryPlace();

@@ -1,8 +1,8 @@
-// A prompt at a terminal. Lines are edited by readline of Node, completed, recalled from a history, and served one after the other: what is typed
-// or pasted meanwhile waits. A terminal that moves no cursor edits its lines itself.
+// A prompt at a terminal. Lines are edited by readline of Node, completed, recalled from a history, and served one after the other; input
+// that is typed or pasted meanwhile waits. A terminal that cannot move its cursor edits its lines itself.
 //
 //     const terminal = new TerminalPrompt(prompt, { output: process.stderr });
-//     await terminal.run();      up to `prompt.isEnded`, the end of input, or a signal; gives the status of a signal, 0 without one
+//     await terminal.run();      up to `prompt.isEnded`, the end of input, or a signal; resolves to the status of a signal, 0 without one
 import { constants } from "node:os";
 import { createInterface } from "node:readline";
 import { PassThrough } from "node:stream";
@@ -12,15 +12,15 @@ import { MOST_LINES, PromptHistory } from "./prompt_history.mjs";
 import { isDumb, painter } from "./terminal.mjs";
 
 /**
- * What lines are typed for: `label` stands before a line; `take` serves one; `complete` returns what a line can go on with, and the end of
- * it that this replaces. `interrupt` stops what is being served, false if it cannot; `drop` drops what earlier lines have begun, and returns
- * words of that.
+ * The receiver of typed lines: `label` precedes a line; `take` serves one; `complete` returns the completions of a line, and the end of it
+ * that they replace. `interrupt` stops the line that is being served, and returns false if it cannot; `drop` discards unfinished input, and
+ * returns words about it.
  * @typedef {{ label: string, isEnded: boolean, take: (line: string) => Promise<boolean>,
  *   complete: (line: string) => Promise<[string[], string]>, interrupt: () => boolean, drop: () => string }} PromptOfLines
  */
 
 /**
- * What a prompt at a terminal writes to and calls.
+ * The streams and calls of a prompt at a terminal.
  * @typedef {object} TerminalCalls
  * @property {import("node:tty").WriteStream} output The terminal, which gets the prompt and messages.
  * @property {() => void} [served] A line was served.
@@ -28,9 +28,9 @@ import { isDumb, painter } from "./terminal.mjs";
  * @property {() => void} [entered] The terminal belongs to the prompt again.
  */
 
-/** What a terminal puts round a paste, and how it is asked to. */
+/** The marks that a terminal puts around a paste, and the request for them. */
 const PASTE = { begins: "\x1b[200~", ends: "\x1b[201~", on: "\x1b[?2004h", off: "\x1b[?2004l" };
-/** The begin of such a mark, whose rest has not come yet. */
+/** The beginning of such a mark, whose rest is not read yet. */
 const CUT_MARK = /\x1b\[(2(0[01]?)?)?$/;
 const CTRL_C = "\x03";
 const BOLD = 1;
@@ -48,7 +48,7 @@ class Keys extends PassThrough {
   }
 }
 
-/** A pasted text without characters that would move the cursor; what takes their place is refused with its line. */
+/** Returns a pasted text without characters that would move the cursor; their replacement is rejected with its line. */
 function harmless(text) {
   // eslint-disable-next-line no-control-regex
   return text.replace(/[\x00-\x08\x0b-\x1f\x7f-\x9f]/g, "\ufffd");
@@ -66,9 +66,9 @@ export class TerminalPrompt {
     this.isDumb = isDumb(process.env);
     this.paint = painter(process.env);
     this.history = new PromptHistory(process.env);
-    /** What was typed, as it came, and waits for its turn. (A tab that comes alone completes; one within a text is pasted.) */
+    /** The typed input that waits for its turn. (A single tab completes; one within a text is pasted.) */
     this.waiting = [];
-    /** Whether a line is being served, or completed. */
+    /** True if a line is being served, or completed. */
     this.isBusy = true;
     this.isPasting = false;
     this.hasInputEnded = false;
@@ -84,7 +84,7 @@ export class TerminalPrompt {
     });
   }
 
-  // --- what is printed ---
+  // --- output ---
 
   /** The columns that words are folded to. */
   get width() {
@@ -136,7 +136,7 @@ export class TerminalPrompt {
     }
   }
 
-  /** Shows the prompt, and takes what waits. */
+  /** Shows the prompt, and reads waiting input. */
   next() {
     this.isBusy = false;
     this.show();
@@ -162,7 +162,7 @@ export class TerminalPrompt {
     else if (!this.isOver) this.next();
   }
 
-  /** What nobody expects ends the prompt, and is thrown where it is awaited. */
+  /** Ends the prompt with an unexpected error, which is thrown to whoever awaits it. */
   fail(thrown) {
     const settle = this.settle;
     this.settle = () => settle(Promise.reject(thrown));
@@ -180,7 +180,7 @@ export class TerminalPrompt {
     this.settle();
   }
 
-  /** Gives the terminal back. (Its mode is that of before once readline is closed, or node ends.) */
+  /** Restores the terminal. (Its mode is restored once readline is closed, or node ends.) */
   leave() {
     if (this.hasLeft) return;
     this.hasLeft = true;
@@ -188,9 +188,9 @@ export class TerminalPrompt {
     if (!this.isDumb) this.output.write(PASTE.off);
   }
 
-  // --- what is typed ---
+  // --- input ---
 
-  /** Takes what comes from the terminal. Ctrl-C while a line is served stops that, and drops what waits. */
+  /** Handles input from the terminal. Ctrl-C while a line is served stops it, and discards waiting input. */
   typed(text) {
     const stop = this.isBusy && !this.isDumb && !this.isPasting ? text.lastIndexOf(CTRL_C) : -1;
     if (stop >= 0) {
@@ -202,7 +202,7 @@ export class TerminalPrompt {
     }
   }
 
-  /** Takes what waits, up to a line that has to be served first. */
+  /** Handles waiting input, up to a line that must be served first. */
   pump() {
     while (!this.isBusy && !this.isOver && this.waiting.length > 0) {
       const rest = this.takePiece(this.waiting[0]);
@@ -217,7 +217,7 @@ export class TerminalPrompt {
     if (this.hasInputEnded && !this.isBusy && !this.isOver) this.end();
   }
 
-  /** Takes a mark of a paste, or characters up to the end of a line; returns what is left. */
+  /** Reads a mark of a paste, or characters up to the end of a line; returns the rest. */
   takePiece(text) {
     const mark = this.isPasting ? PASTE.ends : PASTE.begins;
     if (text.startsWith(mark)) {
@@ -232,7 +232,7 @@ export class TerminalPrompt {
     return text.slice(piece.length);
   }
 
-  /** Puts pasted characters into the line; nothing among them is a key. */
+  /** Inserts pasted characters into the line; none of them acts as a key. */
   paste(piece) {
     const text = piece.replace(/[\r\n]+$/, "");
     if (text !== "") this.terminal.write(harmless(text));
@@ -253,7 +253,7 @@ export class TerminalPrompt {
 
   // --- keys that are no text ---
 
-  /** Ctrl-C: the line is dropped; where there is none, what earlier lines have begun. */
+  /** Handles Ctrl-C: discards the line, or if there is none, the unfinished input of earlier lines. */
   dropLine() {
     const { terminal, output } = this;
     const isEmpty = this.isDumb || terminal.line === "";
@@ -268,7 +268,7 @@ export class TerminalPrompt {
     this.show();
   }
 
-  /** Ctrl-Z: the terminal belongs to the shell until it lets us go on. */
+  /** Handles Ctrl-Z: the terminal belongs to the shell until the process continues. */
   suspend() {
     this.calls.left();
     this.output.write(PASTE.off);

@@ -1,10 +1,10 @@
-// What `mcs4 test`, `cover` and `profile` share: tests are run, or the next cycles of a session are counted.
+// The common part of `mcs4 test`, `cover` and `profile`: runs tests, or counts the next cycles of a session.
 import { runTests } from "../core/testing/test_suite.js";
 import { failureLine } from "../core/testing/tap.js";
 import { excludeEachOther, otherProgram, sessionStopped } from "../words/commands.js";
 import { needCount, needNamed, needWords, projectFor } from "./arguments.mjs";
 import { GivenTexts } from "./given_texts.mjs";
-import { breathe, errorOfTexts, openSession, startEngine } from "./native_program.mjs";
+import { yieldToMessages, errorOfTexts, openSession, startEngine } from "./native_program.mjs";
 import { CommandError, UsageError, print, printError } from "./output.mjs";
 
 /**
@@ -14,7 +14,7 @@ import { CommandError, UsageError, print, printError } from "./output.mjs";
  * @typedef {import("../core/testing/test_run.js").Outcome} Outcome
  * @typedef {import("./given_texts.mjs").GivenText} GivenText
  *
- * What a command does: with the names of files before they are read, with each result as its test ends, and with the counts at the end.
+ * The steps of a command: with the names of files before they are read, with each result as its test ends, and with the counts at the end.
  * @typedef {{ name: string, Counting: typeof Account, checkNames?: (names: string[]) => void,
  *   outcome?: (outcome: Outcome, number: number, total: number) => string,
  *   report?: (counts: { coverage: Coverage | null, profile: Profile | null }, program: GivenText) => void }} Tool
@@ -23,7 +23,7 @@ import { CommandError, UsageError, print, printError } from "./output.mjs";
 const MOST_CYCLES = 100000000;
 
 /**
- * Returns the names of board, program and tests: those that are given, and those of the project.
+ * Returns the names of board, program and tests: the given ones, and those of the project.
  * @param {string | undefined} folder
  * @param {string[]} given
  */
@@ -53,7 +53,7 @@ export async function testBy({ Counting, checkNames = () => {}, outcome: tapOf =
     printError(failureLine(outcome));
     print(tapOf(outcome, number, total));
   };
-  const result = await runTests(engine, { boardText: board.text, programText: program.text, sources }, breathe, { Counting, ended });
+  const result = await runTests(engine, { boardText: board.text, programText: program.text, sources }, yieldToMessages, { Counting, ended });
   if (result.faults.length > 0) throw await errorOfTexts(engine, { board, program }, result.faults);
   report(result, program);
   return result.outcomes.some(({ failure }) => failure) ? 1 : 0;

@@ -2,6 +2,7 @@
 import { instructionsOf } from "../core/help/manual.js";
 import { TextBench } from "../core/server/text_bench.js";
 import { AllFaultsOfTexts } from "../core/text/all_faults.js";
+import { boardTables } from "../core/text/text_help.js";
 import { Engine } from "../core/engine/engine.js";
 import { moduleOfPage } from "./page_parts.mjs";
 
@@ -15,20 +16,16 @@ async function textBench() {
 
 /**
  * Returns the errors of a text, each with its line.
- * @param {"wire" | "asm" | "map"} word
+ * @param {import("../core/prompt/bench_prompt.js").TextWord} word
  * @param {string} text
- * @param {string} board the text of the board that a program is put on
+ * @param {string} board the text of the program's board
  * @param {{ manual: import("../core/help/manual.js").ManualSection[], wordsOf: (number: number) => string }} known
  */
 export async function errorsOfText(word, text, board, { manual, wordsOf }) {
   const bench = await textBench();
-  if (word !== "wire") bench.setBoard(word === "asm" ? board : null);
-  const all = new AllFaultsOfTexts({
-    refuse: async (kind, part) => (kind === "asm" ? bench.refuseProgram(part) : bench.refuseBoard(part)),
-    map: async (sent) => bench.read(sent).map,
-    roms: async () => bench.wired.roms,
-    boardFault: async (sent, number) => bench.boardFault(sent, number),
-  }, instructionsOf(manual), wordsOf);
-  const found = await (word === "wire" ? all.ofBoard(text, () => true) : all.ofProgram(text, () => true));
+  const isBoard = word === "wire" || word === "wiring";
+  if (!isBoard) bench.setBoard(word === "asm" ? board : null);
+  const all = new AllFaultsOfTexts(bench.asked(), { instructions: instructionsOf(manual), tables: boardTables(manual) }, wordsOf);
+  const found = await (isBoard ? all.ofBoard(text, () => true) : all.ofProgram(text, () => true));
   return found ? found.faults : [];
 }

@@ -1,5 +1,5 @@
-// The files of users, for the tools that run by node: what is read is a regular file of a bounded size, what is written replaces its target at
-// once and leaves nothing else behind.
+// The files of users, for the Node tools: input files are regular and of a bounded size; an output file replaces its target at once and
+// leaves nothing else behind.
 import { constants } from "node:fs";
 import {
   accessSync, closeSync, existsSync, fchmodSync, fchownSync, fstatSync, fsyncSync, lstatSync, mkdirSync, openSync, readSync, readlinkSync,
@@ -26,7 +26,7 @@ export class UserFileError extends CommandError {}
 /** The same without the name. */
 class Reason extends Error {}
 
-/** @type {Record<string, string>} what the system reports, in words */
+/** @type {Record<string, string>} the system's errors, in words */
 const REASONS = {
   ENOENT: "there is no such file", EACCES: "no permission", EPERM: "no permission", ENOSPC: "no space left on the device",
   EDQUOT: "the disk quota is used up", EFBIG: "it would exceed the size limit for files", EROFS: "the file system is read-only",
@@ -41,7 +41,7 @@ function reasonOf(thrown) {
 }
 
 /**
- * Runs an act on a file; what the system rejects becomes a UserFileError.
+ * Runs an action on a file; an error of the system becomes a UserFileError.
  * @template Result
  * @param {string} what is tried, as `cannot read NAME`
  * @param {() => Result} act
@@ -140,7 +140,7 @@ process.on("exit", () => {
 });
 
 /**
- * Follows the links of a name, also to a file that does not exist yet; those of /proc name what a process has open.
+ * Follows the links of a name, also to a file that does not exist yet; those of /proc name a file that a process has open.
  * @param {string} name
  */
 function followed(name) {
@@ -154,12 +154,12 @@ function followed(name) {
   }
 }
 
-/** Returns a name that nobody can guess. (Cryptography takes a while to load.) */
+/** Returns an unpredictable name. (Cryptography takes a while to load.) */
 function randomName() {
   return createRequire(import.meta.url)("node:crypto").randomBytes(12).toString("hex");
 }
 
-/** A new file beside another one, which it is going to replace. It has the mode and the owner of that one. */
+/** A new file in the folder of another one, which it is going to replace. It has the mode and the owner of that one. */
 export class Replacement {
   /**
    * @param {string} target a path without links
@@ -184,7 +184,7 @@ export class Replacement {
     }
   }
 
-  /** Puts it in the place of the other file. */
+  /** Replaces the other file by it. */
   put() {
     try {
       renameSync(this.name, this.target);
@@ -195,7 +195,7 @@ export class Replacement {
     }
   }
 
-  /** Removes it; the other file stays as it is. */
+  /** Removes it; the other file is unchanged. */
   drop() {
     rmSync(this.name, { force: true });
     pending.delete(this.name);
@@ -230,7 +230,7 @@ function keepOwner(file, { uid, gid, mode }) {
 }
 
 /**
- * Makes the file that is going to replace another one, with links followed.
+ * Makes the file that is going to replace another one, following links.
  * @param {string} name
  * @param {string | Uint8Array} bytes
  */
@@ -247,7 +247,7 @@ function isStream(name) {
 }
 
 /**
- * Writes a file of a user: it has the old bytes or the new ones at each moment. A device or a pipe is written as it is.
+ * Writes a file of a user: it has the old bytes or the new ones at each moment. A device or a pipe is written directly.
  * @param {string} name
  * @param {string | Uint8Array} bytes
  */
@@ -302,7 +302,7 @@ function beginOf(name, count) {
  * Rejects a file that a command is going to write: it must be new, empty or a file of the same kind, which begins with a text, and none of the
  * files that the command reads. A device or a pipe is accepted.
  * @param {string} name
- * @param {string} begin of such a file
+ * @param {string} begin the beginning of the name of such a file
  * @param {string} why another file is rejected, in words
  * @param {string[]} inputs the names of files that are read
  */
@@ -322,7 +322,7 @@ export function needOwnFile(name, begin, why, inputs) {
 // --- new files of a folder ---
 
 /**
- * Makes a folder that is not there, and those above it; returns the ones that were made, the innermost first.
+ * Makes a missing folder, and those above it; returns the ones that were made, the innermost first.
  * @param {string} folder
  */
 function makeFolder(folder) {
@@ -342,7 +342,7 @@ function makeFolder(folder) {
 }
 
 /**
- * Puts new files in their places; none of them stays if one cannot be put.
+ * Moves new files into their places; none of them stays if one fails.
  * @param {Replacement[]} replacements
  */
 function putAll(replacements) {
@@ -359,7 +359,7 @@ function putAll(replacements) {
 }
 
 /**
- * Writes new files into a folder, which is made if it is not there: all of them or none.
+ * Writes new files into a folder, which is made if it does not exist: all of them or none.
  * @param {string} folder
  * @param {{ name: string, content: string | Uint8Array }[]} files
  * @param {string[]} names that must not be there
@@ -382,7 +382,7 @@ export function writeNewFiles(folder, files, names) {
 }
 
 /**
- * Rejects a file that is not there, or that cannot be written in its place.
+ * Rejects a file that does not exist, or cannot be replaced.
  * @param {string} name
  */
 export function needWritableFile(name) {

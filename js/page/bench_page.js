@@ -1,19 +1,19 @@
-// The page: its parts, and what they show of a session. All that is shown comes from answers of the bench.
+// The page: its parts, and their views of a session. All that is shown comes from answers of the bench.
 
 import { AskView } from "./ui/ask_view.js";
 import { Face } from "../core/board/face.js";
 import { currentSessionOf, recoveryOf, runningOf, servingOf } from "./core.js";
-import { drawSound, drawingOf, lookViewOf, pressingOf, scopeOf } from "./board_ties.js";
-import { breakpointsOf, heatOf, historyOf, travelOf, usualOf, valuesOf, watchedOf } from "./debug_ties.js";
+import { drawSound, drawingOf, snapshotViewOf, pressingOf, scopeOf } from "./compose_board.js";
+import { breakpointsOf, heatOf, historyOf, travelOf, usualOf, valuesOf, watchedOf } from "./compose_debug.js";
 import { lampNames } from "../core/board/face_board.js";
 import { isTextOf, keptWith, wiredOf } from "../core/board/wired_text.js";
 import { cellWords } from "../core/help/manual.js";
 import { Layout } from "./layout.js";
 import { LogView } from "./lines/log_view.js";
-import { titleOf } from "../core/session/described.js";
+import { titleOf } from "../core/session/session_summary.js";
 import { KeptPast } from "./session/kept_past.js";
-import { exportOf, romFilesOf, sessionsControllerOf, sharingOf } from "./session_ties.js";
-import { editorsOf, exploreOf, nameCharacters, problemsOf, sourceOf, testsOf, textsOf } from "./text_ties.js";
+import { exportOf, romFilesOf, sessionsControllerOf, sharingOf } from "./compose_session.js";
+import { editorsOf, exploreOf, nameCharacters, problemsOf, sourceOf, testsOf, textsOf } from "./compose_texts.js";
 import { CyclesView } from "./time/cycles_view.js";
 import { TextLooks } from "./text/text_looks.js";
 import { WorkView } from "./ui/work_view.js";
@@ -30,7 +30,7 @@ import * as say from "../words/page.js";
  * @typedef {import("./session/store.js").SessionStore} SessionStore
  * @typedef {import("../core/bench/words.js").Words} Words
  * @typedef {{ bench: Bench, makeBench: () => Bench, store: SessionStore, locks: Locks, words: Words, notice: Notice, examples: Example[],
- *   manual: ManualSection[] }} Parts `makeBench` makes another bench, in a worker of its own
+ *   manual: ManualSection[] }} Parts `makeBench` makes a further bench, in a worker of its own
  */
 
 export class Page {
@@ -42,7 +42,7 @@ export class Page {
     this.store = store;
     this.words = words;
     this.notice = notice;
-    /** Whether the keyboard presses keys of the board. */
+    /** True if the keyboard presses keys of the board. */
     this.types = true;
     this.past = new KeptPast();
     this.current = currentSessionOf(this);
@@ -50,7 +50,7 @@ export class Page {
     this.running = runningOf(this);
     this.serving = servingOf(this);
     this.pressing = pressingOf(this);
-    this.lookView = lookViewOf(this);
+    this.snapshotView = snapshotViewOf(this);
     this.log = new LogView(words);
     this.layout = new Layout(() => this.printed());
     this.work = new WorkView();
@@ -94,7 +94,7 @@ export class Page {
   }
 
   /**
-   * What the bench tells by itself.
+   * Returns the listener to the bench's own messages.
    * @returns {import("../core/bench/bench_client.js").Listener}
    */
   listener() {
@@ -105,13 +105,13 @@ export class Page {
     };
   }
 
-  /** The program's text, or what stands in ROM, may be another one. */
+  /** The program's text, or ROM, may have changed. */
   checkSource() {
     return this.source.check().catch((fault) => this.recovery.failed(fault));
   }
 
   /**
-   * What is printed beside the lamps.
+   * Returns the text that is printed next to the lamps.
    * @returns {import("./print_view.js").Printed}
    */
   printed() {
@@ -119,7 +119,7 @@ export class Page {
   }
 
   /**
-   * Another session is shown from here on: its texts, and nothing of the one before.
+   * Another session is shown from now on: its texts, and nothing of the one before.
    * @param {SessionRecord} record
    */
   begin(record) {
@@ -151,11 +151,11 @@ export class Page {
     const { wiring } = this.editors;
     const wired = wiring === null ? wiredOf(board, this.boardEditor.text, record.wired) : { text: wiring, board: board.join("\n") };
     record.wired = keptWith(wired, record.wired);
-    const { lookView } = this;
+    const { snapshotView } = this;
     this.current.takeTitle(titleOf(wired.text, this.programEditor.text) || (board.length > 1 ? say.MY_BOARD : ""));
-    lookView.draw(board, wired.text);
+    snapshotView.draw(board, wired.text);
     this.drawing.wired(board);
-    this.history.draw(lookView.board, lampNames(new Face(wired.text), lookView.board.lamps.length));
+    this.history.draw(snapshotView.board, lampNames(new Face(wired.text), snapshotView.board.lamps.length));
     this.editors.look(board.length === 1);
     this.heat.wired();
     drawSound(this, wired.text);
@@ -163,7 +163,7 @@ export class Page {
   }
 
   /**
-   * Shows another face of the board. The face of a text of another board waits until that is wired.
+   * Shows a changed front panel of the board. The front panel in a text of another board waits until that is wired.
    * @param {string} boardText
    */
   readFace(boardText) {
@@ -171,17 +171,17 @@ export class Page {
     const [wired] = (session && session.record.wired) || [];
     if (!session || !wired || !isTextOf(boardText, wired)) return;
     session.record.wired = keptWith({ ...wired, text: boardText }, session.record.wired);
-    this.lookView.readFace(boardText);
+    this.snapshotView.readFace(boardText);
     drawSound(this, boardText);
   }
 
   /**
-   * Takes what the session is now, and shows it.
+   * Shows a snapshot of the session.
    * @param {Shown} shown
-   * @param {boolean} [isPassing] whether time has come here and goes on
-   * @param {import("../core/engine/shining.js").Shone | null} [shone] what was lit in that time
+   * @param {boolean} [isPassing] whether time runs and another snapshot follows
+   * @param {import("../core/engine/brightness_meter.js").LitShares | null} [litShares] the light in that time
    */
-  show({ look, file, board, total, reset, future, past, waves, printed, waiting }, isPassing = false, shone = null) {
+  show({ snapshot, file, board, total, reset, future, past, waves, printed, waiting }, isPassing = false, litShares = null) {
     const { session } = this.current;
     if (!session) return;
     this.bench.giveBack(session.take(file));
@@ -191,10 +191,10 @@ export class Page {
     session.record.cycles = this.cycles.cycles.kept;
     this.history.showFuture(future);
     if (board) this.draw(session.record, board);
-    this.lookView.show(look, isPassing, shone);
+    this.snapshotView.show(snapshot, isPassing, litShares);
     if (printed) {
       session.record.printed = printed;
-      this.lookView.strip.take(printed);
+      this.snapshotView.strip.take(printed);
     }
     this.values.looked(total);
     this.heat.looked();

@@ -1,4 +1,4 @@
-// What those parts call of the others that let time run, serve lines, and keep the session: they get calls, and know no page.
+// Composes the parts that let time run, serve lines and keep the session: connects them to other parts; they know no page.
 
 import { wordsOfAddress, wordsOfWhen } from "../words/stops.js";
 import { Serving } from "./lines/serving.js";
@@ -60,17 +60,17 @@ export function runningOf(page) {
       page.log.collect(frame.ran);
       page.usual.show(frame.tally.usual);
       page.heat.ran(frame);
-      page.show(frame, true, frame.shone);
+      page.show(frame, true, frame.litShares);
       page.breakpoints.count(frame.tally);
     },
-    drawRest: () => page.lookView.showRest(),
-    drawListing: () => page.lookView.showListing(),
+    drawRest: () => page.snapshotView.showRest(),
+    drawListing: () => page.snapshotView.showListing(),
     isOwed: () => {
-      const { registers } = page.lookView.reader;
+      const { registers } = page.snapshotView.reader;
       return registers !== null && registers.owed === "1";
     },
     cycles: () => page.cycles.cycles.total,
-    where: () => wordsOfAddress(page.lookView.counter, page.source.map),
+    where: () => wordsOfAddress(page.snapshotView.counter, page.source.map),
     when: (id) => wordsOfWhen(page.breakpoints.keeper.list.get(id), page.breakpoints.keeper.faults.get(id)),
     unreadable: () => page.breakpoints.keeper.faults.size,
     wordsOfRefusal: (number) => page.words.ofRefusal(number),
@@ -88,10 +88,10 @@ export function servingOf(page) {
   return new Serving(page.bench, page.words, page.notice, {
     map: () => page.source.map,
     work: (words, work) => page.work.show(words, (signal, progress) => work({ signal, progress })),
-    counter: () => page.lookView.counter,
-    show: (told) => {
-      if (told.touchesRom) page.lookView.forgetRom();
-      page.show(told);
+    counter: () => page.snapshotView.counter,
+    show: (result) => {
+      if (result.touchesRom) page.snapshotView.forgetRom();
+      page.show(result);
     },
     checkSource: () => page.checkSource(),
     keep: () => current.touchAndKeep(),
@@ -100,7 +100,7 @@ export function servingOf(page) {
     isRunning: () => running.clock.isRunning,
     forgetGoal: () => running.forgetGoal(),
     reasonOf: (stop) => running.reasonOf(stop, null),
-    tell: (words) => running.tell(words),
+    showMessage: (words) => running.showMessage(words),
     failed: (fault) => page.recovery.failed(fault),
   });
 }

@@ -1,6 +1,6 @@
-// The board in an editor that debugs a program: its lamps, displays and keys, drawn by the page's own views. The editor's extension tells
-// what is new (adapter/shown_board.js), and is told of fingers on keys. editors/vsix makes one script of it; editors/vscode/board_view.html
-// has its blocks.
+// The board in an editor that debugs a program: its lamps, displays and keys, drawn by the page's own views. The editor's extension reports
+// changes (adapter/shown_board.js), and is informed of fingers on keys. editors/vsix bundles it as one script;
+// editors/vscode/board_view.html has its blocks.
 
 import { readBoard } from "../core/bench/answers.js";
 import { keyOfKeyboard } from "../core/board/board_keys.js";
@@ -8,7 +8,7 @@ import { Face } from "../core/board/face.js";
 import { pinKey, textOfKey } from "../core/board/key_place.js";
 import { FrontView } from "./board/front_view.js";
 import { Pressing, wantsKey } from "./board/pressing.js";
-import { StripView } from "./board/strip_view.js";
+import { PrinterView } from "./board/printer_view.js";
 import { block, button, field } from "./ui/dom.js";
 
 /**
@@ -16,34 +16,34 @@ import { block, button, field } from "./ui/dom.js";
  * @typedef {import("../core/board/key_place.js").Key} Key
  */
 
-/** What Visual Studio Code gives to a view. */
+/** The interface that Visual Studio Code gives to a view. */
 const editor = globalThis.acquireVsCodeApi();
 let isRunning = false;
 
 /** @type {(key: Key, isDown: boolean) => void} */
-const tell = (key, isDown) => editor.postMessage({ place: textOfKey(key), isDown });
+const sendKey = (key, isDown) => editor.postMessage({ place: textOfKey(key), isDown });
 
 /** @type {Pressing} */
 const pressing = new Pressing({
   isRunning: () => isRunning,
   isDown: (key) => front.isDown(key),
-  press: (key) => tell(key, true),
-  release: (key) => tell(key, false),
-  change: (word, key) => tell(key, word === "press"),
+  press: (key) => sendKey(key, true),
+  release: (key) => sendKey(key, false),
+  change: (word, key) => sendKey(key, word === "press"),
   meant: (event) => {
     if (event.ctrlKey || event.metaKey || event.altKey || !field("typing").checked || wantsKey(event.target, event.key)) return undefined;
     return keyOfKeyboard(front.keys, event.key);
   },
 });
-/** While time runs, lamps are shown as an eye sees them; else as they are at that instant. */
+/** While time runs, lamps are shown as perceived; otherwise as they are at that instant. */
 const front = new FrontView((node, key) => pressing.listen(node, key), () => {});
-/** The adapter keeps what is printed from the moment that the board is drawn. */
-const strip = new StripView({ printOn: () => {}, tear: () => editor.postMessage({ isTorn: true }) });
+/** The adapter keeps the printout from the moment when the board is drawn. */
+const strip = new PrinterView({ printOn: () => {}, clear: () => editor.postMessage({ isTorn: true }) });
 pressing.listenToKeyboard();
-button("test").addEventListener("click", () => tell(pinKey(front.level === "1" ? 0 : 1), true));
+button("test").addEventListener("click", () => sendKey(pinKey(front.level === "1" ? 0 : 1), true));
 
 /**
- * Shows what is new; null where nothing is debugged any more.
+ * Shows changes; null once debugging has ended.
  * @param {ShownNews | null} news
  */
 function show(news) {
@@ -68,7 +68,7 @@ function show(news) {
   if (news.printed) strip.take(news.printed);
   if (news.keys) front.showKeys(news.keys);
   const marks = news.lamps ?? front.marks;
-  if (news.shone) front.shine(marks, news.shone, Infinity);
+  if (news.litShares) front.shine(marks, news.litShares, Infinity);
   else if (!isRunning) front.showLamps(marks);
 }
 

@@ -1,4 +1,4 @@
-// The workbench: the tabs of the texts and of the dock, panels with their borders, and what is printed.
+// The workbench: the tabs of the texts and of the dock, panels with their borders, and printing.
 
 import { Choices } from "./ui/choices.js";
 import { block } from "./ui/dom.js";
@@ -30,7 +30,7 @@ const BORDERS = [
 ];
 
 export class Layout {
-  /** @param {() => Printed} printed what is to be printed */
+  /** @param {() => Printed} printed the content to print */
   constructor(printed) {
     this.choices = new Choices();
     const { choices } = this;

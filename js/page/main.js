@@ -3,14 +3,14 @@
 import { inflateRaw } from "pako/dist/pako_inflate.js";
 import { Bench } from "../core/bench/bench_client.js";
 import { startWorker } from "./bench/early_replies.js";
-import { Commands, shellOf } from "./command_ties.js";
+import { Commands, shellOf } from "./compose_commands.js";
 import { block, button, byId, element, field, onClick } from "./ui/dom.js";
 import { fromBase64 } from "../core/session/base64.js";
 import { Locks } from "./session/locks.js";
 import { Notice } from "./ui/notice.js";
 import { Page } from "./bench_page.js";
 import { storyOf } from "./session/address.js";
-import { guideOf } from "./session_ties.js";
+import { guideOf } from "./compose_session.js";
 import { SPEEDS, speedOf } from "../core/time/speeds.js";
 import { inTime, MemoryStore, Store } from "./session/store.js";
 import { Words } from "../core/bench/words.js";
@@ -20,14 +20,15 @@ import * as say from "../words/page.js";
  * @typedef {import("../core/engine/examples.js").Example} Example
  * @typedef {import("./session/store.js").SessionStore} SessionStore
  * @typedef {import("../core/help/manual.js").ManualSection} ManualSection
- * @typedef {{ refusals: Record<string, string>, examples: Example[], manual: ManualSection[] }} Data what page/build puts into the page
+ * @typedef {{ refusals: Record<string, string>, examples: Example[], manual: ManualSection[] }} Data the data that page/build puts into the
+ * page
  */
 
-/** A module that fills memory at once (bulk memory), which the bench's own does: a memory, and a function with `memory.fill`. */
+/** A module that fills memory at once (bulk memory), as the bench's own module does: a memory, and a function with `memory.fill`. */
 const BULK_MEMORY_TRIAL = Uint8Array.of(0, 97, 115, 109, 1, 0, 0, 0, 1, 4, 1, 96, 0, 0, 3, 2, 1, 0, 5, 3, 1, 0, 1, 10, 13, 1, 11, 0,
   65, 0, 65, 0, 65, 0, 252, 11, 0, 11);
 
-/** What the bench needs and this browser lacks, in words; "" where it has all. */
+/** Returns what this browser lacks for the bench, in words; "" if nothing. */
 function lackOfBrowser() {
   if (typeof WebAssembly !== "object" || !WebAssembly.validate(BULK_MEMORY_TRIAL)) return say.BULK_MEMORY;
   if (typeof BigInt !== "function") return say.BIG_INTEGERS;
@@ -65,18 +66,18 @@ function unpackedPart(id) {
 }
 
 /**
- * What makes benches, each in a worker that is made of the page's own text.
+ * Returns the maker of benches, each in a worker whose script is a part from the page.
  * @param {Example[]} examples
  */
 function benchMaker(examples) {
-  const address = URL.createObjectURL(new Blob([textOf("worker")], { type: "text/javascript" }));
+  const address = URL.createObjectURL(new Blob([unpackedPart("worker")], { type: "text/javascript" }));
   const module = unpackedPart("module").buffer;
   return () => new Bench(() => startWorker(address), module, examples);
 }
 
 /** @param {Page} page */
 function listenToButtons(page) {
-  onClick(button("test"), () => page.serving.act(`test ${page.lookView.test.isOn ? 0 : 1}\n`));
+  onClick(button("test"), () => page.serving.act(`test ${page.snapshotView.test.isOn ? 0 : 1}\n`));
   onClick(button("from-rom"), () => page.texts.takeFromRom());
   listenToChoices(page);
 }
@@ -101,12 +102,12 @@ function listenToChoices(page) {
     page.types = typing.checked;
   });
   show();
-  // A page that is come back to may have been filled in again by the browser.
+  // The browser may have filled in the fields of a page to which the user returns.
   addEventListener("pageshow", show);
 }
 
 /**
- * What the browser tells when the page is hidden or goes away: the session is kept at once.
+ * Listens to the events of a page that is hidden or left, and saves the session at once.
  * @param {Page} page
  */
 function listenToLeaving(page) {
@@ -115,9 +116,9 @@ function listenToLeaving(page) {
   addEventListener("beforeunload", (event) => {
     if (!page.store.keeps) event.preventDefault();
   });
-  // What fails where nothing waits for it is told all the same.
+  // An error that nothing awaits is reported all the same.
   addEventListener("error", (event) => {
-    // Browsers tell so that what was measured is shown a frame later; nothing fails.
+    // Browsers report this when measurements are shown a frame later; nothing fails.
     if (!event.error && /^ResizeObserver loop/.test(event.message)) return;
     page.recovery.failed(event.error || event.message);
   });
@@ -128,7 +129,7 @@ function listenToLeaving(page) {
 /**
  * @param {Words} words
  * @param {Notice} notice
- * @param {import("./command_ties.js").Shell} shell
+ * @param {import("./compose_commands.js").Shell} shell
  * @param {Data} data
  */
 async function start(words, notice, shell, { examples, manual }) {
@@ -147,11 +148,11 @@ async function start(words, notice, shell, { examples, manual }) {
   listenToButtons(page);
   listenToLeaving(page);
   await page.sessionsController.openFirst(story);
-  if (story) guide.tell(story, examples);
+  if (story) guide.showStory(story, examples);
   if (isFirst) commands.welcomeFirst();
-  // What keeps it as the page is left has to have run before, for Firefox 153 to run it then.
+  // The save at leaving the page must have run before, for Firefox 153 to run it then.
   page.current.keepNow();
-  // How many milliseconds it took.
+  // The duration in milliseconds.
   document.body.dataset.ready = String(Math.round(performance.now()));
 }
 

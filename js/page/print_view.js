@@ -1,4 +1,4 @@
-// What is printed: the lamps as they are, and both texts whole, however much of them an editor shows.
+// The printed page: the lamps as they are, and both texts completely, however much of them an editor shows.
 
 import { block, element } from "./ui/dom.js";
 import * as say from "../words/page.js";
@@ -6,13 +6,13 @@ import * as say from "../words/page.js";
 /** @typedef {{ name: string, board: string, program: string }} Printed */
 
 export class PrintView {
-  /** @param {() => Printed} printed what is to be printed now */
+  /** @param {() => Printed} printed the content to print now */
   constructor(printed) {
     this.printed = printed;
     this.block = block("print");
     addEventListener("beforeprint", () => this.fill());
     addEventListener("afterprint", () => this.block.replaceChildren());
-    // Where the browser only shows how a print would look.
+    // For browsers that only preview a print.
     const print = matchMedia("print");
     if (print.addEventListener) print.addEventListener("change", () => print.matches && this.fill());
   }

@@ -1,4 +1,4 @@
-// What is done where something fails: a call, or the worker that the bench is in.
+// Recovery if something fails: a call, or the worker that the bench is in.
 
 import * as say from "../words/page.js";
 
@@ -12,13 +12,13 @@ import * as say from "../words/page.js";
  */
 
 /**
- * What the recovery from errors and dead workers calls.
+ * The calls that the recovery from errors and dead workers makes.
  * @typedef {object} RecoveryCalls
  * @property {() => KeptSession | null} session Returns the session that is shown; null if there is none.
  * @property {() => boolean} isRunning Returns whether time runs.
  * @property {() => void} stopClock Stops the clock of the page; the worker is not asked.
  * @property {(words: string) => void} halted Shows that time is paused, and why.
- * @property {(frame: Frame) => void} ran Shows what time has done before the worker failed.
+ * @property {(frame: Frame) => void} ran Shows the work of time before the worker failed.
  * @property {(record: SessionRecord) => Promise<void>} openAgain Opens a session in a new worker and shows it. Rejects if the worker
  *   fails again.
  */
@@ -35,7 +35,7 @@ export class Recovery {
     this.words = words;
     this.notice = notice;
     this.calls = calls;
-    /** Whether another worker is being started in the place of one that died. */
+    /** True if a worker is being started in place of a dead one. */
     this.isRestarting = false;
   }
 
@@ -46,17 +46,17 @@ export class Recovery {
   failed(fault) {
     const { bench, notice, words, calls } = this;
     console.error(fault);
-    // What the dead worker owed, and what another one cannot answer yet: it is told below.
+    // Work of the dead worker that a new one cannot answer: it is reported below.
     if (this.isRestarting) return;
     notice.show(words.ofFailure(fault));
     if (!calls.session()) return;
     const isRunning = calls.isRunning();
     calls.halted(say.STOPPED);
-    // What time has done before is not lost.
+    // The work before it is not lost.
     if (isRunning) bench.call("halt", []).then(calls.ran).catch(() => {});
   }
 
-  /** The worker died. The newest that it told is here: the session goes on from there. */
+  /** Handles the death of the worker. The session continues from its last report, which is here. */
   async restart() {
     const { bench, notice, words, calls } = this;
     this.isRestarting = true;

@@ -1,4 +1,4 @@
-// The debug adapter, without a process: its messages, and what it answers by the module of the page.
+// The debug adapter, without a process: its messages, and its answers on the page's module.
 import assert from "node:assert/strict";
 import { test } from "node:test";
 import { readFileSync } from "node:fs";
@@ -6,11 +6,11 @@ import { LONGEST_MESSAGE, framed } from "../core/server/framing.js";
 import { EYE_CYCLES } from "../core/time/mcs4_time.js";
 import { FILES, FakeFile, LOCK, SOURCE, engine, served } from "./served_adapter.js";
 
-test("messages are answered in their order, each by a number of its own; what is none is told", async () => {
-  const { connection, told, answer, ask, until } = served();
-  assert.deepEqual((await answer("threads")).message, "initialize comes first");
+test("messages are answered in their order, each by a number of its own; what is none is reported", async () => {
+  const { connection, messages, answer, ask, until } = served();
+  assert.deepEqual((await answer("threads")).message, "send initialize first");
   await ask("initialize", {});
-  assert.equal((await answer("initialize", {})).message, "initialize comes once");
+  assert.equal((await answer("initialize", {})).message, "initialize can be sent only once");
   assert.equal((await answer("nothing")).message, "unsupported request: nothing");
   assert.equal((await answer("toString")).message, "unsupported request: toString");
   assert.equal((await answer("stackTrace", { threadId: 1 })).message, "nothing is launched yet");
@@ -20,11 +20,12 @@ test("messages are answered in their order, each by a number of its own; what is
   connection.take(new TextEncoder().encode(`Content-Length: ${LONGEST_MESSAGE + 1}\r\n\r\n`));
   connection.take(new Uint8Array(LONGEST_MESSAGE + 1));
   await until(({ message }) => (message || "").includes("was not read"));
-  const faults = told.filter(({ success }) => success === false).slice(-4).map(({ request_seq, message }) => `${request_seq} ${message}`);
+  const faults = messages.filter(({ success }) => success === false).slice(-4)
+    .map(({ request_seq, message }) => `${request_seq} ${message}`);
   const form = "a message has a number seq, the type \"request\" and a command";
   const tooLong = `0 a message of ${LONGEST_MESSAGE + 1} bytes was not read`;
   assert.deepEqual(faults, [`70 ${form}`, `0 ${form}`, "0 a message is not JSON", tooLong]);
-  assert.deepEqual(told.map(({ seq }) => seq), told.map((_, at) => at + 1));
+  assert.deepEqual(messages.map(({ seq }) => seq), messages.map((_, at) => at + 1));
 });
 
 test("what cannot be launched is refused in words, and another launch can follow", async () => {
@@ -38,13 +39,13 @@ test("what cannot be launched is refused in words, and another launch can follow
   assert.match(await refused({ program: "/none.asm" }), /cannot read \/none.asm/);
   assert.match(await refused({ program: "/a.asm" }), /^a.asm, line 1: the line has no form that the assembler knows \(no 30\)$/);
   assert.match(await refused({ program: "/b/b.asm" }), /^there is no board.toml beside \/b\/b.asm/);
-  assert.match(await refused({ session: "/none.mcs" }), /^\/none.mcs is not there/);
+  assert.match(await refused({ session: "/none.mcs" }), /^\/none.mcs does not exist/);
   assert.match(await refused({ project: "/b" }), /^there is no \/b\/mcs4.toml/);
   assert.match(await refused({ project: "/c/mcs4.toml" }), /^\/c\/mcs4.toml, line 2: \/x.asm is not a path from the project's folder/);
   assert.match((await answer("attach", {})).message, /^attach needs "session"/);
   await ask("launch", { cwd: "/lock", project: "/lock" });
-  assert.equal((await answer("launch", LOCK)).message, "launch comes once");
-  assert.equal((await answer("next", { threadId: 1 })).message, "configurationDone comes first");
+  assert.equal((await answer("launch", LOCK)).message, "launch can be sent only once");
+  assert.equal((await answer("next", { threadId: 1 })).message, "send configurationDone first");
 });
 
 test("breakpoints at lines, labels and addresses, with conditions, hits and notes", async () => {
@@ -72,9 +73,9 @@ test("breakpoints at lines, labels and addresses, with conditions, hits and note
   assert.deepEqual([here.reason, here.hitBreakpointIds], ["instruction breakpoint", [address.id]]);
   assert.match(output(), /acc 1\n/);
   await ask("setInstructionBreakpoints", { breakpoints: [] });
-  // The lock looks for a key once all are up.
+  // The lock waits for a key once all are up.
   assert.match(await evaluate("run 5000", "repl"), /^ok \d+ ran 5000 end$/);
-  assert.equal(await evaluate("keys #", "repl"), "1 key waits for time to run (continue)");
+  assert.equal(await evaluate("keys #", "repl"), "1 key waits until the machine runs (continue)");
   const second = await move("continue");
   assert.deepEqual([second.reason, await lines()], ["breakpoint", [83, 29]]);
 });
@@ -96,7 +97,7 @@ test("over, into, out, back and back again; goto; values are set", async () => {
   assert.deepEqual([arrival.reason, arrival.hitBreakpointIds.length, await lines()], ["function breakpoint", 1, [80, 29]]);
   const beginning = await move("reverseContinue");
   assert.deepEqual([beginning.reason, await lines()], ["entry", [16]]);
-  assert.match(beginning.description, /^Back at 000 .*, where what is remembered begins: no breakpoint was passed since\.$/);
+  assert.match(beginning.description, /^Back at 000 .*, at the beginning of what is remembered: no breakpoint was passed since\.$/);
   assert.match((await move("reverseContinue")).description, /^Nothing was done: what is remembered reaches no further back\.$/);
   await ask("setFunctionBreakpoints", { breakpoints: [] });
   for (const command of ["stepIn", "next", "next", "next", "stepIn"]) await move(command);
@@ -109,7 +110,7 @@ test("over, into, out, back and back again; goto; values are set", async () => {
   assert.deepEqual([await evaluate("r4"), await evaluate("R5"), await evaluate("r5 = 15 and not cy 1")], ["0x1", "0xF", "true"]);
   assert.match((await answer("setExpression", { expression: "r4", value: "16" })).message, /r4 holds 0 to 15/);
   assert.match((await answer("setExpression", { expression: "r4", value: "x y" })).message, /^x: no such place/);
-  assert.match((await answer("setExpression", { expression: "r4", value: "r4 = 1" })).message, /is no number/);
+  assert.match((await answer("setExpression", { expression: "r4", value: "r4 = 1" })).message, /is neither a number/);
   assert.equal((await ask("setExpression", { expression: "r4", value: "R5 - 0b1110" })).value, "0x1");
   const offered = async (text) => (await ask("completions", { text, column: text.length + 1 })).targets.map(({ label }) => label);
   assert.deepEqual((await offered("press ")).slice(0, 3), ["1", "2", "3"]);
@@ -158,8 +159,8 @@ test("scopes, variables, memory and disassembly", async () => {
   assert.match((await answer("writeMemory", { memoryReference: "0xFFF", data: "QUI=" })).message, /outside/);
   const asked = { memoryReference: "0x02C", instructionOffset: -1, instructionCount: 3 };
   const { instructions } = await ask("disassemble", asked);
-  const told = instructions.map((each) => [each.address, each.instruction, each.instructionBytes, each.line]);
-  assert.deepEqual(told, [["0x02B", "DB 0x0B", "0B", 24], ["0x02C", "LDM 13", "DD", 26], ["0x02D", "XCH R12", "BC", 27]]);
+  const listed = instructions.map((each) => [each.address, each.instruction, each.instructionBytes, each.line]);
+  assert.deepEqual(listed, [["0x02B", "DB 0x0B", "0B", 24], ["0x02C", "LDM 13", "DD", 26], ["0x02D", "XCH R12", "BC", 27]]);
   assert.match((await answer("disassemble", { memoryReference: "0x1000", instructionCount: 4 })).message, /addresses are/);
 });
 
@@ -209,16 +210,16 @@ test("a step out without an open call is refused with words that are shown", asy
 
 test("a line in the console that changes the machine says where it is now", async () => {
   for (const supportsInvalidatedEvent of [false, true]) {
-    const { begin, ask, stops, told } = served();
+    const { begin, ask, stops, messages } = served();
     await begin({ ...LOCK, supportsInvalidatedEvent });
     assert.equal(stops()[0].description, "Paused at 000 (line 16).");
     const lines = [["poke pc 0x02C", /^Paused at 02C \(.*line 26\)\.$/], ["step", /^Paused at 02D \(/], ["reset", /^Paused at 000 /]];
     for (const [line, wanted] of lines) {
-      const before = told.length;
+      const before = messages.length;
       await ask("evaluate", { expression: line, context: "repl" });
       const { description } = await ask("exceptionInfo", { threadId: 1 });
       assert.match(description, wanted);
-      const events = told.slice(before).filter(({ event }) => event === "stopped" || event === "invalidated");
+      const events = messages.slice(before).filter(({ event }) => event === "stopped" || event === "invalidated");
       const wantedEvent = supportsInvalidatedEvent ? "invalidated" : description;
       assert.deepEqual(events.map(({ event, body }) => body.description || event), [wantedEvent]);
     }
@@ -226,12 +227,12 @@ test("a line in the console that changes the machine says where it is now", asyn
 });
 
 test("time that runs is paused; what is done meanwhile is done between pieces", async () => {
-  const { begin, ask, answer, until, told, stops, evaluate } = served();
+  const { begin, ask, answer, until, messages, stops, evaluate } = served();
   await begin({ ...LOCK, stopOnEntry: false });
   assert.equal((await answer("stackTrace", { threadId: 1 })).message, "notStopped");
   assert.equal((await answer("next", { threadId: 1 })).message, "notStopped");
   await ask("setBreakpoints", { source: SOURCE, breakpoints: [{ line: 60 }] });
-  assert.match((await answer("evaluate", { expression: "run 5", context: "repl" })).message, /time runs/);
+  assert.match((await answer("evaluate", { expression: "run 5", context: "repl" })).message, /the machine is running/);
   assert.equal(await evaluate("press #", "repl"), "");
   await until(({ event }) => event === "stopped");
   assert.equal(stops()[0].reason, "breakpoint");
@@ -239,18 +240,18 @@ test("time that runs is paused; what is done meanwhile is done between pieces", 
   await ask("pause", { threadId: 1 });
   await until(() => stops().length === 2);
   assert.equal(stops()[1].reason, "pause");
-  assert.ok(told.some(({ body }) => body && body.category === "stdout" && body.output === "lamps *.. locked\n"));
+  assert.ok(messages.some(({ body }) => body && body.category === "stdout" && body.output === "lamps *.. locked\n"));
   await ask("disconnect", {});
 });
 
-test("a client that draws the board is told it once, what changes, and moves keys by their places", async () => {
-  const { begin, ask, answer, move, evaluate, told, until } = served();
-  assert.equal((await answer("watchBoard")).message, "initialize comes first");
+test("a client that draws the board receives it once, what changes, and moves keys by their places", async () => {
+  const { begin, ask, answer, move, evaluate, messages, until } = served();
+  assert.equal((await answer("watchBoard")).message, "send initialize first");
   await begin();
   const { board, boardText, ...shown } = await ask("watchBoard");
   assert.deepEqual([board[0], boardText], ["board", FILES["/lock/board.toml"]]);
   assert.deepEqual(shown, { lamps: "...", keys: [], test: "1", isRunning: false });
-  const news = () => told.filter(({ event }) => event === "boardShown").map(({ body }) => body);
+  const news = () => messages.filter(({ event }) => event === "boardShown").map(({ body }) => body);
   await ask("changeKey", { place: "1 1", isDown: true });
   assert.deepEqual(news(), [{ keys: ["1.1"] }]);
   assert.match(await evaluate("state", "repl"), / keys 1\.1 /);
@@ -265,9 +266,9 @@ test("a client that draws the board is told it once, what changes, and moves key
   await move("continue");
   await until(({ event, body }) => event === "boardShown" && body.isRunning === false && news().length > 4);
   assert.ok(news().some(({ lamps }) => lamps === "*.."));
-  const seen = news().filter(({ shone }) => shone);
-  assert.ok(seen.some(({ shone }) => shone.cycles === EYE_CYCLES && shone.lamps[0] === EYE_CYCLES));
-  assert.equal(news().pop().shone, undefined);
+  const seen = news().filter(({ litShares }) => litShares);
+  assert.ok(seen.some(({ litShares }) => litShares.cycles === EYE_CYCLES && litShares.lamps[0] === EYE_CYCLES));
+  assert.equal(news().pop().litShares, undefined);
   assert.equal(news().filter((each) => each.board).length, 0);
   await ask("restart", {});
   await until(({ event, body }) => event === "boardShown" && body.board);
@@ -329,7 +330,7 @@ test("a session file is made, or opened without a program; another program is re
   const other = served(files, sessions);
   await other.ask("initialize", {});
   const wrong = await other.answer("launch", { program: "/lock/other.asm", session: "/new.mcs" });
-  assert.match(wrong.message, /other.asm is not what stands in ROM of new.mcs: ROM has another byte at 0x000. "load": true puts it there/);
+  assert.match(wrong.message, /other.asm differs from the ROM of new.mcs: ROM has another byte at 0x000. "load": true puts it there/);
   sessions["/new.mcs"] = new FakeFile(sessions["/new.mcs"].now);
   const bare = served(files, sessions);
   await bare.begin({ session: "/new.mcs" });
@@ -345,9 +346,9 @@ const THREE = "test it shows 12\n  run 10\n  save shown\n\ntest it goes on\n  fr
 test("a test is debugged: where it fails, or at its end, with its past", async () => {
   const project = FILES["/lock/mcs4.toml"].replace(/^tests.*$/m, 'tests = ["a b.test"]');
   const files = { ...FILES, "/lock/mcs4.toml": project, "/lock/a b.test": THREE };
-  const { ask, begin, move, told } = served(files);
+  const { ask, begin, move, messages } = served(files);
   await begin({ test: "it fails", tests: "/lock/a b.test" });
-  const output = () => told.filter(({ event }) => event === "output").map(({ body }) => body.output).join("");
+  const output = () => messages.filter(({ event }) => event === "output").map(({ body }) => body.output).join("");
   assert.match(output(), /^\/lock\/a b\.test:15: it fails: acc is \d+, and has to be 9\n/);
   const counter = async () => (await ask("stackTrace", { threadId: 1 })).stackFrames[0].instructionPointerReference;
   const failed = await counter();
@@ -357,7 +358,7 @@ test("a test is debugged: where it fails, or at its end, with its past", async (
   assert.equal(await counter(), failed);
   const other = served(files);
   await other.begin({ test: "it goes on", tests: "/lock/a b.test" });
-  const shown = other.told.filter(({ event }) => event === "output").map(({ body }) => body.output).join("");
+  const shown = other.messages.filter(({ event }) => event === "output").map(({ body }) => body.output).join("");
   assert.match(shown, /The test passes: it goes on\./);
   const failing = async (given) => {
     const { ask: request, answer: response } = served(files);
@@ -368,20 +369,20 @@ test("a test is debugged: where it fails, or at its end, with its past", async (
   assert.match(await failing({ test: "it fails" }), /a test needs `tests`/);
 });
 
-test("a client that draws the board is told what is printed, and clears it", async () => {
+test("a client that draws the board receives what is printed, and clears it", async () => {
   const example = (name) => readFileSync(new URL(`../../examples/printing_calculator/${name}`, import.meta.url), "utf8");
   const files = { "/p/board.toml": example("board.toml"), "/p/p.asm": example("printing_calculator.asm") };
-  const { begin, ask, answer, told } = served(files);
+  const { begin, ask, answer, messages } = served(files);
   await begin({ program: "/p/p.asm" });
   assert.deepEqual((await ask("watchBoard")).printed.codes, []);
   const lines = async (text) => {
     for (const line of text.split("; ")) assert.ok((await answer("evaluate", { expression: line, context: "repl" })).success, line);
   };
   await lines("run 20000; press 7; run 4000; release 7; run 16000; press +; run 4000; release +; run 60000");
-  const printed = () => told.filter(({ event, body }) => event === "boardShown" && body.printed)
+  const printed = () => messages.filter(({ event, body }) => event === "boardShown" && body.printed)
     .map(({ body }) => body.printed.codes.length);
   assert.ok(Math.max(...printed()) > 1, `what was printed: ${printed()}`);
-  await ask("tearPaper");
+  await ask("clearPrintout");
   await lines("run 10");
   assert.equal(printed().pop(), 0);
 });

@@ -1,4 +1,5 @@
-// What a debug adapter answers beside stops: attach, cancelled requests, progress, number formats, memory, completion, frames and targets.
+// Answers of a debug adapter other than stops: attach, cancelled requests, progress, number formats, memory, completion, frames and
+// targets.
 import assert from "node:assert/strict";
 import { test } from "node:test";
 import { framed } from "../core/server/framing.js";
@@ -24,7 +25,7 @@ test("attach debugs what a session file has, and leaves the file as it is", asyn
   await move("stepIn");
   await ask("setExpression", { expression: "r4", value: "7" });
   assert.equal(await evaluate("r4"), "0x7");
-  assert.equal((await answer("attach", { session: "/s.mcs" })).message, "launch comes once");
+  assert.equal((await answer("attach", { session: "/s.mcs" })).message, "launch can be sent only once");
   await move("restart", {});
   assert.equal(await evaluate("state", "repl"), engine.ask(before, "state\n").answers[0], "restart reads the file again");
   await ask("disconnect", {});
@@ -53,7 +54,7 @@ test("what cannot be attached to is refused in words", async () => {
   assert.equal(await refused({ session: "/nowhere.mcs" }), "there is no session file /nowhere.mcs");
   assert.equal(await refused({ session: "/used.mcs" }), "/used.mcs is in use by mcs4 open (process 7)");
   assert.match(await refused({ session: "/none.mcs" }), /^none\.mcs: .* \(no 50\)$/);
-  assert.match(await refused({ session: "/s.mcs", program: "/lock/other.asm" }), /^other.asm is not what stands in ROM of s.mcs/);
+  assert.match(await refused({ session: "/s.mcs", program: "/lock/other.asm" }), /^other.asm differs from the ROM of s.mcs/);
   assert.equal(await refused({ session: "/s.mcs", write: "yes" }), "write is true or false");
   await ask("attach", { session: "/s.mcs" });
 });
@@ -71,15 +72,15 @@ test("a request that waits is cancelled at once, a long line in the console ends
   assert.deepEqual([await evaluate("r4"), await evaluate("seq", "repl")], ["0x0", "seq 2"]);
   assert.equal((await answer("cancel", { requestId: 99999 })).success, true);
   assert.match((await answer("cancel", { requestId: "1" })).message, /requestId is a whole number/);
-  assert.match((await answer("cancel", { progressId: "x" })).message, /no work is under way/);
+  assert.match((await answer("cancel", { progressId: "x" })).message, /no work in progress/);
 });
 
 test("progress of a long run and of a search in the past is reported, and stopped by cancel", async () => {
   for (const supportsProgressReporting of [true, false]) {
-    const { adapter, begin, ask, told, until, stops, evaluate } = served();
+    const { adapter, begin, ask, messages, until, stops, evaluate } = served();
     await begin({ ...LOCK, client: { supportsProgressReporting } });
     adapter.progress.after = 0;
-    const events = () => told.filter(({ event = "" }) => event.startsWith("progress"));
+    const events = () => messages.filter(({ event = "" }) => event.startsWith("progress"));
     await ask("continue", { threadId: 1 });
     if (!supportsProgressReporting) {
       for (let turn = 0; turn < 20; turn++) await new Promise(setImmediate);
@@ -146,7 +147,7 @@ test("numbers are in the base that the client asks for", async () => {
 });
 
 test("references of memory are numbers, by which a client can count", async () => {
-  const { begin, ask, answer, evaluate, told } = served({ ...FILES, "/lock/two.toml": FILES["/lock/board.toml"] });
+  const { begin, ask, answer, evaluate, messages } = served({ ...FILES, "/lock/two.toml": FILES["/lock/board.toml"] });
   await begin({ ...LOCK, client: { supportsMemoryEvent: true } });
   const [bank] = (await ask("variables", { variablesReference: 3 })).variables;
   assert.equal(bank.memoryReference, "0x10000");
@@ -172,7 +173,7 @@ test("references of memory are numbers, by which a client can count", async () =
   assert.deepEqual(await read("0x000", -3, 3), ["-0x003", [], 3]);
   const bytes = (...all) => Buffer.from(all).toString("base64");
   assert.deepEqual(await ask("writeMemory", { memoryReference: "0x10010", offset: 1, data: bytes(4, 5) }), { offset: 0, bytesWritten: 2 });
-  const written = told.filter(({ event }) => event === "memory").map(({ body }) => body);
+  const written = messages.filter(({ event }) => event === "memory").map(({ body }) => body);
   assert.deepEqual(written, [{ memoryReference: "0x10010", offset: 1, count: 2 }]);
   assert.deepEqual(await read("0x10010", 0, 4), ["0x10010", [0, 4, 5, 0], undefined]);
   const beyond = { memoryReference: "0x1003F", data: bytes(6, 6) };
@@ -265,7 +266,7 @@ test("what is asked while a stop is written to the session file is answered", as
   const write = file.ask.bind(file);
   let asked = 0;
   file.ask = async (lines) => {
-    // It comes while the stop is being written.
+    // It arrives while the stop is being written.
     asked = asked || send("setExceptionBreakpoints", { filters: ["calls"] });
     for (let turn = 0; turn < 20; turn++) await new Promise(setImmediate);
     return write(lines);
@@ -276,10 +277,10 @@ test("what is asked while a stop is written to the session file is answered", as
 });
 
 test("of a message whose rest does not come the client gets the error", () => {
-  const { connection, told } = served();
+  const { connection, messages } = served();
   connection.take(framed({ seq: 1, type: "request", command: "initialize", arguments: {} }).subarray(0, 60));
   assert.match(connection.refuseIncomplete(), /^only \d+ of the \d+ bytes that Content-Length announces have arrived$/);
-  assert.equal(told[0].message, connection.reader.incomplete);
+  assert.equal(messages[0].message, connection.reader.incomplete);
   const other = served();
   other.connection.take(new TextEncoder().encode("Content-Len"));
   assert.equal(other.connection.refuseIncomplete(), "only a part of the head of a message has arrived");

@@ -1,9 +1,9 @@
-// What stops time in a debug adapter beside breakpoints: changes of places, and common mistakes, both also with conditions.
+// Stops of a debug adapter other than breakpoints: changes of places, and common mistakes, both also with conditions.
 import assert from "node:assert/strict";
 import { test } from "node:test";
 import { FILES, LOCK, engine, served } from "./served_adapter.js";
 
-/** What the bench itself traces of the first changes of a place: its value before and after, and the address of the next instruction. */
+/** Returns the bench's own trace of the first changes of a place: its value before and after, and the address of the next instruction. */
 function changesOf(place, count) {
   const file = engine.begin();
   const program = FILES["/lock/lock.asm"].replace(/[ \t]*;.*/g, "");
@@ -30,13 +30,13 @@ test("time stops after each change of a register, a pair, a port, a lamp, a line
     await begin();
     const { dataId, canPersist, accessTypes } = await ask("dataBreakpointInfo", { name: place });
     assert.deepEqual([canPersist, accessTypes], [true, ["write"]], name);
-    const [told] = await watch(server, { dataId });
-    assert.equal(told.verified, true, name);
+    const [answer] = await watch(server, { dataId });
+    assert.equal(answer.verified, true, name);
     const traced = place.startsWith("lamp ") ? changesOf("ram0.0.0", 3) : changesOf(place, 6);
     assert.ok(traced.length >= 1, name);
     for (const { next } of traced) {
       const stop = await move("continue");
-      assert.deepEqual([stop.reason, stop.hitBreakpointIds], ["data breakpoint", [told.id]], name);
+      assert.deepEqual([stop.reason, stop.hitBreakpointIds], ["data breakpoint", [answer.id]], name);
       assert.deepEqual([await counter(server), await server.evaluate("owed")], [next, "0"], name);
       assert.match(stop.description, /, after .* changed from \S+ to \S+\.$/, name);
     }
@@ -70,15 +70,15 @@ test("variables name what can be watched; keys, names and the counter cannot be"
   assert.deepEqual(of("Lamps"), ["lamp 0", "lamp 1", "lamp 2"]);
   assert.deepEqual(of("Ports").filter(Boolean), ["rom0", "rom1", "ram0.0", "chain0"]);
   assert.ok([...of("Keys"), ...of("Names"), ...of("RAM")].every((id) => id === null));
-  const told = await watch(server, { dataId: "r4" }, { dataId: "pc" }, { dataId: "ram5.0" }, { dataId: "rm -rf" },
+  const answers = await watch(server, { dataId: "r4" }, { dataId: "pc" }, { dataId: "ram5.0" }, { dataId: "rm -rf" },
     { dataId: "r5", condition: "r6 ~ 3" }, { dataId: "r6", condition: "key 5 down" }, { dataId: "r7", accessType: "read" },
     { dataId: "r8", hitCondition: "often" });
-  assert.deepEqual(told.map(({ verified }) => verified), [true, false, false, false, false, false, false, false]);
-  assert.ok(told.slice(1).every(({ message }) => message.length > 10));
+  assert.deepEqual(answers.map(({ verified }) => verified), [true, false, false, false, false, false, false, false]);
+  assert.ok(answers.slice(1).every(({ message }) => message.length > 10));
   const many = await watch(server, ...Array.from({ length: 20 }, (_, at) => ({ dataId: at < 16 ? `r${at}` : `p${at - 16}` })));
   assert.deepEqual(many.map(({ verified }) => verified), Array.from({ length: 20 }, () => true), "a pair is its registers");
   const [tooMany] = (await watch(server, ...Array.from({ length: 16 }, (_, at) => ({ dataId: `r${at}` })), { dataId: "acc" })).slice(-1);
-  assert.match(tooMany.message, /17 places, and 16 are the most/);
+  assert.match(tooMany.message, /17 places; at most 16 are allowed/);
 });
 
 test("a change counts where a condition holds after it, and from a hit on", async () => {
@@ -134,8 +134,8 @@ test("characters of RAM beyond those that the bench watches stop time, too", asy
   const server = served({ ...FILES, "/lock/ten.asm": program });
   await server.begin({ program: "/lock/ten.asm", board: "/lock/board.toml" });
   const wanted = Array.from({ length: 10 }, (_, at) => ({ dataId: `ram.0.0x0${at}` }));
-  const told = await watch(server, ...wanted);
-  assert.deepEqual(told.filter(({ verified }) => !verified), []);
+  const answers = await watch(server, ...wanted);
+  assert.deepEqual(answers.filter(({ verified }) => !verified), []);
   assert.equal((await server.evaluate("watches", "repl")).split(" ").length, 9);
   for (let at = 0; at < 10; at++) {
     assert.equal((await server.move("continue")).reason, "data breakpoint");

@@ -7,18 +7,18 @@ test("a text is announced once it has stood still, and the first one is not", ()
   const said = [];
   const announcer = new Announcer((text) => said.push(text));
   announcer.begin();
-  announcer.tell("0");
+  announcer.announce("0");
   mock.timers.tick(3 * STILL_TIME);
   assert.deepEqual(said, []);
   for (let count = 1; count <= 100; count++) {
-    announcer.tell(String(count));
+    announcer.announce(String(count));
     mock.timers.tick(STILL_TIME / 10);
   }
   assert.deepEqual(said, []);
   mock.timers.tick(2 * STILL_TIME);
   assert.deepEqual(said, ["100"]);
-  announcer.tell("5");
-  announcer.tell("100");
+  announcer.announce("5");
+  announcer.announce("100");
   mock.timers.tick(3 * STILL_TIME);
   assert.deepEqual(said, ["100"]);
   mock.timers.reset();

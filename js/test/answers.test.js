@@ -30,16 +30,16 @@ test("registers", () => {
 });
 
 test("RAM", () => {
-  const told = readRam(["ram 0 chips 1", "0.0.0 2000000000000000 0000", "0.0.1 0000000000000000 0020", "0.0 out 1"]);
-  assert.deepEqual([...told.registers], [
+  const found = readRam(["ram 0 chips 1", "0.0.0 2000000000000000 0000", "0.0.1 0000000000000000 0020", "0.0 out 1"]);
+  assert.deepEqual([...found.registers], [
     ["0.0.0", { characters: "2000000000000000", status: "0000" }], ["0.0.1", { characters: "0000000000000000", status: "0020" }]]);
-  assert.deepEqual([...told.ports], [["0.0", "1"]]);
+  assert.deepEqual([...found.ports], [["0.0", "1"]]);
 });
 
 test("the bytes of ROM, of one and two digits that are not 0", () => {
   const bytes = bytesOf(["list 0 4", "000 D3    LDM 3", "001 24 5F FIM P2 0x5F", "003 40 0C JUN 0x00C", "FFE 50 A0 JMS 0x0A0", "ok 3"]);
-  const told = [...bytes].flatMap((byte, address) => (byte === NONE ? [] : [[address, byte]]));
-  assert.deepEqual(told, [[0, 0xD3], [1, 0x24], [2, 0x5F], [3, 0x40], [4, 0x0C], [0xFFE, 0x50], [0xFFF, 0xA0]]);
+  const found = [...bytes].flatMap((byte, address) => (byte === NONE ? [] : [[address, byte]]));
+  assert.deepEqual(found, [[0, 0xD3], [1, 0x24], [2, 0x5F], [3, 0x40], [4, 0x0C], [0xFFE, 0x50], [0xFFF, 0xA0]]);
   assert.equal(bytes.length, ADDRESSES);
 });
 

@@ -33,7 +33,7 @@ test("one stop back undoes what was done last, and forward does it again, to the
   assert.deepEqual([calls.bench.session.count.total, calls.bench.session.count.reset], [total, reset]);
 });
 
-test("the last change of a place is told without going there: where going back to it leads", async () => {
+test("the last change of a place is reported without going there: where going back to it leads", async () => {
   const calls = await begin("three lamps");
   await calls.serve("run 5000\npoke r9 3\nrun 100\n");
   const before = calls.ask(ALL);
@@ -102,8 +102,8 @@ test("back to a change far away, made by a command or by an instruction", async 
   assert.match(after, /^ok/);
   assert.equal((await calls.goBack({ kind: "change", place: "r9" })).line, "poke r9 5");
   const reset = await begin("three lamps", "run 4000\nreset\nrun 3\n");
-  const told = await reset.goBack({ kind: "change", place: "ram0.0" });
-  assert.deepEqual([told.line, told.cycles, told.to], ["reset", 3, "0"]);
+  const result = await reset.goBack({ kind: "change", place: "ram0.0" });
+  assert.deepEqual([result.line, result.cycles, result.to], ["reset", 3, "0"]);
 });
 
 test("doing something else makes forward impossible; asking does not", async () => {

@@ -4,7 +4,7 @@ import { mock, test } from "node:test";
 import { Bench } from "../core/bench/bench_client.js";
 import { Cancelled, WorkerDied } from "../core/bench/faults.js";
 
-/** Gives a bench over workers that do as they are told by the test. */
+/** Returns a bench over workers that behave as the test says. */
 function begin() {
   mock.timers.enable({ apis: ["setInterval", "setTimeout"] });
   const workers = [];
@@ -16,8 +16,8 @@ function begin() {
       postMessage: (message) => worker.sent.push(message),
       terminate: () => { worker.ended = true; },
       addEventListener: (kind, listen) => { worker.listeners[kind] = listen; },
-      tell: (data) => worker.listeners.message({ data }),
-      reply: (result) => worker.tell({ kind: "reply", number: worker.sent[worker.sent.length - 1].number, result }),
+      deliver: (data) => worker.listeners.message({ data }),
+      reply: (result) => worker.deliver({ kind: "reply", number: worker.sent[worker.sent.length - 1].number, result }),
     };
     workers.push(worker);
     return worker;
@@ -41,13 +41,13 @@ test("a worker is started with the module, and answers requests by their numbers
   const first = bench.call("ask", ["seq\n"]);
   const second = bench.call("ask", ["regs\n"]);
   const [one, two] = worker.sent.slice(-2);
-  worker.tell({ kind: "reply", number: two.number, result: ["acc"] });
-  worker.tell({ kind: "reply", number: one.number, fault: { kind: "refusal", words: "no 90", number: 90 } });
+  worker.deliver({ kind: "reply", number: two.number, result: ["acc"] });
+  worker.deliver({ kind: "reply", number: one.number, fault: { kind: "refusal", words: "no 90", number: 90 } });
   assert.deepEqual(await second, ["acc"]);
   await assert.rejects(first, /no 90/);
 });
 
-test("a reply that is told early is taken once, and only where none before it is waited for", async () => {
+test("a reply that is reported early is taken once, and only where none before it is waited for", async () => {
   const { bench, worker } = await started();
   const first = bench.call("advance", [100]);
   const second = bench.call("advance", [100, "0 0"]);
@@ -55,26 +55,26 @@ test("a reply that is told early is taken once, and only where none before it is
   first.then((frame) => done.push(frame));
   second.then((frame) => done.push(frame));
   const [one, two] = worker.sent.slice(-2);
-  worker.tell({ kind: "early", number: two.number, result: "too early" });
-  worker.tell({ kind: "reply", number: one.number, result: "first" });
-  worker.tell({ kind: "early", number: two.number, result: "second" });
-  worker.tell({ kind: "reply", number: two.number, result: "late" });
+  worker.deliver({ kind: "early", number: two.number, result: "too early" });
+  worker.deliver({ kind: "reply", number: one.number, result: "first" });
+  worker.deliver({ kind: "early", number: two.number, result: "second" });
+  worker.deliver({ kind: "reply", number: two.number, result: "late" });
   await Promise.all([first, second]);
   assert.deepEqual(done, ["first", "second"]);
 });
 
-test("long work tells its progress, and can be cancelled", async () => {
+test("long work reports its progress, and can be cancelled", async () => {
   const { bench, worker } = await started();
   const controller = new AbortController();
-  const told = [];
-  const served = bench.call("serve", ["seq\n"], { signal: controller.signal, progress: (done, total) => told.push([done, total]) });
+  const received = [];
+  const served = bench.call("serve", ["seq\n"], { signal: controller.signal, progress: (done, total) => received.push([done, total]) });
   const { number } = worker.sent[worker.sent.length - 1];
-  worker.tell({ kind: "progress", number, done: 1, total: 4 });
+  worker.deliver({ kind: "progress", number, done: 1, total: 4 });
   controller.abort();
   assert.deepEqual(worker.sent[worker.sent.length - 1], { kind: "cancel", number });
-  worker.tell({ kind: "reply", number, fault: { kind: "cancelled", words: "", number: 0 } });
+  worker.deliver({ kind: "reply", number, fault: { kind: "cancelled", words: "", number: 0 } });
   await assert.rejects(served, Cancelled);
-  assert.deepEqual(told, [[1, 4]]);
+  assert.deepEqual(received, [[1, 4]]);
   mock.timers.tick(5000);
   assert.equal(worker.ended, false);
 });
@@ -98,7 +98,7 @@ test("a worker that owes something and gives no sign of life is ended; one that 
   const asked = bench.call("ask", ["seq\n"]);
   for (let second = 0; second < 30; second++) {
     mock.timers.tick(1000);
-    worker.tell({ kind: "pong" });
+    worker.deliver({ kind: "pong" });
   }
   assert.equal(worker.ended, false);
   mock.timers.tick(12000);
@@ -115,8 +115,8 @@ test("a script fault in the worker ends it, and another one can be started", asy
   const start = bench.start();
   workers[1].reply(5);
   await start;
-  // What the old one says late is not heard.
-  worker.tell({ kind: "frame", frame: {} });
+  // A late report of the old one is ignored.
+  worker.deliver({ kind: "frame", frame: {} });
   const again = bench.call("ask", ["seq\n"]);
   workers[1].reply(["seq 0"]);
   assert.deepEqual(await again, ["seq 0"]);

@@ -1,26 +1,60 @@
-// What the page says of boards that the bench refuses; the numbers are those of tools/lib/refusals.txt.
+// The page's messages about boards that the bench rejects; the numbers are those of tools/lib/refusals.txt.
 import assert from "node:assert/strict";
 import { readFileSync } from "node:fs";
 import { test } from "node:test";
 import { refusalOf } from "../core/bench/answers.js";
 import { LINE_NAMES, MOST, MOST_COLUMNS, RANGES, linesOf } from "../core/bench/board_form.js";
+import { readErrors, readWiring } from "../core/bench/text_judgement.js";
+import { Engine } from "../core/engine/engine.js";
+import { TextBench } from "../core/server/text_bench.js";
+import { errorOfBoard } from "../core/text/board_error.js";
 import { BoardReader, readBoardText } from "../core/text/board_reader.js";
-import { faultsOfBoard } from "../core/text/board_words.js";
 import { completeBoard } from "../core/text/board_completion.js";
 import { commentAt } from "../core/text/text_fault.js";
 import { readProjectToml } from "../core/project/project_toml.js";
-import { begin } from "./page_session.js";
+import { begin, moduleOfPage } from "./page_session.js";
 import { boardTables, helpForBoard, tableAt } from "../core/text/text_help.js";
 
-const told = (text) => faultsOfBoard(text).map(({ number, line, words }) => `${line}: ${number} ${words}`);
-const wordAtFault = (text) => faultsOfBoard(text).map(({ line, from, to }) => text.split("\n")[line - 1].slice(from, to));
+// The table of the manual, as page/build reads it.
+const manual = readFileSync(new URL("../../docs/MANUAL.md", import.meta.url), "utf8");
+const rows = manual.split("### The keys of the text")[1].split("###")[0].split("\n").filter((line) => /^\| [`|]/.test(line))
+  .map((line) => line.slice(1, -1).split("|").map((cell) => cell.trim()));
+const tables = boardTables([{ title: "The keys of the text", tables: [{ caption: "", head: [], rows }] }]);
+
+const bench = new TextBench(new Engine(new globalThis.WebAssembly.Module(moduleOfPage)));
+const errorOf = (text) => {
+  const error = bench.wiring(text);
+  return error && errorOfBoard(text, error, tables, (number) => `words of ${number}`);
+};
+const wordsOf = (text) => {
+  const error = errorOf(text);
+  return error ? `${error.line}: ${error.number} ${error.words}` : "";
+};
+const shown = (text) => {
+  const { line, from, to } = errorOf(text);
+  return text.split("\n")[line - 1].slice(from, to);
+};
 const ROM = '[[rom]]\nchip = 0\nport = "iii0"\n';
 const CHAIN = '[[chain]]\nclock = "rom0.0"\ndata = "rom0.0"\nchips = 1\n';
 
 test("the boards of the examples are right", () => {
   for (const name of ["calculator", "three_lamps"]) {
-    assert.deepEqual(told(readFileSync(new URL(`../../examples/${name}/board.toml`, import.meta.url), "utf8")), []);
+    assert.equal(wordsOf(readFileSync(new URL(`../../examples/${name}/board.toml`, import.meta.url), "utf8")), "");
   }
+});
+
+test("answers are read", () => {
+  const none = { section: "", index: 0, key: "" };
+  assert.equal(readWiring("wiring valid"), null);
+  assert.deepEqual(readWiring("no 13"), { number: 13, line: 0, ...none });
+  assert.deepEqual(readWiring("no 20 line 3"), { number: 20, line: 3, ...none });
+  assert.deepEqual(readWiring("no 21 line 4 key lampe"), { number: 21, line: 4, ...none, key: "lampe" });
+  assert.deepEqual(readWiring("no 23 line 1 rom"), { number: 23, line: 1, ...none, section: "rom" });
+  assert.deepEqual(readWiring("no 25 line 6 lamp 2 key line"), { number: 25, line: 6, section: "lamp", index: 2, key: "line" });
+  assert.deepEqual(readWiring("no 27 line 9 keys key columns"), { number: 27, line: 9, section: "keys", index: 0, key: "columns" });
+  assert.deepEqual(refusalOf("no 25 line 6 lamp 2 key line"), { number: 25, line: 6 });
+  assert.deepEqual(readErrors(["errors 2", "error 2 31", "error 3 30"]), [{ line: 2, number: 31 }, { line: 3, number: 30 }]);
+  assert.deepEqual(readErrors(["no 13"]), []);
 });
 
 test("what a board can have is what the bench takes, to each edge", async () => {
@@ -69,33 +103,56 @@ test("what a board can have is what the bench takes, to each edge", async () => 
 });
 
 test("what is not TOML", () => {
-  assert.deepEqual(told("[[rom\n"), ["1: 20 ] is missing: [[rom]]"]);
-  assert.deepEqual(told('[[rom]]\nchip 0\nport = "0000\n'),
-    ["2: 20 = is missing after chip", '3: 20 the closing " of the text is missing']);
-  assert.deepEqual(told("port = 0000\n"), ['1: 20 a number has no leading zero; a text is in quotes: "0000"']);
-  assert.deepEqual(told("[[rom]]\nport = iiii\n"), ['2: 20 iiii is a text: write it in quotes: "iiii"']);
-  assert.deepEqual(told('[[rom]]\nchip = 0\nchip = 1\nport = "0000"\n'), ["3: 20 chip is there already, in line 2"]);
+  assert.equal(wordsOf("[[rom\n"), "1: 20 ] is missing: [[rom]]");
+  assert.equal(wordsOf('[[rom]]\nchip 0\nport = "0000\n'), "2: 20 = is missing after chip");
+  assert.equal(wordsOf("port = 0000\n"), '1: 20 a number has no leading zero; a text is in quotes: "0000"');
+  assert.equal(wordsOf("[[rom]]\nport = iiii\n"), '2: 20 iiii is a text: write it in quotes: "iiii"');
+  assert.equal(wordsOf('[[rom]]\nchip = 0\nchip = 1\nport = "0000"\n'), "3: 20 chip is there already, in line 2");
+  // A text that the reader accepts and the bench rejects has the message of the refusal.
+  assert.equal(wordsOf("[[rom]]\n[rom]\n"), "2: 20 words of 20");
 });
 
 test("keys and values", () => {
-  assert.deepEqual(told('[[rom]]\nchip = 16\nport = "0000"\n'), ["2: 23 chip is 0 to 15"]);
-  assert.deepEqual(wordAtFault('[[rom]]\nchip = 16\nport = "oooo"\n'), ["16", '"oooo"']);
-  assert.deepEqual(told('[[rom]]\nchip = "0"\nport = "0000"\n'), ["2: 23 chip is 0 to 15, a number without quotes"]);
-  assert.deepEqual(told('[[rom]]\nchip = 1.0\nport = "0000"\n'), ["2: 23 chip is 0 to 15"]);
-  assert.deepEqual(told("[[ram]]\nbank = 0\nchip = 1\n"), ["1: 22 this ram lacks chips", "3: 21 chip is not a key of ram; chips?"]);
-  assert.deepEqual(told("[[rmo]]\n"), ["1: 21 rmo is not a part of a board; rom?"]);
-  assert.deepEqual(told("[[keys]]\n"), ["1: 23 a board has one key matrix: [keys]"]);
-  assert.deepEqual(told("rom = [\n  { chip = 0, port = '1i0i' }, # one\n  { chip = 0x4D, port = '0000' },\n]\n"),
-    ["3: 23 chip is 0 to 15"]);
+  assert.equal(wordsOf('[[rom]]\nchip = 16\nport = "0000"\n'), "2: 23 chip must be 0 to 15, no number twice");
+  assert.equal(wordsOf('[[rom]]\nchip = "0"\nport = "0000"\n'), "2: 23 chip is a number: write 0 without quotes");
+  assert.equal(shown('[[rom]]\nchip = 16\nport = "0000"\n'), "16");
+  assert.equal(shown('[[rom]]\nchip = 1\nport = "oooo"\n'), '"oooo"');
+  assert.equal(wordsOf("[[ram]]\nbank = 0\nchip = 1\n"), "3: 21 chip is not a key of ram; chips?");
+  assert.deepEqual(errorOf("[[ram]]\nbank = 0\nchip = 1\n").cures, ["chips"]);
+  assert.equal(wordsOf("[[ram]]\nbank = 0\n"), "1: 22 this ram lacks chips");
+  assert.equal(wordsOf("[[rmo]]\n"), "1: 21 rmo is not a part of a board; rom?");
+  assert.deepEqual(errorOf("[[rmo]]\n").cures, ["[[rom]]"]);
+  assert.equal(wordsOf("speed = 3\n"), "1: 21 speed is not a part of a board, which has rom, ram, chain, keys, lamp");
+  assert.equal(wordsOf("[[keys]]\n"), "1: 23 a board has one key matrix: [keys]");
+  assert.equal(wordsOf("[rom]\nchip = 0\nport = \"0000\"\n"), "1: 23 there may be several: [[rom]]");
+  assert.equal(wordsOf("rom = [\n  { chip = 0, port = '1i0i' }, # one\n  { chip = 0x4D, port = '0000' },\n]\n"),
+    "3: 23 chip must be 0 to 15, no number twice");
 });
 
 test("parts that the board lacks, and lines of the wrong direction", () => {
-  assert.deepEqual(told(`${ROM}${ROM}`), ["5: 24 chip 0 is there already, in line 1"]);
-  assert.deepEqual(told(`${ROM}[[lamp]]\nline = "rom9.0"\n`), ["5: 25 rom9.0: the board has no ROM 9"]);
-  assert.deepEqual(told(`${ROM}[[lamp]]\nline = "rom0.1"\n`).map((each) => each.slice(0, 31)), ["5: 26 rom0.1 is an input line ("]);
-  assert.deepEqual(told(`${ROM}${CHAIN}[keys]\nchain = 0\nfirst = 5\nrows = 6\ncolumns = ["rom0.1"]\n`),
-    ["11: 25 chain 0 has bits 0 to 9"]);
-  assert.deepEqual(told(`${ROM}${CHAIN.repeat(5)}`), ["20: 27 a board has at most 4 chain"]);
+  const lamp = (line) => `${ROM}${CHAIN}[[ram]]\nbank = 2\nchips = 1\n[[lamp]]\nline = ${line}\n`;
+  assert.equal(wordsOf(`${ROM}${ROM}`), "5: 24 chip 0 is there already, in line 1");
+  assert.equal(wordsOf(lamp('"rom9.0"')), "12: 25 the board has no line rom9.0: no [[rom]] has chip = 9");
+  assert.equal(wordsOf(lamp('"ram1.0.0"')), "12: 25 the board has no line ram1.0.0: no [[ram]] has bank = 1");
+  assert.equal(wordsOf(lamp('"ram2.1.0"')), "12: 25 the board has no line ram2.1.0: bank 2 has chip 0 alone");
+  assert.equal(wordsOf(lamp('"chain0.10"')), "12: 25 the board has no line chain0.10: chain 0 has bits 0 to 9");
+  assert.equal(wordsOf(lamp('"chain1.0"')), "12: 25 the board has no chain 1: it has chain 0 alone");
+  assert.equal(wordsOf(lamp('"led"')), '12: 23 led is not the name of a line; names are as "rom1.0", "ram0.0.3" and "chain0.5"');
+  assert.equal(wordsOf(lamp('["rom0.0"]')), "12: 23 line must be a line that is not an input line");
+  assert.equal(wordsOf(lamp("{}")), "12: 23 line must be a line that is not an input line");
+  assert.equal(wordsOf(lamp('"rom0.1"')), "12: 26 rom0.1 is an input line (i in its ROM's port); a lamp needs an output line");
+  assert.equal(wordsOf(`${ROM}${CHAIN.replace("rom0.0", "chain0.1")}`),
+    "5: 26 chain0.1 is a bit of a chain; clock needs an output line of a ROM or a RAM chip");
+  const matrix = (count, columns) => `${ROM}${CHAIN}[keys]\nchain = 0\nfirst = 5\nrows = ${count}\ncolumns = ${columns}\n`;
+  assert.equal(wordsOf(matrix(6, '["rom0.1"]')), "11: 25 the rows need bits 5 to 10 of chain 0, which has bits 0 to 9");
+  const columns = matrix(5, '["rom0.1", "rom0.0"]');
+  assert.equal(wordsOf(columns), "12: 26 rom0.0 is not an input line; a column needs a line of a ROM that is i in its port");
+  assert.equal(shown(columns), '"rom0.0"');
+  assert.equal(shown(matrix(5, '["rom0.1", "rom0.4"]')), '"rom0.4"');
+  assert.equal(shown(matrix(5, '["rom0.1", "rom7.1"]')), '"rom7.1"');
+  assert.match(wordsOf(matrix(5, '"rom0.1"')), /^12: 23 columns must be an array of 1 to 8 lines/);
+  assert.equal(wordsOf(matrix(5, `[${'"rom0.1", '.repeat(9)}]`)), "12: 27 a key matrix has at most 8 columns");
+  assert.equal(wordsOf(`${ROM}${CHAIN.repeat(5)}`), "20: 27 a board has at most 4 [[chain]]");
 });
 
 test("a text is read with its places", () => {
@@ -103,12 +160,6 @@ test("a text is read with its places", () => {
   assert.deepEqual(entries[0].keys.map(({ name, line, value }) => [name, line, value.inner]), [["chip", 2, 0], ["port", 3, "iii0"]]);
   assert.equal(commentAt('a = "#" # b', "#"), 8);
 });
-
-// The table of the manual, as page/build reads it.
-const manual = readFileSync(new URL("../../docs/MANUAL.md", import.meta.url), "utf8");
-const rows = manual.split("### The keys of the text")[1].split("###")[0].split("\n").filter((line) => /^\| [`|]/.test(line))
-  .map((line) => line.slice(1, -1).split("|").map((cell) => cell.trim()));
-const tables = boardTables([{ title: "The keys of the text", tables: [{ caption: "", head: [], rows }] }]);
 
 test("the keys of a board's tables are those of the manual", () => {
   assert.deepEqual([...tables].map(([table, keys]) => [table, [...keys.keys()].join()]),
@@ -136,7 +187,7 @@ test("values are completed by the lines that the board has so far, and an empty 
   assert.equal(first.text, '[[rom]]\nchip = 0\nport = "0000"');
 });
 
-/** How often a reader looks at a word of a text. */
+/** The number of times that a reader reads a word of a text. */
 function looksAt(text) {
   const reader = new BoardReader(text);
   let looks = 0;
@@ -161,7 +212,7 @@ test("brackets and braces are open up to a number, and more of them are a fault 
   const faultsOf = (text) => readBoardText(text).faults.map(({ line, words }) => `${line}: ${words}`);
   const tooDeep = "more than 32 brackets and braces are open here";
   assert.deepEqual(faultsOf(`\nx = ${"[".repeat(32)}${"]".repeat(32)}\n`), []);
-  assert.deepEqual(faultsOf(`\nx = ${"[".repeat(33)}${"]".repeat(33)}\ny = 1 2\n`), [`2: ${tooDeep}`, "3: the line has to end here"]);
+  assert.deepEqual(faultsOf(`\nx = ${"[".repeat(33)}${"]".repeat(33)}\ny = 1 2\n`), [`2: ${tooDeep}`, "3: the line must end here"]);
   assert.deepEqual(faultsOf(`x = ${"[\n".repeat(16300)}`).slice(0, 1), [`33: ${tooDeep}`]);
   assert.deepEqual(faultsOf(`x = ${"{a = [".repeat(10000)}`), [`1: ${tooDeep}`]);
   const [fault] = readProjectToml(`board = "b"\nprogram = ${"[".repeat(16300)}`).faults;

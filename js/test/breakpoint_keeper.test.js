@@ -1,4 +1,4 @@
-// The list of breakpoints beside a bench that tells what it has: what is set, taken, moved and told.
+// The list of breakpoints with a bench that reports what it has: setting, adopting, moving and reporting.
 import assert from "node:assert/strict";
 import { test } from "node:test";
 import { BreakpointKeeper } from "../core/debug/breakpoint_keeper.js";
@@ -11,9 +11,9 @@ const TEXT = "on = 12\ngo: JMS put\n\nput: BBL 0\n";
 const MAP = new SourceMap(["map lines 4 names 3", "line 1 000 0", "line 2 000 2", "line 3 002 0", "line 4 002 1", "name on 00C",
   "name go 000", "name put 002"], TEXT);
 
-/** A keeper over a bench that does as it is asked, and tells what it has after each call. */
+/** Returns a keeper over a bench that does as it is asked, and reports its breakpoints after each call. */
 function begin(kept, breaks = []) {
-  const seen = { told: [], touched: 0, set: [], failed: [] };
+  const seen = { messages: [], touched: 0, set: [], failed: [] };
   const bench = { breaks };
   const keeper = new BreakpointKeeper({
     set: async (placed) => {
@@ -27,14 +27,14 @@ function begin(kept, breaks = []) {
     touched: () => {
       seen.touched += 1;
     },
-    tell: (words) => seen.told.push(words),
+    showMessage: (words) => seen.messages.push(words),
     failed: (fault) => seen.failed.push(fault),
   });
   keeper.open("one", kept);
   keeper.take(bench.breaks);
   return { keeper, seen, bench };
 }
-/** The edit that puts one text in the place of another one. */
+/** Returns the edit that replaces one text by another. */
 function replacing(old, text) {
   const removed = old.split("\n");
   const to = { line: removed.length - 1, ch: removed[removed.length - 1].length };
@@ -63,7 +63,7 @@ test("one at a line without bytes goes to the next instruction, and says so; a s
   keeper.toggleLine(3);
   await keeper.settled;
   assert.deepEqual([linesOf(keeper), bench.breaks], [[[4, 2]], ["002"]]);
-  assert.deepEqual(seen.told, ["Line 3 puts no bytes into ROM: its breakpoint is at the next instruction, line 4."]);
+  assert.deepEqual(seen.messages, ["Line 3 puts no bytes into ROM: its breakpoint is at the next instruction, line 4."]);
   keeper.toggleLine(3);
   assert.equal(keeper.list.all.length, 1);
   keeper.toggleLine(4);
@@ -77,7 +77,7 @@ test("one inside an instruction goes to the next one, and says so", async () => 
   keeper.take(["001"]);
   await keeper.settled;
   assert.deepEqual([linesOf(keeper), bench.breaks], [[[4, 2]], ["002"]]);
-  assert.deepEqual(seen.told, ["001 is inside the instruction of line 2: its breakpoint is at the next one, line 4."]);
+  assert.deepEqual(seen.messages, ["001 is inside the instruction of line 2: its breakpoint is at the next one, line 4."]);
 });
 
 test("lines break and unbreak that were typed are followed", async () => {
@@ -100,7 +100,7 @@ test("lines break and unbreak that were typed are followed", async () => {
 test("a line break that is typed while the bench is yet to have the list is followed, too", async () => {
   const { keeper, bench } = begin([]);
   keeper.takeMap(MAP, "");
-  // The bench has served the line after it was asked, and tells it before what it was asked is done.
+  // The bench has served the line after it was asked, and reports it before the request is done.
   const { calls } = keeper;
   const { set } = calls;
   calls.set = async (placed) => {
@@ -121,7 +121,7 @@ test("a change is sent before the bench has answered the one before, and the ans
   keeper.takeMap(MAP, "");
   await keeper.settled;
   const [{ id }] = keeper.list.all;
-  /** What the bench was sent, and how each is answered. */
+  /** The requests sent to the bench, and the answer to each. */
   const sent = [];
   keeper.calls.set = ([{ condition }]) => new Promise((answer) => {
     sent.push({ condition, answer: () => answer([[id, condition]]) });
@@ -168,11 +168,11 @@ test("a bench that fails is reported once, and the next list is sent", async () 
 
 test("a text that is not what stands in ROM takes breakpoints, which stop once it is assembled", async () => {
   const { keeper, seen, bench } = begin([]);
-  keeper.takeMap(null, "The source differs from ROM at 0x002, line 4: assemble it.");
+  keeper.takeMap(null, "Source and ROM differ from line 4 (0x002). Assemble to update.");
   keeper.toggleLine(4);
   await keeper.settled;
   assert.deepEqual([linesOf(keeper), bench.breaks], [[[4, -1]], []]);
-  assert.match(seen.told[0], /assemble it\. Until then this breakpoint stops nothing\.$/);
+  assert.match(seen.messages[0], /Assemble to update\. Until then this breakpoint stops nothing\.$/);
   assert.deepEqual([...marksOf(keeper.list.all, keeper.faults).lines.values()],
     [{ mark: "\u25CB", words: "breakpoint: it stops once the source is assembled" }]);
   keeper.takeMap(MAP, "");
@@ -194,7 +194,7 @@ test("a program that is assembled anew has its breakpoints where their lines are
   assert.deepEqual([bench.breaks, seen.set.length], [["001", "003"], 2]);
 });
 
-test("what cannot be read is told; one that is off is kept; hits are counted", async () => {
+test("what cannot be read is reported; one that is off is kept; hits are counted", async () => {
   const { keeper, bench } = begin([{ line: 2, address: 0, condition: "no" }, { line: 4, address: 2, isOn: false }]);
   keeper.takeMap(MAP, "");
   await keeper.settled;
@@ -203,7 +203,7 @@ test("what cannot be read is told; one that is off is kept; hits are counted", a
   keeper.count({ hits: [[second.id, 2], [second.id, 1]], notes: [], noted: 0 });
   assert.equal(second.hits, 3);
   assert.deepEqual([...marksOf(keeper.list.all, keeper.faults).lines.values()].map(({ mark, words }) => `${mark} ${words}`),
-    ["\u25CF breakpoint where no: it stops at each arrival, because of an error: it is none", "\u25CB breakpoint: it is off"]);
+    ["\u25CF breakpoint if no: it stops at each arrival, because of an error: it is none", "\u25CB breakpoint: it is off"]);
   assert.deepEqual(keeper.list.kept[1], { line: 4, address: 2, isOn: false, condition: "", from: 1, note: "" });
 });
 
@@ -211,10 +211,10 @@ test("one more than the bench has is kept, and off", async () => {
   const { keeper, seen } = begin([]);
   for (let address = 0x100; address < 0x121; address++) keeper.toggleAddress(address);
   await keeper.settled;
-  assert.deepEqual([keeper.list.countOn, keeper.list.all.length, seen.told.length], [32, 33, 1]);
+  assert.deepEqual([keeper.list.countOn, keeper.list.all.length, seen.messages.length], [32, 33, 1]);
   const off = keeper.list.all.find(({ isOn }) => !isOn);
   keeper.change(off.id, { isOn: true });
-  assert.deepEqual([keeper.list.countOn, seen.told.length], [32, 2]);
+  assert.deepEqual([keeper.list.countOn, seen.messages.length], [32, 2]);
   keeper.remove(keeper.list.all[0].id);
   keeper.change(off.id, { isOn: true });
   await keeper.settled;
@@ -236,7 +236,7 @@ for (const [what, other] of Object.entries(OTHERS)) {
     await keeper.settled;
     keeper.edited(replacing(other, TEXT));
     assert.deepEqual(keeper.list.kept, KEPT);
-    // And so it is where it goes on from one to the other.
+    // The same when it continues from one to the other.
     keeper.removeAll();
     keeper.toggleLine(1);
     keeper.edited(replacing(TEXT, `${other}\n`));
@@ -298,10 +298,10 @@ test("words that are no others change nothing, but end what was typed", async ()
   assert.deepEqual([keeper.kept[0].condition, seen.touched], ["r5 = 1", 2]);
 });
 
-test("what a breakpoint does is told in words; of one that always stops there is nothing to tell", () => {
+test("what a breakpoint does is described in words; of one that always stops there is nothing to report", () => {
   const plain = { condition: "", from: 1, note: " " };
   assert.equal(detailsOfBreakpoint(plain), "");
-  assert.equal(detailsOfBreakpoint({ ...plain, condition: " r9 = 9 ", from: 2 }), "where r9 = 9 from hit 2 on");
+  assert.equal(detailsOfBreakpoint({ ...plain, condition: " r9 = 9 ", from: 2 }), "if r9 = 9 from hit 2 on");
   assert.equal(detailsOfBreakpoint({ ...plain, note: "R9 is {r9}" }), 'logs "R9 is {r9}" and continues');
   assert.equal(detailsOfBreakpoint({ ...plain, from: 3, note: "x" }), 'from hit 3 on: logs "x" and continues');
 });

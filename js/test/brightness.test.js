@@ -1,4 +1,4 @@
-// How long lamps are lit, and what an eye sees of it, beside the very module: by `trace`, and by looking after each cycle.
+// How long lamps are on, and how they are perceived, compared with the module itself: by `trace`, and by snapshots after each cycle.
 import assert from "node:assert/strict";
 import { readFileSync } from "node:fs";
 import { test } from "node:test";
@@ -17,13 +17,13 @@ import { examplesOfPage, moduleOfPage } from "./page_session.js";
 const FRAME = 1543;
 const FRAME_TIME = 1000 / 60;
 
-/** Lamp 0 is lit for 3 cycles in each turn, lamp 1 for the rest of them; lamp 2 always, lamp 3 never. */
+/** Lamp 0 is on for 3 cycles in each turn, lamp 1 for the rest of them; lamp 2 always, lamp 3 never. */
 const PULSES = {
   board: `[[rom]]\nchip = 0\nport = "0000"\n${[0, 1, 2, 3].map((line) => `[[lamp]]\nline = "rom0.${line}"\n`).join("")}`,
   program: "FIM P0, 0\nSRC P0\nloop: LDM 5\nWRR\nNOP\nLDM 6\nWRR\nFIM P1, 0\nwait: ISZ R2, wait\nJUN loop\n",
 };
 
-/** Two rows of three lamps: row 0 is lit for 5 cycles in a turn with columns 0 and 2, row 1 for 10 with column 1; then all is dark. */
+/** Two rows of three lamps: row 0 is on for 5 cycles in a turn with columns 0 and 2, row 1 for 10 with column 1; then all is dark. */
 const SCANNED = {
   board: `# matrix 0: 2 rows of 3 scanned by 4\n[[rom]]\nchip = 0\nport = "0000"\n[[ram]]\nbank = 0\nchips = 2\n${
     ["ram0.0.0", "ram0.0.1", "ram0.0.2", "ram0.0.3", "ram0.1.0", "ram0.1.1"].map((line) => `[[lamp]]\nline = "${line}"\n`).join("")}`,
@@ -37,7 +37,7 @@ loop:   LDM 5\nSRC P0\nWMP\nLDM 1\nSRC P1\nWMP
 
 const textOf = (name) => readFileSync(new URL(name, import.meta.url), "utf8");
 
-/** A display of two digits that is written anew in each turn of the main loop, lamp by lamp. */
+/** A display of two digits that is rewritten in each turn of the main loop, lamp by lamp. */
 const REFRESHED = { board: textOf("two_digits.toml"), program: textOf("two_digits.asm") };
 
 async function begin({ board, program }) {
@@ -48,13 +48,13 @@ async function begin({ board, program }) {
   return calls;
 }
 
-/** What is lit before each of so many cycles, and after the last one, by `lamps`. */
+/** Returns the lamps before each cycle and after the last one, by `lamps`. */
 function marksOf(calls, cycles) {
   const answers = calls.ask(`lamps\n${"run 1\nlamps\n".repeat(cycles)}`).filter((line) => line.startsWith("lamps"));
   return answers.map((line) => line.slice("lamps ".length));
 }
 
-/** How long each lamp is lit, by `lamps` after each cycle. */
+/** Returns how long each lamp is on, by `lamps` after each cycle. */
 function lookedAt(calls, cycles) {
   const marks = marksOf(calls, cycles).slice(0, cycles);
   return [...marks[0]].map((_, lamp) => marks.filter((each) => each[lamp] === "*").length);
@@ -71,22 +71,23 @@ function movedIn(calls, cycles) {
   });
 }
 
-test("how long lamps are lit, and when they change, is told to the cycle", async () => {
+test("how long lamps are lit, and when they change, is reported to the cycle", async () => {
   const calls = await begin(PULSES);
   for (const cycles of [1, 7, FRAME, 2000, 11]) {
     const [wanted, moved] = [lookedAt(calls, cycles), movedIn(calls, cycles)];
     const [last] = marksOf(calls, cycles).slice(-1);
-    const { shone } = calls.advance(cycles);
-    assert.deepEqual([shone.face, shone.cycles, shone.lamps, shone.moved, shone.marks], [7, cycles, wanted, moved, last]);
+    const { litShares } = calls.advance(cycles);
+    assert.deepEqual([litShares.face, litShares.cycles, litShares.lamps, litShares.moved, litShares.marks],
+      [7, cycles, wanted, moved, last]);
   }
 });
 
-test("what an eye sees is the part of the time that trace tells, to 2 %", async () => {
+test("what an eye sees is the part of the time that trace reports, to 2 %", async () => {
   const calls = await begin(PULSES);
   const parts = lookedAt(calls, 3800).map((lit) => lit / 3800);
   const seen = new Brightness(new Face(PULSES.board), 4);
   for (let frame = 0; frame < 30; frame++) {
-    seen.add(calls.advance(FRAME).shone, FRAME_TIME);
+    seen.add(calls.advance(FRAME).litShares, FRAME_TIME);
     if (frame > 9) seen.lamps.forEach((part, lamp) => assert.ok(Math.abs(part - parts[lamp]) < 0.02, `${seen.lamps} of ${parts}`));
   }
 });
@@ -98,10 +99,10 @@ test("a lamp between two lines is lit where both are 1, to the cycle", async () 
     const marks = calls.ask(`lamps\n${"run 1\nlamps\n".repeat(cycles)}`).filter((line) => line.startsWith("lamps")).slice(0, cycles);
     const wanted = [4, 5].flatMap((row) => [0, 1, 2].map((column) => (
       marks.filter((line) => line["lamps ".length + row] === "*" && line["lamps ".length + column] === "*").length)));
-    assert.deepEqual(calls.advance(cycles).shone.scanned, [wanted]);
+    assert.deepEqual(calls.advance(cycles).litShares.scanned, [wanted]);
   }
   const seen = new Brightness(new Face(SCANNED.board), 6);
-  for (let frame = 0; frame < 20; frame++) seen.add(calls.advance(FRAME).shone, FRAME_TIME);
+  for (let frame = 0; frame < 20; frame++) seen.add(calls.advance(FRAME).litShares, FRAME_TIME);
   const turn = 28;
   seen.scanned[0].forEach((part, at) => assert.ok(Math.abs(part - [5, 0, 5, 0, 10, 0][at] / turn) < 0.02, String(seen.scanned[0])));
 });
@@ -116,7 +117,7 @@ test("digits that are lit by turns show what they show longest while they are li
     const { number, names } = new SeenText(face, 12).read(trace(...rows));
     return [number, names];
   };
-  // 4, with a ghost of the digit before; 2 with its point; and the third one is never lit.
+  // 4, with a ghost of the digit before; 2 with its point; and the third one is never on.
   const four = marks(".**..**", "*..", "*");
   const two = marks("**.**.**", ".*.", ".");
   const ghost = marks(".**..**", ".*.", "*");
@@ -125,13 +126,13 @@ test("digits that are lit by turns show what they show longest while they are li
   assert.equal(text.read(two).number, "2. ");
 });
 
-test("the edges of a line are told to the cycle, and its samples have its pitch", async () => {
+test("the edges of a line are reported to the cycle, and its samples have its pitch", async () => {
   const calls = await begin(PULSES);
   calls.listenTo("rom0.0");
   let level = -1;
   for (const cycles of [3, 40, FRAME, 1]) {
-    const told = calls.ask(`lamps\n${"run 1\nlamps\n".repeat(cycles)}`).filter((line) => line.startsWith("lamps")).slice(0, cycles);
-    const wanted = told.map((line) => (line["lamps ".length] === "*" ? 1 : -1));
+    const lampLines = calls.ask(`lamps\n${"run 1\nlamps\n".repeat(cycles)}`).filter((line) => line.startsWith("lamps")).slice(0, cycles);
+    const wanted = lampLines.map((line) => (line["lamps ".length] === "*" ? 1 : -1));
     assert.deepEqual([...samplesOf(calls.advance(cycles).heard)], wanted);
   }
   const pieces = new SoundPieces(4200);
@@ -149,7 +150,9 @@ test("the edges of a line are told to the cycle, and its samples have its pitch"
   assert.equal(calls.advance(100).heard, null);
 });
 
-/** A board of one lamp: what is seen of it, and what lets time pass, lit for a part of it, with when it changed. */
+/**
+ * A board of one lamp: its perceived state, and a function that runs time with the lamp on for a part of it, with the time of its change.
+ */
 function oneLamp() {
   const seen = new Brightness(new Face(""), 1);
   const pass = (lit, time, moved = null, marks = lit > 0 ? "*" : ".") => (
@@ -199,7 +202,7 @@ test("a lamp that rested within a frame stands still once it rests for twice as 
 
 test("what comes and goes more often than an eye follows never stands still", () => {
   const { seen, pass } = oneLamp();
-  // 12 ms dark and 8 ms lit, looked at each 4 ms.
+  // 12 ms off and 8 ms on, sampled each 4 ms.
   for (let turn = 0; turn < 50; turn++) {
     pass(0, 4, { first: 0, longest: 0, rest: 100 });
     pass(0, 4);
@@ -215,7 +218,7 @@ test("digits that are shifted in are shown at once when they stand, and nothing 
   const calls = await begin(example);
   const seen = new Brightness(new Face(example.board), 43);
   const pass = (cycles, key = null) => {
-    seen.add(calls.advance(cycles, key).shone, (FRAME_TIME * cycles) / FRAME);
+    seen.add(calls.advance(cycles, key).litShares, (FRAME_TIME * cycles) / FRAME);
     return seen.patterns.map(numberOf).join(" ");
   };
   for (let frame = 0; frame < 60; frame++) pass(FRAME);
@@ -223,7 +226,7 @@ test("digits that are shifted in are shown at once when they stand, and nothing 
   [[2, 0, "1"], [2, 1, "12"], [2, 2, "123"], [1, 0, "1234"], [1, 1, "12345"], [1, 2, "123456"]].forEach(([row, column, number], at) => {
     const key = matrixKey(row, column);
     const before = pass(FRAME + 137 * at);
-    // What is lent for a key, and what was owed.
+    // Cycles simulated early for a key, and cycles due.
     isAtOnce += Number(pass(2 * FRAME - 100 * at, key) === number);
     calls.release(key);
     const numbers = new Set();
@@ -243,10 +246,10 @@ test("a display that is refreshed in the main loop shows its number in each fram
   const numbers = new Set();
   let matches = 0;
   for (let frame = 0; frame < 150; frame++) {
-    const { shone, look } = calls.advance(FRAME);
-    seen.add(shone, FRAME_TIME);
+    const { litShares, snapshot } = calls.advance(FRAME);
+    seen.add(litShares, FRAME_TIME);
     numbers.add(seen.patterns.map(numberOf).join(" "));
-    matches += Number(instants.read(/ lamps (\S+) /.exec(look[0])[1]).number === "42");
+    matches += Number(instants.read(/ lamps (\S+) /.exec(snapshot[0])[1]).number === "42");
   }
   assert.deepEqual([...numbers], ["42"]);
   assert.ok(matches > 5 && matches < 60, String(matches));

@@ -1,4 +1,4 @@
-// What is marked at a stop, and what is not while time runs.
+// The marks at a stop, and none while time runs.
 
 import assert from "node:assert/strict";
 import test from "node:test";

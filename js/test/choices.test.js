@@ -1,10 +1,10 @@
-// What a user chose, in a store that keeps, and in ones that do not.
+// A user's choices, in a store that keeps them, and in ones that do not.
 
 import assert from "node:assert/strict";
 import test from "node:test";
 import { Choices } from "../page/ui/choices.js";
 
-/** A store as the browser's own, in memory. */
+/** A store like the browser's own, in memory. */
 function fakeStore(text = null) {
   const store = { text, getItem: () => store.text, setItem: (key, value) => { store.text = value; } };
   return store;

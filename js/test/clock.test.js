@@ -1,4 +1,4 @@
-// The clock, over frames and a bench that do as they are told by the test.
+// The clock, over frames and a bench that behave as the test says.
 import assert from "node:assert/strict";
 import { mock, test } from "node:test";
 import { Clock } from "../page/time/clock.js";
@@ -6,7 +6,7 @@ import { matrixKey } from "../core/board/key_place.js";
 import { CYCLES_PER_SECOND } from "../core/time/mcs4_time.js";
 import { SPEEDS, speedOf } from "../core/time/speeds.js";
 
-/** Gives a clock that runs from 0 on, and what it called; `to` goes to a time, with a frame there. */
+/** Returns a clock that runs from 0 on, and its calls; `to` moves to a time, with a frame there. */
 function begin(speed = "real") {
   let now = 0;
   let frame = null;
@@ -16,16 +16,16 @@ function begin(speed = "real") {
   globalThis.requestAnimationFrame = (act) => { frame = act; };
   globalThis.cancelAnimationFrame = () => { frame = null; };
   const calls = [];
-  const told = { calls, fails: [], gaps: 0, waiting: null };
+  const seen = { calls, fails: [], gaps: 0, waiting: null };
   const clock = new Clock({
     advance: (cycles, key) => {
       calls.push(key ? [cycles, key] : [cycles]);
-      return told.waiting || Promise.resolve();
+      return seen.waiting || Promise.resolve();
     },
     instruct: async () => { calls.push(["instruction"]); },
     runFull: async () => { calls.push(["full"]); },
-    stoodStill: () => { told.gaps += 1; },
-    failed: (fault) => told.fails.push(fault),
+    stoodStill: () => { seen.gaps += 1; },
+    failed: (fault) => seen.fails.push(fault),
   });
   clock.setSpeed(speedOf(speed));
   clock.start();
@@ -35,7 +35,7 @@ function begin(speed = "real") {
     if (frame) frame(time);
     await settled();
   };
-  return { clock, told, calls, wait, to };
+  return { clock, seen, calls, wait, to };
 }
 
 const settled = () => new Promise((done) => setImmediate(done));
@@ -64,12 +64,12 @@ test("the time that counts is ahead for as long as cycles are lent", async () =>
   assert.ok(Math.abs(clock.now - 10 - 1000 / 60) < 0.01, `${clock.now}`);
 });
 
-test("while a call is under way a key is told apart, and cycles follow at the end of the call", async () => {
-  const { clock, told, calls, wait, to } = begin();
+test("while a call is under way a key is reported separately, and cycles follow at the end of the call", async () => {
+  const { clock, seen, calls, wait, to } = begin();
   let done = () => {};
-  told.waiting = new Promise((keep) => { done = keep; });
+  seen.waiting = new Promise((keep) => { done = keep; });
   await to(10);
-  told.waiting = null;
+  seen.waiting = null;
   wait(12);
   assert.equal(clock.pressNow(matrixKey(0, 1)), false);
   assert.deepEqual(calls, [[925]]);
@@ -81,15 +81,15 @@ test("while a call is under way a key is told apart, and cycles follow at the en
 });
 
 test("where that call ends the time nothing follows, and nothing is owed when it goes on", async () => {
-  const { clock, told, calls, wait, to } = begin();
+  const { clock, seen, calls, wait, to } = begin();
   wait(5);
   clock.pressNow(matrixKey(0, 1));
   await settled();
   wait(6);
   let done = () => {};
-  told.waiting = new Promise((keep) => { done = keep; });
+  seen.waiting = new Promise((keep) => { done = keep; });
   await to(40);
-  told.waiting = null;
+  seen.waiting = null;
   assert.equal(clock.pressNow(matrixKey(0, 2)), false);
   clock.stop();
   done();
@@ -107,10 +107,10 @@ test("nothing is lent while time stands still, at full speed, and in slow motion
     const { clock, calls, wait } = begin(id);
     calls.length = 0;
     wait(500);
-    const isTold = clock.pressNow(matrixKey(0, 1));
+    const isReported = clock.pressNow(matrixKey(0, 1));
     const slow = { tenth: [[4629, matrixKey(0, 1)]], hundredth: [[462, matrixKey(0, 1)]], thousandth: [[46, matrixKey(0, 1)]] };
     assert.deepEqual(calls, slow[id] || [], id);
-    assert.equal(isTold, id in slow, id);
+    assert.equal(isReported, id in slow, id);
     await settled();
     clock.stop();
     wait(900);
@@ -124,7 +124,7 @@ test("nothing is lent while time stands still, at full speed, and in slow motion
 });
 
 test("a page that was hidden owes nothing back, and lends nothing while it is hidden", async () => {
-  const { clock, calls, told, wait, to } = begin();
+  const { clock, calls, seen, wait, to } = begin();
   clock.pressNow(matrixKey(0, 1));
   await settled();
   globalThis.document.hidden = true;
@@ -133,17 +133,17 @@ test("a page that was hidden owes nothing back, and lends nothing while it is hi
   assert.equal(clock.pressNow(matrixKey(0, 2)), false);
   globalThis.document.hidden = false;
   await to(9000);
-  assert.equal(told.gaps, 1);
+  assert.equal(seen.gaps, 1);
   await to(9010);
   assert.deepEqual(calls, [[1543, matrixKey(0, 1)], [925]]);
 });
 
-test("a call that fails is told, and the next frame goes on", async () => {
-  const { calls, told, to } = begin();
-  told.waiting = Promise.reject(new Error("trap"));
+test("a call that fails is reported, and the next frame goes on", async () => {
+  const { calls, seen, to } = begin();
+  seen.waiting = Promise.reject(new Error("trap"));
   await to(10);
-  told.waiting = null;
-  assert.deepEqual(told.fails.map(({ message }) => message), ["trap"]);
+  seen.waiting = null;
+  assert.deepEqual(seen.fails.map(({ message }) => message), ["trap"]);
   await to(20);
   assert.deepEqual(calls, [[925], [926]]);
 });

@@ -1,4 +1,4 @@
-// The table of commands, its words, and how arguments are read.
+// The table of commands, its words, and the parsing of arguments.
 
 import assert from "node:assert/strict";
 import { spawnSync } from "node:child_process";
@@ -9,7 +9,7 @@ import { COMMAND_WORDS } from "../words/commands.js";
 
 const MAIN = fileURLToPath(new URL("../node/mcs4.cjs", import.meta.url));
 
-/** Runs mcs4; returns the exit status and what it prints. */
+/** Runs mcs4; returns the exit status and the output. */
 function run(...words) {
   const { status, stdout, stderr } = spawnSync(process.execPath, [MAIN, ...words], { encoding: "utf8", cwd: "/" });
   return { status, stdout, stderr };
@@ -50,7 +50,7 @@ test("wrong arguments have status 2, the use of the command, and a suggestion wh
   refused(["a", "b"], "TEST is missing");
   refused([], "BOARD, PROGRAM and TEST are missing, and there is no mcs4.toml here");
   refused(["a", "", "c"], "an argument is empty; it names a file");
-  refused(["--session", "s.mcs", "0", "p"], "CYCLES is a decimal number, 1 to 100000000");
+  refused(["--session", "s.mcs", "0", "p"], "CYCLES: '0' is not a decimal number from 1 to 100000000");
   refused(["--session", "s.mcs", "-5", "p"], "there is no option -5");
   refused(["--session", "s.mcs", "1", "p", "q"], "'q' is one argument too many");
   refused(["-C", "x", "--session", "s.mcs", "1", "p"], "-C and --session exclude each other");
@@ -60,6 +60,6 @@ test("after -- nothing is an option, and a name that is none of a command has a 
   const { status, stderr } = run("test", "--", "--help", "b", "c");
   assert.deepEqual({ status, stderr }, { status: 1, stderr: "test: cannot read --help: there is no such file\n" });
   assert.deepEqual(run("tset"), {
-    status: 2, stdout: "", stderr: "mcs4: there is no command tset; did you mean test? mcs4 help shows which there are\n",
+    status: 2, stdout: "", stderr: "mcs4: there is no command tset; did you mean test? mcs4 help lists the commands\n",
   });
 });

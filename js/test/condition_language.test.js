@@ -1,5 +1,5 @@
-// The language of conditions: what a debugger's user types means what was meant, wherever a condition can stand; old texts keep their
-// meaning; no text makes the reader throw or hang.
+// The language of conditions: a user's text has the intended meaning wherever a condition is allowed; old texts keep their meaning; no text
+// makes the reader throw or hang.
 import assert from "node:assert/strict";
 import { readFileSync, readdirSync } from "node:fs";
 import { before, test } from "node:test";
@@ -53,7 +53,7 @@ turn:   LD R5
         INC R5
         JUN turn
 `;
-/** Each of the conditions comes to hold in it, and not to. */
+/** Each of the conditions becomes true in it, and false. */
 const SEARCHED = `limit = 9
 start:  FIM P0, 0x12
         SRC P0
@@ -71,11 +71,11 @@ turn:   LD R5
         JUN turn
 `;
 const WATCHED = ["count = R5", "digit = ram 0 0x12", "P2"];
-/** Cells of the machine that are poked at random; the judges look at `regs` and `lamps` by themselves. */
+/** Cells of the machine that are poked at random; the judges use `regs` and `lamps` by themselves. */
 const POKED = [["acc", 16], ["cy", 2], ["r5", 16], ["r4", 16], ["ram.0.0x12", 16], ["pc", 12]];
 
 /**
- * What a debugger's user types, and what is meant by it: by what the bench answers to `regs`, `lamps`, `state` and `ram 0`.
+ * The lines that a debugger's user types, and their meaning: by the bench's answers to `regs`, `lamps`, `state` and `ram 0`.
  * @typedef {{ acc: number, cy: number, pc: number, r: number[], lamps: string, keys: string[], test: string, digit: number }} Is
  * @type {[string, (is: Is) => boolean][]}
  */
@@ -93,7 +93,7 @@ const MEANT = [
   ["lamp or = 1 and lamp 1 off", ({ lamps }) => lamps[4] === "*" && lamps[0] === "."],
   ["lamps & 6 = 4", ({ lamps }) => lamps[1] === "." && lamps[2] === "*"],
 ];
-/** What only commands change: for breakpoints, and where time stands. */
+/** The places that only commands change: for breakpoints, and while time is paused. */
 const MEANT_THERE = [
   ["key = down", ({ keys }) => keys.includes("0.1")],
   ["key # up and key A down", ({ keys }) => !keys.includes("0.3") && keys.includes("0.0")],
@@ -112,7 +112,7 @@ before(() => {
 
 const upTo = (random, most) => Math.floor(random() * most);
 
-/** Puts the machine into another state, and gives what the bench answers of it. */
+/** Puts the machine into another state, and returns the bench's answers about it. */
 async function changed(random) {
   const pokes = POKED.map(([place, most]) => `poke ${place} ${upTo(random, most)}\n`).join("");
   const ports = `asm\n FIM P0, 0\n SRC P0\n LDM ${upTo(random, 16)}\n WMP\n FIM P0, 0x40\n SRC P0\n LDM ${upTo(random, 2)}\n WMP\n.\n`;
@@ -126,13 +126,13 @@ async function changed(random) {
   };
 }
 
-/** What expressions are asked of, with the names of Watch. */
+/** The context of expressions, with the names of Watch. */
 function known() {
   Object.defineProperty(session, "names", { configurable: true, value: names });
   return { session, face: names.face, instructions: new Map(), shown: () => "" };
 }
 
-/** What a call gives, or the words of what it throws. */
+/** Returns the result of a call, or the words of its error. */
 async function orFault(call) {
   try {
     return await call();
@@ -141,9 +141,9 @@ async function orFault(call) {
   }
 }
 
-const now = ({ places }) => session.debugger.told(places);
+const now = ({ places }) => session.debugger.readPlaces(places);
 
-/** A prompt of `mcs4 debug` on the session, and what it printed last. */
+/** A prompt of `mcs4 debug` on the session, and its last output. */
 let prompt;
 let printed = "";
 before(() => {
@@ -155,7 +155,7 @@ before(() => {
   prompt = new Prompt(launched, dataOfPage(), calls);
 });
 
-/** By the place of use: whether a condition is taken there, and holds now; else the error. */
+/** By the place of use: whether a condition is accepted there, and holds now; otherwise the error. */
 const USES = {
   test: (text) => {
     const { tests: [{ steps: [{ action }] }], faults } = readTests(`test t\n expect ${text}\n`, names);
@@ -255,7 +255,7 @@ test("searches of the past, and on: a condition is found where it became true, i
     for (const [text, meant] of MEANT) {
       const rises = all.flatMap(({ is }, at) => (at > 0 && meant(is) && !meant(all[at - 1].is) ? [at] : []));
       const went = await own.back({ kind: "when", condition: text });
-      // It stands before the instruction that makes it true.
+      // It is at the instruction that makes it true.
       const want = rises.length === 0 ? all[last] : all[rises[rises.length - 1] - 1];
       assert.deepEqual([went.isDone, bench.count.total], [rises.length > 0, want.total], `back ${text}: ${went.words}`);
       if (rises.length > 0) assert.match(went.words, /: this instruction makes .* true\.$/);
@@ -297,7 +297,7 @@ test("errors point at their column, and propose", () => {
     ["key B down", 0, "the board has no key B; it has: A = no # WALK"], ["rom3 = 1", 0, "the board has no ROM 3"],
     ["(r5 = 1) = 3", 9, "=: a condition ends before this; join two by and, or"],
     ["r5 = (cy = 1)", 5, "(cy = 1): this is a condition, and a value is needed"],
-    ['display "3', 8, "a text ends with a quotation mark"], ["ret = 3", 0, "ret is not one number"],
+    ['display "3', 8, "the closing quotation mark is missing"], ["ret = 3", 0, "ret is not one number"],
     [`${"(".repeat(MOST_DEPTH + 1)}r5 = 1`, MOST_DEPTH, "at most 30 parentheses are inside each other"],
     ["x".repeat(LONGEST + 1), LONGEST - 1, "a condition has at most 2000 characters"],
   ]) {
@@ -327,7 +327,7 @@ test("a text of any kind is read in time, and an error is in a column of it", ()
     }
   }
   assert.ok(taken > 200, String(taken));
-  // What begins or ends otherwise is read by the same parser, and its faults name a column in words.
+  // Other beginnings and ends are read by the same parser, and its errors name a column in words.
   for (let each = 0; each < 1500; each++) {
     const text = Array.from({ length: upTo(random, 12) }, () => pieces[upTo(random, pieces.length)]).join(" ");
     const heads = ["while ", "once ", "after press A, ", "after press A within 5 ms, ", "never ", "always ", ""];
@@ -375,7 +375,7 @@ test("the conditions of the examples' tests mean the same here", () => {
     for (const text of conditions) {
       const [old, read] = [testConditionOf(text, own), conditionOf(text, own)];
       assert.equal(old.fault, "", text);
-      // What is for the lines of a test alone is refused, as before.
+      // Forms for the lines of a test only are rejected, as before.
       if (old.condition.needs.some((need) => need !== "test")) {
         assert.match(read.fault, /^(the digits are lit|what is printed|no run changes)/, text);
         continue;
@@ -386,7 +386,7 @@ test("the conditions of the examples' tests mean the same here", () => {
         const values = old.condition.places.map((place) => (place === "lamps" ? own.board.lamps.map(() => ".*"[upTo(random, 2)]).join("")
           : upTo(random, place === "pc" ? 4096 : 16).toString(16).toUpperCase().padStart(place === "pc" ? 3 : 1, "0")));
         assert.equal(read.condition.holds(values), old.condition.holds(values), `${text}: ${values}`);
-        assert.equal(read.condition.tell(values), old.condition.tell(values), `${text}: ${values}`);
+        assert.equal(read.condition.explain(values), old.condition.explain(values), `${text}: ${values}`);
       }
       compared += 1;
     }

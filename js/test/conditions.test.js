@@ -1,9 +1,10 @@
-// Conditions, read and judged; what `trace` tells of their places is asked of the module of the page itself.
+// Conditions, read and judged; the page's module reports their places by `trace`.
 import assert from "node:assert/strict";
 import { before, test } from "node:test";
 import { readBoard } from "../core/bench/answers.js";
 import { Face } from "../core/board/face.js";
-import { MOST_PLACES, conditionOf, testConditionOf } from "../core/conditions/condition_language.js";
+import { MOST_PLACES } from "../core/bench/inputs.js";
+import { conditionOf, testConditionOf } from "../core/conditions/condition_language.js";
 import { durationOf, wholeDuration } from "../core/conditions/durations.js";
 import { SourceMap } from "../core/machine/source_map.js";
 import { Answers, valuesOf } from "../core/engine/tracing.js";
@@ -30,7 +31,7 @@ before(async () => {
   ({ names } = await bench());
 });
 
-/** The values that stand now at the places of a condition. */
+/** Returns the current values of a condition's places. */
 function valuesNow(calls, { places }) {
   return places.length === 0 ? [] : valuesOf(new Answers(calls.ask(`trace 1 ${places.join(" ")}\n`)).takeTrace().row);
 }
@@ -40,7 +41,7 @@ const read = (text) => {
   assert.equal(fault, "", text);
   return condition;
 };
-test("conditions hold by what the bench tells of their places", async () => {
+test("conditions hold by what the bench reports of their places", async () => {
   const { calls } = await bench("run 19\n");
   const holding = ["acc 1", "acc = 1", "acc=1", "r2 4", "r2 > 3", "r2>=4", "r2 != 5", "r3 0", "cy 0", "dcl 0", "@end", "at end",
     "pc = 11", "pc > 10",
@@ -56,7 +57,7 @@ test("conditions hold by what the bench tells of their places", async () => {
     const condition = read(text);
     const values = valuesNow(calls, condition);
     assert.equal(condition.holds(values), true, `${text}: ${condition.places} ${values}`);
-    assert.equal(condition.tell(values), "", text);
+    assert.equal(condition.explain(values), "", text);
   }
   for (const text of ["acc 2", "r2 < 4", "r2 <= 3", "@start", "lamps locked", "lamps none", "display 2 locked", "display != 2",
     "ram.0.0 4 1",
@@ -65,29 +66,29 @@ test("conditions hold by what the bench tells of their places", async () => {
   }
 });
 
-test("what does not hold is told as mcs4 test tells it", async () => {
+test("what does not hold is reported as mcs4 test reports it", async () => {
   const { calls } = await bench("run 19\n");
-  const told = (text) => read(text).tell(valuesNow(calls, read(text)));
-  assert.equal(told("acc 2"), "acc is 1, and has to be 2");
-  assert.equal(told("not acc 1"), "acc is 1, and has not to be 1");
-  assert.equal(told("@start"), "pc is 00B (end), and has to be @start");
-  assert.equal(told("acc 1 and lamp alarm off"), "lamp alarm is on, and has to be off");
-  assert.equal(told("lamps none"), "lamps are ..*.*, and have to be ??...; lit: locked alarm");
-  assert.equal(told("ram.0.0 4 1"), "ram.0.0x00 is 4 0, and has to be 4 1");
-  assert.equal(told("r2 < 4"), "r2 is 4, and has to be < 4");
+  const shown = (text) => read(text).explain(valuesNow(calls, read(text)));
+  assert.equal(shown("acc 2"), "acc is 1, and has to be 2");
+  assert.equal(shown("not acc 1"), "acc is 1, and has not to be 1");
+  assert.equal(shown("@start"), "pc is 00B (end), and has to be @start");
+  assert.equal(shown("acc 1 and lamp alarm off"), "lamp alarm is on, and has to be off");
+  assert.equal(shown("lamps none"), "lamps are ..*.*, and have to be ??...; lit: locked alarm");
+  assert.equal(shown("ram.0.0 4 1"), "ram.0.0x00 is 4 0, and has to be 4 1");
+  assert.equal(shown("r2 < 4"), "r2 is 4, and has to be < 4");
 });
 
-test("places are told once, and what a query takes is not exceeded", () => {
+test("places are reported once, and what a query takes is not exceeded", () => {
   assert.deepEqual(read("acc 1 and not acc 2 and r9 3").places, ["acc", "r9"]);
   assert.deepEqual(read("lamp 3 on and lamps none").places, ["lamps"]);
   assert.deepEqual(read("@end").address, 11);
   assert.deepEqual([read("not @end").address, read("pc > 3").address, read("@end and acc 1").address], [-1, -1, -1]);
   const many = Array.from({ length: MOST_PLACES }, (_, at) => `r${at} 0`).join(" and ");
   assert.equal(read(many).places.length, MOST_PLACES);
-  assert.equal(conditionOf(`${many} and acc 1`, names).fault, "it looks at 17 places, and 16 are the most");
+  assert.equal(conditionOf(`${many} and acc 1`, names).fault, "it reads 17 places; at most 16 are allowed");
 });
 
-test("what cannot be read is told, with what the board has", () => {
+test("what cannot be read is reported, with what the board has", () => {
   const faults = [
     ["", "a condition is missing"], ["not", "a condition is missing"], ["acc 1 and", "a condition is missing"],
     ["lamp purple on", "the board has no lamp purple; it has: locked open alarm"],
@@ -115,8 +116,8 @@ test("what cannot be read is told, with what the board has", () => {
     ["ram.0.0 4 < 5", "<: a condition ends before this; join two by and, or"], ["= 3", "a value is missing before ="],
   ];
   for (const [text, fault] of faults) {
-    const told = conditionOf(text, names).fault;
-    assert.ok(told.startsWith(fault), `${text}: ${told}`);
+    const shown = conditionOf(text, names).fault;
+    assert.ok(shown.startsWith(fault), `${text}: ${shown}`);
   }
   const bare = { ...names, face: new Face(WIRED) };
   assert.equal(conditionOf("lamp red on", bare).fault, "the board has no lamp red; its text names no lamps (`# lamp 0: NAME ..`)");
@@ -137,15 +138,15 @@ test("the lines of a test ask for what no trace shows as well", () => {
   assert.deepEqual(held, [true, false, false]);
   assert.equal(condition.holds([], beside), true);
   assert.equal(ofTest("cycles at most 6 ms").condition.holds([], beside), true);
-  assert.equal(ofTest("cycles 537").condition.tell([], beside), "cycles are 538, and have to be 537");
-  assert.equal(ofTest("@end").condition.tell(["00B"], beside), "pc is 00B (end), within an instruction, and has to be @end");
+  assert.equal(ofTest("cycles 537").condition.explain([], beside), "cycles are 538, and have to be 537");
+  assert.equal(ofTest("@end").condition.explain(["00B"], beside), "pc is 00B (end), within an instruction, and has to be @end");
   assert.equal(ofTest("cycles").fault, "it is written as `cycles TIME`, `cycles at most TIME` or `cycles at least TIME`");
 });
 
 test("times", () => {
-  const told = [["538", 538], ["538 cycles", 538], ["1 cycle", 1], ["20 ms", 1852], ["20ms", 1852], ["1.5 s", 138889], ["0", 0],
+  const shown = [["538", 538], ["538 cycles", 538], ["1 cycle", 1], ["20 ms", 1852], ["20ms", 1852], ["1.5 s", 138889], ["0", 0],
     ["1.5", 0], ["ms", 0], ["", 0],
     ["3 x", 0], ["1000000001", 0], ["-3", 0], ["1.5.2 ms", 0]];
-  for (const [text, cycles] of told) assert.equal(wholeDuration(text.split(" ")), cycles, text);
+  for (const [text, cycles] of shown) assert.equal(wholeDuration(text.split(" ")), cycles, text);
   assert.deepEqual(durationOf(["pace", "43", "ms", "1", "s"], 1), { cycles: 3981, words: 2 });
 });

@@ -27,39 +27,40 @@ test("since the last stop: the stretch that ended there, until another one begin
   const cycles = new Cycles();
   cycles.take({ total: 500, reset: 0 });
   cycles.take({ total: 900, reset: 0 });
-  assert.equal(cycles.told.sinceStop, 900);
+  assert.equal(cycles.counts.sinceStop, 900);
   cycles.stop();
   cycles.take({ total: 900, reset: 0 });
-  assert.equal(cycles.told.sinceStop, 900);
+  assert.equal(cycles.counts.sinceStop, 900);
   cycles.take({ total: 902, reset: 0 });
-  assert.deepEqual([cycles.told.sinceStop, cycles.told.sinceReset], [2, 902]);
-  assert.deepEqual(new Cycles(cycles.kept).told, cycles.told);
+  assert.deepEqual([cycles.counts.sinceStop, cycles.counts.sinceReset], [2, 902]);
+  assert.deepEqual(new Cycles(cycles.kept).counts, cycles.counts);
 });
 
 test("marks: from one to here, between two, and then anew", () => {
   const cycles = new Cycles({ total: 10, reset: 0, from: 0, marks: [] });
-  assert.equal(cycles.told.marked, null);
+  assert.equal(cycles.counts.marked, null);
   cycles.mark();
   cycles.take({ total: 936, reset: 0 });
-  assert.equal(cycles.told.marked, 926);
+  assert.equal(cycles.counts.marked, 926);
   cycles.mark();
   cycles.take({ total: 2000, reset: 0 });
-  assert.equal(cycles.told.marked, 926);
+  assert.equal(cycles.counts.marked, 926);
   cycles.mark();
-  assert.equal(cycles.told.marked, 0);
+  assert.equal(cycles.counts.marked, 0);
 });
 
 test("places by their names", () => {
   const board = readBoard(["board", "[[rom]]", "chip = 1", 'port = "iiii"', "[[ram]]", "bank = 0", "chips = 1", "[[chain]]",
     'clock = "ram0.0.0"', 'data = "ram0.0.1"', "chips = 2", "[[lamp]]", 'line = "ram0.0.3"', "[[lamp]]", 'line = "chain0.5"']);
-  /** By what `trace` tells a place, and its value where it tells these. */
-  const told = (name, ...values) => {
+  /** Returns the words by which `trace` reports a place, and its value if it reports one. */
+  const linesOf = (name, ...values) => {
     const place = placeOf(name);
     return [place.name, place.probesOn(board).join(" "), place.value(values)];
   };
   assert.deepEqual([
-    told("acc", "6"), told("R15", "9"), told("ram.0.63", "C"), told("st.0.1.2", "2"), told("ram0.0.3", "1"), told("rom1.2", "0"),
-    told("rom1", "D"), told("ram0.0", "2"), told("chain0.19", "1"), told("lamp1", "1"), told("lamps", ".*"),
+    linesOf("acc", "6"), linesOf("R15", "9"), linesOf("ram.0.63", "C"), linesOf("st.0.1.2", "2"), linesOf("ram0.0.3", "1"),
+    linesOf("rom1.2", "0"),
+    linesOf("rom1", "D"), linesOf("ram0.0", "2"), linesOf("chain0.19", "1"), linesOf("lamp1", "1"), linesOf("lamps", ".*"),
   ], [
     ["acc", "acc", "6"], ["r15", "r15", "9"], ["ram.0.0x3F", "ram.0.0x3F", "C"], ["st.0.1.2", "st.0.1.2", "2"],
     ["ram0.0.3", "ram0.0.3", "1"], ["rom1.2", "rom1.2", "0"], ["rom1", "rom1", "D"],
@@ -77,7 +78,7 @@ test("why time stopped, in words", () => {
   const reached = { cycles: 538, why: "goal", returns: false };
   assert.equal(wordsOfStop({ kind: "over" }, { ...reached, returns: true }, "009"), "Returned to 009, after 538 cycles, 5.810 ms.");
   assert.equal(wordsOfStop({ kind: "over" }, { ...reached, cycles: 1 }, "00D"), "At 00D, after 1 cycle, 0.011 ms.");
-  assert.equal(wordsOfStop({ kind: "here", address: 20 }, reached, "014"), "Paused at 014, as wanted, after 538 cycles, 5.810 ms.");
+  assert.equal(wordsOfStop({ kind: "here", address: 20 }, reached, "014"), "Paused at 014, as requested, after 538 cycles, 5.810 ms.");
   assert.equal(wordsOfStop({ kind: "out" }, { cycles: 4, why: "break", returns: true }, "016"),
     "Paused at 016, at a breakpoint, after 4 cycles, 0.043 ms; the return from the subroutine was not reached.");
   assert.equal(wordsOfStop(null, { cycles: 4, why: "break", returns: false }, "016"), "Paused at 016, at a breakpoint.");

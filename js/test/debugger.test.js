@@ -72,7 +72,7 @@ test("a session in memory: breakpoints at lines, moves, values, back and forward
   assert.equal(session.line, LINE.increment);
 });
 
-/** Runs on up to a stop, so often; gives what stands at a place each time. */
+/** Runs to a stop, several times; returns the values of a place each time. */
 async function stopsOf(session, count, place) {
   const seen = [];
   for (let stop = 0; stop < count; stop++) {
@@ -149,7 +149,7 @@ test("a breakpoint stops a move; one that cannot be read says why, and stops at 
   const mended = [];
   for (let more = 0; more < 3; more++) mended.push([(await session.go()).id, session.values(["r4"])[0]]);
   assert.deepEqual(mended, [[broken.id, "3"], [broken.id, "F"], [1, "0"]]);
-  assert.match(stop.words, /^Paused at 009 \(show \+ 1, line 9\), at a breakpoint, where r4 = 0, after 3 cycles, .*; the return .* not/);
+  assert.match(stop.words, /^Paused at 009 \(show \+ 1, line 9\), at a breakpoint, when r4 = 0, after 3 cycles, .*; the return .* not/);
 });
 
 test("breakpoints are no part of the past: going back leaves them, and what comes after is done again as it was", async () => {
@@ -177,7 +177,7 @@ test("breakpoints are no part of the past: going back leaves them, and what come
   assert.deepEqual([bench.count.total, session.values(["r4", "pc"])], end);
 });
 
-/** The totals of cycles at which a breakpoint was arrived at, one stop of the bench after the other; the session stands at the last one. */
+/** Returns the totals of cycles at the arrivals at a breakpoint, one stop of the bench after the other; the session is at the last one. */
 async function arrivalsOf(session, count) {
   const seen = [];
   for (let stop = 0; stop < count; stop++) {
@@ -205,11 +205,11 @@ test("back to the last arrival at a breakpoint: the stops of the way there, what
     const back = await backToArrival(session);
     assert.deepEqual([bench.count.total, session.values(["r4"])[0], session.line], [cycles, r4, LINE.write]);
     assert.deepEqual([back.isDone, back.end, back.id, back.cycles], [true, "break", 1, from - cycles]);
-    assert.match(back.words, at === 0 ? /^Back at 009 \(show \+ 1, line 9\), 12 cycles, 0.130 ms before, at a/ : /at a breakpoint\.$/);
+    assert.match(back.words, at === 0 ? /^Back at 009 \(show \+ 1, line 9\), 12 cycles, 0.130 ms earlier, at a/ : /at a breakpoint\.$/);
   }
   const begin = await backToArrival(session);
   assert.deepEqual([begin.isDone, begin.end, bench.count.total], [true, "beginning", 0]);
-  assert.match(begin.words, /^Back at 000 \(start, line 2\), .* before, where what is remembered begins: no breakpoint was passed/);
+  assert.match(begin.words, /^Back at 000 \(start, line 2\), .* earlier, at the beginning of what is remembered: no breakpoint was passed/);
   const none = await backToArrival(session);
   assert.deepEqual([none.isDone, none.words], [false, "Nothing was done: what is remembered reaches no further back."]);
   for (let times = 0; times < seen.length + 1; times++) session.forward();
@@ -228,7 +228,7 @@ test("back to an arrival: conditions are asked, counts are not, and breakpoints 
   for (const [cycles] of seen.filter(([, r4]) => r4 === "3").reverse()) {
     const back = await backToArrival(session);
     assert.deepEqual([bench.count.total, back.id], [cycles, id]);
-    assert.match(back.words, /, at a breakpoint, where r4 = 3\.$/);
+    assert.match(back.words, /, at a breakpoint, when r4 = 3\.$/);
   }
   assert.equal((await backToArrival(session)).end, "beginning");
   assert.deepEqual(bench.ask("breaks\n"), ["breaks -"]);
@@ -255,7 +255,7 @@ test("back to an arrival meets what is watched, by the bench or beside it, and s
 });
 
 test("back to an arrival is found in what is kept of a long run, at once", async () => {
-  // R0 to R3 count; `hit` comes once in 16 ** 4 turns.
+  // R0 to R3 count; `hit` is reached once in 16 ** 4 turns.
   const turns = [0, 1, 2, 3].map((each) => ` ISZ R${each}, turn\n`).join("");
   const session = open(`start: FIM P0, 0\n FIM P1, 0\nturn: NOP\n${turns}hit: NOP\n JUN turn\n`);
   const { session: bench } = session.debugger;
@@ -296,7 +296,7 @@ test("a pause ends a run without a stop", async () => {
   assert.match(stop.words, /^Paused at 002 \(x, line 2\), after .*; the return from the subroutine was not reached\.$/);
 });
 
-test("notes tell lamps by their names and ports as digits", () => {
+test("notes report lamps by their names and ports as digits", () => {
   const face = new Face(BOARD);
   const lamps = [0, 1].flatMap((line) => ["[[lamp]]", `line = "ram0.0.${line}"`]);
   const board = readBoard(["board", "[[rom]]", "chip = 0", 'port = "0000"', ...lamps]);
@@ -319,7 +319,7 @@ test("breakpoints move with the lines of the text", () => {
   assert.deepEqual(edited([3, 4, 5], { from: at(2, 9), to: at(2, 9), text: ["", ""], removed: [""] }), [3, 5, 6]);
   assert.deepEqual(edited([3, 4, 5], { from: at(3), to: at(3), text: ["", ""], removed: [""] }), [3, 5, 6]);
   assert.deepEqual(edited([3, 4, 5], { from: at(3, 4), to: at(3, 4), text: ["", ""], removed: [""] }), [3, 4, 6]);
-  // Lines 3 and 4 are taken out whole; line 4 is joined to line 3.
+  // Lines 3 and 4 are deleted whole; line 4 is joined to line 3.
   assert.deepEqual(edited([2, 3, 4, 5], { from: at(2), to: at(4), text: ["", ""].slice(1), removed: ["a", "b", ""] }), [2, 3]);
   assert.deepEqual(edited([3, 4, 5], { from: at(2, 3), to: at(3, 0), text: [""], removed: ["", ""] }), [3, 4]);
   // All is replaced by a text with another line at its beginning.
@@ -338,7 +338,7 @@ test("a line that is taken out takes its breakpoint along, and brings it back wh
 
 test("where all of the text is another one, breakpoints are where their addresses are", () => {
   const [removed, text] = [["a", "b", "c", "d"], ["new", "lines", "here", "x"]];
-  // Both end with a line's end, or neither; but where the lines below stay it is not all of the text.
+  // Both end with a line feed, or neither; but if the lines below stay it is not the whole text.
   for (const [end, isWhole, lines] of [[[], true, [[3, -1], [0, 4]]], [[""], true, [[3, -1], [0, 4]]], [[], false, [[2, 4], [3, -1]]]]) {
     const list = new BreakpointList([{ line: 2, address: 4 }, { line: 3 }]);
     list.edit({ from: at(0), to: at(3 + end.length), text: [...text, ...end], removed: [...removed, ...end], isWhole });
@@ -350,5 +350,5 @@ test("where a breakpoint has a condition or a count, the words of the stop have 
   const session = open();
   session.breakpoints.add({ line: LINE.write, condition: "r4 = 2", from: 2 });
   await session.applyBreakpoints();
-  assert.match((await session.go()).words, /^Paused at 009 \(show \+ 1, line 9\), at a breakpoint, where r4 = 2, at hit 2\.$/);
+  assert.match((await session.go()).words, /^Paused at 009 \(show \+ 1, line 9\), at a breakpoint, when r4 = 2, at hit 2\.$/);
 });

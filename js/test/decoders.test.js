@@ -1,4 +1,4 @@
-// Decoders of waves: by traces that are written by hand, and beside what the bench tells of a calculator.
+// Decoders of waves: with manual traces, and compared with the bench's reports on a calculator.
 import assert from "node:assert/strict";
 import { test } from "node:test";
 import { readBoard } from "../core/bench/answers.js";
@@ -26,7 +26,7 @@ function wavesOf(changes, cycles) {
     moments: Uint32Array.of(0), counters: Uint16Array.of(0), listing: [], program: null });
 }
 
-/** What a row shows: each value with the moment from which on it is there. */
+/** Returns the content of a row: each value with its first moment. */
 function rowOf(waves, name) {
   const line = numberOf(waves, name);
   return [waves.from, ...waves.changesOf(line)].map((moment) => `${moment} ${waves.valueAt(line, moment)}`);

@@ -1,4 +1,4 @@
-// Boards that are drawn: each act on the boards of the examples, with what the module of the bench says of the text that comes of it.
+// Drawn boards: each action on the boards of the examples, with the module's judgement of the resulting text.
 import assert from "node:assert/strict";
 import { test } from "node:test";
 import { readBoard } from "../core/bench/answers.js";
@@ -20,7 +20,7 @@ let engine;
 /** A session without a board. */
 let empty;
 
-/** What is asked of the bench waits until it is there. */
+/** Requests to the bench wait until it is there. */
 const onBench = (name, act) => test(name, async () => {
   engine = await loading;
   empty = empty || engine.begin();
@@ -42,15 +42,15 @@ const OTHERS = [
 ];
 const BOARDS = [...examples, ...OTHERS];
 
-/** What the bench answers to each text: the board, or how it is refused. */
+/** Returns the bench's answer to each text: the board, or its refusal. */
 function ask(texts) {
   const { answers } = engine.ask(empty, texts.map((text) => `wire\n${sentText(text, "#")}.\nboard\n`).join(""));
-  const told = [];
+  const replies = [];
   for (const answer of answers) {
-    if (/^(ok|no) /.test(answer)) told.push({ first: answer, board: [] });
-    else told[told.length - 1].board.push(answer);
+    if (/^(ok|no) /.test(answer)) replies.push({ first: answer, board: [] });
+    else replies[replies.length - 1].board.push(answer);
   }
-  return told;
+  return replies;
 }
 
 const textOf = (board) => [
@@ -62,7 +62,7 @@ const textOf = (board) => [
   ...board.lamps.map((line) => `[[lamp]]\nline = "${line}"\n`),
 ].join("");
 
-/** The board with one wire more, by the words of the manual and nothing of the page. */
+/** Returns the board with one more wire, by the words of the manual and nothing of the page. */
 function wired(board, line, target) {
   const next = structuredClone(board);
   const [kind, number] = [target.split(" ")[0], Number(target.split(" ")[1])];
@@ -82,7 +82,7 @@ const comments = (text) => text.split("\n").flatMap((line) => {
   return found && !headOf(line) ? [found[0]] : [];
 });
 
-/** An act is right: the bench takes the text and tells the board that is meant, the comments stay, and the edits can be taken back. */
+/** An action is right: the bench accepts the text and reports the intended board, the comments stay, and the edits can be undone. */
 function check(name, text, act, wanted) {
   const done = actOn(text, act);
   const said = `${name}: ${JSON.stringify(act)}`;
@@ -94,7 +94,7 @@ function check(name, text, act, wanted) {
   assert.equal(edited(text, done.edits), done.text);
   assert.equal(edited(done.text, inverseOf(text, done.edits)), text);
   assert.ok(faceFaults(done.text).length <= faceFaults(text).length, said);
-  const faults = (told, board) => missingOf(new Face(told), board).length;
+  const faults = (boardText, board) => missingOf(new Face(boardText), board).length;
   assert.ok(faults(done.text, readBoard(after.board)) <= faults(text, readBoard(first.board)), `${said}\n${done.text}`);
   assert.match(done.words, /^[A-Z].*\.$/);
   return { ...done, board: readBoard(after.board) };
@@ -135,7 +135,7 @@ onBench("a buzzer comes from the shelf, is wired, named and deleted, and goes wi
   assert.equal(added.text, '# buzzer rom0.0: buzzer\n\n[[rom]]\nchip = 0\nport = "0000"\n');
   assert.equal(added.words, "The buzzer was added, with ROM 0.");
   assert.match(actOn(added.text, { kind: "add", part: "buzzer" }).refusal, /^A board has one buzzer/);
-  // Its line is taken.
+  // Its line is in use.
   assert.match(check("buzzer", added.text, { kind: "add", part: "chain" }).text, /clock = "rom0.1"/);
   const moved = check("buzzer", added.text, { kind: "wire", line: "rom0.2", target: "buzzer 0" });
   assert.deepEqual([first(moved), moved.words], ["# buzzer rom0.2: buzzer", "Line rom0.2 is wired to the buzzer."]);
@@ -143,7 +143,7 @@ onBench("a buzzer comes from the shelf, is wired, named and deleted, and goes wi
   assert.deepEqual([first(named), named.words], ["# buzzer rom0.2: the horn", "The buzzer is called the horn."]);
   assert.equal(actOn(named.text, { kind: "name", part: "buzzer", name: " " }).refusal, "A buzzer needs a name.");
   const inputs = actOn(named.text, { kind: "add", part: "inputs" }).text;
-  assert.match(actOn(inputs, { kind: "wire", line: "rom1.0", target: "buzzer 0" }).refusal, /rom1.0 is an input line: the buzzer takes/);
+  assert.match(actOn(inputs, { kind: "wire", line: "rom1.0", target: "buzzer 0" }).refusal, /rom1.0 is an input line: the buzzer needs/);
   assert.equal(check("buzzer", named.text, { kind: "delete", part: "buzzer" }).text, '[[rom]]\nchip = 0\nport = "0000"\n');
   assert.equal(check("buzzer", named.text, { kind: "delete", part: "rom 0" }).words, "ROM 0 was deleted, and with it the buzzer.");
   const board = { ...named.board, buzzer: "rom0.2" };
@@ -206,7 +206,7 @@ for (const { name, text } of BOARDS) {
       const done = check(name, text, { kind: "delete", part });
       const left = comments(done.text);
       const missing = comments(text).filter((comment) => !left.includes(comment));
-      // A comment in a line of the part goes with it.
+      // A comment in a line of the part is deleted with it.
       if (examples.some((each) => each.name === name)) assert.deepEqual(missing, [], `${name}: ${part}`);
       checkLeft(board, new Face(text), done, part);
     }
@@ -247,18 +247,18 @@ for (const { name, text } of BOARDS) {
       const done = check(name, text, { kind: "name", part: `lamp ${lamp}`, name: "an odd name" }, board);
       const face = new Face(done.text);
       assert.equal(face.lamps.get(lamp).text, "an_odd_name");
-      const old = [...new Face(text).lamps].filter(([at]) => at !== lamp).map(([at, told]) => [at, told.text]);
-      assert.deepEqual([...face.lamps].filter(([at]) => at !== lamp).map(([at, told]) => [at, told.text]), old);
+      const old = [...new Face(text).lamps].filter(([at]) => at !== lamp).map(([at, faceText]) => [at, faceText.text]);
+      assert.deepEqual([...face.lamps].filter(([at]) => at !== lamp).map(([at, faceText]) => [at, faceText.text]), old);
       const coloured = new Face(check(name, text, { kind: "colour", lamp, colour: "blue" }, board).text);
       assert.equal(coloured.colours.get(lamp).text, "blue");
-      const others = [...new Face(text).colours].filter(([at]) => at !== lamp).map(([at, told]) => [at, told.text]).sort();
-      assert.deepEqual([...coloured.colours].filter(([at]) => at !== lamp).map(([at, told]) => [at, told.text]).sort(), others);
+      const others = [...new Face(text).colours].filter(([at]) => at !== lamp).map(([at, faceText]) => [at, faceText.text]).sort();
+      assert.deepEqual([...coloured.colours].filter(([at]) => at !== lamp).map(([at, faceText]) => [at, faceText.text]).sort(), others);
       assert.equal(new Face(check(name, text, { kind: "colour", lamp, colour: "" }, board).text).colours.has(lamp), false);
       const unnamed = { kind: "name", part: `lamp ${lamp}`, name: "" };
       // A lamp may have the name that is the number of this one on the grid.
       const { grid, lamps } = new Face(text);
-      const isTaken = grid.length > 0 && [...lamps].some(([at, told]) => at !== lamp && told.text === `${lamp}`);
-      if (isTaken) assert.match(actOn(text, unnamed).refusal, /Another lamp would then stand/);
+      const isTaken = grid.length > 0 && [...lamps].some(([at, faceText]) => at !== lamp && faceText.text === `${lamp}`);
+      if (isTaken) assert.match(actOn(text, unnamed).refusal, /Another lamp would then be/);
       else assert.equal(new Face(check(name, text, unnamed, board).text).lamps.has(lamp), false);
     });
     for (let row = 0; row < board.rows; row++) {
@@ -277,7 +277,7 @@ for (const { name, text } of BOARDS) {
   });
 }
 
-/** What is left is what was there, lamps and chains counted anew; each lamp has its name and its colour. */
+/** The rest is unchanged, lamps and chains renumbered; each lamp has its name and its colour. */
 function checkLeft(old, oldFace, { board, text }, part) {
   const face = new Face(text);
   const number = Number(part.split(" ")[1]);
@@ -311,14 +311,15 @@ onBench("what may be wired is what the bench takes, and all of it is offered", (
   for (const { name, text } of [...some, OTHERS[3]]) {
     const board = readBoard(ask([text])[0].board);
     const pairs = linesOf(board).flatMap((line) => [...wiringOf(board).keys()].map((target) => ({ line, target })));
-    const told = ask(pairs.map(({ line, target }) => textOf(wired(board, line.name, target))));
+    const answers = ask(pairs.map(({ line, target }) => textOf(wired(board, line.name, target))));
     pairs.forEach(({ line, target }, at) => {
-      assert.equal(mayWire(board, line, target), told[at].first.startsWith("ok"), `${name}: ${line.name} to ${target}: ${told[at].first}`);
+      assert.equal(mayWire(board, line, target), answers[at].first.startsWith("ok"),
+        `${name}: ${line.name} to ${target}: ${answers[at].first}`);
     });
   }
 });
 
-/** Numbers that look like chance, and are the same in each run. */
+/** Pseudo-random numbers, the same in each run. */
 function chances(seed) {
   let state = seed;
   return (list) => {
@@ -327,7 +328,7 @@ function chances(seed) {
   };
 }
 
-/** Something that a hand may do on a board: what the shelf, a pin, a field or a button offers. */
+/** Returns a possible action of a user on a board: what the shelf, a pin, a field or a button offers. */
 function anyAct(pick, board, face) {
   const lines = linesOf(board).map((line) => line.name);
   const parts = ["", ...board.roms.map(({ chip }) => `rom ${chip}`), ...board.banks.map(({ bank }) => `ram ${bank}.0`),
@@ -371,9 +372,9 @@ onBench("whatever is done one after the other, the bench takes the text, comment
 onBench("a wire that cannot be is refused in words", () => {
   const { text } = OTHERS[3];
   const refusal = (line, target) => actOn(text, { kind: "wire", line, target }).refusal;
-  assert.equal(refusal("rom1.0", "clock 0"), "rom1.0 is an input line: the clock of chain 0 takes an output line.");
+  assert.equal(refusal("rom1.0", "clock 0"), "rom1.0 is an input line: the clock of chain 0 needs an output line.");
   assert.equal(refusal("chain0.3", "data 0"),
-    "chain0.3 is a bit of a chain: the data of chain 0 takes an output line of a ROM or a RAM chip.");
+    "chain0.3 is a bit of a chain: the data of chain 0 needs an output line of a ROM or a RAM chip.");
   assert.match(refusal("rom0.1", "column 0"), /output line: column 0 of the keys/);
   assert.match(refusal("chain0.0", "row 1"), /follow one another/);
   assert.match(refusal("rom9.0", "lamp 0"), /no rom9.0/);

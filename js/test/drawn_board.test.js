@@ -1,5 +1,4 @@
-// What is chosen and begun on a board that is drawn, and what comes of it in the text, with the module of the bench and a text that can be
-// undone.
+// The selection and the begun wire on a drawn board, and the resulting text, with the module of the bench and a text that can be undone.
 import assert from "node:assert/strict";
 import { test } from "node:test";
 import { readBoard } from "../core/bench/answers.js";
@@ -7,7 +6,7 @@ import { Face } from "../core/board/face.js";
 import { actOn } from "../core/drawing/acts.js";
 import { sourcesOf } from "../core/drawing/board_lines.js";
 import { Drawing } from "../core/drawing/board_drawing.js";
-import { titleOf } from "../core/session/described.js";
+import { titleOf } from "../core/session/session_summary.js";
 import { fieldsOf } from "../core/drawing/fields.js";
 import { lampLabels } from "../core/drawing/lamp_labels.js";
 import { MovedParts } from "../core/drawing/moved_parts.js";
@@ -19,7 +18,7 @@ const loading = Engine.load(moduleOfPage);
 const examples = examplesOfPage;
 const boardOf = (wanted) => examples.find(({ name }) => name === wanted).board;
 
-/** A board that is drawn beside a text, as the page has it. */
+/** A drawn board with a text, as the page has it. */
 async function drawn(text = "") {
   const engine = await loading;
   const file = engine.begin();
@@ -59,7 +58,7 @@ test("an empty bench: parts come with what they need, and a wire goes from pin t
     ["keys", "A board has one key matrix: give it more rows and columns."]);
   await drawing.act({ kind: "add", part: "lamp" });
   await drawing.pressed("rom0.2");
-  assert.equal(desk.shown.said, "A wire begins at line rom0.2: it can end at 3 pins.");
+  assert.equal(desk.shown.said, "Wire from line rom0.2: it can end at 3 pins.");
   assert.deepEqual([...desk.shown.ends], ["clock 0", "data 0", "lamp 0"]);
   await drawing.pressed("lamp 0");
   assert.equal(desk.shown.said, "Line rom0.2 is wired to lamp 0.");
@@ -97,7 +96,7 @@ test("what cannot be is refused in words, and the text stays", async () => {
     [{ kind: "delete", part: "processor" }, /Each board has its processor/],
     [{ kind: "delete", part: "row 1" }, /delete the last one first/],
     [{ kind: "wire", line: "rom1.0", target: "clock 0" }, /is an input line/],
-    [{ kind: "colour", lamp: 0, colour: "amber" }, /is so already/],
+    [{ kind: "colour", lamp: 0, colour: "amber" }, /^No change\.$/],
   ]) {
     await desk.drawing.act(act);
     assert.match(desk.shown.said, words);

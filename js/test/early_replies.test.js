@@ -1,28 +1,28 @@
-// The second way for a reply, where a browser has it, lacks it or refuses it.
+// The second way for a reply, in a browser that has it, lacks it or rejects it.
 import assert from "node:assert/strict";
 import { test } from "node:test";
-import { earlyTeller } from "../page/bench/early_replies.js";
+import { earlySender } from "../page/bench/early_replies.js";
 
-/** What stands in a reply's place here. */
+/** The stand-in for a reply. */
 const EARLY = { kind: /** @type {"early"} */ ("early"), number: 7, result: "lamps" };
 
 test.afterEach(() => Reflect.deleteProperty(globalThis, "BroadcastChannel"));
 
 test("a reply goes to the channel of that name", () => {
-  const told = [];
+  const received = [];
   globalThis.BroadcastChannel = class {
     constructor(name) { this.name = name; }
 
-    postMessage(message) { told.push([this.name, message]); }
+    postMessage(message) { received.push([this.name, message]); }
   };
-  earlyTeller("one")(EARLY);
-  assert.deepEqual(told, [["one", EARLY]]);
+  earlySender("one")(EARLY);
+  assert.deepEqual(received, [["one", EARLY]]);
 });
 
-test("without a name, without channels, or where they are refused, nothing is told and nothing fails", () => {
+test("without a name, without channels, or where they are refused, nothing is reported and nothing fails", () => {
   globalThis.BroadcastChannel = class { constructor() { throw new Error("insecure"); } };
-  earlyTeller("one")(EARLY);
-  earlyTeller("")(EARLY);
+  earlySender("one")(EARLY);
+  earlySender("")(EARLY);
   Reflect.deleteProperty(globalThis, "BroadcastChannel");
-  earlyTeller("one")(EARLY);
+  earlySender("one")(EARLY);
 });

@@ -1,5 +1,5 @@
-// Both hosts of an engine, the module and the native program: the same lines have the same answers. MCS4 names the program, where it is
-// not the one that is shipped; without a program that starts here only the module is tried.
+// Both hosts of an engine, the module and the native program: the same lines have the same answers. MCS4 names the program, if it is not
+// the shipped one; without a program that starts here only the module is tried.
 import { test } from "node:test";
 import assert from "node:assert/strict";
 import { spawnSync } from "node:child_process";
@@ -11,7 +11,7 @@ import { BenchRefusal } from "../core/bench/faults.js";
 /* global WebAssembly */
 import { Engine } from "../core/engine/engine.js";
 import { readBoard } from "../core/bench/answers.js";
-import { withoutStops } from "../core/engine/wave_recorder.js";
+import { withoutStops } from "../core/engine/without_stops.js";
 import { neededLines, recordPieces } from "../core/engine/wave_stream.js";
 import { runTests } from "../core/testing/test_suite.js";
 import { coverageText, lcovOf } from "../core/testing/coverage_text.js";
@@ -41,7 +41,7 @@ function runNode(text, folder) {
 const BOARD = 'wire\n[[rom]]\nchip = 0\nport = "0000"\n[[ram]]\nbank = 0\nchips = 1\n[[lamp]]\nline = "ram0.0.0"\n.\n';
 const PROGRAM = "asm\nloop: IAC\n      WMP\n      JUN loop\n.\n";
 
-/** Runs a test on each host; what it returns has to be the same. */
+/** Runs a test on each host; the results must be the same. */
 function onBoth(name, act) {
   test(name, async () => {
     const found = [];
@@ -78,9 +78,9 @@ onBoth("commands lead to the next state; the state before stays", (engine) => {
 
 onBoth("commands that are asked about change nothing", (engine) => {
   const state = stateAfter(engine, BOARD + PROGRAM);
-  const told = [engine.ask(state, "run 7\ntrace 1\nseq\n"), engine.ask(state, "poke acc 9\nregs\n"), engine.ask(state, "regs\nseq\n")];
-  assert.equal(told[2].answers[1], "seq 2");
-  return told;
+  const answers = [engine.ask(state, "run 7\ntrace 1\nseq\n"), engine.ask(state, "poke acc 9\nregs\n"), engine.ask(state, "regs\nseq\n")];
+  assert.equal(answers[2].answers[1], "seq 2");
+  return answers;
 });
 
 onBoth("a trace goes through breakpoints, its last lines end at one, and the session stays", async (engine) => {
@@ -146,10 +146,10 @@ onBoth("`seq` within a text is a line of it, and `seq` has answers of its own", 
 
 onBoth("lines whose last one, or whose text, has no end", (engine) => {
   const state = stateAfter(engine, BOARD + PROGRAM);
-  const told = [engine.ask(state, "seq\nreg"), engine.ask(state, "run 5\nasm\n NOP\n"), engine.serve(state, "run 5\nasm\n NOP", state)];
-  assert.deepEqual(told[0].answers, ["seq 2", "no 10"]);
+  const answers = [engine.ask(state, "seq\nreg"), engine.ask(state, "run 5\nasm\n NOP\n"), engine.serve(state, "run 5\nasm\n NOP", state)];
+  assert.deepEqual(answers[0].answers, ["seq 2", "no 10"]);
   assert.deepEqual(engine.ask(state, "seq\n").answers, ["seq 3"]);
-  return [told, engine.ask(state, "state\n")];
+  return [answers, engine.ask(state, "state\n")];
 });
 
 onBoth("more lines, and longer texts and answers, than a pipe takes", (engine) => {

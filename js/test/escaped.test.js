@@ -1,4 +1,4 @@
-// Control characters of texts of others, as they are at a terminal.
+// Control characters of texts of others, at a terminal.
 import assert from "node:assert/strict";
 import { spawnSync } from "node:child_process";
 import { mkdtempSync, rmSync, writeFileSync } from "node:fs";

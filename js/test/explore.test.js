@@ -10,8 +10,8 @@ import { markOf, wordsOfEnd, wordsOfFigures, wordsOfProperty } from "../words/ex
 import { Explorer } from "../core/explore/explorer.js";
 import { Exploring, readToExplore } from "../core/explore/exploring.js";
 import { KeptFiles } from "../core/explore/kept_files.js";
-import { Looks } from "../core/explore/read_places.js";
-import { Places, Told } from "../core/explore/place_questions.js";
+import { Snapshots } from "../core/explore/read_places.js";
+import { Places, PlaceValues } from "../core/explore/place_questions.js";
 import { isRight, joinReports, tapOf, testsOfReport } from "../core/explore/report.js";
 import { Search } from "../core/explore/search.js";
 import { subjectOf } from "../core/explore/subject.js";
@@ -22,7 +22,7 @@ import { moduleOfPage } from "./page_session.js";
 
 const engine = new Engine(new globalThis.WebAssembly.Module(moduleOfPage));
 
-// Key A lights the lamp `on`, if it is down for 20 cycles; B beside it puts it out. C at TEST: a fourth call; D: a BBL without one.
+// Key A switches the lamp `on` on, if it is down for 20 cycles; B switches it off. C at TEST: a fourth call; D: a BBL without one.
 const BOARD = `# row 0: A B C D
 # lamp 0: on
 # test: button WALK
@@ -81,10 +81,10 @@ const subject = subjectOf(engine, BOARD, PROGRAM);
 const campaignOf = (text) => readCampaign(text, subject);
 const faultsOf = (text) => campaignOf(text).faults.map(({ line, words }) => `${line}: ${words}`);
 
-/** So many cycles are looked at to make a find shorter. */
+/** The cycles for minimising a counterexample. */
 const PATIENCE = 5e6;
 
-/** What is found within some seconds. */
+/** Returns what is found within some seconds. */
 async function explore(text, seconds = 20, confirm = () => true, seed = 1) {
   const { campaign, faults } = campaignOf(text);
   assert.deepEqual(faults, []);
@@ -97,7 +97,7 @@ async function explore(text, seconds = 20, confirm = () => true, seed = 1) {
 
 const testOf = async (text, seconds) => (await explore(text, seconds)).found[0].test;
 
-test("what is wrong with a text of properties is told with what there is", () => {
+test("what is wrong with a text of properties is reported with what there is", () => {
   assert.deepEqual(faultsOf("press A E\n"), ["1: the board has no key E; it has: A B C D WALK"]);
   assert.deepEqual(faultsOf("# a comment\n\nnever lamp purple on\n"), ["3: the board has no lamp purple; it has: on (column 7)"]);
   assert.deepEqual(faultsOf("every 20 ms @there"), ["1: the program has no label there"]);
@@ -149,21 +149,21 @@ test("a fourth call and a BBL without a call are seen, with no property of them"
   assert.match(of("returns").test, /press [CD]\n {2}run \d+\n {2}expect not pc 0x000\n$/);
 });
 
-test("where all states were seen, what holds in each of them holds for all", async () => {
+test("what holds for all inputs is proved first, and is not searched for", async () => {
   const board = 'lamp = [{ line = "ram0.0.0" }, { line = "ram0.0.1" }]\n[[rom]]\nchip = 0\nport = "0000"\n[[ram]]\nbank = 0\nchips = 1\n';
   const small = subjectOf(engine, board, "look: JCN 1, lit\n LDM 0\n JUN put\nlit: LDM 1\nput: WMP\n JUN look\n");
   const text = "test\nwait 1 to 20\nnever lamp 1 on\nnever lamp 0 on\nreach lamp 1 on\nreach lamp 0 on\nnever lamp 0 on for 1 s\n";
   const { campaign } = readCampaign(text, small);
-  const run = new CampaignRun(small, campaign, 1, () => true, PATIENCE);
+  const run = new CampaignRun(small, campaign, 1, () => true, PATIENCE, null, undefined, 30000);
   const end = performance.now() + 3000;
   while (performance.now() < end) await run.goOn(20);
-  // Where it looks, accumulator and lamp are both 0, or both 1.
-  const told = run.report({ names: { board: "", program: "", properties: "" }, sums: "", seconds: 1, isStopped: false }).properties;
-  assert.deepEqual(told.map(({ states, found }) => `${states} ${found !== null}`),
+  // At the snapshots, accumulator and lamp are both 0, or both 1.
+  const reported = run.report({ names: { board: "", program: "", properties: "" }, sums: "", seconds: 1, isStopped: false }).properties;
+  assert.deepEqual(reported.map(({ states, found }) => `${states} ${found !== null}`),
     ["2 false", "0 true", "2 false", "0 true", "0 false", "2 false", "2 false", "2 false"]);
 });
 
-test("a model says what the display has to show, and what is wrong with it is told", async () => {
+test("a model says what the display has to show, and what is wrong with it is reported", async () => {
   const board = BOARD.replace("# lamp 0: on", "# display 0: 1 digit")
     .replace("lamp = [", 'lamp = [{ line = "ram0.0.3" }, { line = "ram0.0.2" }, ')
     .replace('{ line = "ram0.0.0" }, { line = "ram0.0.1" }', '{ line = "ram0.0.1" }, { line = "ram0.0.0" }');
@@ -171,7 +171,7 @@ test("a model says what the display has to show, and what is wrong with it is to
   const { campaign, faults } = readCampaign("press A B\npace 300 200\nmodel ./says\n", shown);
   assert.deepEqual(faults, []);
   const asked = [];
-  // The lamp stays lit until B is pressed; this model forgets B.
+  // The lamp stays on until B is pressed; this model forgets B.
   const says = (chains) => {
     asked.push(...chains);
     return { shown: chains.map((keys) => (keys.includes("A") ? "1" : "0")), fault: "" };
@@ -186,10 +186,10 @@ test("a model says what the display has to show, and what is wrong with it is to
 });
 
 test("a model whose command may not be run is reported as not run, and is not right", () => {
-  const told = (text, isSkipped) => ({ text, line: 2, isGoal: false, isSkipped, applied: true, states: 0, chains: 0, found: null });
+  const reported = (text, isSkipped) => ({ text, line: 2, isGoal: false, isSkipped, applied: true, states: 0, chains: 0, found: null });
   const report = (isSkipped) => ({
     form: "explore 1", names: { properties: "x.props" }, sums: "",
-    properties: [told("model ./says", isSkipped), told("never lamp 1 on", false)],
+    properties: [reported("model ./says", isSkipped), reported("never lamp 1 on", false)],
     seeds: [1], steps: 3, states: 2, seconds: 0, covered: "", instructions: [], isStopped: false,
   });
   const [plan, ...lines] = tapOf(report(true)).split("\n").slice(1);
@@ -283,14 +283,14 @@ test("a find is made short where keys are held for a short time, and waits are a
   assert.deepEqual(run.found[0].test.split("\n").slice(1, 6), ["  run 100", "  press A", "  run 100", "  release A", "  run 100000"]);
 });
 
-test("what stands at places is what trace tells of them", () => {
+test("what stands at places is what trace reports of them", () => {
   const names = ["lamps", "acc", "cy", "pc", "dcl", "r0", "r7", "r15", "ram.0.0x1F", "ram.5.64", "ram.5.200", "st.0.3.2", "st.5.4.1",
     "ram0.0", "ram5.1", "ram5.2", "ram3.0", "rom1", "chain0", "src", "ret"];
   const two = subjectOf(engine, BOARD.replace("chips = 1 }]", "chips = 1 }, { bank = 5, chips = 2 }]"), PROGRAM);
-  const looks = new Looks(names, two.names.board);
+  const looks = new Snapshots(names, two.names.board);
   const places = new Places(looks.names);
   assert.deepEqual([...looks.names].sort(), [...names].sort());
-  // What a chip or a bank lacks is told by trace alone, as are lines that are inputs.
+  // Only trace reports what a chip or a bank lacks, and lines that are inputs.
   assert.deepEqual(looks.rest.names, ["ram.5.200", "ram5.2", "ram3.0", "rom1", "chain0", "src", "ret"]);
   const random = randomFrom(3);
   const file = two.file.slice();
@@ -299,17 +299,17 @@ test("what stands at places is what trace tells of them", () => {
       .map((name) => `poke ${name} ${Math.floor(16 * random())}\n`).join("");
     engine.serve(file, `${poke}poke cy ${times % 2}\npress 0 ${times % 4}\nrun ${1 + Math.floor(90 * random())}\n`, file);
     const { answers } = engine.ask(file, `${looks.lines}${places.lines(1)}seq\n`);
-    const told = new Told(answers);
-    const row = looks.row(told);
-    assert.equal(row, told.row(places));
-    assert.match(told.take(), /^seq /);
+    const reported = new PlaceValues(answers);
+    const row = looks.row(reported);
+    assert.equal(row, reported.row(places));
+    assert.match(reported.take(), /^seq /);
   }
 });
 
-test("a count that is refused tells nothing", () => {
-  const told = new Told(["no 11", "count ran 2 end lines 1", "00F 2", "seq 4"]);
-  assert.deepEqual([told.counts(), told.counts()], [[], [{ address: 15, begun: 2, jumped: -1 }]]);
-  assert.equal(told.take(), "seq 4");
+test("a count that is refused reports nothing", () => {
+  const reported = new PlaceValues(["no 11", "count ran 2 end lines 1", "00F 2", "seq 4"]);
+  assert.deepEqual([reported.counts(), reported.counts()], [[], [{ address: 15, begun: 2, jumped: -1 }]]);
+  assert.equal(reported.take(), "seq 4");
 });
 
 test("a walk that is counted leaves what one that is watched does", () => {
@@ -334,7 +334,7 @@ test("a walk that is counted leaves what one that is watched does", () => {
     const counted = countWalk({ subject: three, campaign, coverage: new Coverage() }, start, steps);
     counted.forEach(({ time, down: isDown, memories }, at) => {
       assert.deepEqual({ time, down: isDown }, { time: after[at].time, down: after[at].down });
-      // Since when the lamp is lit is told by watching alone.
+      // Only watching shows since when the lamp is on.
       const isLit = after[at].memories[0][0] !== -1;
       lit += Number(isLit);
       assert.deepEqual(memories.slice(Number(isLit)), after[at].memories.slice(Number(isLit)));
@@ -375,7 +375,7 @@ test("reports are joined: the shortest finds, and all that was run", async () =>
   assert.match(testsOfReport(joined), /^# Found by mcs4 explore: .*\n\n# x.props:3\ntest shorter\n$/);
 });
 
-test("what was run is told with what was not", () => {
+test("what was run is reported with what was not", () => {
   const coverage = new Coverage();
   assert.ok(coverage.add([{ address: 0, begun: 3, jumped: -1 }, { address: 2, begun: 2, jumped: 2 }]));
   assert.ok(!coverage.add([{ address: 2, begun: 1, jumped: 1 }]));
@@ -402,11 +402,11 @@ test("a campaign can begin from a state of tests, with its lines before each fin
   const [property] = progress.report.properties;
   assert.match(property.found.test, /^test never lamp on on\n {2}press A\n {2}run 400\n {2}press B\n {2}run 200\n/);
   assert.match(property.found.test, /\n {2}expect not lamp on on\n$/);
-  // The session is as the find says.
+  // The session is the one that the counterexample describes.
   assert.deepEqual(engine.ask(progress.found[0].file, "lamps\n").answers, ["lamps *."]);
 });
 
-test("what is wrong with the state to begin with is told", async () => {
+test("what is wrong with the state to begin with is reported", async () => {
   const faultOf = async (line, testText = SAVING) => {
     const { faults } = await readToExplore(engine, { ...texts, testText, propertiesText: `${line}\n` });
     return faults.map(({ line: at, words }) => `${at}: ${words}`).join();
@@ -432,7 +432,7 @@ test("the same seed makes the same find, however long it may take", async () => 
   assert.deepEqual(finds[0], finds[1]);
 });
 
-test("what came of it is told in words", () => {
+test("what came of it is described in words", () => {
   const property = { text: "never lamp 0 on", line: 1, isGoal: false, applied: true, states: 0, chains: 0, found: null };
   const found = { test: "", steps: 2, cycles: 1200, seed: 1 };
   const report = (...properties) => ({ properties, steps: 2000, states: 3, seconds: 0.5, seeds: [7] });
@@ -443,32 +443,32 @@ test("what came of it is told in words", () => {
   assert.equal(wordsOfProperty({ ...property, found }, report()), "broken by 2 steps, 1,200 cycles");
   assert.equal(wordsOfProperty(property, report()), "");
   assert.equal(wordsOfProperty({ ...property, applied: false }, report()), "never checked");
-  assert.equal(wordsOfProperty({ ...property, states: 12 }, report()), "holds for all 12 states");
+  assert.equal(wordsOfProperty({ ...property, states: 12 }, report()), "proved for all inputs (12 states)");
   const skipped = { ...property, text: "model ./says", isSkipped: true };
   assert.match(wordsOfProperty(skipped, report()), /^a page cannot run a command; mcs4 explore --allow-model can$/);
   const marks = [markOf(goal, true), markOf(goal, false), markOf(property, true), markOf(skipped, true)];
   assert.deepEqual(marks, ["open", "not ok", "ok", "not run"]);
 });
 
-test("a search ends with its time, where it is stopped, and where its worker dies; texts with faults are told", async () => {
+test("a search ends with its time, where it is stopped, and where its worker dies; texts with faults are reported", async () => {
   /** A bench whose calls are answered so. */
   const explorerOf = (answers, ends = []) => new Explorer(() => ({
     start: async () => {},
     call: async (name) => answers[name](),
     end: () => ends.push("ended"),
   }));
-  const told = [];
+  const reported = [];
   const run = (explorer, { signal } = new AbortController()) => (
-    explorer.explore({}, { seconds: 0.05, seed: 1 }, signal, (each) => told.push(each)));
-  const looking = { explore: () => [], exploreOn: () => ({ isDone: told.length === 2 }) };
+    explorer.explore({}, { seconds: 0.05, seed: 1 }, signal, (each) => reported.push(each)));
+  const looking = { explore: () => [], exploreOn: () => ({ isDone: reported.length === 2 }) };
   const ends = [];
   assert.deepEqual(await run(explorerOf(looking, ends)), { faults: [], isStopped: false });
-  assert.deepEqual([told.length, ends], [3, ["ended"]]);
+  assert.deepEqual([reported.length, ends], [3, ["ended"]]);
   assert.deepEqual(await run(explorerOf({ ...looking, explore: () => ["a fault"] })), { faults: ["a fault"], isStopped: false });
   const dying = { ...looking, exploreOn: () => Promise.reject(new WorkerDied()) };
   assert.deepEqual(await run(explorerOf(dying)), { faults: [], isStopped: true });
   const controller = new AbortController();
-  controller.signal.addEventListener("abort", () => told.push("stopped"));
+  controller.signal.addEventListener("abort", () => reported.push("stopped"));
   const stopped = explorerOf({ ...looking, exploreOn: () => (controller.abort(), Promise.reject(new WorkerDied())) }, ends);
   assert.deepEqual(await run(stopped, controller), { faults: [], isStopped: true });
   assert.equal(ends.length, 3);

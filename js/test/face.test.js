@@ -6,7 +6,7 @@ import { DisplayText } from "../core/board/display_text.js";
 import { Face, faceFaults, moreThan } from "../core/board/face.js";
 import { missingOf } from "../core/board/face_board.js";
 
-/** The samples: comments of a board, and what they tell. */
+/** The samples: comments of a board, and their meaning. */
 const sample = (name) => readFileSync(new URL(`../../checks/faces/${name}`, import.meta.url), "utf8");
 const board = readBoard(["board", ...sample("board.toml").trim().split("\n")]);
 
@@ -16,7 +16,7 @@ const textOf = (face) => new DisplayText(
 );
 
 /** A face, a fact a line. */
-function told(face, faults, patterns) {
+function wordsOf(face, faults, patterns) {
   const list = (word, map) => [...map].map(([place, { text }]) => `${word} ${place} ${text}`);
   const { title, test: pin } = face;
   return [
@@ -37,10 +37,10 @@ function told(face, faults, patterns) {
 for (const name of ["all", "faults", "many", "none", "printer", "scanned", "shows"]) {
   test(`the face of a sample: ${name}`, () => {
     const text = sample(`${name}.face`);
-    const wanted = sample(`${name}.told`).split("\n").filter(Boolean);
+    const wanted = sample(`${name}.expected`).split("\n").filter(Boolean);
     const patterns = wanted.filter((line) => line.startsWith("shows ")).map((line) => line.split(" ")[1]);
     const face = new Face(text);
-    assert.deepEqual(told(face, [...faceFaults(text), ...missingOf(face, board)], patterns), wanted);
+    assert.deepEqual(wordsOf(face, [...faceFaults(text), ...missingOf(face, board)], patterns), wanted);
   });
 }
 
@@ -51,14 +51,14 @@ test("a face takes no more time than its text has letters", () => {
     [`# lamp 0: ${words(500, "n")}\n# grid 0: ${words(500, "-")}\n${"# grid 1: n0\n".repeat(100000)}`, 501],
     ["# title: x\n# colour 0 to 9999: red\n".repeat(50000), 1001],
   ]) {
-    // The processor's time: other work on the machine is none of its own.
+    // Processor time: other work on the machine does not count.
     const begun = process.cpuUsage();
     assert.ok(new Face(text).faults.length >= faults);
     assert.ok(process.cpuUsage(begun).user < 1000000);
   }
 });
 
-test("of many faults the first ones are told", () => {
+test("of many faults the first ones are reported", () => {
   assert.deepEqual([moreThan([1, 2], 2), moreThan([1, 2], 1), moreThan(new Array(1020), 20)], ["", "And 1 more.", "And 1,000 more."]);
 });
 

@@ -1,5 +1,5 @@
-// In the place of the module: a session of one byte, the count of its commands. Lines: `run N` answers `ok C ran N end`, or stops early
-// where the count comes to `stopAt`; `trap` fails; all else that is no question is `ok C`. After `memory` calls it refuses by 90.
+// A stand-in for the module: a session of one byte, the count of its commands. Lines: `run N` answers `ok C ran N end`, or stops early if
+// the count reaches `stopAt`; `trap` fails; any other command is `ok C`. After `memory` calls it answers 90.
 
 import { BenchRefusal, BenchTrap } from "../core/bench/faults.js";
 import { readInputs } from "../core/bench/inputs.js";

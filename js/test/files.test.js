@@ -38,10 +38,10 @@ test("letters of one byte in a comment are read", () => {
 
 test("what is nothing for the bench is refused in words", () => {
   const picture = Uint8Array.of(137, 80, 78, 71, 13, 10, 26, 10, 0);
-  assert.throws(() => openedFile("a.png", picture), /^Error: not a text, a session or a project; the page/);
-  assert.throws(() => opened("a.jpg", "no session at all"), /^Error: not a kind of text that the bench has; the page opens/);
-  assert.throws(() => opened("a.asm", "\n"), /^Error: it is empty; the page opens/);
-  assert.throws(() => opened("a.asm", "x".repeat(65537)), /a text of 65,537 characters, and 65,536 is the most/);
+  assert.throws(() => openedFile("a.png", picture), /^Error: not a text, a session or a project; supported are projects/);
+  assert.throws(() => opened("a.jpg", "no session at all"), /^Error: not a kind of text that the bench has; supported are projects/);
+  assert.throws(() => opened("a.asm", "\n"), /^Error: it is empty; supported are projects/);
+  assert.throws(() => opened("a.asm", "x".repeat(65537)), /a text of 65,537 characters; at most 65,536 are accepted/);
   assert.throws(() => opened("a.s19", "S1130000285F245F2212226A000424290008237C2A\n"), /no last record \(S9\)/);
   const records = opened("a.s19", "S1130000285F245F2212226A000424290008237C2A\nS9030000FC\n");
   assert.deepEqual([records.kind, [...records.bytes.slice(0, 3)]], ["image", [0x28, 0x5f, 0x24]]);
@@ -57,7 +57,7 @@ test("Intel HEX is read and written", () => {
   assert.deepEqual(readHex(hexOf(long)), long);
 });
 
-test("a bad record is told by its line", () => {
+test("a bad record is reported by its line", () => {
   /** @type {(text: string, words: RegExp) => void} */
   const refused = (text, words) => assert.throws(() => readHex(text), words, text);
   refused(":03000000D1E2F05B\n", /^Error: line 1: the checksum is 5B, and 5A would be right$/);
@@ -94,8 +94,8 @@ test("an image comes into the ROMs of the board, and goes into a file", async ()
   const done = [];
   const rom = new RomFiles({
     ask: async (asked) => (asked === "board\n" ? board : lines),
-    act: async (told) => {
-      done.push(told);
+    act: async (message) => {
+      done.push(message);
       return "ok 1 bytes 1";
     },
     stop: async () => {
@@ -108,7 +108,7 @@ test("an image comes into the ROMs of the board, and goes into a file", async ()
   assert.deepEqual(done, []);
   const image = new Int16Array(4096).fill(NONE);
   image[256] = 209;
-  assert.equal(await rom.load("x.hex", image), "1 byte of x.hex stands in ROM, from 100 on; nothing was reset.");
+  assert.equal(await rom.load("x.hex", image), "1 byte of x.hex is in ROM, from 100 on; nothing was reset.");
   assert.deepEqual(done, ["stop", "asm\nORG 0x100\nDB 209\n.\n"]);
   const file = await rom.image();
   assert.deepEqual([file.length, file[0], file[256]], [512, 0, 209]);

@@ -1,4 +1,4 @@
-// A folder with a project file, as it is dropped on the page: its texts, and why it is none.
+// A folder with a project file, as it is dropped on the page: its texts, or why it has none.
 import assert from "node:assert/strict";
 import { test } from "node:test";
 import { folderOfFiles, foldersOf, readFolder } from "../page/session/folder_files.js";
@@ -25,7 +25,7 @@ test("the texts of a folder", async () => {
   assert.deepEqual([texts.name, texts.board, texts.program, texts.tests, texts.properties], ["lights", TEXTS["b/wires.toml"], "NOP\n",
     TEXTS["a.test"], ""]);
   assert.deepEqual([speed, words], ["tenth", "The page has one text of each kind: c.test is left out."]);
-  // Boards and programs may stand in a script.
+  // Boards and programs may be in a script.
   const script = "wire\n[[rom]]\nchip = 0\nport = \"0000\"\n.\nasm\nNOP\n.\n";
   const both = await textsOfFolder(folder({ "mcs4.toml": "board = \"s.txt\"\nprogram = \"s.txt\"\n", "s.txt": script }, ""));
   assert.deepEqual([both.texts.name, both.texts.program, both.speed, both.words], ["s", "NOP\n", "", ""]);

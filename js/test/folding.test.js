@@ -4,7 +4,7 @@ import { readFileSync } from "node:fs";
 import { test } from "node:test";
 import { PARTS, headOf, lastFolded } from "../core/text/folding.js";
 
-/** Each line that something folds away below, with the last one of that, from 1. */
+/** Returns each line below which something folds away, with the last one of that, from 1. */
 function foldsOf(text, parts) {
   const lines = text.split("\n");
   const lineAt = (line) => lines[line];

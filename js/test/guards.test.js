@@ -1,5 +1,5 @@
-// Guards of properties: `while C, ..`, `once C, ..`, `after press K [within TIME], ..`. What they mean is read a second time here, cycle by
-// cycle, as the manual says it; and they find what a program does wrong.
+// Guards of properties: `while C, ..`, `once C, ..`, `after press K [within TIME], ..`. Their meaning is implemented a second time here,
+// cycle by cycle, as the manual describes it; and they find the errors of a program.
 import assert from "node:assert/strict";
 import { test } from "node:test";
 import { CampaignRun } from "../core/explore/campaign_run.js";
@@ -12,7 +12,7 @@ import { moduleOfPage } from "./page_session.js";
 
 const engine = new Engine(new globalThis.WebAssembly.Module(moduleOfPage));
 
-// The reaction timer: START begins to wait, the lamp `go` comes, and PRESS, at TEST, stops it. PRESS while it waits is a foul.
+// The reaction timer: START begins to wait, the lamp `go` comes on, and PRESS, at TEST, stops it. PRESS while it waits is a foul.
 const BOARD = `# row 0: START
 # lamp 0: waiting go foul
 # test: button PRESS
@@ -51,14 +51,14 @@ foul:   LDM 4
         WMP
 end:    JUN end
 `;
-/** It looks at PRESS once in sixteen turns: a short press is lost. */
+/** It reads PRESS once in sixteen turns: a short press is lost. */
 const LATE = PROGRAM.replace("wait:   JCN pressed, foul\n        ISZ R4, wait", "wait:   ISZ R4, wait\n        JCN pressed, foul");
 const INPUTS = "press START PRESS\nwait 20 to 200\nnote lamps\nheld at most 30\n";
 
 const campaignOf = (text, program = PROGRAM) => readCampaign(INPUTS + text, subjectOf(engine, BOARD, program));
 const faultOf = (text) => campaignOf(text).faults.map(({ words }) => words).join();
 
-/** The find of the first property within some seconds, null for none. */
+/** Returns the counterexample of the first property within some seconds, null for none. */
 async function found(text, program, seconds) {
   const subject = subjectOf(engine, BOARD, program);
   const { campaign, faults } = readCampaign(INPUTS + text, subject);
@@ -69,7 +69,7 @@ async function found(text, program, seconds) {
   return run.found[0];
 }
 
-/** Whether a test fails on a program. */
+/** Resolves to whether a test fails on a program. */
 async function fails(text, program) {
   const { faults, outcomes } = await runTests(engine, { boardText: BOARD, programText: program, testText: text }, async () => true);
   assert.deepEqual(faults, []);
@@ -103,7 +103,7 @@ test("each guard is found broken, with a test that fails", async () => {
   }
 });
 
-test("what is no guard is told", () => {
+test("what is no guard is reported", () => {
   assert.match(faultOf("while lamp waiting on never lamp foul on"), /^a guard is written as `while CONDITION,`/);
   assert.match(faultOf("while lamp waiting on,"), /^a guard is written as/);
   assert.match(faultOf("while lamp purple on, never lamp foul on"), /^the board has no lamp purple/);
@@ -117,7 +117,7 @@ test("what is no guard is told", () => {
   assert.equal(faultOf("after press PRESS within 20 lamp foul on"), "");
 });
 
-// --- the second reading: a world of some cycles, in which conditions C and G change, and K and J are pressed ---
+// --- the second implementation: a world of some cycles, in which conditions C and G change, and K and J are pressed ---
 
 const LENGTH = 90;
 const upTo = (random, most) => Math.floor(random() * most);
@@ -138,12 +138,12 @@ function worldOf(random) {
   return { c: signal(), g: signal(), acts: acts.filter(({ act }) => act !== "reset" || random() < 0.3) };
 }
 
-/** What a walk tells of the world to a property, in its order; when it is broken, -1 for never. */
+/** Reports the world to a property, in its order; returns the time of the violation, -1 for never. */
 function brokenBy(property, { c, g, acts }) {
   const memory = property.from(0, 0);
   const opensAt = (time) => property.guards.map(({ condition }) => condition !== null && g[time]);
   let broken = -1;
-  const tell = (event, time, input = "") => {
+  const notify = (event, time, input = "") => {
     const isState = event === "values";
     const opens = isState || event === "down" ? opensAt(time) : [];
     const when = property.see(memory, event, { time, holds: isState && c[time], opens, input, isDown: 0 });
@@ -151,18 +151,18 @@ function brokenBy(property, { c, g, acts }) {
   };
   let began = 0;
   for (const { time, act } of [...acts, { time: LENGTH, act: "none" }]) {
-    tell("values", began);
-    for (let at = began + 1; at <= time && broken < 0; at++) if (c[at] !== c[at - 1] || g[at] !== g[at - 1]) tell("values", at);
-    if (broken < 0) tell("end", time);
+    notify("values", began);
+    for (let at = began + 1; at <= time && broken < 0; at++) if (c[at] !== c[at - 1] || g[at] !== g[at - 1]) notify("values", at);
+    if (broken < 0) notify("end", time);
     if (broken >= 0) return broken;
-    if (act === "K" || act === "J") tell("down", time, act === "K" ? "START" : "PRESS");
-    if (act === "reset") tell("reset", time);
+    if (act === "K" || act === "J") notify("down", time, act === "K" ? "START" : "PRESS");
+    if (act === "reset") notify("reset", time);
     began = time;
   }
   return broken;
 }
 
-/** The cycles at which each guard is open, cycle by cycle; a cycle of a press or of a power cycle counts before it and after it. */
+/** Returns the cycles at which each guard is open, cycle by cycle; a cycle of a press or of a power cycle counts before it and after it. */
 function instantsOf({ c, g, acts }, guards) {
   const instants = [];
   let once = false;
@@ -187,7 +187,7 @@ function instantsOf({ c, g, acts }, guards) {
   return instants;
 }
 
-/** When a property is broken, by the words of the manual. */
+/** Returns the times at which a property is violated, by the words of the manual. */
 const READ = {
   never: (instants) => (instants.find(({ c, isOpen }) => isOpen && c) || { time: -1 }).time,
   always: (instants) => (instants.find(({ c, isOpen, isReset }) => isOpen && !isReset && !c) || { time: -1 }).time,
@@ -237,9 +237,9 @@ while r4 = 1, after press START within 13, after press PRESS within 9 lamp go on
   for (let round = 0; round < 1500; round++) {
     const world = worldOf(random);
     for (const property of properties) {
-      const told = brokenBy(property, world);
+      const brokenAt = brokenBy(property, world);
       const read = READ[property.form](instantsOf(world, property.guards), property.limit);
-      assert.equal(told, read, `${property.text}: ${JSON.stringify(world)}`);
+      assert.equal(brokenAt, read, `${property.text}: ${JSON.stringify(world)}`);
       seen.set(property.text, (seen.get(property.text) || new Set()).add(read >= 0));
     }
   }

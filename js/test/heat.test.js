@@ -3,7 +3,7 @@ import assert from "node:assert/strict";
 import { test } from "node:test";
 import { Cancelled } from "../core/bench/faults.js";
 import { pinKey } from "../core/board/key_place.js";
-import { PassingHeat, warmthOf, wordsOfHeat, wordsOfHeated, wordsOfPassing, wordsOfSeen } from "../core/machine/warmth.js";
+import { PassingHeat, warmthOf, wordsOfHeat, wordsOfChanges, wordsOfPassing, wordsOfSeen } from "../core/machine/warmth.js";
 import { bytesOfSource, namesOfCharacters } from "../core/machine/ram_names.js";
 import { SourceMap } from "../core/machine/source_map.js";
 import { readWatched } from "../core/debug/watched.js";
@@ -34,13 +34,13 @@ turn:   SRC P0
         WR2
         JUN turn
 `;
-// By hand: 7 cycles come before the first SRC, and 8 to a turn. In each turn ram.0.0x12 gets another value by the first WRM, at 009; the
-// second WRM writes the same value, and WR2 where the board has no chip.
+// Calculated: 7 cycles precede the first SRC, and a turn has 8. In each turn ram.0.0x12 gets another value by the first WRM, at 009; the
+// second WRM writes the same value, and WR2 to a chip that the board lacks.
 const SETUP = 7;
 const TURN = 8;
 const ALL = "seq\nstate\nram 0\nram 2\n";
 
-/** A session in which the program has done so many cycles, 30 at a time. */
+/** Returns a session in which the program has done this many cycles, 30 at a time. */
 async function ran(cycles) {
   const calls = await begin("three lamps");
   await calls.serve(`wire\n${BOARD}.\nasm\n${PROGRAM}.\nreset\n`);
@@ -50,7 +50,7 @@ async function ran(cycles) {
 
 const FRAME = 1543;
 
-test("while time runs the same is told of the cycles that pass, frame by frame", async () => {
+test("while time runs the same is reported of the cycles that pass, frame by frame", async () => {
   const calls = await begin("three lamps");
   await calls.serve(`wire\n${BOARD.split("[[ram]]\nbank = 2")[0]}.\nasm\n${PROGRAM}.\nreset\n`);
   assert.equal(calls.advance(SETUP).warmed, null);
@@ -72,14 +72,14 @@ test("while time runs the same is told of the cycles that pass, frame by frame",
 test("of several chips one is looked at in each frame, and of full speed a sample", async () => {
   const calls = await ran(SETUP);
   calls.watchRam(true);
-  const told = Array.from({ length: 6 }, () => calls.advance(80).warmed);
-  assert.deepEqual(told.map(({ cells }) => cells.map(({ place, count }) => `${place} ${count}`)), [
+  const reported = Array.from({ length: 6 }, () => calls.advance(80).warmed);
+  assert.deepEqual(reported.map(({ cells }) => cells.map(({ place, count }) => `${place} ${count}`)), [
     ["ram.0.0x12 10"], [], [], ["ram.0.0x12 10"], [], []]);
   assert.equal(calls.advance(50000).warmed, null);
   const { warmed } = calls.bench.session.senseAhead();
   assert.deepEqual([warmed.chips, warmed.cycles, warmed.cells.length], [3, 2778, 1]);
-  assert.equal(wordsOfPassing(warmed, false), "Counted while time runs, in one of 3 chips at a time, at full speed in samples.");
-  assert.equal(wordsOfPassing({ chips: 1 }, true), "Counted while time runs.");
+  assert.equal(wordsOfPassing(warmed, false), "Counted while running, in one of 3 chips at a time, at full speed in samples.");
+  assert.equal(wordsOfPassing({ chips: 1 }, true), "Counted while running.");
 });
 
 test("what changed is counted over the past, to the cycle, and nothing is undone", async () => {
@@ -95,13 +95,13 @@ test("what changed is counted over the past, to the cycle, and nothing is undone
 
 test("of a shorter stretch that alone, and of a longer one as far as is remembered", async () => {
   const calls = await ran(SETUP + 20 * TURN);
-  for (const [wanted, told, count] of [[TURN, TURN, 1], [5, 5, 0], [3 * TURN + 3, 3 * TURN + 3, 3], [1e7, SETUP + 20 * TURN, 20]]) {
+  for (const [wanted, reported, count] of [[TURN, TURN, 1], [5, 5, 0], [3 * TURN + 3, 3 * TURN + 3, 3], [1e7, SETUP + 20 * TURN, 20]]) {
     const { cycles, cells } = await calls.heat(wanted);
-    assert.deepEqual([cycles, cells.reduce((sum, cell) => sum + cell.count, 0)], [told, count]);
+    assert.deepEqual([cycles, cells.reduce((sum, cell) => sum + cell.count, 0)], [reported, count]);
   }
 });
 
-test("a line that pokes is told as such, also in a bank that no SRC has selected", async () => {
+test("a line that pokes is reported as such, also in a bank that no SRC has selected", async () => {
   const calls = await ran(SETUP);
   await calls.serve("poke st.2.5.3 9\npoke ram.2.0x7F 1\npoke ram.2.0x7F 1\nrun 2\n");
   const { cells } = await calls.heat(100);
@@ -141,10 +141,10 @@ test("five steps of warmth, and words", () => {
   assert.deepEqual([...warmthOf(HEAT, "often").values()], [1, 5, 3]);
   assert.deepEqual([...warmthOf(HEAT, "lately").values()], [1, 5, 3]);
   assert.deepEqual([...warmthOf({ cycles: 5, cells: [{ ...HEAT.cells[0], ago: 0 }] }, "often").values()], [5]);
-  assert.equal(wordsOfHeated(HEAT.cells[1], null), "100 times, last by 009, 1 cycle, 0.011 ms ago");
-  assert.equal(wordsOfHeated({ ...HEAT.cells[2], count: 1, ago: 0 }, null), "once by the line poke c 1");
-  assert.equal(wordsOfSeen(HEAT.cells[1], null), "100 times as seen while time runs, last seen by 009");
-  assert.equal(wordsOfSeen({ ...HEAT.cells[2], count: 1 }, null), "once as seen while time runs, last seen by the line poke c 1");
+  assert.equal(wordsOfChanges(HEAT.cells[1], null), "100 times, last by 009, 1 cycle, 0.011 ms ago");
+  assert.equal(wordsOfChanges({ ...HEAT.cells[2], count: 1, ago: 0 }, null), "once by the line poke c 1");
+  assert.equal(wordsOfSeen(HEAT.cells[1], null), "100 times as seen while running, last seen by 009");
+  assert.equal(wordsOfSeen({ ...HEAT.cells[2], count: 1 }, null), "once as seen while running, last seen by the line poke c 1");
   assert.equal(wordsOfHeat(HEAT, 2000, (place) => place.toUpperCase(), null), "In the last 1,000 cycles, 10.800 ms (no more is "
     + "remembered), 3 characters have changed: most often B, 100 times; last B, by 009, 1 cycle, 0.011 ms ago.");
   assert.equal(wordsOfHeat({ cycles: 9, cells: [] }, 9, String, null), "In the last 9 cycles, 0.097 ms, no character of RAM has changed.");

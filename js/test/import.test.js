@@ -1,4 +1,4 @@
-// Programs in the spelling of Intel and of AS. (checks/tools import has whole programs, with bytes that were assembled by hand.)
+// Programs in the spelling of Intel and of AS. (checks/tools import has whole programs, with manually assembled bytes.)
 import assert from "node:assert/strict";
 import { test } from "node:test";
 import { evaluate } from "../core/import/expressions.js";

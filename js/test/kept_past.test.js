@@ -1,4 +1,4 @@
-// What was done before a reload, given back to another worker, on the module of the page itself.
+// The past before a reload, given back to another worker, on the page's module.
 import assert from "node:assert/strict";
 import { test } from "node:test";
 import { KeptPast } from "../page/session/kept_past.js";
@@ -6,7 +6,7 @@ import { begin } from "./page_session.js";
 
 const ALL = "state\nram 0\nlist 0 256\n";
 
-/** As much of a browser's store of words as is used, with so much room. */
+/** The part of a browser's store of words that is used, with this much room. */
 function storeOf(room = 5000000) {
   const kept = new Map();
   return {
@@ -20,12 +20,12 @@ function storeOf(room = 5000000) {
   };
 }
 
-/** What is shown of a call is taken, as the page does it. */
+/** Handles the snapshot of a call, as the page does. */
 function seen(past, calls, shown = calls.bench.shown([], false)) {
   past.take(shown.past, { file: calls.bench.session.file.slice(), total: shown.total, reset: shown.reset });
 }
 
-/** A page that did some things, and went; what it was after each of them. */
+/** Returns a page that did some things, and was left; with the state after each of them. */
 async function left(store, lines) {
   const calls = await begin("three lamps");
   const past = new KeptPast(store);
@@ -40,7 +40,7 @@ async function left(store, lines) {
   return { calls, states };
 }
 
-/** Another page, in which the session was opened anew. */
+/** Returns another page, in which the session was reopened. */
 async function reloaded(store, { bench: { session: { file, count } } }, name = "one") {
   const calls = await begin("three lamps");
   const past = new KeptPast(store);
@@ -49,7 +49,7 @@ async function reloaded(store, { bench: { session: { file, count } } }, name = "
   return { calls, past, recalled: past.recalled() };
 }
 
-/** What is given back goes to the worker as a copy. */
+/** The past is sent to the worker as a copy. */
 function recall(calls, recalled) {
   return calls.recall(structuredClone(recalled));
 }

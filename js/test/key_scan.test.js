@@ -1,4 +1,4 @@
-// The routine that scans keys, on boards of many kinds: it assembles, and finds the key that is pressed.
+// The routine that scans keys, on boards of many kinds: it assembles, and finds the pressed key.
 import assert from "node:assert/strict";
 import { test } from "node:test";
 import { readBoard } from "../core/bench/answers.js";
@@ -47,7 +47,7 @@ const BOARDS = {
   "clock of a RAM chip, data of another one": boardOf({ clock: "ram2.0.1", data: "ram2.1.2", first: 2, columns: FOUR }),
   "the calculator's": examplesOfPage.find(({ name }) => name === "calculator").board,
 };
-/** So many cycles are more than two scans take. */
+/** More cycles than two scans take. */
 const TWO_SCANS = 30000;
 
 /** The last answers of some lines. */

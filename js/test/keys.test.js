@@ -60,7 +60,7 @@ test("the keys that are down, by an answer and the level of TEST", () => {
   assert.deepEqual([down.has(pinKey(1), "1"), down.has(pinKey(0), "1"), down.has(pinKey(0), "")], [true, false, false]);
 });
 
-test("what is told below the keys", () => {
+test("what is reported below the keys", () => {
   assert.equal(hintOfKeys([]), "This board has no keys.");
   assert.match(hintOfKeys(keysOf({ rows: 1, columns: 1 }, new Face(""))), /# row 0: 7 8 9/);
   assert.doesNotMatch(hintOfKeys(keysOf({ rows: 1, columns: 1 }, new Face("# row 0: 7"))), /# row 0/);

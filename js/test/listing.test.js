@@ -1,4 +1,4 @@
-// Which stretch of a listing is shown: in step with what is known, over all 4,096 bytes, up to the last one.
+// The stretch of a listing that is shown: in step with what is known, over all 4,096 bytes, up to the last one.
 
 import assert from "node:assert/strict";
 import test from "node:test";
@@ -46,7 +46,7 @@ function programs() {
   return made;
 }
 
-/** The addresses at which the instructions of a program begin that is run from 000 on. */
+/** Returns the addresses at which the instructions of a program begin that is run from 000 on. */
 function beginnings(bytes) {
   const found = [];
   for (let at = 0; at < 4096; at += hasTwoWords(bytes[at]) && at < 4095 ? 2 : 1) found.push(at);

@@ -12,7 +12,7 @@ test("a cell is cut into text and code", () => {
   assert.equal(plain("`ram b` and `lamps`"), "ram b and lamps");
 });
 
-test("all 45 instructions are told, each with its cycles", () => {
+test("all 45 instructions are reported, each with its cycles", () => {
   const found = instructionsOf(MANUAL);
   assert.equal(found.size, 45);
   assert.deepEqual([...found.values()].filter(({ cycles }) => cycles === "2").map(({ form }) => form.split(" ")[0]),

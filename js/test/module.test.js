@@ -68,7 +68,7 @@ test("keys are pressed, time passes, and the display shows it", async () => {
 
 test("a key goes down with the cycles that it came with, or when its time comes", async () => {
   const { calls } = await begin(calculator);
-  const lampsOf = ({ look }) => / lamps (\S+)/.exec(look[0])[1];
+  const lampsOf = ({ snapshot }) => / lamps (\S+)/.exec(snapshot[0])[1];
   const linesOf = ({ ran }) => ran.map(({ line }) => line);
   const before = calls.advance(100000);
   const frame = calls.advance(2000, matrixKey(2, 1));
@@ -98,17 +98,19 @@ test("a file of an example gets the texts of the example, and another one what t
   });
 });
 
-test("the line of a board that is at fault is found", async () => {
+test("the part of a board that is wrong is named, and the lines of a program", async () => {
   const { calls } = await begin(calculator);
   const board = '[[rom]]\nchip = 0\nport = "0000"\n\n[[lamp]]\nline = "ram0.0.0"\n';
   const { first } = await calls.serve(`wire\n${board}.\n`);
   assert.equal(first, "no 25");
-  assert.deepEqual(calls.boardFault(board, 25), { from: 5, to: 6 });
+  assert.deepEqual(calls.wiring(board), { number: 25, line: 5, section: "lamp", index: 1, key: "line" });
+  assert.equal(calls.wiring(board.slice(0, board.indexOf("[[lamp"))), null);
+  assert.deepEqual(calls.errors("a: NOP\na: NOP\nFOO\n"), [{ line: 2, number: 31 }, { line: 3, number: 30 }]);
 });
 
 test("long work is done whole", async () => {
   const { calls } = await begin(calculator);
-  const told = await calls.serve("step\n".repeat(5000));
-  assert.equal(told.entries.length, 400);
+  const result = await calls.serve("step\n".repeat(5000));
+  assert.equal(result.entries.length, 400);
   assert.equal(calls.ask("seq\n")[0], "seq 5002");
 });

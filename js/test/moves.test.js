@@ -1,4 +1,4 @@
-// Goals, on the module of the page itself. What is expected was counted by mcs4 trace and mcs4 cycles, as docs/MANUAL.md shows it.
+// Goals, on the page's module. The expected values were counted by mcs4 trace and mcs4 cycles, as docs/MANUAL.md shows it.
 import assert from "node:assert/strict";
 import { test } from "node:test";
 import { begin, counterOf } from "./page_session.js";
@@ -14,14 +14,14 @@ test("over a JMS: as many cycles as a breakpoint behind it takes, and nothing st
   // Up to the JMS at 007: FIM, SRC, LDM, XCH, LD, WMP are 7 cycles.
   const calls = await begin("three lamps", "run 7\n");
   assert.equal(counterOf(calls), "007");
-  const told = await calls.goOn({ kind: "over" });
-  assert.deepEqual([told.found.isReached, told.found.cycles, counterOf(calls)], [true, told.total - 7, "009"]);
-  const sent = told.entries.map(({ line, answers }) => [line, answers[0].slice(5)]);
-  assert.deepEqual(sent, [[`run ${told.found.cycles}`, `ran ${told.found.cycles} end`]]);
+  const travelled = await calls.goOn({ kind: "over" });
+  assert.deepEqual([travelled.found.isReached, travelled.found.cycles, counterOf(calls)], [true, travelled.total - 7, "009"]);
+  const sent = travelled.entries.map(({ line, answers }) => [line, answers[0].slice(5)]);
+  assert.deepEqual(sent, [[`run ${travelled.found.cycles}`, `ran ${travelled.found.cycles} end`]]);
   assert.deepEqual(calls.ask("breaks\nwatches\n"), ["breaks -", "watches -"]);
   const other = await begin("three lamps", "run 7\nbreak 0x009\n");
   const [answer] = (await other.serve("run 100000\n")).entries[0].answers;
-  assert.equal(answer.split(" ")[3], String(told.found.cycles));
+  assert.equal(answer.split(" ")[3], String(travelled.found.cycles));
 });
 
 test("over anything else is one instruction, and out ends behind the JMS", async () => {
@@ -50,8 +50,8 @@ test("to an address, so many instructions, and to a change", async () => {
   assert.equal(counterOf(calls), "014");
   assert.deepEqual(await goOn(calls, { kind: "count", count: 3 }), { cycles: 6, isReached: true, end: "" });
   const before = calls.ask("lamps\n")[0];
-  const told = await calls.goOn({ kind: "change", place: "lamps" });
-  assert.equal(told.found.isReached, true);
+  const travelled = await calls.goOn({ kind: "change", place: "lamps" });
+  assert.equal(travelled.found.isReached, true);
   assert.notEqual(calls.ask("lamps\n")[0], before);
   const fresh = await begin("three lamps");
   assert.equal((await fresh.goOn({ kind: "change", place: "r4" })).found.cycles, 5);
@@ -74,18 +74,18 @@ function bench(program) {
   return begin("empty bench", `wire\n[[rom]]\nchip = 0\nport = "0000"\n.\nasm\n${program}.\n`);
 }
 
-/** Loops in each other: an ISZ takes two cycles, and each loop comes 16 times to its end. */
+/** Nested loops: an ISZ takes two cycles, and each loop ends 16 times. */
 function delay(loops) {
   const all = [0, 1, 2, 3, 4].slice(0, loops);
   const lines = `FIM P0, 0\nFIM P1, 0\nFIM P2, 0\nloop: ${all.map((each) => `ISZ R${each}, loop\n`).join("")}`;
   return { lines, cycles: 6 + all.reduce((cycles) => 16 * (cycles + 2), 0) };
 }
 
-/** Lets time run in frames up to a stop; gives the last frame. */
+/** Lets time run in frames up to a stop; returns the last frame. */
 function runOn(calls, frame) {
   for (;;) {
-    const told = calls.advance(frame);
-    if (told.stop) return told;
+    const travelled = calls.advance(frame);
+    if (travelled.stop) return travelled;
   }
 }
 
@@ -95,11 +95,11 @@ test("over a delay of 24 seconds, and out of it: time that runs, by frames and a
   const before = Buffer.from(calls.bench.session.file);
   const near = await calls.goOn({ kind: "over" });
   assert.deepEqual([near.found.end, near.entries.length, Buffer.compare(before, calls.bench.session.file)], ["bound", 0, 0]);
-  const told = runOn(calls, 1543);
-  assert.deepEqual([told.stop, counterOf(calls)], [{ why: "goal", id: 0, cycles: cycles + 3, returns: true }, "002"]);
-  assert.ok(told.ran.every(({ line }) => /^run \d+$/.test(line)));
+  const travelled = runOn(calls, 1543);
+  assert.deepEqual([travelled.stop, counterOf(calls)], [{ why: "goal", id: 0, cycles: cycles + 3, returns: true }, "002"]);
+  assert.ok(travelled.ran.every(({ line }) => /^run \d+$/.test(line)));
   assert.deepEqual(calls.ask("breaks\nwatches\n"), ["breaks -", "watches -"]);
-  // It is reached at once where so many cycles are tried, and time that runs beyond it has no goal any more.
+  // It is reached at once if this many cycles are tried, and running time beyond it has no goal any more.
   assert.equal(calls.advance(1543).stop, null);
   await calls.goBack({ kind: "stop" });
   await calls.serve("reset\nrun 1000\n");
@@ -128,16 +128,16 @@ test("a million instructions, from the middle of one on", async () => {
 });
 
 test("a change that is far away: a register, a whole port, a lamp, a character", async () => {
-  const told = async (program, place, lines = "") => {
+  const travelled = async (program, place, lines = "") => {
     const calls = await begin("three lamps", `asm\n${program}.\nreset\n${lines}`);
     return await goOn(calls, { kind: "change", place });
   };
   const { lines: wait, cycles } = delay(4);
   const write = `${wait}SRC P0\nLDM 7\nWMP\nWRM\nend: JUN end\n`;
   for (const [place, after] of [["acc", 2], ["ram0.0", 3], ["ram0.0.2", 3], ["lamp 2", 3], ["lamps", 3], ["ram.0.0", 4]]) {
-    assert.deepEqual(await told(write, place), { cycles: cycles + after, isReached: true, end: "" }, place);
+    assert.deepEqual(await travelled(write, place), { cycles: cycles + after, isReached: true, end: "" }, place);
   }
-  assert.deepEqual(await told(write, "acc", "break 8\n"), { cycles: 38, isReached: false, end: "break" });
+  assert.deepEqual(await travelled(write, "acc", "break 8\n"), { cycles: 38, isReached: false, end: "break" });
 });
 
 test("a breakpoint and a watch of the user come first; a goal that never comes does nothing", async () => {
@@ -147,8 +147,8 @@ test("a breakpoint and a watch of the user come first; a goal that never comes d
   assert.deepEqual(await goOn(calls, { kind: "change", place: "chain0.1" }), { cycles: 0, isReached: false, end: "lacks" });
   const empty = await begin("empty bench", "wire\n[[rom]]\nchip = 0\nport = \"0000\"\n.\nasm\nx: JUN x\n.\n");
   const before = Buffer.from(empty.bench.session.file);
-  const told = await empty.goOn({ kind: "change", place: "r4" }, 5000);
-  assert.deepEqual([told.found.end, told.entries.length, Buffer.compare(before, empty.bench.session.file)], ["bound", 0, 0]);
+  const travelled = await empty.goOn({ kind: "change", place: "r4" }, 5000);
+  assert.deepEqual([travelled.found.end, travelled.entries.length, Buffer.compare(before, empty.bench.session.file)], ["bound", 0, 0]);
 });
 
 test("a goal among presses of keys comes at the cycle at which it is reached", async () => {
@@ -157,15 +157,15 @@ test("a goal among presses of keys comes at the cycle at which it is reached", a
   const before = calls.ask("lamps\n")[0];
   assert.equal((await calls.goOn({ kind: "change", place: "lamps" }, 100000)).found.end, "bound");
   const begun = calls.bench.session.count.total;
-  let told = calls.advance(5000, matrixKey(2, 1));
-  for (let frame = 0; !told.stop && frame < 100; frame++) told = calls.advance(1543);
-  assert.deepEqual([told.stop.why, told.stop.cycles], ["goal", calls.bench.session.count.total - begun]);
+  let travelled = calls.advance(5000, matrixKey(2, 1));
+  for (let frame = 0; !travelled.stop && frame < 100; frame++) travelled = calls.advance(1543);
+  assert.deepEqual([travelled.stop.why, travelled.stop.cycles], ["goal", calls.bench.session.count.total - begun]);
   assert.notEqual(calls.ask("lamps\n")[0], before);
   // A cycle before it they were as before.
   const again = await begin("calculator");
   again.advance(100000);
   again.press(matrixKey(2, 1));
-  again.advance(told.stop.cycles - 1);
+  again.advance(travelled.stop.cycles - 1);
   assert.equal(again.ask("lamps\n")[0], before);
   again.advance(1);
   assert.deepEqual(again.ask("state\n")[0].replace(/seq \d+/, ""), calls.ask("state\n")[0].replace(/seq \d+/, ""));

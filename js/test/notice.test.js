@@ -3,7 +3,7 @@ import assert from "node:assert/strict";
 import { test } from "node:test";
 import { pushedOut } from "../page/ui/notice.js";
 
-/** The kinds of the notices that make room; the newest comes first. */
+/** Returns the kinds of the notices that make room; the newest is first. */
 const outOf = (...kinds) => pushedOut(kinds.map((kind) => ({ kind }))).map(({ kind }) => kind);
 
 test("three notices are shown, the newest ones", () => {

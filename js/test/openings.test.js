@@ -1,4 +1,4 @@
-// Sessions whose last opening did not come to an end.
+// Sessions whose last opening did not end.
 import assert from "node:assert/strict";
 import { test } from "node:test";
 import { Openings } from "../page/session/openings.js";
@@ -64,7 +64,7 @@ test("a page that is left while it shows a session was not hung by it, however l
   assert.equal(load().isUnended("one"), false);
 });
 
-test("a page that is left is told so by each of two events, since a browser may pass over one", async () => {
+test("a page that is left learns so from each of two events, since a browser may pass over one", async () => {
   for (const name of ["beforeunload", "pagehide"]) {
     const { load, wait } = browser();
     const openings = load();

@@ -1,4 +1,4 @@
-// The table of the page's commands, what the palette finds in it, and its keys.
+// The table of the page's commands, its search by the palette, and its keys.
 import assert from "node:assert/strict";
 import { readFileSync } from "node:fs";
 import { test } from "node:test";
@@ -12,7 +12,7 @@ import * as say from "../words/page_commands.js";
 const NONE_HELD = { ctrlKey: false, metaKey: false, altKey: false, shiftKey: false, defaultPrevented: false };
 const typed = (key, held = {}) => ({ ...NONE_HELD, key, ...held });
 
-/** What a command calls, taken down. */
+/** Records the calls of a command. */
 function recorder() {
   const seen = [];
   const calls = new Proxy({}, { get: (_none, name) => (...words) => {

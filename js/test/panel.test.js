@@ -1,4 +1,4 @@
-// The panel of the terminal, without one: time, keys, what is seen and the rows of its screen, beside the very module.
+// The panel of the terminal, without one: time, keys, the picture and the rows of its screen, compared with the module itself.
 import assert from "node:assert/strict";
 import { readFileSync } from "node:fs";
 import { test } from "node:test";
@@ -54,7 +54,7 @@ async function begun({ board, program }, { lines = "", isPaused = false, hasSour
       await panel.seen.take(middleRows(SIZE));
     }
   };
-  /** Time goes on, frame by frame. */
+  /** Time passes, frame by frame. */
   const pass = async (milliseconds) => {
     for (const end = now + milliseconds; now < end;) {
       now += 100;
@@ -69,10 +69,10 @@ async function begun({ board, program }, { lines = "", isPaused = false, hasSour
 const keysDown = async (ask) => valueIn((await ask("state\n"))[0], "keys");
 
 test("keys in what a terminal sends", () => {
-  const told = (input) => keysIn(input).map(({ kind, text }) => `${kind} ${JSON.stringify(text)}`);
-  assert.deepEqual(told("a\r\u00e9"), ['character "a"', 'character "\\r"', 'character "\u00e9"']);
-  assert.deepEqual(told("\u001b[C\u001bOD\u001bOC1"), ['arrow "right"', 'arrow "left"', 'arrow "right"', 'character "1"']);
-  assert.deepEqual(told("\u001b[21~\u001bx\u001b\u001b[D"),
+  const keysOf = (input) => keysIn(input).map(({ kind, text }) => `${kind} ${JSON.stringify(text)}`);
+  assert.deepEqual(keysOf("a\r\u00e9"), ['character "a"', 'character "\\r"', 'character "\u00e9"']);
+  assert.deepEqual(keysOf("\u001b[C\u001bOD\u001bOC1"), ['arrow "right"', 'arrow "left"', 'arrow "right"', 'character "1"']);
+  assert.deepEqual(keysOf("\u001b[21~\u001bx\u001b\u001b[D"),
     ['sequence "\\u001b[21~"', 'sequence "\\u001bx"', 'escape "\\u001b"', 'arrow "left"']);
 });
 
@@ -195,7 +195,7 @@ test("paper: what was printed by running and by steps, its last lines", async ()
   const { typed, pass, rows, panel } = await begun(PRINTING);
   const paper = () => {
     const all = rows().map((row) => row.slice(29, 53).trimEnd());
-    return all.slice(all.indexOf("--- paper --------------") + 1, -2).filter(Boolean).join("/");
+    return all.slice(all.indexOf("--- printout -----------") + 1, -2).filter(Boolean).join("/");
   };
   await typed("12+30=5");
   await pass(3 * SECOND);

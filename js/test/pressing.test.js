@@ -1,4 +1,4 @@
-// Fingers on keys: taps, presses, swipes and several fingers, while time runs and while it stands still.
+// Fingers on keys: taps, presses, swipes and several fingers, while time runs and while it is paused.
 
 import assert from "node:assert/strict";
 import test from "node:test";
@@ -12,12 +12,12 @@ class FakeButton extends EventTarget {
   setPointerCapture() {}
 
   fire(type, properties = {}) {
-    const told = { button: 0, pointerId: 1, pointerType: "touch", ...properties };
-    this.dispatchEvent(Object.assign(new Event(type, { cancelable: true }), told));
+    const event = { button: 0, pointerId: 1, pointerType: "touch", ...properties };
+    this.dispatchEvent(Object.assign(new Event(type, { cancelable: true }), event));
   }
 }
 
-/** A bench with two keys, and what was done to it. */
+/** Returns a bench with two keys, and its log. */
 function bench(isRunning) {
   const down = new Set();
   const done = [];

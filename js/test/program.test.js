@@ -1,4 +1,4 @@
-// What the page says of programs: words of a line, faults, completion, help, and the texts by which a program comes into ROM alone.
+// The page's messages about programs: words of a line, errors, completion, help, and the texts that load only a program into ROM.
 import assert from "node:assert/strict";
 import { readFileSync } from "node:fs";
 import { test } from "node:test";
@@ -63,7 +63,7 @@ test("what an instruction takes", () => {
   assert.equal(wordAtFault("FIM R0, 5"), "R0");
   assert.equal(wordsOf("FIM P0 5"), "FIM takes a pair, P0 to P7; write a comma between two operands");
   assert.equal(wordsOf("INC R16"), "INC takes a register, R0 to R15");
-  assert.equal(wordsOf("NOP 1"), "NOP takes nothing after it");
+  assert.equal(wordsOf("NOP 1"), "NOP takes no operand");
   assert.equal(wordsOf("LDM"), "LDM takes a value, 0 to 15");
   assert.match(wordsOf("LDM 5, 6"), /no more$/);
   assert.match(wordsOf("ADD: NOP"), /ADD is an instruction, so it cannot be a name/);
@@ -87,32 +87,38 @@ test("names, values and addresses", () => {
   assert.match(wordsOf("JCN 4, far", 34), /^far is on another page; JCN reaches/);
 });
 
-/** A bench that refuses the first line with a word in it by this number. */
-const refusing = (numbers) => async (text) => {
-  const lines = text.split("\n");
-  for (const [word, number] of numbers) {
-    const at = lines.findIndex((line) => line.includes(word));
-    if (at >= 0) return { number, line: at + 1 };
-  }
-  return null;
+/** Returns the questions to a bench that has these errors, and rejects the program by this number. */
+const asking = (errors, number = 0) => {
+  const asked = { sent: [], refused: 0 };
+  return {
+    asked,
+    errors: async (sent) => {
+      asked.sent.push(sent);
+      return errors;
+    },
+    refuse: async () => {
+      asked.refused += 1;
+      return number ? { number, line: 0 } : null;
+    },
+  };
 };
 
-test("all faults are found, one after the other, and a blanked line keeps what it defines", async () => {
-  const seen = [];
-  const refuse = refusing([["LDX", 30], ["strat", 32]]);
-  const text = "start: LDX 5\n FIM P0, strat\n";
-  const found = await findProgramFaults(text, instructions, () => "", async (part) => {
-    seen.push(part);
-    return refuse(part);
-  });
-  const told = found.faults.map(({ line, words }) => [line, words.split(";")[0]]);
-  assert.deepEqual(told, [[1, "LDX is not an instruction"], [2, "strat is not defined"]]);
-  assert.equal(found.areAll, true);
-  assert.equal(seen[2], "start:\nDB 0,0\n");
+test("all errors of lines get their words and characters; lines that cannot be sent are sent empty", async () => {
+  const bench = asking([{ line: 1, number: 30 }, { line: 2, number: 32 }]);
+  const text = "start: LDX 5\n FIM P0, strat\ncaf\u00e9: NOP\n";
+  const found = await findProgramFaults(text, instructions, () => "", bench);
+  assert.deepEqual(found.faults.map(({ line, from, words }) => [line, from, words.split(";")[0]]),
+    [[1, 7, "LDX is not an instruction"], [2, 9, "strat is not defined"], [3, 3, "\u00e9 is not a character of ASCII"]]);
+  assert.deepEqual([found.areAll, found.rest, bench.asked.refused], [true, null, 0]);
+  assert.deepEqual(bench.asked.sent, ["start: LDX 5\nFIM P0, strat\n\n"]);
 });
 
-test("a search for faults that is not wanted any more ends", async () => {
-  assert.equal(await findProgramFaults("LDX\n", instructions, () => "", async () => undefined), undefined);
+test("a program without errors is tried on the board; 100 errors may not be all", async () => {
+  const bench = asking([], 42);
+  const found = await findProgramFaults("NOP\n", instructions, () => "", bench);
+  assert.deepEqual(found, { faults: [], areAll: true, rest: { number: 42, line: 0 } });
+  const many = asking(Array.from({ length: 100 }, (_, at) => ({ line: at + 1, number: 30 })));
+  assert.equal((await findProgramFaults("LDX\n".repeat(101), instructions, () => "", many)).areAll, false);
 });
 
 test("a text is sent line for line, without comments and indentation", () => {
@@ -132,7 +138,7 @@ test("lines that cannot be sent, at their places in the text", () => {
   const faults = (text) => faultsOfLines(text, ";").map(({ line, from, to, number }) => [line, from, to, number]);
   assert.deepEqual(faults("  caf\u00e9: NOP ; \u00e9\n"), [[1, 5, 6, 14]]);
   assert.deepEqual(faults("NOP\n.\nNOP\n"), [[2, 0, 1, 0]]);
-  assert.equal(faultsOfLines("\ufeffNOP\n", ";")[0].words, "a character that is not to be seen (U+FEFF); delete it");
+  assert.equal(faultsOfLines("\ufeffNOP\n", ";")[0].words, "an invisible character (U+FEFF); delete it");
   assert.deepEqual(faults("NOP\n . ; no end\n"), []);
   assert.deepEqual(faults(`NOP\n  ${"x".repeat(256)}\n`), [[2, 257, 258, 12]]);
   assert.deepEqual(faults(`NOP ;${"x".repeat(256)}\n`), []);
@@ -173,7 +179,7 @@ test("a program comes into ROM alone, by one text where it has room", () => {
 
 test("what assembling alone leaves, in words", () => {
   assert.equal(wordsOfAssembled({ size: 3, left: [0x41, 0x42] }, "012"),
-    "3 bytes assembled. 2 bytes of before stay in ROM, from 0x041 on. The counter stays at 012; nothing was reset.");
+    "3 bytes assembled. 2 bytes from before stay in ROM, from 0x041 on. The counter stays at 012; nothing was reset.");
   assert.deepEqual([counted(1, "byte"), counted(0, "byte"), counted(1543, "cycle"), counted(2, "property is", "properties are")],
     ["1 byte", "0 bytes", "1,543 cycles", "2 properties are"]);
 });
@@ -182,7 +188,7 @@ test("a text with an error in each line of code is hardly a program", () => {
   const at = (...lines) => lines.map((line) => ({ number: 30, line, from: 0, to: 1, words: "" }));
   assert.equal(isNoProgram("hello there\n\n; a remark\nand more\n", { faults: at(1, 4), areAll: true, rest: null }), true);
   assert.equal(isNoProgram("hello there\n NOP\n", { faults: at(1), areAll: true, rest: null }), false);
-  // No more than some are looked for.
+  // At most this many are searched.
   const long = "prose\n".repeat(500);
   assert.equal(isNoProgram(long, { faults: at(...Array.from({ length: 20 }, (_, line) => line + 1)), areAll: false, rest: null }), true);
   assert.equal(isNoProgram(`NOP\n${long}`, { faults: at(2, 3), areAll: false, rest: null }), false);

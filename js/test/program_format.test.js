@@ -59,7 +59,7 @@ test("the examples keep their words, and are the same after a second time", () =
   }
 });
 
-test("a change has the characters that differ, and a text that would be too long is told of", () => {
+test("a change has the characters that differ, and a text that would be too long is reported", () => {
   assert.deepEqual(changesOf(["a: NOP", "same", "LD R3"], ["a:      NOP", "same", "LD  R3"]), [
     { line: 0, from: 3, to: 3, text: "     " }, { line: 2, from: 3, to: 3, text: " " }]);
   assert.equal(faultOfLayout(["NOP"]), "");

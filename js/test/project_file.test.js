@@ -19,7 +19,7 @@ function read(text) {
 }
 
 test("the checksum is the one of cksum", () => {
-  // What the command prints for these bytes, with its count of them.
+  // The output of the command for these bytes, with its count of them.
   assert.equal(checksum(encode("")), 4294967295);
   assert.equal(checksum(encode("hello\n")), 3015617425);
   assert.equal(checksum(encode("123456789")), 930766865);
@@ -60,7 +60,7 @@ test("carriage returns at the ends of lines, and a mark of the order of bytes, c
   assert.equal(projectText(project({ programText: "a\r\nb\r" })), text);
 });
 
-test("bytes that are a project are told from others", () => {
+test("bytes that are a project are distinguished from others", () => {
   assert.equal(isProject(encode(projectText(project()))), true);
   assert.equal(isProject(encode(`\uFEFF${projectText(project())}`)), true);
   assert.equal(isProject(encode("MCS4BEN1")), false);
@@ -70,7 +70,7 @@ test("bytes that are a project are told from others", () => {
 
 test("a text that the editors would not take is refused, and its project is not saved", () => {
   const boardText = `#${" ".repeat(65535)}\n`;
-  const words = "the board's text has 65,537 characters, and 65,536 is the most";
+  const words = "the board's text has 65,537 characters; at most 65,536 are accepted";
   assert.throws(() => read(projectText(project({ boardText }))), { message: words });
   assert.equal(wordsOfLength({ boardText, programText: "" }), words);
   assert.equal(wordsOfLength({ boardText: boardText.slice(1), programText: "x".repeat(65536) }), "");
@@ -95,11 +95,11 @@ test("each single byte that is another one is refused", () => {
 
 test("a project that is changed by hand is taken without its sum", () => {
   const text = projectText(project()).replace("; p\n", "; p\n\tNOP\n");
-  assert.throws(() => read(text), /changed by hand/);
+  assert.throws(() => read(text), /was edited/);
   assert.equal(read(text.replace(/^cksum.*\n/m, "")).programText, "; p\n\tNOP\n");
 });
 
-test("what is wrong in a project without a sum is told with its line", () => {
+test("what is wrong in a project without a sum is reported with its line", () => {
   const text = projectText(project()).replace(/^cksum.*\n/m, "");
   const faults = [
     ["project 1", "project 2", /version 2/],

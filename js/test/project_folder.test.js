@@ -1,4 +1,4 @@
-// The project file: what it says, and each of its faults with its line.
+// The project file: its contents, and each of its errors with its line.
 import assert from "node:assert/strict";
 import { mkdirSync, mkdtempSync, rmSync, symlinkSync, writeFileSync } from "node:fs";
 import { tmpdir } from "node:os";
@@ -24,7 +24,7 @@ test("a project file names files, and a speed", () => {
   assert.deepEqual([names.properties, names.speed], [[], "full"]);
 });
 
-test("what is wrong in a project file is told with its line", () => {
+test("what is wrong in a project file is reported with its line", () => {
   assert.match(firstFault(`${GOOD}lamp = "x"\n`), /^3: a project has no key lamp; it has board, program/);
   assert.match(firstFault("board = \"b.toml\"\n"), /^1: program is missing/);
   assert.match(firstFault(`${GOOD}board = "c.toml"\n`), /^3: board is in line 1 already/);

@@ -1,4 +1,4 @@
-// The debugger at the prompt, without a terminal: its commands, what they print, what they refuse, and what a line can go on with.
+// The debugger at the prompt, without a terminal: its commands, their output, their errors, and the completions of a line.
 import assert from "node:assert/strict";
 import { readFileSync } from "node:fs";
 import { test } from "node:test";
@@ -18,14 +18,14 @@ const BOARD = read("three_lamps/board.toml");
 const PROGRAM = read("three_lamps/three_lamps.asm");
 const LOCK = { board: read("lock/board.toml"), program: read("lock/lock.asm") };
 
-/** A prompt, with files, and with what it has printed and refused since it was asked last. */
+/** Returns a prompt, with files, and its output and errors since the last query. */
 async function prompted({ board, program } = { board: BOARD, program: PROGRAM }, isByHand = false, files = {}) {
-  let told = [];
+  let printed = [];
   const session = new DebugSession(engine, { board, program });
   const launched = { session, kept: null, program: "p.asm", board: "b.toml", stopsOnEntry: true, isDebugged: true, nameOf: (name) => name };
   const calls = {
-    print: (words) => told.push(...words.split("\n")),
-    complain: (words) => told.push(`refused: ${words}`),
+    print: (words) => printed.push(...words.split("\n")),
+    complain: (words) => printed.push(`refused: ${words}`),
     pause: async () => {},
     source: () => PROGRAM.replace("time  = 0x0C", "time  = 0x0D"),
     read: (name) => files[name] ?? assert.fail(`cannot read ${name}`),
@@ -39,11 +39,11 @@ async function prompted({ board, program } = { board: BOARD, program: PROGRAM },
   const prompt = new Prompt(launched, data, calls);
   await prompt.begin();
   const ask = async (...lines) => {
-    told = [];
+    printed = [];
     for (const line of lines) await prompt.take(line);
-    return told;
+    return printed;
   };
-  return { prompt, session, ask, told: () => told };
+  return { prompt, session, ask, printed: () => printed };
 }
 
 test("the table of commands: each is there, is found by its words, and has help", async () => {
@@ -87,7 +87,7 @@ test("moves, and the same way back", async () => {
   assert.equal(session.address, 0x014);
   assert.match((await ask("backtrace"))[1], /^#1 {2}007 {2}next \+ 2, line \d+, the call$/);
   assert.match((await ask("finish"))[0], /^Returned to 009 \(next \+ 4, line \d+\)/);
-  assert.match((await ask("reverse-next"))[0], /^Back at 007 \(next \+ 2, line \d+\): this instruction is not done\.$/);
+  assert.match((await ask("reverse-next"))[0], /^Back at 007 \(next \+ 2, line \d+\): this instruction has not run yet\.$/);
   assert.match((await ask("next"))[0], /^Returned to 009/);
   assert.match((await ask("back lamps")).join(), /Back at 006 .*: this instruction changes lamps from \.\.\. to \.\.\*\./);
   assert.match((await ask("forward"))[1], /^Forward again to 009/);
@@ -101,15 +101,15 @@ test("back to arrivals at breakpoints, to changes of what is watched, and to the
   const first = total();
   await ask("run 50", "run 60");
   const words = async (line) => (await ask(line)).find((each) => each.startsWith("Back at"));
-  assert.match(await words("back"), /^Back at the stop at .*, 60 cycles, .* before\.$/);
-  assert.match(await words("reverse-continue"), /^Back at 005 \(next, line \d+\), 50 cycles, .*, at a breakpoint, where r4 = 2\.$/);
+  assert.match(await words("back"), /^Back at the stop at .*, 60 cycles, .* earlier\.$/);
+  assert.match(await words("reverse-continue"), /^Back at 005 \(next, line \d+\), 50 cycles, .*, at a breakpoint, when r4 = 2\.$/);
   assert.equal(total(), first);
   await ask("watch lamps");
   assert.match(await words("rc"), /: this instruction changes lamps from \.\.\. to \.\.\*\.$/);
-  assert.match(await words("rc"), /^Back at 000 .*, where what is remembered begins: no breakpoint was passed since\.$/);
+  assert.match(await words("rc"), /^Back at 000 .*, at the beginning of what is remembered: no breakpoint was passed since\.$/);
   assert.equal(total(), 0);
   assert.deepEqual(await ask("rc"), ["refused: Nothing was done: what is remembered reaches no further back."]);
-  assert.match((await ask("rc 3")).join(), /^refused: reverse-continue takes nothing after it/);
+  assert.match((await ask("rc 3")).join(), /^refused: reverse-continue takes no argument/);
 });
 
 test("a run among lines of the bench ends at breakpoints as time does that runs", async () => {
@@ -119,10 +119,10 @@ test("a run among lines of the bench ends at breakpoints as time does that runs"
   const [cycles, before] = [total(), session.breakpoints.all[0].hits];
   await ask("back");
   assert.equal(total(), 0);
-  const told = (await ask("bench run 100000")).filter((line) => /^(ok|Paused)/.test(line));
+  const printed = (await ask("bench run 100000")).filter((line) => /^(ok|Paused)/.test(line));
   assert.equal(total(), cycles);
-  assert.match(told[0], new RegExp(`^ok \\d+ ran ${cycles} end$`));
-  assert.match(told[1], /^Paused at 005 \(next, line \d+\), at a breakpoint, where r4 = 2\. The line run 100000 ended there\.$/);
+  assert.match(printed[0], new RegExp(`^ok \\d+ ran ${cycles} end$`));
+  assert.match(printed[1], /^Paused at 005 \(next, line \d+\), at a breakpoint, when r4 = 2\. The line run 100000 ended there\.$/);
   assert.equal(session.breakpoints.all[0].hits, before + 1);
   await ask("delete", 'break next if r4 = 4 log "R4 is {r4}"');
   const logged = await ask("bench run 20000");
@@ -205,11 +205,11 @@ test("the view: source, registers, lamps, in any size; values that are others st
   assert.deepEqual(lines.slice(-3), ["lamps ..* right", "r4 = 0x1", "-".repeat(79)]);
   for (const [rows, columns] of [[12, 40], [24, 60], [50, 200]]) {
     const size = sizeOf(rows, columns);
-    const told = view.lines(size, { head: plain, here: plain, other: plain });
-    assert.equal(told.length, size.rows);
-    assert.deepEqual(told.filter((line) => line.length > size.columns), []);
-    assert.match(told.join("\n"), /acc 1/);
-    assert.ok(told.some((line) => line.startsWith(">")));
+    const printed = view.lines(size, { head: plain, here: plain, other: plain });
+    assert.equal(printed.length, size.rows);
+    assert.deepEqual(printed.filter((line) => line.length > size.columns), []);
+    assert.match(printed.join("\n"), /acc 1/);
+    assert.ok(printed.some((line) => line.startsWith(">")));
   }
 });
 
@@ -268,7 +268,7 @@ test("commands that run at a stop", async () => {
   assert.equal(prompt.label, "> ");
   assert.deepEqual(await ask("silent", "", "print pc", "end", "info b"), ["1  line 125 at 0x0A7", "       silent", "       print pc"]);
   assert.deepEqual((await ask("continue")).filter((line) => !line.startsWith("lamps")), ["0x0A7, line 125"]);
-  // After one that moves the others are left out; the next stop has its own.
+  // After one that moves the others are skipped; the next stop has its own.
   await ask("commands 1", "print acc", "step", "print never", "end");
   assert.equal((await ask("continue")).filter((line) => /never/.test(line)).length, 0);
   await ask("commands 1", "print pc", "bogus", "print acc", "end");
@@ -277,7 +277,7 @@ test("commands that run at a stop", async () => {
   assert.deepEqual(await ask("info b"), [(await ask("info breakpoints"))[0]]);
   await ask("commands 1");
   assert.deepEqual([prompt.drop(), prompt.drop()], ["the commands of breakpoint 1 are dropped", ""]);
-  // Somebody stops what goes on for ever.
+  // The user stops an endless run.
   let turns = 0;
   prompt.calls.pause = async () => {
     turns += 1;
@@ -310,7 +310,7 @@ test("more that info shows, and short words of gdb", async () => {
   assert.deepEqual(await ask("f"), ["#0  0A7  scan, line 125", ">  125  0A7  scan:   LDM 15"]);
   assert.match((await ask("info program"))[0], /^Paused at 0A7/);
   assert.match((await ask("info locals"))[0], /no local variables/);
-  assert.deepEqual(await ask("info registers r4"), ["refused: info registers takes nothing after it"]);
+  assert.deepEqual(await ask("info registers r4"), ["refused: info registers takes no argument"]);
   for (const words of ["si step", "ni next", "rsi reverse-step", "r run", "tb tbreak", "dis disable", "cond condition"]) {
     const [word, name] = words.split(" ");
     assert.equal(commandOf(word).command.name, name, word);
@@ -327,10 +327,10 @@ test("breakpoints in a file, and commands of one", async () => {
     "# Breakpoints of mcs4 debug", "tbreak 19", "commands $bpnum", "  silent", "  print pc", "end", "break 31 from 3 if r4 = 7",
     "disable $bpnum", "break 125 log \"R4 is {r4}\"", "watch ram.0.0x01", "watch r4", "",
   ]);
-  const told = [await ask("info breakpoints"), await ask("info watches")];
+  const printed = [await ask("info breakpoints"), await ask("info watches")];
   await ask("delete", "delete r4", "delete ram.0.0x01", "source saved");
   const numbers = (lines) => lines.map((line) => line.replace(/^\d/, "N"));
-  assert.deepEqual([numbers(await ask("info breakpoints")), await ask("info watches")], [numbers(told[0]), told[1]]);
+  assert.deepEqual([numbers(await ask("info breakpoints")), await ask("info watches")], [numbers(printed[0]), printed[1]]);
   await ask("delete");
   assert.deepEqual((await ask("source bad")).slice(1), ["refused: bad: line 4: there is no command bogus; help shows them all"]);
   assert.equal(session.breakpoints.all.length, 1);

@@ -1,4 +1,4 @@
-// The history of prompts: one file of the user's alone, which several prompts write at the same time.
+// The history of prompts: one private file of the user, which several prompts write at the same time.
 import assert from "node:assert/strict";
 import { spawn } from "node:child_process";
 import { chmodSync, existsSync, mkdtempSync, readFileSync, rmSync, statSync, symlinkSync, writeFileSync } from "node:fs";
@@ -9,7 +9,7 @@ import { PromptHistory } from "../node/prompt_history.mjs";
 
 const MODULE = new URL("../node/prompt_history.mjs", import.meta.url).href;
 
-/** Runs an act with a folder of its own. */
+/** Runs an action with a folder of its own. */
 async function withFolder(act) {
   const folder = mkdtempSync(join(tmpdir(), "history."));
   try {

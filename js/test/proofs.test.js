@@ -1,16 +1,17 @@
-// Proofs on the page: the bound that doubles, what is asked together, which verdicts still stand, the worker, and what is said of all.
+// Proofs on the page: the bound that doubles, combined questions, verdicts that remain valid, the worker, and the words about all of them.
 import assert from "node:assert/strict";
 import { test } from "node:test";
 import { Bench } from "../core/bench/bench_client.js";
 import { BenchCalls } from "../core/engine/bench_calls.js";
 import { Engine } from "../core/engine/engine.js";
 import { Prover } from "../core/prove/prover.js";
-import { beginProving, boundsUpTo, judgedLine } from "../core/prove/bounded_proof.js";
+import { beginProving, judgedLine } from "../core/prove/bounded_proof.js";
+import { boundsUpTo } from "../core/prove/question.js";
 import { lineNow, stillStands } from "../core/prove/still_valid.js";
 import { markOf, markOfTab, wordsOfEnd, wordsOfVerdict, wordsSoFar } from "../words/proved.js";
 import { moduleOfPage } from "./page_session.js";
 
-// The lamp is on while TEST is 0; R1 counts how often that was looked at.
+// The lamp is on while TEST is 0; R1 counts how often that was read.
 const texts = {
   boardText: '# lamp 0: lit\n# test: button WALK\nlamp = [{ line = "ram0.0.0" }, { line = "ram0.0.1" }]\n'
     + 'rom = [{ chip = 0, port = "0000" }]\nram = [{ bank = 0, chips = 1 }]\n',
@@ -18,36 +19,60 @@ const texts = {
   testText: "",
   propertiesText: "test\nnever lamp 1 on\nreach lamp lit on\nnever lamp lit on\n",
 };
-/** The values of TEST by which the lamp is on, one for each look. */
+/** The values of TEST by which the lamp is on, one for each read. */
 const LIGHTS = "may fail 0\n";
 
-/** The module, with a prover of the test's own; `asked` has the questions, as their bounds and the number of what is never met. */
+/** The answer to a question about mistakes, unless a test has its own. */
+const NO_MISTAKE = "holds 9\n";
+
+/**
+ * The module, with a prover of the test's own; `asked` has the questions about properties, as their bounds and the number of their
+ * conditions; `mistakes` those about mistakes, as their words; `bySets` the questions by sets of states.
+ */
 class Asked extends Engine {
-  /** @param {(bound: number, nevers: string[]) => string} answer */
-  constructor(answer) {
+  /**
+   * @param {(bound: number, nevers: string[]) => string} answer
+   * @param {(words: string[]) => string} answerMistakes
+   * @param {(asked: string) => string} answerSets
+   */
+  constructor(answer, answerMistakes = () => NO_MISTAKE, answerSets = () => "gave up\n") {
     super(new globalThis.WebAssembly.Module(moduleOfPage));
     this.answer = answer;
+    this.answerMistakes = answerMistakes;
+    this.answerSets = answerSets;
     this.asked = [];
+    this.mistakes = [];
+    this.bySets = [];
   }
 
   prove(question) {
     const bound = Number(/^most (\d+)$/m.exec(question)[1]);
     const nevers = question.split("\nnever\n").slice(1);
+    const [, words] = /^mistake (.*)$/m.exec(question) || [];
+    if (/^sets \d+$/m.test(question)) {
+      this.bySets.push(words || nevers.join());
+      return this.answerSets(this.bySets[this.bySets.length - 1]);
+    }
+    if (words) {
+      this.mistakes.push(words);
+      return this.answerMistakes(words.split(" "));
+    }
     this.asked.push([bound, nevers.length]);
     return this.answer(bound, nevers);
   }
 }
 
-async function judged(answer, { most = 50000, ...others } = {}) {
-  const engine = new Asked(answer);
+async function judged(answer, { most = 50000, answerMistakes, answerSets, ...others } = {}) {
+  const engine = new Asked(answer, answerMistakes, answerSets);
   const seen = [];
   const { proving, faults } = beginProving(engine, { ...texts, ...others }, most, {
     seen: async (states) => {
       seen.push(states);
     },
-    breathe: async () => {},
+    yieldToMessages: async () => {},
   });
-  return { faults, engine, seen, all: proving ? (await proving.judgeAll()).map(judgedLine) : [] };
+  const lines = proving ? (await proving.judgeAll()).map(judgedLine) : [];
+  return { faults, engine, seen, all: lines.filter(({ line }) => line > 0), made: lines.filter(({ line }) => line === 0) };
 }
 
 const kinds = (all) => all.map(({ verdict: { kind } }) => kind);
@@ -62,8 +87,9 @@ test("each question goes on only while there are more states, and says how many 
   const { all, engine, seen } = await judged((bound) => (bound < 40000 ? "too many\n" : "holds 23456\n"),
     { propertiesText: "test\nnever lamp 1 on\n" });
   assert.deepEqual(engine.asked, [[10000, 1], [20000, 1], [40000, 1]]);
-  assert.deepEqual(seen, [0, 10000, 20000]);
-  assert.deepEqual(all, [{ text: "never lamp 1 on", line: 2, isGoal: false, verdict: { kind: "proved", states: 23456 } }]);
+  // The questions about mistakes come last, the one by sets of states first.
+  assert.deepEqual(seen, [0, 10000, 20000, 0, 0]);
+  assert.deepEqual(all, [{ text: "never lamp 1 on", line: 2, isGoal: false, verdict: { kind: "proved", states: 23456, bySets: false } }]);
 });
 
 test("properties are asked together, and alone only if that decides something", async () => {
@@ -78,6 +104,39 @@ test("properties are asked together, and alone only if that decides something", 
   assert.match(many.all[0].verdict.words, /no memory for more than 40,000 states/);
   const single = await judged(() => LIGHTS, { propertiesText: "test\nnever lamp lit on\n" });
   assert.deepEqual(single.engine.asked, [[10000, 1]]);
+});
+
+test("every program is asked for seven mistakes: together, and each alone if one can be made", async () => {
+  const none = { propertiesText: "" };
+  const { made, engine } = await judged(() => "", none);
+  assert.deepEqual(engine.mistakes, ["code call return ram rom rdr wrr"]);
+  assert.deepEqual(kinds(made), Array.from({ length: 7 }, () => "proved"));
+  const verdict = { kind: "proved", states: 9, bySets: false };
+  assert.deepEqual(made[0], { text: "no code outside the instruction table", line: 0, isGoal: false, verdict });
+  // The program jumps into ROM that the board lacks.
+  const away = { ...none, programText: "        JUN 256\n" };
+  const one = await judged(() => "", { ...away, answerMistakes: (words) => (words.includes("rom") ? "may fail 0\n" : NO_MISTAKE) });
+  assert.deepEqual(one.engine.mistakes.slice(1), ["code", "call", "return", "ram", "rom", "rdr", "wrr"]);
+  assert.deepEqual(kinds(one.made), ["proved", "proved", "proved", "proved", "found", "proved", "proved"]);
+  // A report of the prover that the bench does not confirm is not a counterexample.
+  const unconfirmed = await judged(() => "", { ...none, answerMistakes: (words) => (words.includes("wrr") ? "may fail 0\n" : NO_MISTAKE) });
+  assert.equal(unconfirmed.made[6].verdict.words, "the bench does not confirm the counterexample that was found");
+});
+
+test("sets of states prove that no mistake is made, and what the search does not decide", async () => {
+  const words = "code call return ram rom rdr wrr";
+  const proved = { kind: "proved", states: 5, bySets: true };
+  const all = await judged(() => "too many\n", { answerSets: () => "holds 5\n" });
+  assert.deepEqual(all.engine.mistakes, []);
+  assert.deepEqual(all.made.map(({ verdict }) => verdict), Array.from({ length: 7 }, () => proved));
+  assert.deepEqual(all.all.map(({ verdict }) => verdict), Array.from({ length: 3 }, () => proved));
+  // Together they are not decided, but one of them is.
+  const some = await judged(() => "", { propertiesText: "", answerMistakes: () => "too many\n",
+    answerSets: (asked) => (asked === "call" ? "holds 5\n" : "gave up\n") });
+  assert.deepEqual(some.engine.bySets, [words, ...words.split(" ")]);
+  assert.deepEqual(some.engine.mistakes, [words, words, words, words]);
+  assert.deepEqual(kinds(some.made), ["open", "proved", "open", "open", "open", "open", "open"]);
+  assert.match(some.made[0].verdict.words, /more than/);
 });
 
 test("a counterexample has the lines after which one step breaks the property", async () => {
@@ -99,7 +158,7 @@ test("a way that is not one, or a prover that says nothing, proves nothing", asy
 });
 
 test("a verdict stands while its property, the program and the board are the same", () => {
-  const proved = { text: "never lamp 1 on", line: 2, isGoal: false, verdict: { kind: "proved", states: 3 } };
+  const proved = { text: "never lamp 1 on", line: 2, isGoal: false, verdict: { kind: "proved", states: 3, bySets: false } };
   const open = { ...proved, verdict: { kind: "open", words: "why" } };
   const now = (change) => ({ ...texts, ...change });
   const properties = (text) => now({ propertiesText: text });
@@ -108,10 +167,13 @@ test("a verdict stands while its property, the program and the board are the sam
   assert.ok(!stillStands(proved, texts, now({ boardText: `${texts.boardText}#` })));
   assert.ok(!stillStands(proved, texts, properties(texts.propertiesText.replace("lamp 1 on", "lamp 1 off"))));
   assert.ok(stillStands(proved, texts, properties(`# more\n\n  never  lamp 1 on\nnever lamp lit off\ntest`)));
-  // A proof is about all inputs, and begins at power-on; why something is open may depend on what may change.
+  // A proof is about all inputs, and begins at power-on; why a verdict is open may depend on the inputs in the text.
   assert.ok(stillStands(proved, texts, properties("never lamp 1 on")));
   assert.ok(!stillStands(open, texts, properties("never lamp 1 on")));
   assert.ok(!stillStands(proved, texts, properties(`from dark\n${texts.propertiesText}`)));
+  const mistake = { ...proved, text: "no fourth nested call", line: 0 };
+  assert.ok(stillStands(mistake, texts, properties("never lamp lit off")));
+  assert.ok(!stillStands(mistake, texts, now({ boardText: `${texts.boardText}#` })));
   assert.equal(lineNow("never lamp 1 on", "# a\n\n never   lamp 1 on\n"), 3);
   assert.equal(lineNow("never lamp 1 on", "never lamp 1 off\n"), 0);
 });
@@ -121,9 +183,9 @@ function fakeWorker(engine) {
   const listeners = [];
   const addEventListener = (kind, listen) => kind === "message" && listeners.push(listen);
   const worker = { isEnded: false, postMessage: () => {}, terminate: () => {}, addEventListener };
-  const tell = (data) => !worker.isEnded && listeners.forEach((listen) => listen({ data }));
+  const post = (data) => !worker.isEnded && listeners.forEach((listen) => listen({ data }));
   const calls = new BenchCalls(async (done, total) => {
-    tell({ kind: "progress", number: worker.number, done, total });
+    post({ kind: "progress", number: worker.number, done, total });
     return true;
   });
   calls.load = async () => {
@@ -136,12 +198,12 @@ function fakeWorker(engine) {
   worker.postMessage = async ({ kind, number, call, words }) => {
     if (kind !== "request") return;
     worker.number = number;
-    tell({ kind: "reply", number, result: globalThis.structuredClone(await calls[call](...words)) });
+    post({ kind: "reply", number, result: globalThis.structuredClone(await calls[call](...words)) });
   };
   return worker;
 }
 
-/** A prover over such a worker. The bench looks at its worker by a timer, which must not keep the test. */
+/** Returns a prover over such a worker. The bench checks its worker by a timer, which must not keep the test. */
 function proverOver(engine) {
   const { setInterval } = globalThis;
   globalThis.setInterval = () => 0;
@@ -151,15 +213,15 @@ function proverOver(engine) {
   return prover;
 }
 
-test("the page is told of each verdict, and of the states so far", async () => {
+test("the page receives each verdict, and the states so far", async () => {
   const engine = new Asked((bound, nevers) => (nevers.length === 1 ? LIGHTS : bound < 20000 ? "too many\n" : "holds 12345\n"));
-  const told = [];
+  const posted = [];
   const { faults, isStopped } = await proverOver(engine).prove(texts, 50000, new AbortController().signal,
-    ({ judged: all, count, states }) => told.push([all.length, count, states]));
+    ({ judged: all, count, states }) => posted.push([all.length, count, states]));
   assert.deepEqual([faults, isStopped], [[], false]);
-  assert.deepEqual(told[0], [0, 3, 0]);
-  assert.ok(told.some(([, , states]) => states === 10000));
-  assert.deepEqual(told[told.length - 1], [3, 3, 0]);
+  assert.deepEqual(posted[0], [0, 10, 0]);
+  assert.ok(posted.some(([, , states]) => states === 10000));
+  assert.deepEqual(posted[posted.length - 1], [10, 10, 0]);
 });
 
 test("cancelling ends the worker at once; a worker that is silent is not dead", async () => {
@@ -177,13 +239,13 @@ test("cancelling ends the worker at once; a worker that is silent is not dead", 
 
 test("verdicts in words", () => {
   const found = { steps: 2, cycles: 1204, isAllowed: true, isTest: true, text: "", before: "" };
-  const all = [{ kind: "proved", states: 1 }, { kind: "proved", states: 96937 }, { kind: "found", found }, { kind: "open", words: "why" }]
-    .map((verdict, at) => ({ text: `p${at}`, line: at + 1, isGoal: false, verdict }));
+  const all = [{ kind: "proved", states: 1, bySets: true }, { kind: "proved", states: 96937, bySets: false }, { kind: "found", found },
+    { kind: "open", words: "why" }].map((verdict, at) => ({ text: `p${at}`, line: at + 1, isGoal: false, verdict }));
   const goals = all.map((each) => ({ ...each, isGoal: true }));
   assert.deepEqual(all.map(markOf), ["proved", "proved", "can fail", "not decided"]);
   assert.deepEqual(goals.map(markOf), ["never reached", "never reached", "reached", "not decided"]);
   assert.deepEqual(all.map(wordsOfVerdict),
-    ["for all inputs: 1 state", "for all inputs: 96,937 states", "broken by 2 steps, 1,204 cycles", "why"]);
+    ["for all inputs: 1 set of states", "for all inputs: 96,937 states", "broken by 2 steps, 1,204 cycles", "why"]);
   assert.equal(wordsOfEnd(all, false), "2 proved, 1 can fail, 1 not decided.");
   assert.equal(wordsOfEnd(goals, true), "Cancelled: 1 reached, 2 never reached, 1 not decided.");
   assert.equal(wordsSoFar({ judged: all.slice(1), count: 4, states: 0 }), "Property 4 of 4");

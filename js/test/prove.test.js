@@ -1,4 +1,4 @@
-// Questions to the prover: conditions become comparisons that mean the same on every machine; what was read becomes keys, and a test.
+// Questions to the prover: conditions become comparisons that mean the same on every machine; the values read become keys, and a test.
 import assert from "node:assert/strict";
 import { test } from "node:test";
 import { tracedConditionOf } from "../core/conditions/condition_language.js";
@@ -10,14 +10,14 @@ import { counterexampleOf } from "../core/prove/counterexample.js";
 import { comparisonsOf } from "../core/prove/decided.js";
 import { allMistakes, cyclesToMistake } from "../core/prove/mistakes.js";
 import { askedOf, questionOf, readAnswer } from "../core/prove/question.js";
-import { statusOf, tapOf } from "../core/prove/verdicts.js";
+import { statusOf, tapHead, tapOfJudged } from "../core/prove/verdicts.js";
 import { runTests } from "../core/testing/test_suite.js";
 import { NoAccount } from "../core/testing/account.js";
 import { moduleOfPage } from "./page_session.js";
 
 const engine = new Engine(new globalThis.WebAssembly.Module(moduleOfPage));
 
-// Key A lights the lamp `on`, if it is down at 16 looks. The program counts in R5, and shows that at the port of the second RAM chip.
+// Key A switches the lamp `on` on, if it is down at 16 reads. The program counts in R5, and shows that at the port of the second RAM chip.
 const BOARD = `# row 0: A B C
 # lamp 0: on
 # test: button WALK
@@ -58,7 +58,7 @@ lit:    WMP
 const subject = subjectOf(engine, BOARD, PROGRAM);
 const { board } = subject.names;
 
-/** Reads a cell of a question by what the bench says of its places. */
+/** Reads a cell of a question from the bench's answers about its places. */
 const CELLS = {
   register: (index) => [`r${index}`],
   character: (index) => [`ram.${Math.floor(index / 256)}.${index % 256}`],
@@ -77,13 +77,13 @@ function isMet(state, comparison) {
   if (place === "owed") value = Number(engine.ask(state, "regs\n").answers[0].split(" ")[7]);
   else value = parseInt(engine.ask(state, `trace 1 ${place}\n`).answers[0].split(" ").pop(), 16);
   if (place === "pc") value = index === "4" ? value >> 8 : value & 255;
-  // Lines 1 to 3 of ROM 1 are inputs, of which its latch has 0.
+  // Lines 1 to 3 of ROM 1 are inputs, for which its latch has 0.
   if (place === "rom1") value &= 1;
   if (part !== "whole") value = (value >> Number(part.slice(4))) & 1;
   return (Number(low) <= value && value <= Number(high)) === (way === "in");
 }
 
-/** States of the bench, with all that conditions look at put at random. */
+/** States of the bench, with all places of conditions set at random. */
 function* states() {
   const random = randomFrom(5);
   const upTo = (most) => Math.floor(random() * (most + 1));
@@ -132,6 +132,16 @@ test("conditions are short questions", () => {
   assert.deepEqual(listsOf("@look"), [["in counter 3 whole 0 0", "in counter 4 whole 0 0", "in counter 5 whole 9 9"]]);
 });
 
+test("what a display shows is a question about its lamps", () => {
+  const lamps = [3, 2, 1, 0].map((line) => `{ line = "ram0.0.${line}" }`);
+  const text = `# display 0: 1 digit\nlamp = [${lamps}]\nrom = [{ chip = 0, port = "0000" }]\nram = [{ bank = 0, chips = 1 }]\n`;
+  const { names } = subjectOf(engine, text, "loop:   JUN loop\n");
+  const listsOf = (words) => comparisonsOf(tracedConditionOf(words, names).condition, true, names.board);
+  assert.deepEqual(listsOf("display 3"),
+    [["in ramport 0 line3 0 0", "in ramport 0 line2 0 0", "in ramport 0 line1 1 1", "in ramport 0 line0 1 1"]]);
+  assert.deepEqual(listsOf("display 12"), []);
+});
+
 test("conditions that look at inputs, or at too much, are refused with the reason", () => {
   const wrong = (text) => askedOf(readCampaign(`press A\n${text}`, subject).campaign.properties[0], { from: null }, board);
   assert.deepEqual(wrong("never rom1 in 3"), { nevers: null, words: "its condition looks at rom1, an input" });
@@ -143,13 +153,20 @@ test("conditions that look at inputs, or at too much, are refused with the reaso
 });
 
 test("a question has its limits, both texts and what must never be", () => {
-  const question = questionOf({ board: "rom = []\n", program: "NOP" }, [["in register 1 whole 0 3", "out counter 1 whole 0 0"], []], 77);
+  const nevers = [["in register 1 whole 0 3", "out counter 1 whole 0 0"], []];
+  const question = questionOf({ board: "rom = []\n", program: "NOP" }, nevers, [], { most: 77 });
   assert.deepEqual(question.split("\n"), ["most 77", "pause 1000000", "wire", "rom = []", ".", "asm", "NOP", ".", "never",
     "in register 1 whole 0 3", "out counter 1 whole 0 0", "never", "prove", ""]);
 });
 
+test("a question may have a limit of memory, and of sets", () => {
+  const linesWith = (limits) => questionOf({ board: "rom = []\n", program: "NOP" }, [[]], [], limits).split("\n");
+  assert.deepEqual(linesWith({ most: 77, memory: 5 }).slice(0, 4), ["most 77", "memory 5", "pause 1000000", "wire"]);
+  assert.deepEqual(linesWith({ most: 0, sets: 9 }).slice(0, 4), ["most 0", "sets 9", "pause 1000000", "wire"]);
+});
+
 test("mistakes are one more thing that must never be", () => {
-  const question = questionOf({ board: "rom = []\n", program: "NOP" }, [["in register 1 whole 0 3"]], 77, ["code", "ram"]);
+  const question = questionOf({ board: "rom = []\n", program: "NOP" }, [["in register 1 whole 0 3"]], ["code", "ram"], { most: 77 });
   assert.deepEqual(question.split("\n").slice(8), ["never", "in register 1 whole 0 3", "never", "mistake code ram", "prove", ""]);
   assert.deepEqual(allMistakes().map(({ word, property: { form } }) => `${word} ${form}`),
     ["code code", "call calls", "return returns", "ram mistake", "rom mistake", "rdr mistake", "wrr mistake"]);
@@ -161,12 +178,13 @@ test("answers", () => {
   assert.deepEqual(readAnswer("may fail 0 15 1\n"), { kind: "fails", values: [0, 15, 1] });
   assert.deepEqual(readAnswer("too many\n"), { kind: "more" });
   assert.deepEqual(readAnswer("gave up\n"), { kind: "lost" });
-  assert.deepEqual(readAnswer("no 90\n"), { kind: "full" });
+  assert.deepEqual(readAnswer("no 90\n"), { kind: "full", states: 0 });
+  assert.deepEqual(readAnswer("no room 12\n"), { kind: "full", states: 12 });
   const others = ["", "no 25\n", "no 30 12\n", "wrong line 3\n", "no question\n", "holds\n", "may fail x\n"];
   for (const other of others) assert.equal(readAnswer(other), null);
 });
 
-/** Reads by the program until its lamp is lit: what A gives, 16 times. */
+/** The reads of the program until its lamp is on: the value of A, 16 times. */
 const LIGHTS = [0, ...Array(16).fill(3)];
 
 async function counterexample(properties, values, at = 0) {
@@ -219,13 +237,14 @@ test("mistakes are seen before the instruction that makes them", () => {
 test("verdicts are TAP, and decide the exit status", () => {
   const property = { text: "never # on", isGoal: false, line: 3 };
   const goal = { ...property, text: "reach it", isGoal: true };
-  const proved = { kind: "proved", states: 96937 };
+  const proved = { kind: "proved", states: 96937, bySets: false };
+  const bySets = { kind: "proved", states: 23, bySets: true };
   const open = { kind: "open", words: "why" };
   const found = { kind: "found", found: { steps: 1, cycles: 1200, isAllowed: true, isTest: true, text: "test x\n  run 1\n" } };
-  const text = tapOf([{ property, verdict: proved }, { property, verdict: open }, { property: goal, verdict: found },
-    { property: goal, verdict: proved }], "p");
-  assert.equal(text, `TAP version 13
-1..4
+  const all = [{ property, verdict: proved }, { property, verdict: open }, { property: goal, verdict: found },
+    { property: goal, verdict: proved }, { property, verdict: bySets }];
+  assert.equal(tapHead(all.length) + all.map((each, at) => tapOfJudged(each, at, "p")).join(""), `TAP version 13
+1..5
 ok 1 - never \\# on # proved for all inputs (96,937 states)
 not ok 2 - never \\# on # TODO not decided: why
 ok 3 - reach it # reached, 1 step
@@ -237,6 +256,7 @@ ok 3 - reach it # reached, 1 step
       run 1
   ...
 not ok 4 - reach it # never reached, for all inputs (96,937 states)
+ok 5 - never \\# on # proved for all inputs (23 sets of states)
 `);
   assert.equal(statusOf([{ property, verdict: proved }, { property: goal, verdict: found }]), 0);
   assert.equal(statusOf([{ property, verdict: proved }, { property, verdict: open }]), 3);

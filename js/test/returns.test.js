@@ -15,11 +15,11 @@ test("an address that no call left is left over, and so is all below it", () => 
 });
 
 test("a byte that looks like a JMS, but is none in the program", () => {
-  // After BBL at 006 comes 007; the byte at 005 is the 50 of FIM.
+  // After BBL at 006 follows 007; the byte at 005 is the 50 of FIM.
   assert.deepEqual(areLive([7, 0, 0], ["50", "00", "00"], null), [true, false, false]);
   assert.deepEqual(areLive([7, 0, 0], ["50", "00", "00"], MAP), [false, false, false]);
   assert.deepEqual(areLive([2, 0, 0], ["50", "00", "00"], MAP), [true, false, false]);
-  // What lies outside the program is judged by its byte.
+  // An address outside the program is judged by its byte.
   assert.deepEqual(areLive([0x102, 0, 0], ["5F", "00", "00"], MAP), [true, false, false]);
 });
 

@@ -35,7 +35,7 @@ for (const [name, board] of Object.entries({ "a small board": SMALL, "the larges
   });
 }
 
-/** Numbers that look like chance, and are the same in each run. */
+/** Pseudo-random numbers, the same in each run. */
 function chances(seed) {
   let state = seed;
   return (most) => {
@@ -63,7 +63,7 @@ test("where parts were dragged to and fro, with room between them, hardly a wire
       wouldBe += Number(isHidden(routeOf(wire, [], at)));
     });
   }
-  // A part may stand where a wire would have to turn twice.
+  // A part may be where a wire would need to turn twice.
   assert.ok(below <= 3 && wouldBe > 150, `${below} of ${wouldBe}`);
 });
 

@@ -1,4 +1,4 @@
-// The routines of a program: what each one comes to, what it calls, and from where it is called.
+// The routines of a program: what each one reaches, what it calls, and its callers.
 import assert from "node:assert/strict";
 import { test } from "node:test";
 import { Routines } from "../core/text/routines.js";

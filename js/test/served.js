@@ -1,4 +1,4 @@
-// A language server without a process, and one who asks it, for tests.
+// A language server without a process, and its client, for tests.
 import { Connection } from "../core/server/connection.js";
 import { MessageReader, framed } from "../core/server/framing.js";
 import { LanguageServer } from "../core/server/language_server.js";
@@ -9,23 +9,23 @@ import { moduleOfPage } from "./page_session.js";
 const engine = new Engine(new globalThis.WebAssembly.Module(moduleOfPage));
 export const bytesOf = (text) => new TextEncoder().encode(text);
 
-/** A server with one who asks it; `files` are beside the texts, and `pause` is what it does between pieces of work. */
+/** A server with a client; `files` are its files, and `pause` is called between pieces of work. */
 export function served(files = {}, pause = async () => {}) {
   const reader = new MessageReader();
-  const told = [];
+  const messages = [];
   let status = null;
   const connection = new Connection((bytes) => {
-    // What is written after the end is lost.
-    if (status === null) told.push(...[...reader.take(bytes)].map(({ text }) => JSON.parse(text)));
+    // Output after the end is lost.
+    if (status === null) messages.push(...[...reader.take(bytes)].map(({ text }) => JSON.parse(text)));
   }, (ended) => {
     status = ended;
   });
   const host = { readFile: (uri) => files[uri] || null, pause };
   const server = new LanguageServer(connection, engine, dataOfPage(), host);
-  const answer = async (method, params, id = told.length + 1) => {
+  const answer = async (method, params, id = messages.length + 1) => {
     connection.take(framed({ jsonrpc: "2.0", id, method, params }));
-    for (let turns = 0; turns < 200 && !told.some((each) => each.id === id); turns++) await new Promise(setImmediate);
-    return told.find((each) => each.id === id);
+    for (let turns = 0; turns < 200 && !messages.some((each) => each.id === id); turns++) await new Promise(setImmediate);
+    return messages.find((each) => each.id === id);
   };
   const ask = async (method, params) => (await answer(method, params)).result;
   const open = async (uri, text, languageId = "asm") => {
@@ -33,8 +33,8 @@ export function served(files = {}, pause = async () => {}) {
     connection.take(framed({ jsonrpc: "2.0", method: "textDocument/didOpen", params: { textDocument } }));
     const begin = { line: 0, character: 0 };
     await ask("textDocument/codeAction", { textDocument: { uri }, range: { start: begin, end: begin } });
-    return told.filter((each) => each.method === "textDocument/publishDiagnostics" && each.params.uri === uri).pop().params.diagnostics;
+    return messages.filter((each) => each.method === "textDocument/publishDiagnostics" && each.params.uri === uri).pop().params.diagnostics;
   };
   const at = (uri, line, character) => ({ textDocument: { uri }, position: { line, character } });
-  return { server, connection, told, answer, ask, open, at, begin: (params = {}) => ask("initialize", params), status: () => status };
+  return { server, connection, messages, answer, ask, open, at, begin: (params = {}) => ask("initialize", params), status: () => status };
 }

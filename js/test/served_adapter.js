@@ -1,4 +1,4 @@
-// A debug adapter for tests, without a process, with one who asks it.
+// A debug adapter for tests, without a process, with its client.
 import assert from "node:assert/strict";
 import { afterEach } from "node:test";
 import { readFileSync } from "node:fs";
@@ -20,7 +20,7 @@ const PATIENCE = 20000;
 /** @type {DebugAdapter[]} */
 const begun = [];
 afterEach(async () => {
-  // Time that still runs would go on for ever.
+  // Time that still runs would never end.
   for (const adapter of begun.splice(0)) await adapter.leave();
 });
 
@@ -51,16 +51,17 @@ export class FakeFile {
   }
 }
 
-/** An adapter with one who asks it; `files` are texts and session files. */
+/** An adapter with its client; `files` are texts and session files. */
 export function served(files = FILES, sessions = {}) {
   const reader = new MessageReader();
-  const told = [];
+  const messages = [];
   const ended = [];
-  const connection = new AdapterConnection((bytes) => told.push(...[...reader.take(bytes)].map(({ text }) => JSON.parse(text))));
+  const connection = new AdapterConnection((bytes) => messages.push(...[...reader.take(bytes)].map(({ text }) => JSON.parse(text))));
   const host = {
     nameOf: (name, folder) => (/^([A-Z]:)?\//.test(name) ? name : `${folder}/${name}`),
     beside: (name, other) => other.replace(/[^/]*$/, name),
     read: (name) => files[name] ?? null,
+    whyUnread: (name) => `cannot read ${name}: there is no such file`,
     isThere: (name) => name in files || name in sessions,
     isInside: (name) => !/outside/.test(name),
     open: async (name) => sessions[name] || Promise.reject(new Error(`${name} is in use`)),
@@ -78,13 +79,13 @@ export function served(files = FILES, sessions = {}) {
   const adapter = new DebugAdapter(connection, engine, dataOfPage(), host);
   begun.push(adapter);
   let seq = 0;
-  const until = async (fits) => {
+  const until = async (matches) => {
     const end = performance.now() + PATIENCE;
-    while (!told.some(fits)) {
-      if (performance.now() > end) throw new Error(`nothing came: ${JSON.stringify(told.slice(-3))}`);
+    while (!messages.some(matches)) {
+      if (performance.now() > end) throw new Error(`nothing came: ${JSON.stringify(messages.slice(-3))}`);
       await new Promise(setImmediate);
     }
-    return told.find(fits);
+    return messages.find(matches);
   };
   /** Sends a request; returns its number. */
   const send = (command, args) => {
@@ -99,7 +100,7 @@ export function served(files = FILES, sessions = {}) {
     assert.ok(response.success, response.message);
     return response.body;
   };
-  const stops = () => told.filter(({ event }) => event === "stopped").map(({ body }) => body);
+  const stops = () => messages.filter(({ event }) => event === "stopped").map(({ body }) => body);
   const move = async (command, args = { threadId: 1 }) => {
     const before = stops().length;
     await ask(command, args);
@@ -115,8 +116,10 @@ export function served(files = FILES, sessions = {}) {
     await ask("configurationDone");
     if (args.stopOnEntry !== false) await until(() => stops().length > before);
   };
-  const output = () => told.filter(({ event }) => event === "output").map(({ body }) => body.output).join("");
+  const output = () => messages.filter(({ event }) => event === "output").map(({ body }) => body.output).join("");
   const evaluate = async (expression, context = "watch") => (await ask("evaluate", { expression, context })).result;
   const lines = async () => (await ask("stackTrace", { threadId: 1 })).stackFrames.map(({ line }) => line);
-  return { adapter, connection, told, ended, until, send, answerTo, answer, ask, move, begin, output, evaluate, lines, stops, sessions };
+  return {
+    adapter, connection, messages, ended, until, send, answerTo, answer, ask, move, begin, output, evaluate, lines, stops, sessions,
+  };
 }

@@ -1,4 +1,4 @@
-// The language server, without a process: its messages, its texts, and what it answers by the module of the page.
+// The language server, without a process: its messages, its texts, and its answers on the page's module.
 import assert from "node:assert/strict";
 import { test } from "node:test";
 import { readFileSync } from "node:fs";
@@ -41,28 +41,28 @@ test("a size that no message has is an error at once, after the messages before 
     for (const { text } of reader.take(bytes)) texts.push(text);
   }, /^Error: Content-Length: 99999999999 is more than a message can have/);
   assert.deepEqual(texts, ["{}"]);
-  const { connection, told } = served();
+  const { connection, messages } = served();
   assert.throws(() => connection.take(bytes), StreamLost);
-  assert.match(told[told.length - 1].error.message, /^Content-Length: 99999999999 is more/);
+  assert.match(messages[messages.length - 1].error.message, /^Content-Length: 99999999999 is more/);
 });
 
 test("what comes in one chunk with initialize, and with shutdown, is served in its order", async () => {
-  const { connection, told, status } = served();
+  const { connection, messages, status } = served();
   const textDocument = { uri: "file:///a.asm", languageId: "asm", version: 1, text: "foo\n" };
   const hover = { textDocument, position: { line: 0, character: 0 } };
   const notes = [["initialized", {}], ["textDocument/didOpen", { textDocument }]].map(([method, params]) => ({ method, params }));
   const asked = [{ id: 1, method: "initialize", params: {} }, ...notes, { id: 2, method: "textDocument/hover", params: hover }];
   connection.take(new Uint8Array(asked.flatMap((each) => [...framed({ jsonrpc: "2.0", ...each })])));
-  const untilTold = async (count) => {
-    for (let turns = 0; turns < 2000 && told.length < count; turns++) await new Promise(setImmediate);
+  const untilReported = async (count) => {
+    for (let turns = 0; turns < 2000 && messages.length < count; turns++) await new Promise(setImmediate);
   };
-  await untilTold(3);
-  assert.deepEqual(told.slice(0, 2).map(({ id, result }) => [id, result !== undefined]), [[1, true], [2, true]]);
-  assert.deepEqual(told[2].params.diagnostics.map(({ range }) => range.start.line), [0]);
+  await untilReported(3);
+  assert.deepEqual(messages.slice(0, 2).map(({ id, result }) => [id, result !== undefined]), [[1, true], [2, true]]);
+  assert.deepEqual(messages[2].params.diagnostics.map(({ range }) => range.start.line), [0]);
   const end = [{ id: 3, method: "shutdown" }, { id: 4, method: "textDocument/hover", params: hover }, { method: "exit" }];
   connection.take(new Uint8Array(end.flatMap((each) => [...framed({ jsonrpc: "2.0", ...each })])));
-  await untilTold(5);
-  assert.deepEqual([told.find(({ id }) => id === 3).result, told.find(({ id }) => id === 4).error.code], [null, -32600]);
+  await untilReported(5);
+  assert.deepEqual([messages.find(({ id }) => id === 3).result, messages.find(({ id }) => id === 4).error.code], [null, -32600]);
   assert.equal(status(), 0);
 });
 
@@ -102,7 +102,7 @@ test("the board of a program, by its project file", () => {
 
 test("the faults of a project file, and a program on the board that it names", async () => {
   const files = { "file:///a/b/wires.toml": BOARD, "file:///a/b/x.asm": "NOP\n" };
-  const { begin, open, told, ask } = served(files);
+  const { begin, open, messages, ask } = served(files);
   await begin();
   const uri = "file:///a/b/mcs4.toml";
   const words = async (text) => (await open(uri, text, "toml")).map(({ range, message }) => `${range.start.line}: ${message}`);
@@ -110,10 +110,10 @@ test("the faults of a project file, and a program on the board that it names", a
   assert.deepEqual(await words("board = \"wires.toml\"\nprogram = \"y.asm\"\n"), ["1: program: there is no file y.asm"]);
   assert.match((await words("board = 7\nprogram = \"x.asm\"\nspeed = \"fast\"\n")).join(), /^0: board is the path.*,2: speed is one of/);
   const tooFar = await open("file:///a/b/x.asm", "    = 0x100\n    NOP\n");
-  const count = told.length;
+  const count = messages.length;
   await open(uri, "board = \"wires.toml\"\nprogram = \"x.asm\"\n", "toml");
   await ask("textDocument/documentSymbol", { textDocument: { uri: "file:///a/b/x.asm" } });
-  assert.ok(told.slice(count).some(({ params }) => params && params.uri === "file:///a/b/x.asm"), "the program is looked at again");
+  assert.ok(messages.slice(count).some(({ params }) => params && params.uri === "file:///a/b/x.asm"), "the program is looked at again");
   assert.ok(Array.isArray(tooFar));
 });
 
@@ -134,7 +134,7 @@ test("faults with what cures them, and that there may be more", () => {
 });
 
 test("the order of the protocol", async () => {
-  const { answer, begin, connection, told, status } = served();
+  const { answer, begin, connection, messages, status } = served();
   assert.equal((await answer("textDocument/hover", {})).error.code, -32002);
   assert.ok((await begin()).capabilities.renameProvider);
   assert.equal((await answer("initialize", {})).error.code, -32600);
@@ -143,9 +143,9 @@ test("the order of the protocol", async () => {
   assert.equal((await answer("textDocument/hover", nowhere)).error.code, -32602);
   assert.equal((await answer("textDocument/hover", { position: { line: -1 } })).error.code, -32602);
   connection.take(bytesOf("Content-Length: 1\r\n\r\n{"));
-  assert.equal(told[told.length - 1].error.code, -32700);
+  assert.equal(messages[messages.length - 1].error.code, -32700);
   connection.take(framed({ jsonrpc: "2.0", id: 7 }));
-  assert.deepEqual([told[told.length - 1].id, told[told.length - 1].error.code], [7, -32600]);
+  assert.deepEqual([messages[messages.length - 1].id, messages[messages.length - 1].error.code], [7, -32600]);
   assert.equal((await answer("shutdown")).result, null);
   assert.equal((await answer("textDocument/hover", {})).error.code, -32600);
   connection.take(framed({ jsonrpc: "2.0", method: "exit" }));
@@ -156,16 +156,17 @@ test("all faults of a program, on the board beside it, and cures", async () => {
   const { ask, begin, open } = served({ "file:///a/board.toml": BOARD });
   await begin();
   const uri = "file:///a/x.asm";
-  const told = await open(uri, "begin: JMP begn\n  LDM 0FH\nzero EQU 4\n  JUN begni\n");
-  assert.deepEqual(told.map(({ range, message }) => [range.start.line, range.start.character, range.end.character, message]), [
+  const found = await open(uri, "begin: JMP begn\n  LDM 0FH\nzero EQU 4\n  JUN begni\n");
+  assert.deepEqual(found.map(({ range, message }) => [range.start.line, range.start.character, range.end.character, message]), [
     [0, 7, 10, "JMP is not an instruction; JUN?"],
     [1, 6, 9, "LDM takes a value, 0 to 15; hexadecimal is 0x0F"],
     [2, 5, 10, "a name gets its number by =: zero = 4"],
-    [3, 6, 11, "begni is not defined; begin?"],
   ]);
   const range = { start: { line: 0, character: 0 }, end: { line: 9, character: 0 } };
   const actions = await ask("textDocument/codeAction", { textDocument: { uri }, range });
-  assert.deepEqual(actions.map(({ title }) => title), ["Write JUN", "Write 0x0F", "Write = 4", "Write begin"]);
+  assert.deepEqual(actions.map(({ title }) => title), ["Write JUN", "Write 0x0F", "Write = 4"]);
+  const later = await open("file:///a/z.asm", "begin: LDM 16\n  JUN begni\n");
+  assert.deepEqual(later.map(({ message }) => message), ["LDM takes a value, 0 to 15", "begni is not defined; begin?"]);
   const lacks = await open("file:///a/y.asm", " ORG 0x200\n NOP\n");
   assert.match(lacks[0].message, /^this line is at 200, and the board has no ROM 2/);
   assert.deepEqual(await open("file:///b/y.asm", " ORG 0x200\n NOP\n"), []);
@@ -175,9 +176,9 @@ test("a bad name is one fault, and hides no other", async () => {
   const { begin, open } = served();
   await begin();
   for (const [at, name] of ["thisnameismuchtoolong", "LDM", "P3", "2x"].entries()) {
-    const faults = await open(`file:///bad${at}.asm`, `${name} = 3\n LDM 16\nright = 4\n LDM right\n`);
-    const told = faults.map(({ range, message }) => `${range.start.line} ${/more errors/.test(message)}`);
-    assert.deepEqual(told, ["0 false", "1 false"], `${name}: ${JSON.stringify(faults)}`);
+    const faults = await open(`file:///bad${at}.asm`, `${name} = 3\n JMP 16\nright = 4\n LDM right\n`);
+    const found = faults.map(({ range, message }) => `${range.start.line} ${/more errors/.test(message)}`);
+    assert.deepEqual(found, ["0 false", "1 false"], `${name}: ${JSON.stringify(faults)}`);
   }
 });
 
@@ -217,18 +218,18 @@ test("a board's words and places: a lamp's line leads to its chip", async () => 
     /^ram0\.0\.2: line 2 of the port of RAM chip 0 in bank 0, lamp 2 \(alarm\); its chip is in line \d+\.$/);
   assert.equal((await ask("textDocument/references", at(uri, lines.indexOf("[[ram]]"), 3))).length, 4);
   const wrong = await open("file:///b/board.toml", BOARD.replace("chips = 1", "chip = 1"), "toml");
-  assert.deepEqual(wrong.map(({ message }) => message), ["this ram lacks chips", "chip is not a key of ram; chips?"]);
+  assert.deepEqual(wrong.map(({ message }) => message), ["chip is not a key of ram; chips?"]);
   const range = { start: { line: 0, character: 0 }, end: { line: lines.length, character: 0 } };
   const actions = await ask("textDocument/codeAction", { textDocument: { uri: "file:///b/board.toml" }, range });
   assert.deepEqual(actions.map(({ title }) => title), ["Write chips"]);
 });
 
 test("the rest of a message that does not come is reported", () => {
-  const { connection, told } = served();
+  const { connection, messages } = served();
   assert.equal(connection.refuseIncomplete(), "");
   connection.take(bytesOf("Content-Length: 20\r\n\r\n{\"id\":"));
   assert.equal(connection.refuseIncomplete(), "only 6 of the 20 bytes that Content-Length announces have arrived");
-  assert.deepEqual([told[0].id, told[0].error.code], [null, -32600]);
+  assert.deepEqual([messages[0].id, messages[0].error.code], [null, -32600]);
   const other = served();
   other.connection.take(bytesOf("Content-Le"));
   assert.match(other.connection.refuseIncomplete(), /a part of the head/);

@@ -1,5 +1,5 @@
-// What the language server answers beside faults: layout, hints, folds, names of the workspace, calls, lenses, links, selections, colours
-// by range and by what changed, signatures, completion, Markdown, and diagnostics that are asked for.
+// Answers of the language server other than errors: layout, hints, folds, names of the workspace, calls, lenses, links, selections, colours
+// by range and by changes, signatures, completion, Markdown, and diagnostics on request.
 import assert from "node:assert/strict";
 import { test } from "node:test";
 import { readFileSync } from "node:fs";
@@ -179,7 +179,7 @@ test("help in Markdown for clients that show it: the instruction's row, what a c
   assert.match((await value(4, 6)).value, /address 0x000.*\n\n~~~text\nshows <b>\nall\nnow\n~~~/s);
 });
 
-test("diagnostics that a client asks for, and that it is told to ask again", async () => {
+test("diagnostics that a client asks for, and the request to ask again", async () => {
   const client = { capabilities: { textDocument: { diagnostic: {} }, workspace: { diagnostics: { refreshSupport: true } } } };
   const server = served({});
   const { capabilities } = await server.begin(client);
@@ -189,9 +189,9 @@ test("diagnostics that a client asks for, and that it is told to ask again", asy
   const first = await server.ask("textDocument/diagnostic", document);
   assert.deepEqual([first.kind, first.items.length], ["full", 1]);
   assert.equal((await server.ask("textDocument/diagnostic", { ...document, previousResultId: first.resultId })).kind, "unchanged");
-  assert.ok(!server.told.some(({ method }) => method === "textDocument/publishDiagnostics"), "nothing is sent twice");
+  assert.ok(!server.messages.some(({ method }) => method === "textDocument/publishDiagnostics"), "nothing is sent twice");
   take("textDocument/didOpen", { textDocument: { uri: `${PROJECT}board.toml`, languageId: "toml", version: 1, text: read("board.toml") } });
   await server.ask("textDocument/diagnostic", document);
-  assert.ok(server.told.some(({ method }) => method === "workspace/diagnostic/refresh"));
+  assert.ok(server.messages.some(({ method }) => method === "workspace/diagnostic/refresh"));
   assert.ok(!("diagnosticProvider" in (await served({}).begin({})).capabilities));
 });

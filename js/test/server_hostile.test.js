@@ -1,4 +1,4 @@
-// Texts that are no texts for the language server: binary ones, very long lines, and very many; each request is answered, and soon.
+// Invalid texts for the language server: binary ones, very long lines, and very many; each request is answered, and soon.
 import assert from "node:assert/strict";
 import { test } from "node:test";
 import { readFileSync } from "node:fs";
@@ -30,7 +30,7 @@ const WHOLES = ["documentSymbol", "codeLens", "documentLink", "foldingRange", "s
 const SOON = 2000;
 const spent = () => process.cpuUsage().user / 1000;
 
-/** Asks all that can be asked of a text; gives the method that took longest. */
+/** Sends every request about a text; returns the method that took longest. */
 async function askAll({ answer, at }, uri, lines) {
   const last = lines.length - 1;
   const middle = Math.floor(lines[0].length / 2);
@@ -46,8 +46,8 @@ async function askAll({ answer, at }, uri, lines) {
   const longest = { name: "", time: 0 };
   for (const [name, params] of asked) {
     const begun = spent();
-    const told = await answer(`textDocument/${name}`, params);
-    assert.ok(told && ("result" in told || "error" in told), `${name} is answered`);
+    const reply = await answer(`textDocument/${name}`, params);
+    assert.ok(reply && ("result" in reply || "error" in reply), `${name} is answered`);
     const time = spent() - begun;
     if (time > longest.time) Object.assign(longest, { name, time });
   }

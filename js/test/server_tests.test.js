@@ -11,7 +11,7 @@ const FOLDER = "file:///l/";
 const FILES = { [`${FOLDER}board.toml`]: read("board.toml"), [`${FOLDER}lock.asm`]: read("lock.asm") };
 const tests = `${FOLDER}lock.test`;
 const properties = `${FOLDER}lock.props`;
-const told = (faults) => faults.map(({ range: { start, end }, severity, message }) => (
+const textsOf = (faults) => faults.map(({ range: { start, end }, severity, message }) => (
   `${start.line}:${start.character}-${end.character} ${severity} ${message}`));
 
 async function begun(files = FILES) {
@@ -23,7 +23,7 @@ async function begun(files = FILES) {
 test("the errors of tests have their places", async () => {
   const { open } = await begun();
   assert.deepEqual(await open(tests, read("lock.test"), "plaintext"), []);
-  const faults = told(await open(tests, "test a\n  press Q\n  until lamp opn on within 1 s\n  nonsense\n"));
+  const faults = textsOf(await open(tests, "test a\n  press Q\n  until lamp opn on within 1 s\n  nonsense\n"));
   assert.equal(faults[0], "1:2-9 1 the board has no key Q; it has: 1 2 3 4 5 6 7 8 9 * 0 #");
   assert.equal(faults[1], "2:8-12 1 the board has no lamp opn; it has: locked open alarm", "at the column, which is not named");
   assert.match(faults[2], /^3:2-10 1 no line of a test begins with `nonsense`/);
@@ -33,22 +33,22 @@ test("the errors of tests have their places", async () => {
 test("the errors of properties have their places", async () => {
   const { open } = await begun();
   assert.deepEqual(await open(properties, read("lock.props"), "plaintext"), []);
-  const faults = told(await open(properties, "press 1 2\nnever lamp purple on\nat @nowhere lamp open on\n"));
+  const faults = textsOf(await open(properties, "press 1 2\nnever lamp purple on\nat @nowhere lamp open on\n"));
   assert.match(faults[0], /^1:6-10 1 the board has no lamp purple/);
   assert.match(faults[1], /^2:0-24 1 the program has no label nowhere/);
 });
 
 test("without board and program, or with one that is wrong, that is said", async () => {
   const alone = await begun({});
-  assert.deepEqual(told(await alone.open(tests, "test a\n")), [
+  assert.deepEqual(textsOf(await alone.open(tests, "test a\n")), [
     "0:0-0 2 there is no board.toml here, so this text is not checked; mcs4.toml can name a board and a program"]);
   const wrong = await begun({ ...FILES, [`${FOLDER}lock.asm`]: "NOP\n JMP 3\n" });
-  assert.deepEqual(told(await wrong.open(properties, "never lamp open on\n")), [
+  assert.deepEqual(textsOf(await wrong.open(properties, "never lamp open on\n")), [
     "0:0-0 2 lock.asm has an error in line 2, so this text is not checked"]);
 });
 
 test("they are looked at again as board and program change", async () => {
-  const { open, told: all } = await begun();
+  const { open, messages: all } = await begun();
   const isOfTests = ({ method, params }) => method === "textDocument/publishDiagnostics" && params.uri === tests;
   const last = () => all.filter(isOfTests).pop().params.diagnostics;
   assert.deepEqual(await open(tests, "test a\n  until @enter within 1 s\n"), []);
@@ -94,7 +94,7 @@ test("properties lead to the tests that they begin with", async () => {
 });
 
 test("a test that is run by its lens, and the line that failed", async () => {
-  const { answer, ask, open, told: all } = await begun();
+  const { answer, ask, open, messages: all } = await begun();
   const text = "test opens\n  run 50 ms\n  save ready\ntest fails\n  from ready\n  expect lamp alarm on\ntest other\n  run 60 s\n";
   await open(tests, text);
   const lenses = await ask("textDocument/codeLens", { textDocument: { uri: tests } });
@@ -124,7 +124,7 @@ test("a test that runs ends where the client cancels it, and no result is shown"
     pauses += 1;
     return new Promise(setImmediate);
   };
-  const { connection, answer, begin, open, told: all } = served(FILES, pause);
+  const { connection, answer, begin, open, messages: all } = served(FILES, pause);
   await begin();
   await open(tests, "test long\n  until r15 9 within 10000 s\ntest short\n  run 5 ms\n");
   const until = async (isSo) => {

@@ -1,4 +1,4 @@
-// The prompt of sessions, on the module: lines, texts, files, why a line is rejected, help, and what a line can go on with.
+// The prompt of sessions, on the module: lines, texts, files, why a line is rejected, help, and the completions of a line.
 import assert from "node:assert/strict";
 import { test } from "node:test";
 import { SessionPrompt } from "../core/prompt/bench_prompt.js";
@@ -28,7 +28,7 @@ rows = 2
 columns = ["rom0.0", "rom0.1"]
 `;
 
-/** A prompt on a new session, with files, and what came out since it was asked last: answers, and words in parentheses. */
+/** Returns a prompt on a new session, with files, and its output since the last query: answers, and words in parentheses. */
 function prompted(files = {}) {
   const state = engine.begin();
   let out = [];
@@ -70,9 +70,9 @@ test("lines, typed texts, and what is wrong with them", async () => {
     "no 42", "(the board has no ROM with the address of rom.256; board shows its chips)",
     "no 44", "(a run takes 1 to 100,000 cycles, not 0)", "no 11", "(x is not a number from 0 to 4,294,967,295)",
   ]);
-  assert.deepEqual(await ask("asm", "a: JMP b", "b: LDM 17", "."), [
-    "no 30 line 1", "(line 1: JMP is not an instruction; JUN?)", "(    a: JMP b)", "(line 2: LDM takes a value, 0 to 15)",
-    "(    b: LDM 17)",
+  assert.deepEqual(await ask("asm", "a: JMP b", "b: LDN 17", "."), [
+    "no 30 line 1", "(line 1: JMP is not an instruction; JUN?)", "(    a: JMP b)", "(line 2: LDN is not an instruction; LD or LDM?)",
+    "(    b: LDN 17)",
   ]);
   const [, why] = await ask("asm", "; \u00e9", ".");
   assert.match(why, /a byte that is neither a tab nor a printing character of ASCII/);
@@ -90,12 +90,20 @@ test("a text that is dropped, and the end of input within one", async () => {
 
 test("files in the place of typed texts, without their comments", async () => {
   const { ask } = prompted({
-    "b.toml": `# \u00e9\n${BOARD}`, "p.asm": "; \u00e9\nloop: JUN loop ; again\n", "bad.asm": "\n JMP 3\n", "far.asm": " ORG 0x300\n NOP\n",
+    "b.toml": `# \u00e9\n${BOARD}`, "p.asm": "; \u00e9\nloop: JUN loop ; again\n", "bad.asm": "\n JMP 3\n",
+    "bad.toml": "\n\n[[lamp]]\nline = 'led'\n", "far.asm": " ORG 0x300\n NOP\n",
   });
   assert.deepEqual(await ask("wire b.toml", "asm p.asm", "map p.asm"), [
     "ok 1", "ok 2 bytes 2", "map lines 2 names 1", "line 1 000 0", "line 2 000 2", "name loop 000",
   ]);
   assert.deepEqual(await ask("asm bad.asm"), ["no 30 line 2", "(bad.asm: line 2: JMP is not an instruction; JUN?)", "(     JMP 3)"]);
+  assert.deepEqual(await ask("errors bad.asm", "errors p.asm"), [
+    "errors 1", "error 2 30", "(bad.asm: line 2: JMP is not an instruction; JUN?)", "(     JMP 3)", "errors 0",
+  ]);
+  assert.deepEqual(await ask("wiring b.toml", "wiring bad.toml"), [
+    "wiring valid", "no 23 line 3 lamp 1 key line",
+    '(bad.toml: line 4: led is not the name of a line; names are as "rom1.0", "ram0.0.3" and "chain0.5")', "(    line = 'led')",
+  ]);
   assert.match((await ask("asm far.asm"))[1], /^\(far\.asm: line 2: /);
   assert.deepEqual(await ask("asm none"), ["(cannot read none: there is no such file)"]);
 });

@@ -1,8 +1,8 @@
-// Sessions that are begun, deleted and brought back, and the words beside them.
+// Sessions that are begun, deleted and restored, and the words about them.
 import assert from "node:assert/strict";
 import { test } from "node:test";
 import { addressOf, readAddress } from "../page/session/address.js";
-import { Bin, namesOf } from "../page/session/bin.js";
+import { Trash, namesOf } from "../page/session/trash.js";
 import { KeptSession, newRecord } from "../page/session/kept_session.js";
 import { Persistence } from "../page/session/persistence.js";
 import { MemoryStore } from "../page/session/store.js";
@@ -47,7 +47,7 @@ test("sessions are deleted several at once, and brought back as they were", asyn
   const records = [record("one"), record("two"), record("three")];
   for (const each of records) await store.put(each);
   const refused = [];
-  const bin = new Bin(store, freeLocks, (words) => refused.push(words));
+  const bin = new Trash(store, freeLocks, (words) => refused.push(words));
   const [one, two] = await store.all();
   assert.deepEqual(await bin.remove([one, two]), [one, two]);
   assert.deepEqual((await store.all()).map(({ name }) => name), ["three"]);
@@ -65,7 +65,7 @@ test("what another tab has open is not deleted, and what the store refuses can b
   await store.put(one);
   await store.put(two);
   const refused = [];
-  const bin = new Bin(store, { take: async (id) => (id === two.id ? null : () => {}) }, (words) => refused.push(words));
+  const bin = new Trash(store, { take: async (id) => (id === two.id ? null : () => {}) }, (words) => refused.push(words));
   assert.deepEqual(await bin.remove([one, two]), [one]);
   store.put = async () => { throw new DOMException("", "QuotaExceededError"); };
   await bin.bringBack([one]);
@@ -91,13 +91,13 @@ test("lines in words", () => {
   assert.deepEqual(["", "a", "a\n", "a\nb", "\n"].map(wordsOfLines), ["0 lines", "1 line", "1 line", "2 lines", "1 line"]);
 });
 
-/** A controller of texts over plain objects; what is asked is answered by `answers`. */
+/** Returns a controller of texts over plain objects; `answers` answers its questions. */
 function controller(answers, programText, found) {
-  const told = { asked: 0, notices: [], kept: 0 };
+  const seen = { asked: 0, notices: [], kept: 0 };
   const session = { record: { id: "1", name: "one", boardText: "", programText } };
   const shown = { session };
-  const notice = { show: (words, kind, action) => told.notices.push({ words, kind, action }) };
-  const ask = { ask: async () => { told.asked += 1; return answers.shift(); } };
+  const notice = { show: (words, kind, action) => seen.notices.push({ words, kind, action }) };
+  const ask = { ask: async () => { seen.asked += 1; return answers.shift(); } };
   const editor = (text) => ({
     text, past: [], future: [], open(_id, shownText) { this.text = shownText; },
     replaceText(other) { this.past.push(this.text); this.text = other; },
@@ -115,55 +115,55 @@ function controller(answers, programText, found) {
     failed: (fault) => { throw fault; },
     isNoProgram: async (text) => text.includes("prose"), took: () => {},
   });
-  return { made, told, shown, session };
+  return { made, seen, shown, session };
 }
 
 test("a source that is replaced is asked for, and can be brought back", async () => {
-  const { made, told, session } = controller([false, true], "; mine", "\tNOP\n");
+  const { made, seen, session } = controller([false, true], "; mine", "\tNOP\n");
   await made.takeFromRom();
-  assert.deepEqual([made.program.text, told.notices.length], ["; mine", 0]);
+  assert.deepEqual([made.program.text, seen.notices.length], ["; mine", 0]);
   await made.takeFromRom();
-  assert.deepEqual([made.program.text, session.record.programText, told.asked], ["\tNOP\n", "\tNOP\n", 2]);
-  told.notices.pop().action.act();
+  assert.deepEqual([made.program.text, session.record.programText, seen.asked], ["\tNOP\n", "\tNOP\n", 2]);
+  seen.notices.pop().action.act();
   assert.equal(session.record.programText, "; mine");
-  told.notices.pop().action.act();
+  seen.notices.pop().action.act();
   assert.equal(session.record.programText, "\tNOP\n");
   clearTimeout(made.editing);
 });
 
 test("Undo goes the editor's way while nothing was typed since, and else puts the old text in", async () => {
-  const { made, told } = controller([true, true], "; mine", "\tNOP\n");
+  const { made, seen } = controller([true, true], "; mine", "\tNOP\n");
   await made.takeFromRom();
-  told.notices.pop().action.act();
+  seen.notices.pop().action.act();
   assert.deepEqual([made.program.text, made.program.past], ["; mine", []]);
-  told.notices.pop().action.act();
+  seen.notices.pop().action.act();
   assert.deepEqual([made.program.text, made.program.past], ["\tNOP\n", ["; mine"]]);
   made.program.replaceText("\tNOP\n; more");
-  told.notices.pop().action.act();
+  seen.notices.pop().action.act();
   assert.deepEqual([made.program.text, made.program.past.length], ["; mine", 3]);
   clearTimeout(made.editing);
 });
 
 test("an empty source is replaced at once, and the same one not at all", async () => {
-  const { made, told } = controller([], " \n", "\tNOP\n");
+  const { made, seen } = controller([], " \n", "\tNOP\n");
   await made.takeFromRom();
   assert.equal(made.program.text, "\tNOP\n");
   await made.takeFromRom();
-  assert.match(told.notices.pop().words, /already/);
-  assert.equal(told.asked, 0);
+  assert.match(seen.notices.pop().words, /already/);
+  assert.equal(seen.asked, 0);
   clearTimeout(made.editing);
 });
 
 test("a source of another session is not brought back into this one", async () => {
-  const { made, told, shown, session } = controller([true], "; mine", "\tNOP\n");
+  const { made, seen, shown, session } = controller([true], "; mine", "\tNOP\n");
   await made.takeFromRom();
   shown.session = { record: { id: "2", name: "two", boardText: "", programText: "; two" } };
   made.show(shown.session.record);
-  told.notices.pop().action.act();
+  seen.notices.pop().action.act();
   assert.equal(made.program.text, "; two");
-  assert.match(told.notices.pop().words, /session "one"/);
+  assert.match(seen.notices.pop().words, /session "one"/);
   shown.session = session;
-  told.notices.pop().action.act();
+  seen.notices.pop().action.act();
   assert.equal(made.program.text, "; mine");
   clearTimeout(made.editing);
 });
@@ -171,40 +171,40 @@ test("a source of another session is not brought back into this one", async () =
 const FROM_FILE = { board: null, program: "some prose\n", tests: null, properties: null, lines: "" };
 
 test("a file that is perhaps no program is asked for before it replaces the source", async () => {
-  const { made, told, session } = controller([false, true], "; mine", "");
+  const { made, seen, session } = controller([false, true], "; mine", "");
   await made.open("notes", { ...FROM_FILE, isGuess: true });
-  assert.deepEqual([made.program.text, told.asked, told.notices.length], ["; mine", 1, 0]);
+  assert.deepEqual([made.program.text, seen.asked, seen.notices.length], ["; mine", 1, 0]);
   await made.open("notes", { ...FROM_FILE, isGuess: true });
-  assert.deepEqual([made.program.text, session.record.programText, told.asked], ["some prose\n", "some prose\n", 2]);
+  assert.deepEqual([made.program.text, session.record.programText, seen.asked], ["some prose\n", "some prose\n", 2]);
   clearTimeout(made.editing);
 });
 
 test("a file with the name of a program, or with a line that is right, is not asked for", async () => {
   for (const [name, texts] of [["notes.asm", FROM_FILE], ["notes", { ...FROM_FILE, program: " NOP\n", isGuess: true }]]) {
-    const { made, told } = controller([], "; mine", "");
+    const { made, seen } = controller([], "; mine", "");
     await made.open(name, texts);
-    assert.deepEqual([made.program.text, told.asked], [texts.program, 0]);
+    assert.deepEqual([made.program.text, seen.asked], [texts.program, 0]);
     clearTimeout(made.editing);
   }
 });
 
 test("a file makes one notice, which undoes all that the file has replaced", async () => {
-  const { made, told } = controller([], "; mine", "");
+  const { made, seen } = controller([], "; mine", "");
   await made.open("both.txt", { ...FROM_FILE, board: "# new", program: "\tNOP\n" });
-  assert.deepEqual([made.board.text, made.program.text, told.notices.length], ["# new", "\tNOP\n", 1]);
-  const [{ words, kind, action }] = told.notices;
+  assert.deepEqual([made.board.text, made.program.text, seen.notices.length], ["# new", "\tNOP\n", 1]);
+  const [{ words, kind, action }] = seen.notices;
   assert.match(words, /^both\.txt is in Board and Source\./);
   assert.equal(kind, "undo");
   action.act();
-  assert.deepEqual([made.board.text, made.program.text, told.notices.length], ["# b", "; mine", 2]);
-  told.notices[1].action.act();
+  assert.deepEqual([made.board.text, made.program.text, seen.notices.length], ["# b", "; mine", 2]);
+  seen.notices[1].action.act();
   assert.deepEqual([made.board.text, made.program.text], ["# new", "\tNOP\n"]);
   clearTimeout(made.editing);
 });
 
 test("where a file replaces nothing, its notice offers nothing to undo", async () => {
-  const { made, told } = controller([], " \n", "");
+  const { made, seen } = controller([], " \n", "");
   await made.open("a.asm", { ...FROM_FILE, program: "\tNOP\n" });
-  assert.deepEqual(told.notices.map(({ kind, action }) => [kind, action]), [["file", undefined]]);
+  assert.deepEqual(seen.notices.map(({ kind, action }) => [kind, action]), [["file", undefined]]);
   clearTimeout(made.editing);
 });

@@ -67,11 +67,11 @@ test("links that are made by hand", async () => {
 test("texts that the editors would not take are refused before anything reads them", async () => {
   const texts = (size) => ({ name: "x", boardText: "", programText: `${";".repeat(size - 1)}\n`, testText: "", propertiesText: "" });
   assert.deepEqual(await readLink(await linkOf(texts(LONGEST_KEPT))), texts(LONGEST_KEPT));
-  const words = /^the source has 65,537 characters, and 65,536 is the most$/;
+  const words = /^the source has 65,537 characters; at most 65,536 are accepted$/;
   await assert.rejects(readLink(await linkOf(texts(LONGEST_KEPT + 1))), (fault) => fault instanceof NotALink && words.test(fault.message));
   const { programText: boardText } = texts(900000);
   await assert.rejects(readLink(await linkOf({ name: "x", boardText, programText: "" })), {
-    message: "the board's text has 900,000 characters, and 65,536 is the most",
+    message: "the board's text has 900,000 characters; at most 65,536 are accepted",
   });
 });
 

@@ -23,7 +23,7 @@ test("an address has the line that puts its byte", () => {
   assert.deepEqual([0, 1, 2, 5].map((address) => map.beginsInstruction(address)), [true, false, false, true]);
 });
 
-test("names have their values, and the labels are told apart", () => {
+test("names have their values, and the labels are distinguished", () => {
   const map = new SourceMap(ANSWERS, TEXT);
   assert.deepEqual([...map.names.values()], [{ name: "time", value: 12, isLabel: false }, { name: "go", value: 0, isLabel: true },
     { name: "last", value: 5, isLabel: true }]);

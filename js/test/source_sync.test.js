@@ -7,7 +7,7 @@ const MAP = ["map lines 4 names 3", "line 1 000 0", "line 2 000 2", "line 3 002 
   "name put 002"];
 const FITS = { map: MAP, refusal: null, difference: null };
 
-/** A source over an editor and a bench that do as they are told by the test. */
+/** Returns a source over an editor and a bench that behave as the test says. */
 function begin(text, checked) {
   const seen = { next: [], addresses: [], revealed: [], changed: [], checks: 0 };
   const now = { text, checked };
@@ -58,7 +58,7 @@ test("another text in the editor is shown anew, also where it is the same one", 
   assert.deepEqual([seen.addresses.length, seen.next], [2, [2, 2]]);
 });
 
-test("what is told again is not shown again", async () => {
+test("what is reported again is not shown again", async () => {
   const { sync, seen } = begin(TEXT, FITS);
   await sync.check();
   await sync.check();
@@ -68,7 +68,7 @@ test("what is told again is not shown again", async () => {
 test("a text that differs from ROM says where", async () => {
   const { sync, seen } = begin(TEXT, { map: MAP, refusal: null, difference: { address: 2, hasRom: true } });
   await sync.check();
-  const words = "The source differs from ROM at 0x002, line 4: assemble it.";
+  const words = "Source and ROM differ from line 4 (0x002). Assemble to update.";
   assert.deepEqual(seen.changed, [[false, words]]);
   sync.showNext(0, false);
   assert.deepEqual(seen.next, []);

@@ -1,10 +1,10 @@
-// Keeping, over a fake of the browser's store that answers when the test says so.
+// Saving, over a fake of the browser's store that answers when the test says so.
 import assert from "node:assert/strict";
 import { test } from "node:test";
 import { KeptSession, newRecord } from "../page/session/kept_session.js";
 import { MemoryStore, NotKept, Store, wordsOfStoreFault } from "../page/session/store.js";
 
-/** As much of IndexedDB as the store uses: one transaction after the other, in tasks of their own. */
+/** The part of IndexedDB that the store uses: one transaction after the other, in tasks of their own. */
 class FakeBase {
   constructor() {
     this.records = new Map();
@@ -102,16 +102,16 @@ test("a store that refuses: in words, and the session is as it was", async () =>
   assert.deepEqual([...base.records.get(session.record.id).file], [1, 2]);
 });
 
-test("a store that does not answer is told after a while, and no page waits for it", async (context) => {
+test("a store that does not answer is reported after a while, and no page waits for it", async (context) => {
   context.mock.timers.enable({ apis: ["setTimeout"] });
   const base = new FakeBase();
   base.transaction = () => ({ objectStore: () => ({ put: () => {}, getAll: () => ({}), get: () => ({}) }), commit: () => {} });
   const store = new Store(base, true);
   const session = new KeptSession(store, newRecord("one", Uint8Array.of(1), { boardText: "", programText: "" }), () => {});
-  const told = [session.keep(), session.keep(), store.all().catch(wordsOfStoreFault), store.get("one").catch(wordsOfStoreFault)];
+  const results = [session.keep(), session.keep(), store.all().catch(wordsOfStoreFault), store.get("one").catch(wordsOfStoreFault)];
   for (let turns = 0; turns < 5; turns++) await Promise.resolve();
   context.mock.timers.tick(10000);
-  assert.deepEqual(new Set(await Promise.all(told)), new Set(["the browser's store does not answer"]));
+  assert.deepEqual(new Set(await Promise.all(results)), new Set(["the browser's store does not answer"]));
 });
 
 test("a page that goes away writes at once, but where a write needs an answer in between: there it begins none", async () => {

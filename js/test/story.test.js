@@ -1,4 +1,4 @@
-// Stories of examples: their places can be read, and each names what the example has.
+// Stories of examples: their links can be read, and each names a part of the example.
 import assert from "node:assert/strict";
 import { readFileSync, readdirSync } from "node:fs";
 import { test } from "node:test";
@@ -34,7 +34,7 @@ for (const name of stories) {
     const program = read(name.replace(/story$/, "asm"));
     const keys = [...new Face(read(`${folder}board.toml`)).keys.values()].map((each) => each.text);
     const acts = actsOf(stepsOfStory(text));
-    // Each `[` begins a place that could be read.
+    // Each `[` begins a valid link.
     assert.equal(acts.length, text.split("](").length - 1);
     for (const { name: act, of } of acts) {
       if (act === "go to" || act === "run to") assert.match(program, new RegExp(`^${of}:`, "m"));
@@ -44,7 +44,7 @@ for (const name of stories) {
   });
 }
 
-test("an act calls the page, and tells why it cannot", async () => {
+test("an act calls the page, and says why it cannot", async () => {
   const done = [];
   const note = (name) => (...words) => {
     done.push([name, ...words]);
@@ -70,7 +70,7 @@ test("an act calls the page, and tells why it cannot", async () => {
   assert.match(await doAct({ name: "run to", of: "nowhere" }, calls), /no label nowhere/);
   assert.match(await doAct({ name: "press", of: "8" }, calls), /no key 8/);
   assert.match(await doAct({ name: "release", of: "8" }, calls), /no key 8/);
-  // A key that is up is not let go; one that stays down is not pressed again, and is let go.
+  // A key that is up is not released; one that stays down is not pressed again, and is released.
   await doAct({ name: "release", of: "7" }, calls);
   isDown = true;
   await doAct({ name: "press", of: "7" }, calls);

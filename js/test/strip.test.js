@@ -1,5 +1,5 @@
-// The paper strip of the printing calculator, beside the very module: what comes of seeded chains of keys is compared with arithmetic that
-// is done here; going back, tearing off and a reload.
+// The printout of the printing calculator, compared with the module itself: the results of seeded chains of keys are compared with
+// arithmetic that is done here; going back, clearing and a reload.
 import assert from "node:assert/strict";
 import { readFileSync } from "node:fs";
 import { test } from "node:test";
@@ -16,30 +16,30 @@ const KEYS = new Map([...keys.values()].map(({ text, key }) => [text, key]));
 const DOWN = 2000;
 const UP = 14000;
 
-/** A session with the calculator; `codes` is what was told last. */
+/** Returns a session with the calculator; `codes` is the last report. */
 async function begin(file = null, kept = {}) {
   const calls = new BenchCalls(async () => true);
   await calls.load(moduleOfPage, []);
-  const told = { calls, printed: null };
-  take(told, calls.open(file || calls.make(EXAMPLE), kept.total, kept.reset, kept.printed));
+  const strip = { calls, printed: null };
+  take(strip, calls.open(file || calls.make(EXAMPLE), kept.total, kept.reset, kept.printed));
   calls.printOn(printer);
-  return told;
+  return strip;
 }
 
-function take(told, shown) {
-  if (shown.printed) told.printed = shown.printed;
-  return Object.assign(told, { shown });
+function take(strip, shown) {
+  if (shown.printed) strip.printed = shown.printed;
+  return Object.assign(strip, { shown });
 }
 
 /** Keys with blanks between them: by time that runs, or by lines. */
-async function press(told, names, byLines = false) {
+async function press(strip, names, byLines = false) {
   for (const name of names.split(" ")) {
-    if (byLines) take(told, await told.calls.serve(`press ${PLACES.get(name)}\nrun ${DOWN}\nrelease ${PLACES.get(name)}\nrun ${UP}\n`));
+    if (byLines) take(strip, await strip.calls.serve(`press ${PLACES.get(name)}\nrun ${DOWN}\nrelease ${PLACES.get(name)}\nrun ${UP}\n`));
     else {
-      told.calls.press(KEYS.get(name));
-      take(told, told.calls.advance(4000));
-      told.calls.release(KEYS.get(name));
-      take(told, told.calls.advance(UP));
+      strip.calls.press(KEYS.get(name));
+      take(strip, strip.calls.advance(4000));
+      strip.calls.release(KEYS.get(name));
+      take(strip, strip.calls.advance(UP));
     }
   }
 }
@@ -53,52 +53,52 @@ test("what is sent becomes lines", () => {
 });
 
 test("what is keyed and what comes", async () => {
-  const told = await begin();
-  await press(told, "1 2 + 3 0 =");
-  assert.deepEqual(stripOf(told), ["12+", "30=", "42"]);
-  await press(told, "- 5 00 = C 7 *", true);
-  assert.deepEqual(stripOf(told), ["12+", "30=", "42", "42-", "500=", "-458", "C", "7*"]);
+  const strip = await begin();
+  await press(strip, "1 2 + 3 0 =");
+  assert.deepEqual(stripOf(strip), ["12+", "30=", "42"]);
+  await press(strip, "- 5 00 = C 7 *", true);
+  assert.deepEqual(stripOf(strip), ["12+", "30=", "42", "42-", "500=", "-458", "C", "7*"]);
 });
 
 test("going back takes printed lines back, forward brings them again, and what is done then takes their place", async () => {
-  const told = await begin();
-  await press(told, "4 + 5 =", true);
-  const all = stripOf(told);
+  const strip = await begin();
+  await press(strip, "4 + 5 =", true);
+  const all = stripOf(strip);
   assert.deepEqual(all, ["4+", "5=", "9"]);
-  take(told, await told.calls.goBack({ kind: "stop" }));
-  assert.deepEqual(stripOf(told), ["4+"]);
-  take(told, told.calls.goForward());
-  assert.deepEqual(stripOf(told), all);
-  take(told, await told.calls.goBack({ kind: "stop" }));
-  await press(told, "1 =", true);
-  assert.deepEqual(stripOf(told), ["4+", "51=", "55"]);
+  take(strip, await strip.calls.goBack({ kind: "stop" }));
+  assert.deepEqual(stripOf(strip), ["4+"]);
+  take(strip, strip.calls.goForward());
+  assert.deepEqual(stripOf(strip), all);
+  take(strip, await strip.calls.goBack({ kind: "stop" }));
+  await press(strip, "1 =", true);
+  assert.deepEqual(stripOf(strip), ["4+", "51=", "55"]);
 });
 
 test("lines over many pieces print all the same, and those that are cancelled nothing", async () => {
   let goesOn = true;
   const calls = new BenchCalls(async () => goesOn);
   await calls.load(moduleOfPage, []);
-  const told = take({ calls, printed: null }, calls.open(calls.make(EXAMPLE)));
+  const strip = take({ calls, printed: null }, calls.open(calls.make(EXAMPLE)));
   calls.printOn(printer);
   const long = "run 100\n".repeat(3000);
   const lines = `press ${PLACES.get("9")}\nrun 2000\nrelease ${PLACES.get("9")}\n${long}press ${PLACES.get("=")}\n${long}`;
-  take(told, await calls.serve(lines));
-  assert.deepEqual(stripOf(told), ["9=", "9"]);
+  take(strip, await calls.serve(lines));
+  assert.deepEqual(stripOf(strip), ["9=", "9"]);
   goesOn = false;
   await assert.rejects(calls.serve(lines));
-  take(told, calls.advance(100));
-  assert.deepEqual(stripOf(told), ["9=", "9"]);
+  take(strip, calls.advance(100));
+  assert.deepEqual(stripOf(strip), ["9=", "9"]);
 });
 
 test("a reload keeps the strip, tearing off and another printer empty it", async () => {
-  const told = await begin();
-  await press(told, "8 =", true);
-  const { total, reset, file } = told.shown;
-  const again = await begin(new Uint8Array(file), { total, reset, printed: told.printed });
+  const strip = await begin();
+  await press(strip, "8 =", true);
+  const { total, reset, file } = strip.shown;
+  const again = await begin(new Uint8Array(file), { total, reset, printed: strip.printed });
   assert.deepEqual(stripOf(again), ["8=", "8"]);
   await press(again, "+", true);
   assert.deepEqual(stripOf(again), ["8=", "8", "8+"]);
-  again.calls.tearPaper();
+  again.calls.clearPrintout();
   await press(again, "1 =", true);
   assert.deepEqual(stripOf(again), ["1=", "9"]);
   again.calls.printOn({ strobe: "rom0.1", port: "ram0.2" });
@@ -107,7 +107,7 @@ test("a reload keeps the strip, tearing off and another printer empty it", async
   assert.deepEqual(stripOf(again), []);
 });
 
-/** What the calculator has to print, by whole numbers of any size. */
+/** Returns the expected printout of the calculator, by whole numbers of any size. */
 function wanted(names) {
   const lines = [];
   let [shown, before, waits, isNew, isDead] = [0n, 0n, "", false, false];
@@ -147,15 +147,15 @@ test("seeded chains of keys print what arithmetic says", async () => {
     seed = (seed * 16807) % 2147483647;
     return seed % most;
   };
-  const told = await begin();
+  const strip = await begin();
   for (let chain = 0; chain < 12; chain++) {
     const names = ["C"];
     for (let at = 0; at < 24; at++) {
       const kind = below(10);
       names.push(kind < 6 ? String(below(10)) : kind === 6 ? "00" : "+-*="[below(4)]);
     }
-    told.calls.tearPaper();
-    await press(told, names.join(" "), true);
-    assert.deepEqual(stripOf(told), wanted(names), names.join(" "));
+    strip.calls.clearPrintout();
+    await press(strip, names.join(" "), true);
+    assert.deepEqual(stripOf(strip), wanted(names), names.join(" "));
   }
 });

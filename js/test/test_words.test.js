@@ -3,7 +3,7 @@ import { test } from "node:test";
 import { markOfOutcomes, wordsOfCounts, wordsOfFaults, wordsOfOutcomes, wordsOfTime } from "../words/results.js";
 import { textOfCount, wordsOfCount } from "../page/text/count_marks.js";
 import { completeProperty, firstProperties, helpForProperty, propertyForms } from "../core/text/property_words.js";
-import { completeTest, firstTest, helpForTest, testForms } from "../core/text/test_words.js";
+import { completeTest, helpForTest, testForms } from "../core/text/test_words.js";
 
 const names = { keys: ["1", "2", "ENTER"], lamps: ["red", "green"], labels: ["start", "stop"] };
 const table = (...rows) => ({ caption: "", head: ["", ""], rows });
@@ -14,8 +14,8 @@ const manual = [{ title: "The lines of a test", tables: [
 ] }, { title: "Conditions", tables: [
   table(["`lamps NAME ..`, `lamps none`", "these lamps are lit"], ["`@LABEL`", "the counter is there"], ["`acc V`", "a register"],
     ["`ram.B.S V ..`", "the RAM character: `ram.0.0x00 2 4`"]),
-] }, { title: "What may change", tables: [table(["`press KEY ..`", "these keys may go down"])],
-}, { title: "What must hold", tables: [table(["`never C`", "the condition never holds"], ["`at @LABEL C`", "it holds there"])] }];
+] }, { title: "Inputs", tables: [table(["`press KEY ..`", "these keys may go down"])],
+}, { title: "Properties", tables: [table(["`never C`", "the condition never holds"], ["`at @LABEL C`", "it holds there"])] }];
 const forms = testForms(manual);
 const completed = (line) => completeTest([line], 0, line.length, names, forms).list.map(({ text }) => text);
 const help = (line, at) => helpForTest([line], 0, at, forms);
@@ -64,8 +64,8 @@ test("results in words", () => {
   assert.equal(wordsOfFaults([refused], (number) => `refusal ${number}`), "Nothing was run: Board: no 25: refusal 25.");
   const jump = { line: 2, count: 3, isJump: true, taken: 3 };
   const coverage = { lines: [jump], instructions: 2, run: 1, ways: 2, waysRun: 1, never: [] };
-  assert.equal(wordsOfCounts({ coverage }), "1 of 2 instructions were run (50.0 %), 1 of 2 ways of conditional jumps (50.0 %). "
-    + "1 jump always went one way. The counts stand beside the source.");
+  assert.equal(wordsOfCounts({ coverage }), "1 of 2 instructions were run (50.0 %), 1 of 2 branch directions (50.0 %). "
+    + "1 jump always went one way. Counts are in the margin.");
   assert.equal(wordsOfCounts({ coverage: null }), "");
 });
 
@@ -73,12 +73,12 @@ test("counts of lines", () => {
   const line = (count, isJump = false, taken = 0) => ({ line: 1, count, isJump, taken });
   assert.deepEqual([line(0), line(4), line(976, true, 912)].map(textOfCount), ["never", "4", "976 912/64"]);
   assert.deepEqual([line(0), line(1), line(976, true, 912), line(1200, true, 1200)].map(wordsOfCount), ["no test runs it", "run once",
-    "run 976 times; it jumped 912 times, and went on 64 times", "run 1,200 times; it jumped 1,200 times, and went on never"]);
+    "run 976 times; it jumped 912 times, and continued 64 times", "run 1,200 times; it jumped 1,200 times, and continued never"]);
 });
 
 test("the words of properties: what they become, and what the manual says of them", () => {
-  const told = propertyForms(manual);
-  const list = (line) => completeProperty([line], 0, line.length, names, told).list.map(({ text }) => text);
+  const listedForms = propertyForms(manual);
+  const list = (line) => completeProperty([line], 0, line.length, names, listedForms).list.map(({ text }) => text);
   assert.deepEqual(list("ne"), ["never"]);
   assert.deepEqual(list("press "), ["1", "2", "ENTER"]);
   assert.deepEqual(list("lamp red on only after press "), ["1", "2", "ENTER"]);
@@ -86,17 +86,8 @@ test("the words of properties: what they become, and what the manual says of the
   assert.deepEqual(list("always lamp red on and lamp g"), ["green"]);
   assert.deepEqual(list("at @sto"), ["@stop"]);
   assert.deepEqual(list("# ne"), []);
-  assert.equal(helpForProperty(["never lamp red on"], 0, 2, told), "never C: the condition never holds");
-  assert.equal(helpForProperty(["never lamps none"], 0, 8, told), "lamps NAME ..: these lamps are lit");
+  assert.equal(helpForProperty(["never lamp red on"], 0, 2, listedForms), "never C: the condition never holds");
+  assert.equal(helpForProperty(["never lamps none"], 0, 8, listedForms), "lamps NAME ..: these lamps are lit");
   assert.match(firstProperties(names), /\nnote lamps\n\nreach lamp red on\n/);
   assert.match(firstProperties({ ...names, keys: [] }), /\ntest\nwait /);
-});
-
-test("a test to begin with presses the first key, and expects the first lamp", () => {
-  const lines = (keys, lamps) => firstTest({ keys, lamps }).split("\n").slice(2, -1);
-  assert.deepEqual(lines(["1", "2"], ["red", "green"]),
-    ["test the key 1 turns on red", "  press 1", "  run 50 ms", "  expect lamp red on"]);
-  assert.deepEqual(lines(["1"], []), ["test the key 1 turns on a lamp", "  press 1", "  run 50 ms", "  expect not lamps none"]);
-  assert.deepEqual(lines([], ["red"]), ["test red is on within a second", "  until lamp red on within 1 s"]);
-  assert.deepEqual(lines([], []), ["test it has run for 100 cycles", "  run 100", "  expect cycles 100"]);
 });

@@ -5,13 +5,16 @@ import { before, test } from "node:test";
 import { Cancelled } from "../core/bench/faults.js";
 import { wordsOfCoverage } from "../core/testing/coverage.js";
 import { withTenths } from "../core/bench/numbers.js";
+import { sampleTest } from "../core/testing/sample_test.js";
 import { readTested, runTests } from "../core/testing/test_suite.js";
 import { Engine } from "../core/engine/engine.js";
 import { moduleOfPage } from "./page_session.js";
 
-const example = (name) => readFileSync(new URL(`../../examples/three_lamps/${name}`, import.meta.url), "utf8");
+const readExample = (name) => readFileSync(new URL(`../../examples/${name}`, import.meta.url), "utf8");
+const example = (name) => readExample(`three_lamps/${name}`);
 const boardText = example("board.toml");
 const programText = example("three_lamps.asm");
+const textsOf = (name) => ({ boardText: readExample(`${name}/board.toml`), programText: readExample(`${name}/${name}.asm`) });
 const texts = (testText, program = programText) => ({ boardText, programText: program, testText });
 const always = async () => true;
 
@@ -25,14 +28,14 @@ test("tests pass, and what they have run is counted", async () => {
   const { faults, outcomes, coverage, profile } = await runTests(engine, texts(example("three_lamps.test")), always);
   assert.deepEqual(faults, []);
   assert.deepEqual(outcomes.map(({ failure, cycles }) => [failure, cycles]), [[null, 1621], [null, 538]]);
-  assert.equal(wordsOfCoverage(coverage), "20 of 20 instructions were run (100.0 %), 6 of 6 ways of conditional jumps (100.0 %)");
+  assert.equal(wordsOfCoverage(coverage), "20 of 20 instructions were run (100.0 %), 6 of 6 branch directions (100.0 %)");
   assert.deepEqual(coverage.lines.find(({ line }) => line === 18), { line: 18, count: 4, isJump: true, taken: 1 });
   assert.equal(profile.total, 2159);
   assert.deepEqual(profile.rows.map(({ label, own }) => [label, own]), [["turn", 2084], ["next", 60], ["wait", 8], ["first", 4], ["", 3]]);
   assert.deepEqual(profile.rows[2].calls, { times: 4, withCalls: 2092, longest: 523 });
 });
 
-test("a test that fails tells its line, its trace, and gives the session as it is there", async () => {
+test("a test that fails reports its line, its trace, and gives the session as it is there", async () => {
   const quick = programText.replace("0x0C", "0x0D");
   const { outcomes } = await runTests(engine, texts(example("three_lamps.test"), quick), always);
   const { failure } = outcomes[1];
@@ -47,7 +50,7 @@ test("a test whose state was never saved was not begun", async () => {
   const text = "test one\n expect acc 1\n save there\ntest two\n from there\n run 1\n";
   const { outcomes } = await runTests(engine, texts(text), always);
   assert.equal(outcomes[0].failure.words, "acc is 0, and has to be 1");
-  assert.equal(outcomes[1].failure.words, "the state there is not there, since the test `one` did not come to save it");
+  assert.equal(outcomes[1].failure.words, "the state there is missing, because the test `one` did not reach its `save`");
   assert.equal(outcomes[1].failure.file, null);
 });
 
@@ -57,8 +60,7 @@ test("a comment may stand behind a line, where no key has its mark as its name",
   assert.deepEqual(faults.map(({ line, words }) => `${line}: ${words.slice(0, 26)}`), ["6: the board has no lamp #non"]);
   const { outcomes } = await runTests(engine, texts(text.replace("#none", "... ; dark")), always);
   assert.deepEqual(outcomes.map(({ name, failure }) => [name, failure]), [["a # 1 ; 2", null]]);
-  const ofLock = (name) => readFileSync(new URL(`../../examples/lock/${name}`, import.meta.url), "utf8");
-  const lock = { boardText: ofLock("board.toml"), programText: ofLock("lock.asm") };
+  const lock = textsOf("lock");
   const keys = "test b\n press 1 # 2 ; keys\n release # ; the key #\n keys # ; #\n press x ; y\n";
   const [fault, ...more] = readTested(engine, { ...lock, testText: keys }).faults;
   assert.deepEqual([fault.line, more], [5, []]);
@@ -86,7 +88,7 @@ test("a test that repeats for long can be left", async () => {
   assert.equal(asked, 3);
 });
 
-test("faults of the texts are told, and nothing is run", async () => {
+test("faults of the texts are reported, and nothing is run", async () => {
   const report = await runTests(engine, texts("test a\n  until lamps green within 10 ms\n  press x\n  run 10 years\n"), always);
   assert.deepEqual(report.faults.map(({ text, line, words }) => `${text}:${line}: ${words}`), [
     "tests:2: the board has no lamp green; it has: left middle right (column 9)",
@@ -113,7 +115,7 @@ test("long work is cancelled between pieces", async () => {
 });
 
 test("bytes of ROM that a test sets are in the counts of its own run alone", async () => {
-  // NOP in the place of ISZ R3 takes one cycle.
+  // NOP in place of ISZ R3 takes one cycle.
   const text = "test a\n set rom.0x016 0\n set rom.0x017 0\n run 20\n save s\ntest b\n from s\n run 20\ntest c\n run 20\n";
   const { outcomes, profile } = await runTests(engine, texts(text), always);
   assert.deepEqual(outcomes.map(({ failure }) => failure), [null, null, null]);
@@ -123,4 +125,27 @@ test("bytes of ROM that a test sets are in the counts of its own run alone", asy
 test("a number halfway between two tenths has the even one, as by printf", () => {
   const printed = [0, 6.25, 93.75, 0.05, 33.3333, 99.96, 0.75, 20.25].map(withTenths);
   assert.deepEqual(printed, ["0.0", "6.2", "93.8", "0.1", "33.3", "100.0", "0.8", "20.2"]);
+});
+
+test("the sample test presses the first key and expects what the bench shows then, so it passes", async () => {
+  const sampleOf = async (given) => {
+    const testText = await sampleTest(engine, given);
+    const { faults, outcomes } = await runTests(engine, { ...given, testText }, always);
+    assert.deepEqual([faults, outcomes.map(({ failure }) => failure)], [[], [null]]);
+    return testText.split("\n").slice(2, -1).map((line) => line.trim());
+  };
+  assert.deepEqual(await sampleOf(textsOf("calculator")), ["test 50 ms after the key 7", "press 7", "run 50 ms", "expect display 7"]);
+  assert.deepEqual(await sampleOf(textsOf("clock")), ["test 50 ms after the key SET", "press SET", "run 50 ms", "expect display 1200"]);
+  assert.deepEqual(await sampleOf(textsOf("lock")), ["test 50 ms after the key 1", "press 1", "run 50 ms", "expect lamp locked on"]);
+  assert.deepEqual(await sampleOf(textsOf("stacker")),
+    ["test 50 ms after the key DROP", "press DROP", "run 50 ms", "expect not lamps none"]);
+  assert.deepEqual(await sampleOf(textsOf("three_lamps")), ["test 50 ms after power-on", "run 50 ms", "expect lamp left on"]);
+  assert.deepEqual(await sampleOf({ boardText: "", programText: "" }), ["test 50 ms after power-on", "run 50 ms", "expect lamps none"]);
+});
+
+test("the sample test of texts with errors, or of a program that stops, expects its cycles alone", async () => {
+  for (const program of [" what", " DB 0x01"]) {
+    const [, , ...lines] = (await sampleTest(engine, { boardText, programText: program })).trimEnd().split("\n");
+    assert.deepEqual(lines, ["test it has run for 100 cycles", "  run 100", "  expect cycles 100"]);
+  }
 });

@@ -1,43 +1,14 @@
 import assert from "node:assert/strict";
 import { test } from "node:test";
-import { findBoardFault } from "../core/bench/board_fault.js";
 import { BenchRefusal, BenchTrap, Cancelled, WorkerDied, packFault, unpackFault } from "../core/bench/faults.js";
 import { hex, numberOf, upTo } from "../core/bench/numbers.js";
-import { Ran, wordsOfRan } from "../core/bench/ran.js";
+import { RunLog, wordsOfRuns } from "../core/bench/run_log.js";
 import { Words } from "../core/bench/words.js";
 
 test("numbers", () => {
   assert.deepEqual(["12", "0x1E", "0XFF", "1E", "", "-1", "1.5"].map(numberOf), [12, 30, 255, NaN, NaN, NaN, NaN]);
   assert.equal(hex(30, 3), "01E");
   assert.deepEqual(upTo(3), [0, 1, 2]);
-});
-
-const BOARD = `# a board
-[[rom]]
-chip = 0
-port = "0000"
-
-[[lamp]]
-line = "ram0.0.0"
-# the last line
-`;
-
-/** A text is refused by 25 as long as it has this lamp, and by 20 where it has no lamp and nothing else. */
-const lacksRam = (text) => (text.includes("ram0.0.0") ? 25 : 0);
-
-test("the part of a board that is at fault is found by taking parts away", () => {
-  assert.deepEqual(findBoardFault(BOARD, 25, lacksRam), { from: 6, to: 7 });
-});
-
-test("of an array of tables one line is at fault, and of an unknown key its line alone", () => {
-  const array = 'rom = [\n  { chip = 0 },\n  { chip = 77 },\n]\nlamp = []\n';
-  assert.deepEqual(findBoardFault(array, 22, (text) => (text.includes("77") ? 22 : 0)), { from: 3, to: 3 });
-  assert.deepEqual(findBoardFault(`[[rom]]\nchip = 0\nsize = 3\n`, 21, (text) => (text.includes("size") ? 21 : 0)), { from: 3, to: 3 });
-});
-
-test("where no part can be told, none is", () => {
-  assert.equal(findBoardFault("\n# only a comment\n", 24, () => 24), null);
-  assert.equal(findBoardFault("[[lamp]]\n".repeat(401), 25, () => 25), null);
 });
 
 test("faults keep their kind from the worker to the page", () => {
@@ -60,12 +31,12 @@ test("faults in words", () => {
 });
 
 test("what time has done: runs together, keys one by one", () => {
-  const ran = new Ran();
+  const ran = new RunLog();
   const run = (cycles) => ({ line: `run ${cycles}`, answer: `ok ran ${cycles}`, runs: 1, cycles });
   ran.add([run(1543), run(1544)]);
   ran.add([run(1000), { line: "press 0 1", answer: "ok 4", runs: 0, cycles: 0 }, run(5)]);
   const entries = ran.take();
-  assert.deepEqual(entries.map(wordsOfRan), ["run .. (3 lines, 4,087 cycles); the last one was answered", "press 0 1", "run 5"]);
+  assert.deepEqual(entries.map(wordsOfRuns), ["run .. (3 lines, 4,087 cycles); the last one was answered", "press 0 1", "run 5"]);
   assert.equal(entries[0].answer, "ok ran 1000");
   assert.deepEqual(ran.take(), []);
 });

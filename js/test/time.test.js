@@ -31,7 +31,7 @@ test("a slow frame owes little, and clocks that go back owe nothing", () => {
   assert.equal(time.due(910), 925);
 });
 
-test("after an hour in the background nothing is owed, and the gap is told", () => {
+test("after an hour in the background nothing is owed, and the gap is reported", () => {
   const time = new RealTime(0, 0);
   time.hide();
   assert.deepEqual(time.skipGap(3600000, 3600000), { gap: 3600000, wasHidden: true });
@@ -47,7 +47,7 @@ test("a page that was held up or asleep stood still, though the clock of the fra
   assert.equal(time.due(1000), 0);
 });
 
-/** The cycles of a second of frames, and of keys at some times, each with what it lends. */
+/** Returns the cycles of a second of frames, and of keys at some times, each with the cycles that it runs early. */
 function cyclesOf(frame, keys) {
   const time = new RealTime(0, 0);
   const events = keys.map((now) => ({ now, ahead: MOST_AHEAD }));
@@ -95,14 +95,14 @@ test("what was lent is forgotten where time stands still", () => {
   assert.equal(time.due(1021), 925);
 });
 
-test("the rate is told every half second", () => {
+test("the rate is reported every half second", () => {
   const rate = new Rate(0);
   rate.add(1000, 400);
-  assert.equal(rate.told, 0);
+  assert.equal(rate.perSecond, 0);
   rate.add(1000, 500);
-  assert.equal(rate.told, 4000);
+  assert.equal(rate.perSecond, 4000);
   rate.add(500, 1000);
-  assert.equal(rate.told, 1000);
+  assert.equal(rate.perSecond, 1000);
 });
 
 test("times in words", () => {

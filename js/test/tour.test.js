@@ -37,13 +37,13 @@ test("the key: a lamp is lit while one is down", () => {
 
 test("the breakpoint and the watch: by what has ended a run, in this step", () => {
   const watch = watchAt(3);
-  watch.seeEnd("watch");
+  watch.noteEnd("watch");
   assert.equal(watch.isDone, false);
-  watch.seeEnd("break");
+  watch.noteEnd("break");
   assert.equal(watch.isDone, true);
   watch.begin(4);
   assert.equal(watch.isDone, false);
-  watch.seeEnd("watch");
+  watch.noteEnd("watch");
   assert.equal(watch.isDone, true);
 });
 

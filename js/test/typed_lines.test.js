@@ -6,7 +6,7 @@ import { begin } from "./page_session.js";
 
 const BOARD = "[[rom]]\nchip = 0\nport = \"0000\"\n";
 const PROGRAM = "loop:   INC R9\n        NOP\n        JUN loop\n";
-// By hand: a turn has 4 cycles, and NOP at 001 is come to after 1, 5, 9, .. of them, with 1, 2, 3, .. in R9.
+// Calculated: a turn has 4 cycles, and NOP at 001 is reached after 1, 5, 9, .. of them, with 1, 2, 3, .. in R9.
 const NOP = 1;
 
 /** @param {object} more of the breakpoint at NOP */
@@ -18,45 +18,45 @@ async function ready(more) {
   return calls;
 }
 
-/** The lines that were served with their first answers, and what breakpoints did. */
+/** Returns the lines that were served with their first answers, and the work of breakpoints. */
 async function typed(calls, lines) {
   const { entries, typed: { id, cut, cycles, tally } } = await calls.serveTyped(lines);
-  return { told: entries.map(({ line, answers }) => `${line}: ${answers[0].replace(/^ok \d+ ?/, "")}`), id, cut, cycles, hits: tally.hits,
+  return { lines: entries.map(({ line, answers }) => `${line}: ${answers[0].replace(/^ok \d+ ?/, "")}`), id, cut, cycles, hits: tally.hits,
     notes: tally.notes };
 }
 
 test("a run ends where the condition holds", async () => {
   const calls = await ready({ condition: "r9 = 3" });
-  const { told, id, cut, cycles, hits } = await typed(calls, "run 1000\n");
-  assert.deepEqual([told, id, cut, cycles, hits], [["run 9: ran 9 end"], 7, "run 1000", 9, [[7, 1]]]);
+  const { lines, id, cut, cycles, hits } = await typed(calls, "run 1000\n");
+  assert.deepEqual([lines, id, cut, cycles, hits], [["run 9: ran 9 end"], 7, "run 1000", 9, [[7, 1]]]);
   assert.match(calls.ask("regs\n")[0], /pc 001 owed 0 .* r 0000000003/);
   const next = await typed(calls, "run 1000\n");
-  assert.deepEqual([next.told, next.cut], [["run 64: ran 64 end"], "run 1000"]);
+  assert.deepEqual([next.lines, next.cut], [["run 64: ran 64 end"], "run 1000"]);
 });
 
 test("each run of several lines does, and the lines after it are done", async () => {
   const calls = await ready({ condition: "r9 = 3" });
-  const { told, id, cut, cycles, hits } = await typed(calls, "poke r9 1\n\n  run 0x20 \npoke r9 0\nrun 5\nseq\n");
-  assert.deepEqual(told.slice(0, 4), ["poke r9 1: ", "run 5: ran 5 end", "poke r9 0: ", "run 5: ran 5 end"]);
-  assert.match(told[4], /^seq: seq \d+$/);
+  const { lines, id, cut, cycles, hits } = await typed(calls, "poke r9 1\n\n  run 0x20 \npoke r9 0\nrun 5\nseq\n");
+  assert.deepEqual(lines.slice(0, 4), ["poke r9 1: ", "run 5: ran 5 end", "poke r9 0: ", "run 5: ran 5 end"]);
+  assert.match(lines[4], /^seq: seq \d+$/);
   assert.deepEqual([id, cut, cycles, hits], [0, "", 10, [[7, 1]]]);
 });
 
 test("counts go on from line to line, and notes are logged", async () => {
   const counted = await ready({ from: 3 });
-  assert.deepEqual((await typed(counted, "run 4\nrun 4\n")).told, ["run 4: ran 4 end", "run 4: ran 4 end"]);
-  assert.deepEqual((await typed(counted, "run 9\n")).told, ["run 1: ran 1 end"]);
+  assert.deepEqual((await typed(counted, "run 4\nrun 4\n")).lines, ["run 4: ran 4 end", "run 4: ran 4 end"]);
+  assert.deepEqual((await typed(counted, "run 9\n")).lines, ["run 1: ran 1 end"]);
   const noted = await ready({ note: "R9 is {r9}" });
-  const { told, notes, id } = await typed(noted, "run 6\nrun 4\n");
-  assert.deepEqual([told, id], [["run 6: ran 6 end", "run 4: ran 4 end"], 0]);
+  const { lines, notes, id } = await typed(noted, "run 6\nrun 4\n");
+  assert.deepEqual([lines, id], [["run 6: ran 6 end", "run 4: ran 4 end"], 0]);
   assert.deepEqual(notes.map(({ cycles, words }) => [cycles, words]), [[1, "R9 is 1"], [5, "R9 is 2"], [9, "R9 is 3"]]);
 });
 
 test("what is refused, a step, and a text stay as they are; a breakpoint that always stops ends a run before", async () => {
   const calls = await ready({ condition: "r9 = 3" });
-  const { told } = await typed(calls, "run 0\nrun x\nrun 5 5\nstep\nbreak 2\nasm\nrun 5\n.\nrun 5\n");
+  const { lines } = await typed(calls, "run 0\nrun x\nrun 5 5\nstep\nbreak 2\nasm\nrun 5\n.\nrun 5\n");
   const wanted = ["run 0: no 44", "run x: no 11", "run 5 5: no 10", "step: ran 1 end", "break 2: ", "asm: no 30 line 1"];
-  assert.deepEqual(told, [...wanted, "run 5: ran 1 break"]);
+  assert.deepEqual(lines, [...wanted, "run 5: ran 1 break"]);
 });
 
 test("where they are cancelled nothing was done, and nothing was counted", async () => {
@@ -70,5 +70,5 @@ test("where they are cancelled nothing was done, and nothing was counted", async
   await assert.rejects(calls.serveTyped("run 4\nrun 4\nrun 4\n"), Cancelled);
   assert.deepEqual(calls.ask("seq\nstate\n"), before);
   calls.bench.goesOn = async () => true;
-  assert.deepEqual((await typed(calls, "run 1000\n")).told, ["run 5: ran 5 end"]);
+  assert.deepEqual((await typed(calls, "run 1000\n")).lines, ["run 5: ran 5 end"]);
 });

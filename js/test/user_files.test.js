@@ -1,4 +1,4 @@
-// The files of users, as the tools that run by node read and write them, beside what the system says of them.
+// The files of users, as the Node tools read and write them, compared with what the system reports.
 import assert from "node:assert/strict";
 import { execFileSync, spawnSync } from "node:child_process";
 import {
@@ -24,7 +24,10 @@ function folder(name) {
 
 const modeOf = (name) => (statSync(name).mode & 0o7777).toString(8);
 
-/** Runs a line of JavaScript with the functions of the module, in a process of its own, whose files can have so many blocks; its output. */
+/**
+ * Runs a line of JavaScript with the functions of the module, in a process of its own, whose files have a maximum number of blocks; returns
+ * its output.
+ */
 function alone(line, file, blocks = "unlimited") {
   const script = `import * as files from "${MODULE}"; ${line}`;
   const shell = "ulimit -f \"$1\"; trap '' XFSZ; exec \"$2\" --input-type=module -e \"$3\" \"$4\"";
@@ -39,7 +42,7 @@ test("regular files are read, up to a size", () => {
   assert.throws(() => readUserText(join(place, "text"), 7), /^Error: cannot read .*text: it has more than 7 bytes$/);
   assert.throws(() => readUserText(join(place, "none")), /: there is no such file$/);
   assert.throws(() => readUserText(place), /: it is a folder$/);
-  // What has no size before it is read is read, too, and no more than it may have.
+  // A file without a size is read, too, and no more than allowed.
   assert.match(readUserText("/proc/self/status"), /^Name:/);
 });
 

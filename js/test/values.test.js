@@ -1,4 +1,4 @@
-// What the words of a program stand for now, on the module of the page itself.
+// The current values of the words of a program, on the page's module.
 import assert from "node:assert/strict";
 import { before, test } from "node:test";
 import { readBoard } from "../core/bench/answers.js";
@@ -18,7 +18,7 @@ const BOARD = `rom = [{ chip = 0, port = "0000" }, { chip = 1, port = "ii00" }]
 ram = [{ bank = 0, chips = 1 }, { bank = 2, chips = 2 }]
 `;
 const POKES = "poke r4 6\npoke r5 0\npoke ram.0.0x12 7\npoke st.0.1.2 9\npoke acc 5\npoke cy 1\n";
-// By hand: FIM and SRC select chip 0, register 1, character 2, and ROM 1; WRR and WMP put 5 out.
+// Calculated: FIM and SRC select chip 0, register 1, character 2, and ROM 1; WRR and WMP put 5 out.
 const PROGRAM = "k = 0x12\n        FIM P0, k\n        SRC P0\n        WRR\n        WMP\nend:    JUN end\n";
 const DOES = new Map([["SRC", "sends"], ["WRM", "writes ACC"], ["RDM", "ACC"], ["WMP", "ACC"], ["RDR", "ACC"],
   ["RD2", "ACC"], ["FIM", "puts"], ["JUN", "goes"], ["ADD", "ACC and CY"]]);
@@ -49,8 +49,8 @@ function namesIn(session, map) {
   return { face: new Face(BOARD), board: readBoard(session.ask("board\n")), map, watched };
 }
 
-/** What is told of a word of a line. */
-function toldOf(line, word, { session, map }) {
+/** Returns the report on a word of a line. */
+function piecesOf(line, word, { session, map }) {
   const nameOf = (name) => {
     const found = map.names.get(name);
     return found && { ...found, words: `${name} ${found.value}` };
@@ -60,40 +60,40 @@ function toldOf(line, word, { session, map }) {
 
 test("a register, a pair, and what SRC would select by it", async () => {
   const opened = await open();
-  assert.deepEqual(toldOf("  LD R4", "R4", opened), ["R4 = ", { place: "r4", name: "R4", value: "6" }]);
-  assert.equal(textOf(toldOf("  INC r5 ; R4", "r5", opened)), "R5 = 0");
-  assert.equal(textOf(toldOf("  FIN P2", "P2", opened)), "P2 = 60: R4 6, R5 0");
-  assert.equal(textOf(toldOf("  SRC P2", "P2", opened)),
+  assert.deepEqual(piecesOf("  LD R4", "R4", opened), ["R4 = ", { place: "r4", name: "R4", value: "6" }]);
+  assert.equal(textOf(piecesOf("  INC r5 ; R4", "r5", opened)), "R5 = 0");
+  assert.equal(textOf(piecesOf("  FIN P2", "P2", opened)), "P2 = 60: R4 6, R5 0");
+  assert.equal(textOf(piecesOf("  SRC P2", "P2", opened)),
     "P2 = 60: R4 6, R5 0; selects bank 0, chip 1, register 2, character 0, which the board lacks");
   const source = "P0 = 12: R0 1, R1 2; selects ROM 1; bank 0, chip 0, register 1, character 2 = 7";
-  for (const word of ["SRC", "P0"]) assert.equal(textOf(toldOf("x: SRC P0", word, opened)), source);
-  assert.deepEqual(toldOf("x: SRC P0", "P0", opened).filter((piece) => typeof piece !== "string").map(({ place }) => place),
+  for (const word of ["SRC", "P0"]) assert.equal(textOf(piecesOf("x: SRC P0", word, opened)), source);
+  assert.deepEqual(piecesOf("x: SRC P0", "P0", opened).filter((piece) => typeof piece !== "string").map(({ place }) => place),
     ["r0", "r1", "ram.0.0x12"]);
-  assert.deepEqual(toldOf("  INC r5 ; R4", "R4", opened), []);
+  assert.deepEqual(piecesOf("  INC r5 ; R4", "R4", opened), []);
 });
 
 test("what an instruction reads or writes by SRC", async () => {
   const opened = await open();
   const here = "bank 0, chip 0, register 1";
-  assert.equal(textOf(toldOf("  WRM", "WRM", opened)), `${here}, character 2 = 7; acc 5, cy 1`);
-  assert.equal(textOf(toldOf("  rd2", "rd2", opened)), `${here}, status character 2 = 9; acc 5, cy 1`);
-  assert.equal(textOf(toldOf("  WMP", "WMP", opened)), "bank 0, chip 0: its port puts out 0; acc 5, cy 1");
-  assert.match(textOf(toldOf("  RDR", "RDR", opened)), /^ROM 1: puts out \d, RDR reads [\dA-F]; acc 5, cy 1$/);
-  assert.equal(textOf(toldOf("  ADD R4", "ADD", opened)), "acc 5, cy 1");
-  assert.deepEqual(toldOf("  JUN end", "JUN", opened), []);
+  assert.equal(textOf(piecesOf("  WRM", "WRM", opened)), `${here}, character 2 = 7; acc 5, cy 1`);
+  assert.equal(textOf(piecesOf("  rd2", "rd2", opened)), `${here}, status character 2 = 9; acc 5, cy 1`);
+  assert.equal(textOf(piecesOf("  WMP", "WMP", opened)), "bank 0, chip 0: its port puts out 0; acc 5, cy 1");
+  assert.match(textOf(piecesOf("  RDR", "RDR", opened)), /^ROM 1: puts out \d, RDR reads [\dA-F]; acc 5, cy 1$/);
+  assert.equal(textOf(piecesOf("  ADD R4", "ADD", opened)), "acc 5, cy 1");
+  assert.deepEqual(piecesOf("  JUN end", "JUN", opened), []);
   const other = await open("poke dcl 2\npoke ram.2.0x00 3\n");
-  assert.equal(textOf(toldOf("  RDM", "RDM", other)), "bank 2, chip 0, register 0, character 0 = 3; acc 0, cy 0");
+  assert.equal(textOf(piecesOf("  RDM", "RDM", other)), "bank 2, chip 0, register 0, character 0 = 3; acc 0, cy 0");
   const none = await open("poke dcl 1\n");
-  assert.equal(textOf(toldOf("  RDM", "RDM", none)), "bank 1, where the board has no RAM; acc 0, cy 0");
+  assert.equal(textOf(piecesOf("  RDM", "RDM", none)), "bank 1, where the board has no RAM; acc 0, cy 0");
 });
 
 test("numbers and names", async () => {
   const opened = await open();
-  assert.equal(textOf(toldOf("  LDM 6", "6", opened)), "6 = 0x6, 0110");
-  assert.equal(textOf(toldOf("  FIM P0, k", "k", opened)),
+  assert.equal(textOf(piecesOf("  LDM 6", "6", opened)), "6 = 0x6, 0110");
+  assert.equal(textOf(piecesOf("  FIM P0, k", "k", opened)),
     "k 18, 0001 0010; by SRC it selects ROM 1; bank 0, chip 0, register 1, character 2 = 7");
-  assert.equal(textOf(toldOf("  JUN end", "end", opened)), "end 5, and comes next");
-  assert.deepEqual(toldOf("  JUN other", "other", opened), []);
+  assert.equal(textOf(piecesOf("  JUN end", "end", opened)), "end 5, and comes next");
+  assert.deepEqual(piecesOf("  JUN other", "other", opened), []);
 });
 
 test("what is read of a bank is what it holds, also where it is not the first", async () => {
@@ -157,14 +157,14 @@ keys = { chain = 0, first = 0, rows = 2, columns = ["rom1.0", "rom1.2"] }
     const standing = standingOf(session, [0, 5]);
     for (let from = 0; from < places.length; from += 16) {
       const some = places.slice(from, from + 16);
-      const told = valuesOf(new Answers(session.ask(`trace 1 ${some.join(" ")}\n`)).takeTrace().row);
+      const values = valuesOf(new Answers(session.ask(`trace 1 ${some.join(" ")}\n`)).takeTrace().row);
       const answers = some.map((place) => `${place} ${answerAt(place, standing, board)}`);
-      assert.deepEqual(answers, some.map((place, at) => `${place} ${told[at]}`));
+      assert.deepEqual(answers, some.map((place, at) => `${place} ${values[at]}`));
     }
   }
 });
 
-test("watched expressions have names of the user's own, and what cannot be read is told", async () => {
+test("watched expressions have names of the user's own, and what cannot be read is reported", async () => {
   const { session, map } = await open();
   const standing = standingOf(session);
   const names = namesIn(session, map);
@@ -194,7 +194,7 @@ test("watched expressions have names of the user's own, and what cannot be read 
     const read = readWatched(text, names);
     assert.ok(read.fault.startsWith(fault), `${text}: ${read.fault}`);
   }
-  // What needs names is judged where there are some.
+  // Expressions with names are judged where there are some.
   assert.equal(readWatched("r16").fault, "");
   assert.equal(textOf(readWatched("r16").watched.pieces(standing, names)), "r16: no such place; the registers are r0 to r15");
   assert.match(readWatched("1a = R5").fault, /^A name has letters/);

@@ -1,4 +1,4 @@
-// How rows of waves are arranged, what is measured of them, and their picture as a file.
+// The arrangement of rows of waves, their measurements, and their picture as a file.
 import assert from "node:assert/strict";
 import { test } from "node:test";
 import { measureAt, measureText } from "../core/waves/measuring.js";
@@ -10,7 +10,7 @@ import { svgOf } from "../page/waves/wave_pictures.js";
 const NAMES = ["a", "b", "c", "d", "e"];
 const LINES = NAMES.map((name) => ({ name, title: "", group: "", kind: "level", places: [], members: [], width: 1 }));
 const ALL = NAMES.map((_, line) => line);
-/** The rows in short: a heading as `[group`, one that is folded as `]group`. */
+/** Returns the rows in short: a heading as `[group`, a folded one as `]group`. */
 const rowsOf = (rows, chosen = ALL) => rows.arrange(LINES, chosen).map(({ line, name, group, isFolded }) => (
   line < 0 ? `${isFolded ? "]" : "["}${group}` : name)).join(" ");
 /** Moves a row to the place of another one. */

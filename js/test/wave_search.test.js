@@ -1,4 +1,4 @@
-// Looking for values and edges in a recording: by hand, and beside what the bench tells.
+// Searching a recording for values and edges: calculated, and compared with the bench's reports.
 import assert from "node:assert/strict";
 import { test } from "node:test";
 import { Waves } from "../core/waves/wave_recording.js";
@@ -59,7 +59,7 @@ test("what is looked for is found, in both directions", () => {
 test("what cannot be looked for, in words", () => {
   const waves = wavesOf();
   const fault = (text, marked = 6) => readSearch(text, waves, marked).fault;
-  assert.match(fault(""), /^What do you look for\? a value of the marked line/);
+  assert.match(fault(""), /^Enter something to find: a value of the marked line/);
   assert.match(fault("A"), /^A is no number: 10, 0x0A or 0b1010 is one/);
   assert.equal(fault("16"), "r5 has 4 bits: it is 15 at most.");
   assert.equal(fault("2", 0), "rom0.0 has 1 bit: it is 1 at most.");
@@ -69,7 +69,7 @@ test("what cannot be looked for, in words", () => {
   assert.equal(fault("3", -1), "No line is marked.");
 });
 
-test("in two million cycles what is found is what the bench tells", async () => {
+test("in two million cycles what is found is what the bench reports", async () => {
   const { board, program } = examplesOfPage.find((each) => each.name === "stopwatch");
   const calls = await begin("stopwatch", "test 0\n");
   const waves = new Waves(await calls.record(2000000, false, { board, program, values: ["r4"] }));
@@ -77,6 +77,6 @@ test("in two million cycles what is found is what the bench tells", async () => 
   const first = found("lamp15 rises", 0, true);
   assert.ok(found("lamp15 rises", 2000000, false) > 1990000);
   assert.equal(found("pc = 0xFFF", 0, true), -1);
-  const [told] = calls.ask(`trace ${first} lamps\n`).slice(-1);
-  assert.equal(Number(told.split(" ")[0]) + 1, first);
+  const [answer] = calls.ask(`trace ${first} lamps\n`).slice(-1);
+  assert.equal(Number(answer.split(" ")[0]) + 1, first);
 });

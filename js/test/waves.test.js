@@ -1,4 +1,4 @@
-// Recordings: lines, what is taken of answers, edges, VCD. The board and the answers are those of the manual's first hour.
+// Recordings: lines, their values in answers, edges, VCD. The board and the answers are those of the manual's first hour.
 import assert from "node:assert/strict";
 import { test } from "node:test";
 import { readBoard } from "../core/bench/answers.js";
@@ -65,18 +65,18 @@ test("ports and chains are asked for as wholes, sixteen places at once, each one
 });
 
 test("values by their names, and what a board lacks", () => {
-  const told = (text) => {
+  const read = (text) => {
     const line = valueLine(text, BOARD);
     return line && [line.name, line.places.join(" "), line.width, line.group];
   };
-  assert.deepEqual(told("R5"), ["r5", "r5", 4, "registers"]);
-  assert.deepEqual(told("P2"), ["p2", "r4 r5", 8, "registers"]);
-  assert.deepEqual([told("cy")[2], told("dcl")[2], told("src")[2]], [1, 3, 8]);
-  assert.deepEqual(told("ram 0 0x12"), ["ram.0.0x12", "ram.0.0x12", 4, "RAM, bank 0"]);
-  assert.deepEqual(told("ram.1.18"), ["ram.1.0x12", "ram.1.0x12", 4, "RAM, bank 1"]);
-  assert.deepEqual(told("st 0 1 2"), ["st.0.1.2", "st.0.1.2", 4, "RAM, bank 0"]);
+  assert.deepEqual(read("R5"), ["r5", "r5", 4, "registers"]);
+  assert.deepEqual(read("P2"), ["p2", "r4 r5", 8, "registers"]);
+  assert.deepEqual([read("cy")[2], read("dcl")[2], read("src")[2]], [1, 3, 8]);
+  assert.deepEqual(read("ram 0 0x12"), ["ram.0.0x12", "ram.0.0x12", 4, "RAM, bank 0"]);
+  assert.deepEqual(read("ram.1.18"), ["ram.1.0x12", "ram.1.0x12", 4, "RAM, bank 1"]);
+  assert.deepEqual(read("st 0 1 2"), ["st.0.1.2", "st.0.1.2", 4, "RAM, bank 0"]);
   for (const text of ["r16", "p8", "ram 0 0x40", "ram 2 0", "st 0 4 0", "rom0", "ram0.0", "lamps", "lamp 0", "chain0.1", "pc", ""]) {
-    assert.equal(told(text), null, text);
+    assert.equal(read(text), null, text);
   }
   assert.deepEqual(linesWith(false, ["r5", "r16", "p2"]).slice(-3).map(({ name }) => name), ["r5", "p2", "pc"]);
 });
@@ -97,26 +97,26 @@ test("what is offered, by words", () => {
   assert.deepEqual(named("minus"), ["lamp.minus"]);
   assert.deepEqual(named("over.fl"), ["lamp2"]);
   assert.deepEqual(named("p2"), ["p2"]);
-  assert.match(found(offered, "", new Set()).more, /^160 characters of RAM are not listed: look for one, as in: ram 0 0x12/);
+  assert.match(found(offered, "", new Set()).more, /^160 nibbles of RAM are not listed: find one, as in: ram 0 0x12/);
   assert.equal(found(offered, " rubbish ", new Set()).more, "Nothing here is called rubbish.");
   assert.deepEqual(valuesAmong(offered, new Set(["r5", "lamp2", "st.1.3.0", "gone"])), ["r5", "st.1.3.0"]);
 });
 
-/** What stands at places at the beginning; all others are 0. */
+/** The values of places at the beginning; all others are 0. */
 const LEVELS = { "rom0.0": 1, "rom0.1": 1, "rom1.1": 1, "rom1.2": 1, "chain0.0": 1, "chain0.1": 1 };
 
 /**
- * The answers to the questions of a recording: each instruction by the cycles before it, its address, and what it changes.
+ * Returns the answers to the questions of a recording: each instruction by the cycles before it, its address, and its changes.
  */
 function answersOf({ groups }, levels, instructions = []) {
   const now = { ...levels };
   const levelsOf = (place, count, values) => Array.from({ length: count }, (_, line) => values[`${place}.${line}`] || 0);
   const digitOf = (bits) => bits.reduce((sum, level, line) => sum + level * 2 ** line, 0).toString(16).toUpperCase();
-  const toldOf = (place, values) => {
+  const answerOf = (place, values) => {
     if (place.startsWith("chain")) return levelsOf(place, 10, values).join("");
     return values[place] || digitOf(levelsOf(place, 4, values));
   };
-  const rowOf = ({ asked }, values) => asked.map(({ place }) => ` ${toldOf(place, values)}`).join("");
+  const rowOf = ({ asked }, values) => asked.map(({ place }) => ` ${answerOf(place, values)}`).join("");
   const rows = instructions.map(([cycles, address, changes]) => {
     const before = { ...now };
     Object.assign(now, changes);
@@ -147,7 +147,7 @@ const textOf = (waves, chosen) => [...vcdParts(waves, chosen)].join("");
 
 const PROGRAM = [[0, "00A", { "rom0.1": 0 }], [1, "00B", { "ram0.0.3": 1 }], [2, "00C", {}], [4, "00A", { "rom0.1": 1 }]];
 
-/** Four instructions of which the third has two cycles; then comes a code that is none. */
+/** Four instructions, the third of two cycles; then a code that is not one. */
 function record(cycles) {
   const instructions = PROGRAM.filter(([before]) => before < cycles);
   if (cycles > 5) return run(begin(), LEVELS, instructions, "ok 9 ran 5 code", { pc: "00B" });
@@ -176,7 +176,7 @@ test("a recording ends at its last cycle, inside an instruction too", () => {
   assert.equal(wavesOf(record(4)).counterAt(4), 0x00a);
 });
 
-test("a bench that refuses is told", () => {
+test("a bench that refuses is reported", () => {
   assert.throws(() => begin().takeRun(new Answers(["no 90"])), /no 90/);
   assert.throws(() => run(begin(), LEVELS, [], "no 46", {}), /no 46/);
 });

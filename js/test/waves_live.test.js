@@ -1,4 +1,4 @@
-// Recordings while time runs, with the module of the page itself: what they have is what a recording once has.
+// Recordings of running time, on the page's module: they contain what a recording at once contains.
 import assert from "node:assert/strict";
 import { test } from "node:test";
 import { matrixKey } from "../core/board/key_place.js";
@@ -15,7 +15,7 @@ async function beginWith(name, lines = "") {
 const numberOf = (waves, name) => waves.lines.findIndex((line) => line.name === name);
 const wholeText = (waves) => [...vcdParts(waves, waves.lines.map((_, line) => line))].join("");
 
-/** A recording of what is done from here on; `did` are the answers of calls, in which its parts are. */
+/** Returns a recording from now on; `did` are the answers of calls, which contain its parts. */
 function record(calls, texts, { most = 1000000, behind = 0, trigger = "", stopsTime = false } = {}) {
   const { recorded, fault } = calls.recordLive(texts, { trigger, behind, stopsTime });
   assert.equal(fault, "");
@@ -41,7 +41,7 @@ test("frames, keys, lines and steps are recorded as they are recorded up to here
   assert.deepEqual([...live.waves.listing].sort(), [...whole.listing].sort());
   assert.ok(live.waves.changesOf(numberOf(live.waves, "key.1")).length === 2);
   live.take(calls.endRecording());
-  assert.match(live.words, /^Recorded: .* It was stopped\.$/);
+  assert.match(live.words, /^Recorded .* Stopped by you\.$/);
   assert.equal(calls.advance(100).waves, null);
 });
 
@@ -77,7 +77,7 @@ test("a breakpoint stops time, and the recording stands with it", async () => {
   assert.equal(live.waves.counterAt(live.waves.cycles), 0x00c);
 });
 
-/** What a line was before a moment and at it. */
+/** Returns the values of a line before a moment and at it. */
 const around = (waves, name, at) => [at - 1, at].map((moment) => waves.valueAt(numberOf(waves, name), moment));
 
 const TRIGGERS = [
@@ -87,7 +87,7 @@ const TRIGGERS = [
   ["@wait", (waves, at) => [waves.labelAt(at), waves.counterAt(at) === waves.counterAt(at - 1)], ["wait", false]],
 ];
 
-for (const [trigger, told, wanted] of TRIGGERS) {
+for (const [trigger, recorded, wanted] of TRIGGERS) {
   test(`a trigger, ${trigger}, with cycles before and behind it`, async () => {
     const { calls, texts } = await beginWith("stopwatch", "test 0\nrun 20000\n");
     texts.values = ["r3"];
@@ -99,10 +99,10 @@ for (const [trigger, told, wanted] of TRIGGERS) {
     }
     assert.equal(live.over, "trigger");
     const { waves, triggered } = live;
-    assert.deepEqual(told(waves, triggered), wanted);
+    assert.deepEqual(recorded(waves, triggered), wanted);
     assert.equal(waves.cycles, triggered + 1000);
     assert.equal(waves.from, Math.max(0, triggered - 2000));
-    assert.match(live.words, /The trigger came at cycle/);
+    assert.match(live.words, /The trigger was at cycle/);
   });
 }
 
@@ -139,7 +139,7 @@ test("what ends a recording, in words", async () => {
     did(calls.advance(100));
     did(await act(calls));
     assert.equal((await calls.serve("step\n")).waves, null);
-    return live.words.replace(/^Recorded: [^.]*\.\d microseconds\. /, "");
+    return live.words.replace(/^Recorded [^.]*\.\d+ m?s\. /, "");
   };
   assert.equal(await ends((calls) => calls.goBack({ kind: "instruction" })), "It ended where the session went back or forward.");
   const board = "wire\n[[rom]]\nchip = 0\nport = \"0000\"\n.\n";
@@ -148,7 +148,7 @@ test("what ends a recording, in words", async () => {
   assert.equal(await ends((calls) => calls.serve("run 100000\n".repeat(30))), "It ended at lines that did more than it can follow.");
 });
 
-test("a trigger that is not understood is told, and nothing is recorded", async () => {
+test("a trigger that is not understood is reported, and nothing is recorded", async () => {
   const { calls, texts } = await beginWith("calculator");
   const faultOf = (trigger) => calls.recordLive(texts, { trigger, behind: 0, stopsTime: false });
   const faults = {

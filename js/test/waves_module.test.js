@@ -80,7 +80,7 @@ test("the past begins with the board, and where nothing was done nothing is reco
   assert.deepEqual([recorded.cycles, recorded.lines.map(({ name }) => name)], [30, names]);
 });
 
-test("a code that is not an instruction ends a recording, and it is told", async () => {
+test("a code that is not an instruction ends a recording, and it is reported", async () => {
   const { calls, texts } = await begin("three lamps");
   await calls.serve("poke rom.0x018 0xFF\npoke rom.0x014 0xFF\n");
   const recorded = await calls.record(100, false, texts);
@@ -108,12 +108,12 @@ test("a long recording in both directions has the same edges", async () => {
   assert.deepEqual(new Set([...lamp].slice(2).map((moment, at) => moment - lamp[at + 1])), new Set([926]));
 });
 
-test("a recording is told how far it is, and cancelled", async () => {
+test("a recording reports how far it is, and can be cancelled", async () => {
   const { calls, texts } = await begin("calculator", async () => false);
   await assert.rejects(calls.record(100000, false, texts), /cancelled/);
 });
 
-test("registers, pairs, characters and ports are what the bench tells at each cycle", async () => {
+test("registers, pairs, characters and ports are what the bench reports at each cycle", async () => {
   const { calls, texts } = await begin("calculator");
   await calls.serve("run 30000\npress 2 0\n");
   const values = ["acc", "cy", "r5", "p2", "src", "dcl", "ram.0.0x12", "st.0.1.2"];

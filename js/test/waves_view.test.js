@@ -1,10 +1,10 @@
-// What is seen of a recording, and what is told of it.
+// The visible part of a recording, and the reports about it.
 import assert from "node:assert/strict";
 import { test } from "node:test";
 import { flagAt } from "../page/waves/wave_canvas.js";
 import { WaveWindow, ticksOf } from "../core/waves/wave_window.js";
 import {
-  betweenText, cursorText, cyclesText, instructionText, microseconds, readCycles, recordedText, spokenText, valueText,
+  betweenText, cursorText, cyclesText, instructionText, readCycles, recordedText, spokenText, valueText,
 } from "../core/waves/wave_words.js";
 import { Waves } from "../core/waves/wave_recording.js";
 
@@ -110,27 +110,26 @@ test("the numbers of moments have room", () => {
   assert.ok(ticks.length >= 4 && ticks.every((tick) => Number.isInteger(tick)));
 });
 
-test("times are exact: a cycle is 10.8 microseconds", () => {
-  assert.deepEqual([0, 1, 5, 926, 100000].map(microseconds), ["0.0", "10.8", "54.0", "10,000.8", "1,080,000.0"]);
+test("times: a cycle is 10.8 microseconds", () => {
   assert.deepEqual([cyclesText(1), cyclesText(92593)], ["1 cycle", "92,593 cycles"]);
-  assert.equal(betweenText(926), "A to B: 926 cycles, 10,000.8 microseconds");
+  assert.equal(betweenText(926), "A to B: 926 cycles, 10.001 ms");
 });
 
 test("what is at a cursor, in words", () => {
   const waves = wavesWith([2], 3);
-  assert.equal(cursorText("A", 0, waves), "A: cycle 0, 0.0 microseconds: 000 D5 LDM 5");
-  assert.equal(cursorText("B", 3, waves), "B: cycle 3, 32.4 microseconds: next: 002 00 NOP");
+  assert.equal(cursorText("A", 0, waves), "A: cycle 0, 0.000 ms: 000 D5 LDM 5");
+  assert.equal(cursorText("B", 3, waves), "B: cycle 3, 0.032 ms: next: 002 00 NOP");
   assert.equal(spokenText(2, waves, 0), "test is 0, cycle 2, 001 40 00 JUN 0x000");
   assert.equal(spokenText(1, waves, -1), "cycle 1, 001 40 00 JUN 0x000");
-  const told = { address: 1, listed: "001 40 00 JUN 0x000", line: 3, source: "JUN wait", isSecond: false, isEnd: false };
-  assert.equal(instructionText(told), "001 40 00 JUN 0x000; line 3 of the source: JUN wait");
-  assert.equal(instructionText({ ...told, isSecond: true }), "the second cycle of an instruction");
+  const row = { address: 1, listed: "001 40 00 JUN 0x000", line: 3, source: "JUN wait", isSecond: false, isEnd: false };
+  assert.equal(instructionText(row), "001 40 00 JUN 0x000; line 3 of the source: JUN wait");
+  assert.equal(instructionText({ ...row, isSecond: true }), "the second cycle of an instruction");
 });
 
 test("what was recorded, in words", () => {
   const waves = wavesWith([2], 3);
-  assert.equal(recordedText(waves, 3, false), "3 cycles recorded, 32.4 microseconds.");
-  assert.equal(recordedText(waves, 9, true), "3 cycles recorded, 32.4 microseconds. The past reaches no further back.");
+  assert.equal(recordedText(waves, 3, false), "3 cycles recorded, 0.032 ms.");
+  assert.equal(recordedText(waves, 9, true), "3 cycles recorded, 0.032 ms. The past reaches no further back.");
   waves.isStuck = true;
   assert.match(recordedText(waves, 9, false), /Then comes a code that is not an instruction\.$/);
   assert.match(recordedText(wavesWith([], 0), 9, true), /^Nothing was recorded/);

@@ -61,7 +61,7 @@ test("an empty board has a processor", () => {
 });
 
 test("levels: an input line has what is read at it, an output line what its latch holds", () => {
-  const levels = (mask, told) => [0, 1, 2, 3].map((line) => isHighAtRom(mask, told, line));
+  const levels = (mask, portLevels) => [0, 1, 2, 3].map((line) => isHighAtRom(mask, portLevels, line));
   assert.deepEqual(levels("0000", { out: "5", in: "0" }), [true, false, true, false]);
   assert.deepEqual(levels("iiii", { out: "F", in: "2" }), [false, true, false, false]);
   assert.deepEqual(levels("i0i1", { out: "9", in: "E" }), [true, true, false, true]);

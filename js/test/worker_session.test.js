@@ -20,7 +20,7 @@ test("cycles pass in one call, which looks as well", () => {
   assert.equal(engine.calls, 1);
   assert.deepEqual(frame.ran.map(({ line }) => line), ["press 0 1", "run 5000"]);
   assert.deepEqual([frame.cycles, frame.end, frame.changesKeys], [5000, "", true]);
-  assert.match(frame.look[0], / lamps \. breaks /);
+  assert.match(frame.snapshot[0], / lamps \. breaks /);
   assert.equal(session.file[0], 2);
 });
 
@@ -45,12 +45,12 @@ test("a failed call changes nothing, and the keys wait on", () => {
 
 test("lines are served piece by piece, as if at once", async () => {
   const { session } = begin();
-  const told = await session.serve("step\n".repeat(3000), goesOn);
+  const result = await session.serve("step\n".repeat(3000), goesOn);
   assert.equal(session.file[0], 3000 % 256);
-  assert.equal(told.first, "ok 1");
-  assert.equal(told.entries.length, MOST_ENTRIES);
-  assert.match(told.entries[MOST_ENTRIES - 1].answers[0], /^ok /);
-  assert.equal(told.look.length, 2);
+  assert.equal(result.first, "ok 1");
+  assert.equal(result.entries.length, MOST_ENTRIES);
+  assert.match(result.entries[MOST_ENTRIES - 1].answers[0], /^ok /);
+  assert.equal(result.snapshot.length, 2);
 });
 
 test("of long work nothing is done where a piece fails, or it is cancelled", async () => {
@@ -68,7 +68,7 @@ test("of long work nothing is done where a piece fails, or it is cancelled", asy
   assert.equal(session.file[0], 1);
 });
 
-test("what lines may have changed is told", async () => {
+test("what lines may have changed is reported", async () => {
   const { session } = begin();
   const of = async (lines) => {
     const { touchesRom, wires } = await session.serve(lines, goesOn);
@@ -81,34 +81,34 @@ test("what lines may have changed is told", async () => {
   assert.deepEqual(session.queue.plan(1).map(({ line }) => line), ["run 1"]);
 });
 
-test("full speed: batches are told together, where the page has taken the last ones", () => {
+test("full speed: batches are reported together, where the page has taken the last ones", () => {
   const { engine, session } = begin();
   const machine = new Debugger(session);
   const fullSpeed = new FullSpeed();
   fullSpeed.start(false);
   fullSpeed.batch(machine);
-  assert.equal(fullSpeed.isToBeTold(false), false);
+  assert.equal(fullSpeed.isReportDue(false), false);
   fullSpeed.batch(machine);
-  assert.equal(fullSpeed.isToBeTold(true), true);
-  const told = fullSpeed.take();
-  assert.equal(told.ran.length, 1);
-  assert.equal(told.ran[0].cycles, told.cycles);
+  assert.equal(fullSpeed.isReportDue(true), true);
+  const result = fullSpeed.take();
+  assert.equal(result.ran.length, 1);
+  assert.equal(result.ran[0].cycles, result.cycles);
   assert.equal(fullSpeed.take().cycles, 0);
   engine.stopAt = session.file[0] + 1;
   fullSpeed.batch(machine);
   assert.equal(fullSpeed.isOn, false);
-  assert.equal(fullSpeed.isToBeTold(false), true);
+  assert.equal(fullSpeed.isReportDue(false), true);
   assert.match(fullSpeed.take().end, /break$/);
 });
 
-test("a hidden page is told once a second, and of keys at once", () => {
+test("a hidden page gets a report once a second, and of keys at once", () => {
   const { session } = begin();
   const machine = new Debugger(session);
   const fullSpeed = new FullSpeed();
   fullSpeed.start(true);
   fullSpeed.batch(machine);
-  assert.equal(fullSpeed.isToBeTold(true), false);
+  assert.equal(fullSpeed.isReportDue(true), false);
   session.queue.press(matrixKey(0, 1));
   fullSpeed.batch(machine);
-  assert.equal(fullSpeed.isToBeTold(true), true);
+  assert.equal(fullSpeed.isReportDue(true), true);
 });

@@ -1,4 +1,4 @@
-// What people read of the debug adapter, in an editor.
+// Texts that users read about the debug adapter, in an editor.
 
 // --- adapter/adapter_connection.js ---
 export const MESSAGE_FORM = "a message has a number seq, the type \"request\" and a command";
@@ -7,31 +7,31 @@ export const noCommand = (command) => `unsupported request: ${command}`;
 
 // --- adapter/progress.js ---
 /** @type {(id: string) => string} */
-export const noProgress = (id) => `no work is under way that has the progressId ${id}`;
+export const noProgress = (id) => `no work in progress has the progressId ${id}`;
 
 // --- adapter/answering.js ---
-export const WHAT_IS_IN_ROM = "what stands in ROM";
-export const MADE_OF_ROM = "made of what stands in ROM";
+export const WHAT_IS_IN_ROM = "the contents of ROM";
+export const MADE_OF_ROM = "disassembled from ROM";
 /** @type {(name: string) => string} */
 export const oneSource = (name) => `there is one source, ${name}`;
-export const NO_REFERENCE = "there is nothing of this reference";
+export const NO_REFERENCE = "this reference is unknown";
 export const NO_FRAME = "there is no such frame; frameId is one of stackTrace";
 export const NO_LINE = "text has no such line";
-export const ADDRESSES_ARE = "there are the addresses 0x000 to 0xFFF";
+export const ADDRESSES_ARE = "addresses are 0x000 to 0xFFF";
 /** @type {(most: number) => string} */
 export const rowsAre = (most) => `instructionCount is 0 to ${most}`;
 /** @type {(what: string) => string} */
 export const boardHasNo = (what) => `the board has no ${what}`;
 export const COUNT_IS = "count is 0 or more";
-export const OUTSIDE_OF_MEMORY = "it reaches outside of the memory";
+export const OUTSIDE_OF_MEMORY = "it is outside of the memory";
 /** @type {(line: string, answer: string) => string} */
 export const benchAnswered = (line, answer) => `${line}: the bench answered ${answer}`;
-export const BASE_64 = "data is written in base 64";
+export const BASE_64 = "data must be in base 64";
 
 // --- adapter/client_breakpoints.js ---
 export const HITS_WORDS = "a hit count is a number, as in 5: it stops from that hit on";
 /** @type {(most: number) => string} */
-export const mostOn = (most) => `${most} breakpoints are on at most`;
+export const mostOn = (most) => `at most ${most} breakpoints can be on`;
 /** @type {(place: string) => string} */
 export const notWatched = (place) => (
   `${place} cannot be watched; registers, pairs, ports, lines, lamps, chains and RAM characters that the board has can`);
@@ -43,24 +43,24 @@ export const changes = (place) => `${place} changes`;
 
 // --- adapter/console.js ---
 export const HELP = `Lines of the bench (regs, list @show 5, ram 0, poke r4 7, run 100, step, reset, ..), with @NAME for an address.
-press KEY, release KEY: a key goes down, or up; while time runs, press is a short press. keys KEYS: short presses, as time runs.
-until LABEL or ADDRESS, change PLACE: on up to there. back, back PLACE: an instruction back, before the last change. forward: again.
-R4, P2, ram.0.0x12, rom1, lamps, display, a name, a condition (r9 = 9 or lamp open on): what it is now. set PLACE = VALUE.`;
+press KEY, release KEY: a key goes down, or up; while running, press is a short press. keys KEYS: short presses, as time passes.
+until LABEL or ADDRESS, change PLACE: runs up to there. back, back PLACE: an instruction back, or before the last change. forward: returns.
+R4, P2, ram.0.0x12, rom1, lamps, display, a name, a condition (r9 = 9 or lamp open on): its present value. set PLACE = VALUE.`;
 /** @type {(most: number) => string} */
-export const tooLong = (most) => `more than ${most} characters are not taken`;
+export const tooLong = (most) => `a line has at most ${most} characters`;
 /** @type {(why: string) => string} */
 export const seeHelp = (why) => `${why}; help shows what a line can be`;
 /** @type {(word: string) => string} */
 export const keyForm = (word) => `it is written as ${word} KEY`;
 /** @type {(count: number) => string} */
-export const keysWait = (count) => `${count} key${count === 1 ? " waits" : "s wait"} for time to run (continue)`;
-export const TIME_RUNS = "time runs: pause comes first";
+export const keysWait = (count) => `${count} key${count === 1 ? " waits" : "s wait"} until the machine runs (continue)`;
+export const TIME_RUNS = "the machine is running: pause it first";
 /** @type {(form: string) => string} */
 export const placeForm = (form) => `it is written as ${form}`;
 export const UNTIL_FORM = "until LABEL, until ADDRESS or until CONDITION";
 export const CHANGE_FORM = "change PLACE, as in change r4";
 /** @type {(most: number) => string} */
-export const tooManyLines = (most) => `more than ${most} lines are not taken at once`;
+export const tooManyLines = (most) => `at most ${most} lines are accepted at once`;
 /** @type {(word: string) => string} */
 export const noAddress = (word) => `${word} is no label of the program, and no address as 0x00D`;
 export const ADDRESS_RANGE = "addresses are 0x000 to 0xFFF";
@@ -72,10 +72,10 @@ export const CONDITION_OF_FAULT = "a condition, as in r5 > 8 and lamp open on: i
 export const RUNNING_LINES = "Running lines";
 /** @type {(done: number, all: number) => string} */
 export const charactersOf = (done, all) => `${done.toLocaleString("en")} of ${all.toLocaleString("en")} characters`;
-export const CONFIGURED_ONCE = "configurationDone comes once";
-export const LAUNCH_ONCE = "launch comes once";
+export const CONFIGURED_ONCE = "configurationDone can be sent only once";
+export const LAUNCH_ONCE = "launch can be sent only once";
 /** @type {(why: string) => string} */
-export const sourceDiffers = (why) => `The source is not what stands in ROM now: ${why}.`;
+export const sourceDiffers = (why) => `The source differs from ROM now: ${why}.`;
 /** @type {(name: string) => string} */
 export const notInProgram = (name) => `it is not in the program that is debugged, ${name}`;
 export const NO_DEBUG = "this runs without a debugger (noDebug)";
@@ -89,39 +89,37 @@ export const sessionInUse = (name, holder) => `${name} is in use by ${holder || 
 // --- adapter/session_writer.js ---
 /** @type {(answer: string) => string} */
 export const fileNotWritten = (answer) => `the session's file was not written: the program answered ${answer}`;
-export const OTHER_STATE = "the session's file came to another state than the session in memory";
+export const OTHER_STATE = "the session's file reached another state than the session in memory";
 
 // --- adapter/launching.js ---
 export const LAUNCH_NEEDS =
   "launch needs \"project\", a folder with mcs4.toml, or \"program\", a program's text, or \"session\", a session file";
 /** @type {(words: string) => string} */
-export const andBoard = (words) => `${words}; where "board" is left out it is the project's, or board.toml beside the program`;
-export const ONE_FILE = "program and session are one file";
+export const andBoard = (words) => `${words}; without "board" it is the project's, or board.toml beside the program`;
+export const ONE_FILE = "program and session name the same file";
 /** @type {(file: string) => string} */
 export const noProjectFile = (file) => `there is no ${file}; it names board and program of a project`;
-/** @type {(name: string) => string} */
-export const cannotRead = (name) => `cannot read ${name}: it is not there, no text, or longer than one can be`;
-export const DOT_ALONE = "a line that is a dot alone";
+export const DOT_ALONE = "a line with only a dot";
 /** @type {(program: string) => string} */
 export const noBoardBeside = (program) => `there is no board.toml beside ${program}: "board" names the board's text`;
 /** @type {(session: string) => string} */
-export const sessionNotThere = (session) => `${session} is not there; with "board" and "program" it is made`;
+export const sessionMissing = (session) => `${session} does not exist; "board" and "program" create it`;
 export const ATTACH_NEEDS = "attach needs \"session\", a session file; launch begins a program";
 /** @type {(session: string) => string} */
 export const noSession = (session) => `there is no session file ${session}`;
-export const PROGRAM_HAS_FAULTS = "the program has errors";
+export const PROGRAM_HAS_ERRORS = "the program has errors";
 /** @type {(hasRom: boolean, address: string) => string} */
 export const romDiffers = (hasRom, address) => `ROM has ${hasRom ? "another byte" : "no chip"} at 0x${address}`;
 /** @type {(program: string, session: string, why: string) => string} */
-export const notInRomOf = (program, session, why) => `${program} is not what stands in ROM of ${session}: ${why}`;
+export const notInRomOf = (program, session, why) => `${program} differs from the ROM of ${session}: ${why}`;
 /** @type {(difference: string) => string} */
 export const loadPuts = (difference) => (
-  `${difference}. "load": true puts it there; without "program" the source is made of what stands in ROM`);
+  `${difference}. "load": true puts it there; without "program" the source is disassembled from ROM`);
 
 // --- adapter/debugged_machine.js ---
 export const RUNNING = "Running";
 export const SEARCHING_BACK = "Searching the past";
-export const TIME_RUNS_ALREADY = "time runs already: pause comes first";
+export const TIME_RUNS_ALREADY = "the machine is running already: pause it first";
 /** @type {(count: number) => string} */
 export const notesBefore = (count) => `(${count} notes before these)`;
 
@@ -135,10 +133,10 @@ export const testHasPassed = (name) => `The test passes: ${name}. This is its en
 export const testsHaveFault = (file, line, words) => `${file}, line ${line}: ${words || "it has an error"}; no test is run`;
 
 // --- adapter/move_requests.js ---
-export const CONFIGURED_FIRST = "configurationDone comes first";
+export const CONFIGURED_FIRST = "send configurationDone first";
 export const ONE_THREAD = "there is one thread, 1";
 export const NO_TARGET = "there is no such target";
-export const NOT_CALLED = "this frame is the program itself, which nothing called; restart begins it again";
+export const NOT_CALLED = "this frame is the program itself, which nothing called; restart starts it again";
 
 // --- adapter/number_format.js ---
 export const FORMAT_IS = "format is an object, as { \"hex\": true }";
@@ -166,17 +164,17 @@ export const KEYS = "Keys";
 export const NAMES = "Names";
 /** @type {(isOn: boolean) => string} */
 export const lampIs = (isOn) => (isOn ? "on" : "off");
-/** Of a key; it is also what it is set to. */
+/** The value of a key, both shown and set. */
 export const DOWN = "down";
 export const UP = "up";
 /** @type {(name: string) => string} */
 export const noneHere = (name) => `there is no ${name} here`;
 /** @type {(name: string) => string} */
-export const nothingSets = (name) => `${name} is what the machine makes it: nothing sets it`;
+export const nothingSets = (name) => `${name} cannot be set: only the machine changes it`;
 
 // --- adapter/set_place.js ---
 /** @type {(text: string) => string} */
-export const noNumber = (text) => `${text} is no number, as 10, 0x0A and 0b1010 are, and no name`;
+export const noNumber = (text) => `${text} is neither a number (10, 0x0A, 0b1010) nor a name`;
 export const NOTHING = "nothing";
 export const KEY_IS = "a key is down or up";
 /** @type {(place: string, most: number) => string} */

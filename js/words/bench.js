@@ -1,4 +1,5 @@
-// What people read of the bench's faults: calls that failed, images of ROM. (Its refusals are words of tools/lib/refusals.txt.)
+// Texts that users read about the bench's errors: calls that failed, images of ROM. (Its refusals have the messages of
+// tools/lib/refusals.txt.)
 
 // --- bench/answered_script.js ---
 export const FIRST_IS_SESSION = "the first line of the answers must be `session N`";
@@ -25,7 +26,7 @@ export const WORKER_STOPPED = "the bench's worker has stopped";
 export const NO_SUCH_NAME = "the program has no such name";
 export const NAMES_UNKNOWN = "names are known while the source is the same as ROM";
 
-// --- bench/ran.js ---
+// --- bench/run_log.js ---
 /** @type {(runs: number, cycles: string) => string} */
 export const manyRuns = (runs, cycles) => `run .. (${runs} lines, ${cycles} cycles); the last one was answered`;
 

@@ -1,4 +1,4 @@
-// What people read of the board's face: lamps, keys, sound, and the wiring in words.
+// Texts that users read about the front panel: lamps, keys, sound, and the wiring in words.
 
 import { EYE_CYCLES, EYE_MS } from "../core/time/mcs4_time.js";
 
@@ -65,7 +65,7 @@ export const NOT_USED = "is not used";
 export const DOES_PROCESSOR = "it reads the ROMs' bytes and ports, writes the ports, and reads and writes RAM";
 /** @type {(kind: string, name: string) => string} */
 export const testIsAt = (kind, name) => `its input TEST is at the ${kind} ${name}`;
-export const TEST_IS_OWN = "TEST is only its input";
+export const TEST_IS_ONLY_INPUT = "TEST is only its input";
 /** @type {(kind: string, name: string, level: number) => string} */
 export const putsTest = (kind, name, level) => `the ${kind} ${name} puts TEST to ${level} while it is pressed`;
 /** @type {(line: string, isInput: boolean) => string} */

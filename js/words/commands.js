@@ -1,4 +1,4 @@
-// What a person reads of the commands of mcs4: their help, from which manual pages and completions are made, too, and what is wrong with
+// Texts that users read about the commands of mcs4: their help, from which manual pages and completions are made, too, and the errors of
 // arguments.
 
 import { EYE_CYCLES, EYE_MS } from "../core/time/mcs4_time.js";
@@ -6,7 +6,7 @@ import { didYouMean } from "./text.js";
 
 /**
  * The help of a command: a summary of a few words; its text, with a blank line between paragraphs; its options by their long names;
- * examples with what they do; and what its exit status means. Line breaks within a paragraph do not count.
+ * examples with their effects; and the meaning of its exit status. Line breaks within a paragraph do not count.
  * @typedef {{ summary: string, text: string, options: Record<string, string>, examples: [string, string][],
  *   status: string[] }} CommandWords
  */
@@ -30,13 +30,13 @@ const SERVES_LINES = `
       before it is answered.
 
       If all three standard streams are a terminal, there is a prompt: \`help\` shows the lines, Tab completes them, Up recalls earlier
-      ones, also of other sessions, \`wire FILE\` and \`asm FILE\` take texts of files, \`source FILE\` serves the lines of a file, and
+      ones, also of other sessions, \`wire FILE\` and \`asm FILE\` read texts from files, \`source FILE\` serves the lines of a file, and
       errors are explained. The prompt and its words are on standard error. It needs Node, 18 or later; without Node the program reads the
       lines itself.`;
 const STATUS_OF_PROGRAM = [
   "0: input ended, and all of it was served, also if lines were answered `no`.",
   "1: a read, a write or the device failed, or 16,777,216 bytes were read.", WRONG_ARGUMENTS,
-  "3: the session was refused, or there was no memory.",
+  "3: the session was rejected, or there was no memory.",
 ];
 
 /** @satisfies {Record<string, CommandWords>} */
@@ -105,7 +105,7 @@ export const COMMAND_WORDS = {
       An editor starts the debug adapter, and talks with it over standard input and output. It has breakpoints at lines, addresses and
       labels with conditions, hit counts and log messages; steps over, into, out and back; registers, RAM, ports, lamps and keys, which
       can be set; the disassembly; and in the console the bench's lines and keys by their names. The manual's chapter "In your editor"
-      has the settings of editors, and what \`launch\` and \`attach\` take.
+      has the settings of editors, and what \`launch\` and \`attach\` accept.
 
       A session file that is launched is in use meanwhile, and has at each stop what was done up to there. Nothing else is written: one that
       is attached to stays as it is.`,
@@ -113,7 +113,7 @@ export const COMMAND_WORDS = {
     examples: [["mcs4 dap", "is what an editor starts"]],
     status: [
       "0: the editor ended it by `disconnect`.",
-      "1: the editor has gone otherwise, or another error; what was done in a session file is kept.", WRONG_ARGUMENTS,
+      "1: the editor ended without it, or another error; what was done in a session file is kept.", WRONG_ARGUMENTS,
     ],
   },
   debug: {
@@ -138,15 +138,16 @@ export const COMMAND_WORDS = {
     summary: "what a board's display shows, by answers about its lamps",
     text: `
       Reads the answers of mcs4, and prints for each answer \`lamps ..\` the number on the board's display. For each answer to
-      \`trace n lamps\`, it prints the number that an eye sees in that time: of each digit what it shows longest.
+      \`trace n lamps\`, it prints the number that is perceived in that time: for each digit what it shows longest.
 
-      Comments of BOARD say which lamps are a display, and which lamps have names. The manual's chapter "The face of a board" has them all.
+      Comments of BOARD say which lamps are a display, and which lamps have names. The manual's chapter "The front panel of a board" has
+      them all.
 
       \`# display 3: 8 digits with points\` makes a display of lamp 3 and those behind it: five lamps for each digit, the leftmost digit
       first: those for 8, 4, 2 and 1, and the point. \`# display 0: 2 digits of 7 segments\` has seven lamps for each digit, segments a to
       g. \`# display 0: 4 digits of 7 segments scanned by 7\` has one set of segments, and from lamp 7 on a lamp for each digit: no instant
-      shows the number, but \`trace ${EYE_CYCLES} lamps\` does, which is ${EYE_MS} ms. \`# lamp 0: minus overflow\` names lamps: a lit
-      \`minus\` stands before the number, other names after it.
+      shows the number, but \`trace ${EYE_CYCLES} lamps\` does, which is ${EYE_MS} ms. \`# lamp 0: minus overflow\` names lamps: a
+      \`minus\` that is on is printed before the number, other names after it.
 
       Leading zeros are dark, and so is a point after the last digit. Lamps that are not a digit are shown as \`?\`. Nothing is printed if
       there is an error.`,
@@ -158,7 +159,7 @@ export const COMMAND_WORDS = {
     summary: "what was rejected in a script, where, and why",
     text: `
       Reads the answers to SCRIPT, and prints each refusal among them: the line of SCRIPT, the line inside a program or the part of a board
-      that is at fault, and what the refusal means. It finds the part of a board by trying the text without one part after the other.
+      that is wrong, and what the refusal means. It finds the part of a board by trying the text without one part after the other.
 
       With --source, an address in a rejected line is also shown with its name and its line of the source. PROGRAM must be what is in the
       ROM of SESSION, byte for byte.`,
@@ -167,14 +168,16 @@ export const COMMAND_WORDS = {
       ["mcs4 explain script.txt < answers.txt && echo all was accepted", "explains the answers to a script"],
       ["mcs4 explain --source program.asm s.mcs script.txt < answers.txt", "shows addresses by their names, too"],
     ],
-    status: ["0: nothing was refused.", "1: something was refused, or another error.", WRONG_ARGUMENTS],
+    status: ["0: nothing was rejected.", "1: something was rejected, or another error.", WRONG_ARGUMENTS],
   },
   explore: {
     summary: "searches for keys that break a property of a program",
     text: `
-      Searches for key presses, and times at which they come, that break a property or reach a goal. PROPERTIES has what may be pressed and
+      Searches for key presses, and times for them, that break a property or reach a goal. PROPERTIES has what may be pressed and
       what must hold: the manual's chapter "Looking for what breaks it" has its lines. A counterexample is minimised, and printed as a test
       that \`mcs4 test\` has seen fail. The output is TAP, a line for each property, and then what was run of the program and what was not.
+
+      A tenth of the time goes to a proof first: "# proved for all inputs" says that a property needs no search.
 
       Ctrl-C ends the search early, and reports what was found so far. Each job is a search of its own, with the seeds SEED, SEED + 1 and so
       on. The same seed makes the same walks.
@@ -205,26 +208,26 @@ export const COMMAND_WORDS = {
     ],
   },
   import: {
-    summary: "a program in Intel's or AS's spelling is brought into this one",
+    summary: "converts a program in Intel's or AS's spelling to the bench's",
     text: `
       Prints a program for the 4004 in Intel's spelling, or in that of the macro assembler AS, in the spelling of the bench: a line for
-      each line, with its comments. A name is written as the line that defines it has it, and changed if the bench cannot take it. An
+      each line, with its comments. A name is written as the line that defines it has it, and changed if the bench does not accept it. An
       expression becomes its number, and is noted in the comment. CPU, TITLE, PAGE, LISTING and the like become comments.
 
-      It takes labels with a comma, with a colon, or at the first column; comments from \`;\`, from \`*\` at the first column, and from
+      It accepts labels with a comma, with a colon, or at the first column; comments from \`;\`, from \`*\` at the first column, and from
       \`/\` at the first column or behind a blank; EQU, SET, =, ORG, DB, DATA, BYTE, DS, ALIGN, END; numbers as 20H, $20, 0x20, 101B,
       17Q, 'A'; registers as R5, 5 or a name; pairs as 0P, P0, R0R1, RP0, or as 0< and 2<, by their first register; conditions as TZ,
       TN, CZ, CN, AZ, AN, or Z, NZ, C, NC, T, NT; and expressions with + - * & / and brackets, $ or * for the address of the line, < and
       > for the lower and the upper byte.
 
-      It does not take macros, INCLUDE, IF and instructions of the 4040. The result is tried on the bench: an error of the bench names
+      It does not accept macros, INCLUDE, IF and instructions of the 4040. The result is tried on the bench: an error of the bench names
       the line of the source, too. Nothing is printed if anything is wrong. PROGRAM can be -, standard input.`,
     options: {},
     examples: [
       ["mcs4 import busy.src > busy.asm", "writes the program in the bench's spelling"],
       ["mcs4 import - < busy.src > busy.asm", "reads it from standard input"],
     ],
-    status: ["0: the program is printed.", "1: a line that cannot be taken, or a file that cannot be read.", WRONG_ARGUMENTS],
+    status: ["0: the program is printed.", "1: a line that is not accepted, or a file that cannot be read.", WRONG_ARGUMENTS],
   },
   keys: {
     summary: "lines that press keys by their names",
@@ -278,7 +281,7 @@ export const COMMAND_WORDS = {
       board with all ROMs. Nothing is written.`,
     options: { stdio: "Does nothing: editors may say how they talk." },
     examples: [["mcs4 lsp", "is what an editor starts"]],
-    status: ["0: the editor ended it by `shutdown` and `exit`.", "1: the editor has gone otherwise, or another error.", WRONG_ARGUMENTS],
+    status: ["0: the editor ended it by `shutdown` and `exit`.", "1: the editor ended without them, or another error.", WRONG_ARGUMENTS],
   },
   names: {
     summary: "puts addresses in the place of @NAME into lines",
@@ -295,7 +298,7 @@ export const COMMAND_WORDS = {
   new: {
     summary: "begins a session in a file, and serves lines",
     text: `
-      Makes FILE, or takes one that is empty or blank, and begins a session in it. Any other file stays as it is.
+      Makes FILE, or uses one that is empty or blank, and begins a session in it. Any other file stays as it is.
 ${SERVES_LINES}`,
     options: {},
     examples: [["mcs4 new s.mcs", "begins a session"], ["mcs4 new s.mcs < script.txt", "serves the lines of a file"]],
@@ -314,21 +317,21 @@ ${SERVES_LINES}`,
     summary: "the front panel of a board, live in the terminal",
     text: `
       Shows the front panel of a board in a terminal of 80 by 24 or more: keys and lamps with their names, colours and places, and the
-      number on the display in large digits. Comments of BOARD name them: the manual's chapter "The face of a board". Beside it are the
-      registers, RAM, and the instructions round the counter. Below the lamps are the last lines of the printer's paper.
+      number on the display in large digits. Comments of BOARD name them: the manual's chapter "The front panel of a board". Beside it are
+      the registers, RAM, and the instructions round the counter. Below the lamps are the last lines of the printout.
 
-      Time runs as fast as in the real chip, 92,593 cycles a second. It is paused at first if the session is at a breakpoint. What is
+      It runs as fast as the real chip, 92,593 cycles a second. It is paused at first if the session is at a breakpoint. What is
       done goes into SESSION; to look at a paused session changes nothing.
 
-      While time runs, lamps and displays are shown as an eye sees them, over 30 ms: \`(*)\` is on, \`(+)\` is on for a part of the time,
-      \`(:)\` for a small part, \`( )\` is off. Colours are brighter and darker, unless NO_COLOR is set. While time is paused, lamps are
+      While it is running, lamps and displays are shown as perceived, over 30 ms: \`(*)\` is on, \`(+)\` is on for a part of the time,
+      \`(:)\` for a small part, \`( )\` is off. Colours are brighter and darker, unless NO_COLOR is set. While it is paused, lamps are
       shown at that instant.
 
       The keys of the board are typed by their names. A key with a longer name has a character of its own, which is shown behind the
-      name. While time runs, a key goes up by itself after 43 ms, and the next one goes down 22 ms later. While time is paused, a key
+      name. While it is running, a key goes up by itself after 43 ms, and the next one goes down 22 ms later. While it is paused, a key
       stays down until it is typed again. Other keys:
 
-      \`space\` pauses time, or lets it run. \`Enter\` runs one instruction. \`Tab\` sets a breakpoint at the counter, or clears it.
+      \`space\` pauses and continues. \`Enter\` runs one instruction. \`Tab\` sets a breakpoint at the counter, or clears it.
       \`Ctrl-T\` turns the TEST pin. \`Ctrl-R\` is a power cycle (\`reset\`). \`Left\` and \`Right\` show other RAM chips. \`Ctrl-D\` or
       \`Ctrl-C\` ends the panel: keys that went down here go up, and the terminal is as it was.
 
@@ -336,7 +339,7 @@ ${SERVES_LINES}`,
       is above it with its name, its number and its comment. PROGRAM must be what is in the ROM of SESSION, byte for byte.`,
     options: {
       folder: OF_FOLDER,
-      stopped: "Begins with time paused.",
+      stopped: "Begins paused.",
       source: "Shows the lines of PROGRAM, the text of the program in ROM.",
     },
     examples: [
@@ -403,6 +406,7 @@ ${SERVES_LINES}`,
     options: {
       folder: OF_FOLDER,
       most: "Searches N states at most, 1 to 999,999,999; 1,000,000 if nothing is given.",
+      memory: "Uses MB megabytes of memory for them at most, 1 to 1,000,000; all that there is if nothing is given.",
     },
     examples: [
       ["mcs4 prove board.toml program.asm program.props", "proves what it can"],
@@ -415,17 +419,17 @@ ${SERVES_LINES}`,
     ],
   },
   resume: {
-    summary: "goes on with a script that was interrupted",
+    summary: "continues a script that was interrupted",
     text: `
-      Sends SESSION what it has not got of SCRIPT yet, and prints its answers. The count in \`session N\` shows what it has got. Questions
-      after the last accepted command are asked again.
+      Sends SESSION the part of SCRIPT that it has not received yet, and prints its answers. The count in \`session N\` shows what it has.
+      Questions after the last accepted command are asked again.
 
       First, the part of SCRIPT up to the N-th accepted command is served to a new session in a temporary folder. If its answers differ from
-      those of SESSION, SESSION has not begun with SCRIPT, and nothing is sent. Board, ROM, RAM, registers, ports, chains, keys, lamps,
+      those of SESSION, SESSION did not begin with SCRIPT, and nothing is sent. Board, ROM, RAM, registers, ports, chains, keys, lamps,
       breakpoints and watches are compared.`,
     options: {},
-    examples: [["mcs4 resume script.txt s.mcs > more.txt", "goes on with `mcs4 new s.mcs < script.txt`, which was interrupted"]],
-    status: ["0: all was sent.", "1: SESSION has not begun with SCRIPT, or another error.", WRONG_ARGUMENTS],
+    examples: [["mcs4 resume script.txt s.mcs > more.txt", "continues `mcs4 new s.mcs < script.txt`, which was interrupted"]],
+    status: ["0: all was sent.", "1: SESSION did not begin with SCRIPT, or another error.", WRONG_ARGUMENTS],
   },
   rom: {
     summary: "images of ROMs, in and out: binary, Intel HEX, BNPF, S-records",
@@ -500,7 +504,7 @@ ${SERVES_LINES}`,
 
       The session stays as it is: a copy is run, without its breakpoints and watches. CYCLES is 1 to 100,000.
 
-      With --last, it prints the last N instructions before the session stops: at a breakpoint, after a watched character changed,
+      With --last, it prints the last N instructions before the session stops: at a breakpoint, after a watched nibble changed,
       before a code that is not an instruction, or at the end of CYCLES, which is then 1 to 100,000,000. N is 1 to 10,000.`,
     options: {
       folder: "Uses the program of the project in FOLDER, as --source does.",
@@ -564,10 +568,10 @@ ${SERVES_LINES}`,
 
 // --- mcs4 itself ---
 
-/** The forms of use, and what each does. */
+/** The forms of use, each with its effect. */
 export const MCS4_FORMS = [
   ["mcs4 new FILE", "begins a session in FILE, and serves lines"],
-  ["mcs4 open FILE", "goes on with the session in FILE"],
+  ["mcs4 open FILE", "continues the session in FILE"],
   ["mcs4 COMMAND ..", "runs a command of the workbench"],
   ["mcs4 help [COMMAND]", "prints this help, or that of a command"],
   ["mcs4 help refusals", "prints what the number of each refusal, `no NN`, means"],
@@ -576,7 +580,7 @@ export const MCS4_FORMS = [
 export const MCS4_SUMMARY = "a bench for boards of Intel's MCS-4 chips, and its workbench";
 export const MCS4_TEXT = `
       \`mcs4 new\` and \`mcs4 open\` are the proved program, with a prompt at a terminal. Commands need Node, 18 or later; \`new\`,
-      \`open\`, \`help\` and \`version\` work without it. \`mcs4 COMMAND --help\` prints the help of a command. Options may stand
+      \`open\`, \`help\` and \`version\` work without it. \`mcs4 COMMAND --help\` prints the help of a command. Options can be
       anywhere; \`--\` ends them.`;
 export const MCS4_ENVIRONMENT = [
   "MCS4 names the program that commands start, if it is not the one of mcs4 itself.",
@@ -596,8 +600,6 @@ export const MCS4_COMPLETED = {
 export const ENVIRONMENT_HEAD = "Environment:";
 /** @type {(top: string) => string} */
 export const whereManualIs = (top) => `The manual is ${top}/docs/MANUAL.md, the page ${top}/page/fethsaim.html.`;
-/** @type {(word: string) => string} */
-export const tooMuchBehind = (word) => `there is too much behind ${word}`;
 
 // --- help ---
 
@@ -612,13 +614,13 @@ export const HELP_OPTION = "Prints this help.";
 /** @type {(lines: string[]) => string} */
 export const usageOf = ([first, ...others]) => [`usage: ${first}`, ...others.map((line) => `       ${line}`)].join("\n");
 /** @type {(word: string, meant: string[]) => string} */
-export const noCommand = (word, meant) => `there is no command ${word}${didYouMean(meant, "mcs4 help shows which there are")}`;
+export const noCommand = (word, meant) => `there is no command ${word}${didYouMean(meant, "mcs4 help lists the commands")}`;
 export const MANUAL_SECTIONS = {
   name: "NAME", synopsis: "SYNOPSIS", description: "DESCRIPTION", options: "OPTIONS", commands: "COMMANDS", examples: "EXAMPLES",
   status: "EXIT STATUS", environment: "ENVIRONMENT", files: "FILES", seeAlso: "SEE ALSO",
 };
 export const FILES_OF_MCS4 = ["mcs4.toml", "names the files of the project in its folder"];
-export const MANUAL_IS = "The manual, docs/MANUAL.md where Fethsaim stands, as `mcs4 version` shows.";
+export const MANUAL_IS = "The manual, docs/MANUAL.md in the folder that `mcs4 version` shows.";
 export const TITLE_OF_PAGES = "The bench Fethsaim";
 /** @type {(word: string, meant: string[]) => string} */
 export const noOption = (word, meant) => `there is no option ${word}${didYouMean(meant, "")}`;
@@ -630,6 +632,8 @@ export const noValue = (option) => `${option} takes no value`;
 export const optionTwice = (option) => `${option} is given twice`;
 /** @type {(word: string) => string} */
 export const oneTooMany = (word) => `'${word}' is one argument too many`;
+export const WAITS_FOR_EDITOR =
+  "it waits for the messages of an editor on standard input; editors/README.md says how an editor starts it; Ctrl-C ends it";
 export const EMPTY_ARGUMENT = "an argument is empty; it names a file";
 /** @type {(names: string[], hasNoProject: boolean) => string} */
 export const missing = (names, hasNoProject) => {
@@ -637,10 +641,10 @@ export const missing = (names, hasNoProject) => {
   const list = others.length > 0 ? `${others.reverse().join(", ")} and ${last} are` : `${last} is`;
   return `${list} missing${hasNoProject ? ", and there is no mcs4.toml here" : ""}`;
 };
-/** @type {(name: string, most: number) => string} */
-export const notInRange = (name, most) => `${name} is a decimal number, 1 to ${most}`;
+/** @type {(name: string, word: string, most: number) => string} */
+export const notInRange = (name, word, most) => `${name}: '${word}' is not a decimal number from 1 to ${most}`;
 /** @type {(file: string, what: string) => string} */
-export const namesNone = (file, what) => `${file} names no ${what}; name some there, or behind the command`;
+export const projectLacks = (file, what) => `${file} names no ${what}; name some there, or after the command`;
 /** @type {(version: string) => string} */
 export const oldNode = (version) => `it needs node 18 or later, and this is ${version}`;
 /** @type {(one: string, other: string) => string} */
@@ -663,12 +667,12 @@ export const needsProgram = (fault) => (
   `only the native program keeps a session file, and it is not started: ${fault}. Commands that keep none run here`);
 /** @type {(fault: string) => string} */
 export const runsOnModule = (fault) => (
-  `commands run on the proved module, more slowly, since the native program is not started: ${fault}. This is said once`);
+  `commands run on the proved module, more slowly, because the native program is not started: ${fault}. This message appears once`);
 /** @type {(session: string, number: number, words: string) => string} */
-export const sessionRefused = (session, number, words) => `the session ${session} was refused: no ${number}: ${words}`;
+export const sessionRefused = (session, number, words) => `the session ${session} was rejected: no ${number}: ${words}`;
 /** @type {(program: string, address: string, is: string, line: number, makes: string) => string} */
 export const otherProgram = (program, address, is, line, makes) => (
-  `the session has another program than ${program}: at ${address} stands ${is}, and line ${line} makes ${makes}`);
+  `the session has another program than ${program}: ${address} has ${is}, and line ${line} makes ${makes}`);
 /** @type {(cycles: number, why: string) => string} */
 export const sessionStopped = (cycles, why) => `the session stopped after ${cycles} cycles: ${why}`;
 
@@ -680,7 +684,7 @@ export const isFolder = (name) => `${name} is a folder, not a file`;
 /** @type {(name: string) => string} */
 export const isRead = (name) => `${name} is read here, so it is not written; name another file`;
 /** @type {(name: string, why: string) => string} */
-export const isForeign = (name, why) => `${name} is there, and ${why}; name another file, or move it away`;
+export const isForeign = (name, why) => `${name} exists, and ${why}; name another file, or move it away`;
 /** @type {(name: string) => string} */
 export const noFolderToWrite = (name) => `cannot write ${name}: its folder is not there, or cannot be written`;
 
@@ -738,7 +742,7 @@ export const NUMBERS_OF_RANGE = "FIRST and COUNT are numbers, decimal or with 0x
 export const RANGE = "FIRST is 0 to 4095, COUNT is from 1 on, and 4096 is the address after the last one";
 /** @type {(name: string) => string} */
 export const textNoImage = (name) => (
-  `${name} is a text, and no Intel HEX, S-records or BNPF; where its letters are the bytes of an image: rom load --binary`);
+  `${name} is a text, and no Intel HEX, S-records or BNPF; if its characters are the bytes of an image: rom load --binary`);
 export const IS_IT_BINARY = " (is it a binary file? --binary)";
 export const NO_TERMINAL = "an image cannot be shown at a terminal; write it to a file (> IMAGE), or as --hex";
 export const NO_ANSWERS = "no answers on standard input; it reads what mcs4 has answered, as in: mcs4 rom save FIRST COUNT < ANSWERS";
@@ -759,7 +763,7 @@ export const benchRejected = (answer, words) => `the bench answered: ${answer}: 
 /** @type {(words: string) => string} */
 export const programEnded = (words) => `the session has ended: ${words || "no answer"}`;
 /** @type {(session: string, words: string) => string} */
-export const sessionWasRefused = (session, words) => `the session ${session} was refused: ${words}`;
+export const sessionWasRefused = (session, words) => `the session ${session} was rejected: ${words}`;
 
 // --- names ---
 /** @type {(line: number, words: string) => string} */
@@ -782,20 +786,17 @@ export const otherAnswers = (words) => `these are not the answers to this script
 export const foreignCharacter = (character) => `: \`${character}\``;
 /** @type {(digits: string) => string} */
 export const foreignByte = (digits) => `: the byte ${digits}`;
-/** @type {(line: number, number: number, at: { from: number, to: number } | null, words: string) => string} */
-export const refusedLine = (line, number, at, words) => {
-  const place = !at ? ":" : at.from === at.to ? `, line ${at.from} of the text:` : `, lines ${at.from} to ${at.to} of the text:`;
-  return `line ${line}: no ${number}${place} ${words}`;
-};
+/** @type {(line: number, number: number, at: number, words: string) => string} */
+export const refusedLine = (line, number, at, words) => `line ${line}: no ${number}${at > 0 ? `, line ${at} of the text` : ""}: ${words}`;
 /** @type {(number: number, words: string) => string} */
-export const sessionWasRefusedBy = (number, words) => `the session was refused: no ${number}: ${words}`;
+export const sessionWasRefusedBy = (number, words) => `the session was rejected: no ${number}: ${words}`;
 /** @type {(line: number, isLast: boolean) => string} */
 export const notAnswered = (line, isLast) => `line ${line} ${isLast ? "was" : "and those after it were"} not answered`;
 
 // --- resume ---
 /** @type {(session: string, script: string, words: string, differing: string[]) => string} */
 export const notBegun = (session, script, words, differing) => [
-  `${session} has not begun with ${script}: ${words}${differing.length > 0 ? ` (< ${session}, > what ${script} leads to)` : ""}`,
+  `${session} did not begin with ${script}: ${words}${differing.length > 0 ? ` (< ${session}, > what ${script} leads to)` : ""}`,
   ...differing,
 ].join("\n");
 /** @type {(session: string) => string} */
@@ -814,8 +815,9 @@ export const howFarBack = (commands, records) => {
   return `session ${commands}: back by 1 to ${records} commands, to session ${commands - 1} to ${commands - records}`;
 };
 /** @type {(session: string, records: number, commands: number, count: number) => string} */
-export const logIsShorter = (session, records, commands, count) => (
-  `the log of ${session} has ${records} of its ${commands} commands, so it cannot go back by ${count}; those before are one snapshot`);
+export const logIsShorter = (session, records, commands, count) => (records === commands
+  ? `the log of ${session} has ${commands} commands, so it cannot go back by ${count}`
+  : `the log of ${session} has ${records} of its ${commands} commands, so it cannot go back by ${count}; those before are one snapshot`);
 /** @type {(session: string, wanted: number, opened: string) => string} */
 export const wouldBeOther = (session, wanted, opened) => `${session} would not be session ${wanted} but ${opened}; nothing was changed`;
 
@@ -827,13 +829,13 @@ export const noFolderIn = (place) => `cannot make a folder in ${place}; TMPDIR n
 export const NO_BREAKPOINTS_FILE = "does not begin as a file of breakpoints does (# Breakpoints of mcs4 debug)";
 
 // --- explore ---
-export const NO_FINDS = "does not begin as a file of its finds does (# Found by mcs4 explore)";
+export const NO_FINDS = "does not begin as a file of its counterexamples does (# Found by mcs4 explore)";
 export const NO_REPORT = "is not a report of mcs4 explore";
 /** @type {(file: string, names: string[]) => string} */
 export const oneText = (file, names) => `${file} names ${names.length} texts of properties; name one of them: ${names.join(" ")}`;
 /** @type {(properties: string, line: number, message: string, state: string) => string} */
 export const testsMustSave = (properties, line, message, state) => (
-  `${properties}:${line}: ${message}; its tests have to save the state ${state}`);
+  `${properties}:${line}: ${message}; its tests must save the state ${state}`);
 /** @type {(how: string, words: string) => string} */
 export const modelEnded = (how, words) => `the model has ended with ${how}${words && `: ${words}`}`;
 /** @type {(lines: number, chains: number) => string} */

@@ -1,8 +1,8 @@
-// What people read of conditions: what is wrong with one, what a place is called, and what is and has to be.
+// Texts that users read about conditions: their errors, the names of places, and what is and must be.
 
 // --- conditions/places.js ---
-export const PLACES_TOLD = "acc, cy, dcl, r0 to r15, ram.B.S, st.B.H.K, rom1.2, ram0.0.3, chain0.5, a whole port as rom1 or ram0.0, lamp 3 "
-  + "or lamps";
+export const NAMED_PLACES = "acc, cy, dcl, r0 to r15, ram.B.S, st.B.H.K, rom1.2, ram0.0.3, chain0.5, a whole port as rom1 or ram0.0, lamp "
+  + "3 or lamps";
 
 // --- conditions/forms.js ---
 /** @type {(name: string, there: string) => string} */
@@ -17,7 +17,7 @@ export const LAMP_FORM = "it is written as `lamp NAME on` or `lamp NAME off`";
 export const NO_DISPLAY = "the board's text names no display (`# display 0: 4 digits`)";
 export const DISPLAY_FORM = "it is written as `display TEXT`, as in: display -18; its text is compared, not as a number";
 export const NO_PRINTER = "the board's text names no printer (`# printer rom0.2: ram0.2 0 1 2 + feed`)";
-export const PRINTED_FORM = "it is written as `printed TEXT`, the last lines of the paper, as in: printed 12+ 30= 42";
+export const PRINTED_FORM = "it is written as `printed TEXT`, the last lines of the printout, as in: printed 12+ 30= 42";
 export const CYCLES_FORM = "it is written as `cycles TIME`, `cycles at most TIME` or `cycles at least TIME`";
 export const WITHIN_INSTRUCTION = ", within an instruction";
 /** @type {(name: string) => string} */
@@ -44,17 +44,17 @@ export const NO_CONDITION = "a condition is missing";
 export const hasToBe = (what, is, want, isMany, isNot) => (
   `${what} ${isMany ? "are" : "is"} ${is || "dark"}, and ${isMany ? "have" : "has"} ${isNot ? "not " : ""}to be ${want}`);
 /** @type {(count: number, most: number) => string} */
-export const tooManyPlaces = (count, most) => `it looks at ${count} places, and ${most} are the most`;
+export const tooManyPlaces = (count, most) => `it reads ${count} places; at most ${most} are allowed`;
 export const AT_FORM = "it is written as `at LABEL`";
 export const LIT_BY_TURNS = "the digits are lit by turns, so no instant shows a number: `display` is for the lines of a test";
 export const LINE_BY_LINE = "what is printed comes line by line: `printed` is for the lines of a test";
 /** @type {(what: string) => string} */
 export const onlyInTests = (what) => `no run changes ${what}, and no trace shows it: it is for the lines of a test`;
 /** @type {(place: string) => string} */
-export const noTraceTells = (place) => `no run changes ${place}, and no trace shows it: ask for it at a breakpoint`;
+export const noTraceShows = (place) => `no run changes ${place}, and no trace shows it: ask for it at a breakpoint`;
 
 // --- conditions/scanner.js ---
-export const NO_END_OF_TEXT = "a text ends with a quotation mark";
+export const NO_END_OF_TEXT = "the closing quotation mark is missing";
 /** @type {(word: string) => string} */
 export const noSign = (word) => `${word} has no meaning in a condition`;
 /** @type {(text: string) => string} */
@@ -102,10 +102,10 @@ export function boardLacks(place) {
 export const isNoNumber = (place) => `${place} is not one number`;
 /** @type {(place: string, proposed: string) => string} */
 export const noSuchPlace = (place, proposed) => `${place}: no such place; ${proposed}`;
-export const ACCUMULATOR_IS = "the accumulator is acc";
-export const CARRY_IS = "the carry is cy";
-export const COUNTER_IS = "the counter is pc";
-export const BANK_IS = "the bank is dcl";
+export const ACCUMULATOR_HINT = "the accumulator is acc";
+export const CARRY_HINT = "the carry is cy";
+export const COUNTER_HINT = "the counter is pc";
+export const BANK_HINT = "the bank is dcl";
 export const REGISTERS_ARE = "the registers are r0 to r15";
 export const CHARACTERS_ARE = "a place of RAM is ram.BANK.SRC or st.BANK.REGISTER.NUMBER";
 export const PORTS_ARE = "ports are rom1 and ram0.1, their lines rom1.0 to rom1.3";
@@ -121,9 +121,9 @@ export const isNoValue = (name, text) => `${name} is the condition ${text}, and 
 /** @type {(name: string, fault: string) => string} */
 export const inName = (name, fault) => `in ${name}: ${fault}`;
 /** @type {(text: string) => string} */
-export const noConstant = (text) => `${text}: no number, and no name of the program`;
+export const noConstant = (text) => `${text}is neither a number nor a name of the program`;
 /** @type {(text: string) => string} */
-export const noNames = (text) => `${text}: no number; names are known while the source is the same as ROM`;
+export const noNames = (text) => `${text}is not a number; names are known while the source is the same as ROM`;
 
 // --- conditions/setting.js ---
 export const SET_FORM = "it is written as `set PLACE = VALUE`, as in: set r4 = 7, set test 0, set ram.0.0x12 = 7";
@@ -135,7 +135,7 @@ export const cannotBeSet = (place) => (
 /** @type {(text: string, value: number) => string} */
 export const valueIs = (text, value) => `${text} (${value})`;
 /** @type {(text: string) => string} */
-export const holdsAndMayNot = (text) => `${text} holds, and has not to`;
+export const holdsAndMayNot = (text) => `${text} holds, but must not`;
 
 // --- debug/soft_breakpoints.js, waves/trigger.js, adapter/expression_values.js ---
 /** @type {(fault: string, column: number) => string} */

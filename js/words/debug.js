@@ -1,8 +1,8 @@
-// What people read of the debugger: conditions, breakpoints, why time stopped, values and faults.
+// Texts that users read about the debugger: conditions, breakpoints, why time stopped, values and errors.
 
 // --- debug/breakpoint_keeper.js ---
 /** @type {(most: number) => string} */
-export const tooManyOn = (most) => `${most} breakpoints are on, as many as the bench has. This one is off: switch another one off first.`;
+export const tooManyOn = (most) => `${most} breakpoints are on, the most that the bench has. This one is off: disable another one first.`;
 /** @type {(why: string) => string} */
 export const untilThen = (why) => `${why} Until then this breakpoint stops nothing.`;
 /** @type {(most: number) => string} */
@@ -66,9 +66,9 @@ export const characterAt = (chip, register, character) => `chip ${chip}, registe
 /** @type {(bank: string) => string} */
 export const sourceOfBank = (bank) => `SRC of bank ${bank}`;
 
-// --- debug/usual_faults.js ---
-/** Each kind, as a switch that stops at it is called. */
-export const KINDS = /** @type {Record<import("../core/debug/usual_faults.js").Kind, string>} */ ({
+// --- debug/common_mistakes.js ---
+/** The name of each kind, as the label of the switch that stops at it. */
+export const KINDS = /** @type {Record<import("../core/debug/common_mistakes.js").Kind, string>} */ ({
   calls: "a fourth JMS inside three others",
   return: "a BBL without a call",
   lines: "WRR or RDR at a port without such lines",
@@ -76,11 +76,11 @@ export const KINDS = /** @type {Record<import("../core/debug/usual_faults.js").K
   bytes: "bytes that no line of the source put there",
   source: "an SRC that still points elsewhere",
 });
-export const RUNS_ON = "it runs on where no line of the source put a byte";
+export const RUNS_ON = "execution left the program";
 /** @type {(address: string) => string} */
-export const returnGoes = (address) => `a BBL without a call: it goes to ${address}, behind no JMS`;
+export const returnGoes = (address) => `a BBL without a call: it goes to ${address}, which is after no JMS`;
 /** @type {(address: string) => string} */
-export const wayBackLost = (address) => `a fourth JMS inside three others: the way back to ${address} is lost`;
+export const wayBackLost = (address) => `4th nested JMS: return address ${address} was overwritten`;
 
 // --- debug/value_words.js ---
 /** @type {(bank: number, character: string) => string} */

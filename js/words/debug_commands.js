@@ -1,8 +1,8 @@
-// What people read of the commands of mcs4 debug: how each is written, what it does in a few words, and more of it. Each is written to be
-// read alone.
+// Texts that users read about the commands of mcs4 debug: how each is written, its effect in a few words, and more about it. Each is
+// written to be read alone.
 
 /**
- * A command: its name and its shorter words; how it is written; what it does; and more of it, "" for nothing more.
+ * A command: its name and its abbreviations; how it is written; its effect; and more about it, "" for nothing more.
  * @typedef {{ words: string, use: string, does: string, more: string }} CommandWords
  */
 

@@ -1,25 +1,25 @@
-// What people read while a board is drawn: the shelf, the fields, what was done and why something was not.
+// Texts that users read while a board is drawn: the shelf, the fields, each action and why one was not done.
 
 // --- drawing/acts.js ---
-export const TEST_TAKEN = "TEST has its button or switch: delete that one first.";
+export const TEST_IN_USE = "TEST has its button or switch: delete that one first.";
 /** @type {(what: string) => string} */
 export const boardHasNo = (what) => `The board has no ${what}.`;
 /** @type {(name: string, target: string) => string} */
 export const needsInput = (name, target) => `${name} is an output line: ${target} is read at an input line of a ROM.`;
 /** @type {(name: string, target: string) => string} */
-export const needsOutput = (name, target) => `${name} is an input line: ${target} takes an output line.`;
+export const needsOutput = (name, target) => `${name} is an input line: ${target} needs an output line.`;
 /** @type {(name: string) => string} */
 export const cannotDrive = (name) => (
   `The rows of the keys are driven by bits of one chain that follow one another: ${name} cannot drive this one.`);
 /** @type {(name: string, kind: string, target: string) => string} */
 export const needsChipLine = (name, kind, target) => (
-  `${name} is a ${kind} of a chain: ${target} takes an output line of a ROM or a RAM chip.`);
+  `${name} is a ${kind} of a chain: ${target} needs an output line of a ROM or a RAM chip.`);
 /** @type {(line: string, takers: string) => string} */
 export const takenLine = (line, takers) => `${line} is wired to ${takers}: wire that to another line first.`;
 export const AND = " and ";
 export const ONLY_ONCE = "A board has only one of these.";
 export const COPY_IN_TEXT = "Lamps that belong together can only be copied in the board's text.";
-export const GRID_DIFFERS = "Another lamp would then stand at its place in the grid: choose another name.";
+export const GRID_DIFFERS = "Another lamp would then be at its place in the grid: choose another name.";
 export const TEST_NEEDS_NAME = "What is at TEST needs a name.";
 export const BUZZER_NEEDS_NAME = "A buzzer needs a name.";
 export const NO_OWN_NAME = "This has no name of its own.";
@@ -48,8 +48,8 @@ export const named = (part, name) => (name ? `${part} is called ${name}` : `${pa
 /** @type {(lamp: number, colour: string) => string} */
 export const lampIs = (lamp, colour) => `Lamp ${lamp} is ${colour}`;
 export const USUAL_RED = "red, as usual";
-export const FACE_UNREADABLE = "The face of the board could not be read then.";
-export const TEXT_HAS_FAULTS = "The board's text has errors: see Board.";
+export const FACE_UNREADABLE = "The front panel of the board could not be read then.";
+export const TEXT_HAS_ERRORS = "The board's text has errors: see Board.";
 /** @type {(parts: string) => string} */
 export const withAlso = (parts) => `, with ${parts}`;
 /** @type {(names: string[]) => string} */
@@ -115,9 +115,9 @@ export const benchRefuses = (why) => `The bench rejects the board's text: ${why}
 /** @type {(name: string) => string} */
 export const lineOfBoard = (name) => `line ${name}`;
 /** @type {(pin: string, pins: string) => string} */
-export const wireBegins = (pin, pins) => `A wire begins at ${pin}: it can end at ${pins}.`;
+export const wireBegins = (pin, pins) => `Wire from ${pin}: it can end at ${pins}.`;
 export const NO_WIRE = "No wire was drawn.";
-export const ALREADY_SO = "It is so already.";
+export const NO_CHANGE = "No change.";
 /** @type {(why: string) => string} */
 export const notDone = (why) => `It was not done. ${why}`;
 export const UNDONE = "Undone.";
@@ -127,32 +127,32 @@ export const NOTHING_TO_REDO = "There is nothing to redo.";
 
 // --- drawing/drawing_view.js ---
 /**
- * What the shelf calls its parts, and says of them.
+ * The names of the shelf's parts, and their descriptions.
  * @type {Record<import("../core/drawing/acts.js").Shelved, [string, string]>}
  */
 export const SHELF = {
   rom: ["ROM", "a 4001: 256 bytes of program, and a port of four output lines"],
-  inputs: ["ROM, inputs", "a 4001 whose port reads four lines"],
+  inputs: ["ROM with inputs", "a 4001 whose port reads four lines"],
   ram: ["RAM", "a 4002: 80 characters, and a port of four output lines"],
   chain: ["Shift register", "a chain of one 4003: ten bits, shifted by a clock line and a data line"],
   keys: ["Keys", "a matrix: rows driven by a chain, columns read by a ROM"],
   lamp: ["Lamp", "at the chosen output line, else at the next free one"],
-  digit: ["Digits", "a display whose digits are numbers of four lines each"],
+  digit: ["Number display", "a display whose digits are numbers of four lines each"],
   segments: ["7 segments", "a display whose digits are seven lines each"],
-  scanned: ["Scanned", "digits that are lit by turns: seven lines for all of them, and a line for each"],
+  scanned: ["Multiplexed display", "digits that are lit by turns: seven lines for all of them, and a line for each"],
   button: ["Button", "at the processor's TEST pin; it springs back"],
   switch: ["Switch", "at the processor's TEST pin; it stays"],
   buzzer: ["Buzzer", "at the chosen output line, else at the next free one; the edges of its line are sound"],
 };
 export const NOT_WIRED = "Not applied yet.";
-export const SHOW_IN_BOARD = "Show in Board";
+export const SHOW_IN_BOARD = "Show in text";
 export const INSERT_SCAN = "Insert code that scans these keys";
 
 // --- drawing/fields.js ---
 /** @type {(label: string) => string} */
 export const lineOf = (label) => `${label} at`;
 export const WHAT_IS_THERE = "what is there";
-/** What a line of a ROM's port is, by its letter in the board's text. */
+/** The kind of a line of a ROM's port, by its letter in the board's text. */
 export const DIRECTIONS = [["i", "an input"], ["0", "an output"], ["1", "an output that reads as 1"]];
 /** @type {(line: number) => string} */
 export const lineIsA = (line) => `line ${line} is`;

@@ -1,4 +1,4 @@
-// What people read of properties and of the search for keys that break them.
+// Texts that users read about properties and of the search for keys that break them.
 
 // --- explore/beginning.js ---
 /** @type {(state: string) => string} */
@@ -17,19 +17,19 @@ export const FORMS = "press, test, reset, together, wait, held, apart, from, beg
 export const labelForm = (word) => `a label is written as @LABEL, not ${word}`;
 export const WAIT_FORM = "it is written as `wait TIME to TIME`, from 1 cycle to 100,000 (1.08 s), as in: wait 1 ms to 20 ms";
 export const PRESS_FORM = "it is written as `press KEY ..`: the keys that may go down";
-export const TEST_FORM = "`test` takes nothing after it: TEST may change";
-export const RESET_FORM = "`reset` takes nothing after it: the power may be cycled";
-export const TOGETHER_FORM = "it is written as `together N`: so many keys may be down at a time";
+export const TEST_FORM = "`test` takes no argument: TEST may change";
+export const RESET_FORM = "`reset` takes no argument: the power may be cycled";
+export const TOGETHER_FORM = "it is written as `together N`: at most N keys are down at a time";
 export const HELD_FORM = "it is written as `held at most TIME`: no key is down for longer";
-export const APART_FORM = "it is written as `apart at least TIME`: a key that went up stays up for so long";
+export const APART_FORM = "it is written as `apart at least TIME`: a key that went up stays up for that long";
 export const FROM_FORM = "it is written as `from STATE` or `from STATE of FILE.test`: a state that a test saves, from which all begins";
-export const FROM_ALREADY = "it begins from a state in a line before";
+export const FROM_TWICE = "it begins from a state in a line before";
 export const BEGIN_FORM = "write `begin after TIME`: nothing before that is checked";
 export const PACE_FORM = "it is written as `pace TIME TIME`: how long a key is down for a model, and how long it is up";
 export const NOTE_FORM = "it is written as `note PLACE ..`: what makes a state new, as in: note lamps r10 ram.0.0x12";
 /** @type {(most: number) => string} */
-export const mostNoted = (most) => `${most} places are noted at most`;
-export const NOT_PC = "pc is another one at each instruction: it makes no state new";
+export const mostNoted = (most) => `at most ${most} places are noted`;
+export const NOT_PC = "pc changes at each instruction, so it makes no state new";
 /** @type {(word: string) => string} */
 export const noTrace = (word) => `no trace shows ${word}`;
 export const NEVER_FORM = "it is written as `never CONDITION` or `never CONDITION for TIME`";
@@ -43,8 +43,8 @@ export const mostGuards = (most) => `at most ${most} guards are before a propert
 export const EVERY_FORM = "it is written as `every TIME @LABEL`, as in: every 20 ms @scan";
 /** @type {(line: string) => string} */
 export const noInstructionIn = (line) => `line ${line} of the program has no instruction`;
-export const MODEL_ALREADY = "there is a model in a line before";
-export const MODEL_FORM = "it is written as `model COMMAND`: the command gets keys, and prints what the display has to show";
+export const MODEL_TWICE = "there is a model in a line before";
+export const MODEL_FORM = "it is written as `model COMMAND`: the command gets keys, and prints what the display must show";
 export const LIT_BY_TURNS = "the display's digits are lit by turns, and a model needs one that shows its number at once";
 export const ONLY_AFTER_FORM = "it is written as `CONDITION only after press KEY, press KEY ..`";
 /** @type {(word: string, forms: string) => string} */
@@ -60,13 +60,13 @@ export const STOP = "Stop";
 export const EXPLORE = "Search";
 export const BEGINS = "Starting.";
 export const STOPPED_EARLY = "It was stopped before it started.";
-export const OTHER_SOURCE = "The source has changed since: explore it again.";
+export const OTHER_SOURCE = "The source has changed since: search again.";
 
 // --- explore/explore_view.js ---
-export const ITS_TEST = "Its test";
-export const OPEN_AS_SESSION = "Open it as a session";
+export const ITS_TEST = "Show as test";
+export const OPEN_AS_SESSION = "Open";
 export const AS_IT_IS_THERE = "a new session, with the board as it is there";
-export const ADD_TO_TESTS = "Add it to the tests";
+export const ADD_TO_TESTS = "Add to tests";
 export const AT_END = "at the end of Tests";
 /** @type {(line: number) => string} */
 export const lineOfSource = (line) => `Line ${line} of the source`;
@@ -77,9 +77,9 @@ export const NAMES = { board: "Board", program: "Source", properties: "Propertie
 
 // --- explore/find_test.js ---
 export const FOURTH_CALL = "the fourth call leads there, and the oldest return address is lost";
-export const BBL_LEADS = "a BBL leads there, and no call is open";
-export const MADE_THERE = "the instruction there makes the mistake";
-export const MORE_OFTEN = "it has come there more often than anything was pressed";
+export const RETURN_WITHOUT_CALL = "a BBL leads there, and no call is open";
+export const MISTAKE_CONFIRMED = "the instruction there makes the mistake";
+export const MORE_OFTEN = "the counter was there more often than anything was pressed";
 
 // --- explore/properties.js ---
 export const NO_OTHER_CODE = "no code that is not an instruction";
@@ -97,10 +97,6 @@ export const partOf = (part, whole) => `${part} of ${whole}`;
 export const figures = (seeds, steps, seconds, rate, states, isStopped) => (
   `# ${seeds.length === 1 ? "seed" : "seeds"} ${seeds.join(" ")}: ${steps} steps in ${seconds} s of processor time${rate}; `
   + `${states} states${isStopped ? "; stopped" : ""}`);
-/** @type {(states: string) => string} */
-export const neverInAll = (states) => `never, in all ${states} states`;
-/** @type {(states: string) => string} */
-export const holdsForAll = (states) => `holds for all ${states} states`;
 /** @type {(chains: string) => string} */
 export const chainsOfKeys = (chains) => `${chains} chains of keys`;
 /** @type {(steps: string, states: string) => string} */
@@ -109,7 +105,7 @@ export const NEVER_LOOKED_AT = "never checked";
 /** @type {(how: string, steps: string, cycles: string, seed: number) => string} */
 export const foundBy = (how, steps, cycles, seed) => `${how} by ${steps}, ${cycles} cycles (seed ${seed})`;
 /** @type {(run: string, ways: string) => string} */
-export const covered = (run, ways) => `${run} instructions were run, ${ways} ways of conditional jumps`;
+export const covered = (run, ways) => `${run} instructions were run, ${ways} branch directions`;
 /** @type {(lines: string) => string} */
 export const neverRun = (lines) => `never run: ${lines}`;
 /** @type {(lines: string) => string} */

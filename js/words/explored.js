@@ -1,4 +1,4 @@
-// What came of looking for what breaks properties, in words: of all, of one, of what was run. Without a document.
+// The results of a search for counterexamples, in words: of all, of one, of the coverage.
 
 import { counted } from "../core/bench/numbers.js";
 import { Coverage } from "../core/explore/search_coverage.js";
@@ -6,13 +6,13 @@ import { grouped, isRight, remarkOf, stepsOf } from "../core/explore/report.js";
 
 /**
  * @typedef {import("../core/explore/report.js").Report} Report
- * @typedef {import("../core/explore/report.js").Told} Told
+ * @typedef {import("../core/explore/report.js").PropertyResult} PropertyResult
  */
 
 const NEEDS_COMMAND = "a page cannot run a command; mcs4 explore --allow-model can";
 
 /**
- * How many are broken, and how many goals were not reached.
+ * Returns how many are broken, and how many goals were not reached.
  * @param {Report} report
  */
 function countsOf({ properties }) {
@@ -23,7 +23,7 @@ function countsOf({ properties }) {
 }
 
 /**
- * How far it is, or was by the end.
+ * Returns the progress, or the final state.
  * @param {Report} report
  */
 export function wordsOfFigures({ seeds, steps, seconds, states }) {
@@ -32,24 +32,25 @@ export function wordsOfFigures({ seeds, steps, seconds, states }) {
 }
 
 /**
- * What was found, while it looks on.
+ * The findings, while the search runs.
  * @param {Report} report
  */
 export function wordsSoFar(report) {
   const { broken } = countsOf(report);
-  return broken === 0 ? "It looks for keys that break a property." : `${counted(broken, "property is", "properties are")} broken so far.`;
+  return broken === 0 ? "Searching for keys that break a property." : `${counted(broken, "property is", "properties are")} broken so far.`;
 }
 
 /**
- * What was found in all.
+ * The findings in all.
  * @param {Report} report
  * @param {boolean} isStopped before the time was over
  */
 export function wordsOfEnd(report, isStopped) {
   const { broken, left } = countsOf(report);
-  const told = broken === 0 ? "Nothing was found that breaks a property." : `${counted(broken, "property is", "properties are")} broken.`;
+  const summary = broken === 0 ? "Nothing was found that breaks a property."
+    : `${counted(broken, "property is", "properties are")} broken.`;
   const goals = left === 0 ? "" : ` ${counted(left, "goal was", "goals were")} not reached.`;
-  return `${isStopped ? "Stopped. " : ""}${told}${goals}`;
+  return `${isStopped ? "Stopped. " : ""}${summary}${goals}`;
 }
 
 /**
@@ -62,8 +63,8 @@ export function markOfReport(report) {
 }
 
 /**
- * What stands before a property: a goal is open as long as it may be reached.
- * @param {Told} property
+ * The words before a property: a goal is open as long as it may be reached.
+ * @param {PropertyResult} property
  * @param {boolean} goesOn
  */
 export function markOf(property, goesOn) {
@@ -73,8 +74,8 @@ export function markOf(property, goesOn) {
 }
 
 /**
- * What stands behind it: nothing where all that is to say is how much was looked at.
- * @param {Told} property
+ * The words after it: none if the only thing to say is how much was searched.
+ * @param {PropertyResult} property
  * @param {Report} report
  */
 export function wordsOfProperty(property, report) {
@@ -85,15 +86,15 @@ export function wordsOfProperty(property, report) {
 }
 
 /**
- * What was run of the program: the part of the instructions, and of the ways of conditional jumps, with their words; and the lines that
- * were never run.
+ * The coverage of the program: the part of the instructions, and of the branch directions, with their words; and the
+ * lines that were never run.
  * @param {Report} report
  */
 export function coverageOf({ covered, instructions }) {
   const { run, all, ways, allWays, left } = new Coverage(covered).summary(instructions);
   return {
     instructions: { part: run, whole: all, words: `${run} of ${all} instructions were run` },
-    ways: { part: ways, whole: allWays, words: `${ways} of ${allWays} ways of conditional jumps` },
+    ways: { part: ways, whole: allWays, words: `${ways} of ${allWays} branch directions` },
     left,
   };
 }

@@ -1,4 +1,4 @@
-// What people read in the help, in the first program and in stories.
+// Texts that users read in the help, in the first program and in stories.
 
 // --- help/guide.js ---
 /** @type {(name: string) => string} */

@@ -1,4 +1,4 @@
-// What people read of programs in the spelling of other assemblers: why a line cannot be taken.
+// Texts that users read about programs in the spelling of other assemblers: why a line cannot be imported.
 
 // --- import/source_lines.js ---
 /** @type {(most: number) => string} */
@@ -36,7 +36,7 @@ export const NC_OF_WHOM = "NC means no condition (0) for Intel, and no carry (10
 export const of4040 = (word) => `${word} is an instruction of the 4040`;
 export const NO_PROGRAM_RAM = "WPM writes program RAM, which a board here does not have";
 /** @type {(word: string) => string} */
-export const notTaken = (word) => `${word} is not supported; write out what it stands for`;
+export const notSupported = (word) => `${word} is not supported; write out what it stands for`;
 export const PAST_LAST = "past the last address, FFF";
 /** @type {(word: string) => string} */
 export const noInstruction = (word) => `\`${word}\` is neither an instruction nor a directive that is supported`;

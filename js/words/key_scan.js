@@ -1,4 +1,4 @@
-// What people read of a routine that scans keys, which the page writes for a board: comments of the source.
+// Texts that users read about a routine that scans keys, which the page writes for a board: comments of the source.
 
 /** @type {(one: string, last: number, first: number, until: number) => string} */
 const from = (one, last, first, until) => (last === 0 ? `${one} ${first}` : `${one}s ${first} to ${until}`);
@@ -21,9 +21,9 @@ export const ramPort = (bank, chip) => `the port of RAM ${bank}.${chip}`;
 export const FIRST_ROW = "row 0 comes first";
 /** @type {(rows: number) => string} */
 export const counts = (rows) => `counts ${rows === 1 ? "1 row" : `${rows} rows`}`;
-export const ONE_COMES_IN = "a single 1 comes into the chain";
+export const ONE_ENTERS = "a single 1 enters the chain";
 /** @type {(bit: number) => string} */
-export const goesTo = (bit) => `it goes on to bit ${bit}`;
+export const goesTo = (bit) => `it moves on to bit ${bit}`;
 /** @type {(column: number) => string} */
 export const columnInCarry = (column) => `column ${column} is in the carry`;
 export const NEXT_ROW = "the 1 drives the next row";
@@ -32,8 +32,8 @@ export const NO_KEY = "no key is down";
 export const columnIsDown = (column) => `the key is in column ${column}`;
 export const LEAVES_ROWS = "the 1 leaves the rows";
 export const KEY_IS_DOWN = "a key is down";
-export const BIT_COMES = "the bit that comes into the chain";
+export const BIT_ENTERS = "the bit that enters the chain";
 export const CLOCK_LOW = "data, with the clock at 0";
 export const DATA = "data";
 export const CLOCK_RISES = "the clock rises: all bits move on";
-export const WAITS = "a program of your own goes on here";
+export const WAITS = "your own program continues here";

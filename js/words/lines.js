@@ -1,17 +1,19 @@
-// What people read of the lines of the bench: what each does, and why one is rejected.
+// Texts that users read about the lines of the bench: the effect of each, and why one is rejected.
 
 import { didYouMean } from "./text.js";
 
 /**
- * Lines by groups: the form of each, and what it does. Each is written to be read alone.
+ * Lines by groups: the form of each, and its effect. Each is written to be read alone.
  * @type {{ title: string, lines: [string, string][] }[]}
  */
 export const LINES_BY_GROUPS = [
-  { title: "Texts, up to a line that has a dot alone:",
+  { title: "Texts, up to a line with only a dot:",
     lines: [
-      ["wire, then a text", "replaces the board by the one that the text has"],
+      ["wire, then a text", "replaces the board with the one in the text"],
       ["asm, then a text", "assembles the text and puts its bytes into ROM"],
       ["map, then a text", "shows the addresses of a program's lines and names"],
+      ["wiring, then a text", "shows the first error of a board and its part"],
+      ["errors, then a text", "shows the first error of each line of a program"],
     ] },
   { title: "Commands:",
     lines: [

@@ -1,8 +1,8 @@
-// What people read of the machine: registers, RAM, ports, the listing, breakpoints and values.
+// Texts that users read about the machine: registers, RAM, ports, the listing, breakpoints and values.
 
 // --- machine/breakpoint_marks.js ---
 /** @type {(condition: string) => string} */
-export const whereHolds = (condition) => ` where ${condition}`;
+export const whereHolds = (condition) => ` if ${condition}`;
 /** @type {(from: number) => string} */
 export const fromHit = (from) => ` from hit ${from} on`;
 /** @type {(details: string) => string} */
@@ -10,7 +10,7 @@ export const breakpointThat = (details) => `breakpoint${details && ` ${details}`
 /** @type {(note: string) => string} */
 export const logs = (note) => `: logs "${note}" and continues`;
 /** @type {(words: string, fault: string) => string} */
-export const stopsAsUnsure = (words, fault) => `${words}: it stops at each arrival, because of an error: ${fault}`;
+export const stopsAlwaysByError = (words, fault) => `${words}: it stops at each arrival, because of an error: ${fault}`;
 /** @type {(words: string) => string} */
 export const isOff = (words) => `${words}: it is off`;
 /** @type {(words: string) => string} */
@@ -33,7 +33,7 @@ export const WORDS_OF_BREAKPOINT = "Breakpoint";
 export const CONDITION = "Condition";
 /** @type {(fault: string) => string} */
 export const stopsEachTime = (fault) => `It stops at each arrival, because of an error: ${fault}.`;
-export const STOPS_WHERE = "stops where this is true, as in: R5 >= 8 and cy = 1, count = 9 or lamp 3 on, display 42";
+export const STOPS_WHERE = "stops if this is true, as in: R5 >= 8 and cy = 1, count = 9 or lamp 3 on, display 42";
 export const SUCH_AS_CONDITION = "such as r9 = 9";
 export const HIT_COUNT = "Hit count";
 export const STOPS_FROM_HIT = "stops from this hit on";
@@ -79,10 +79,10 @@ export const ONCE = "once";
 export const manyTimes = (count) => `${count} times`;
 export const LAST = ", last";
 /** @type {(times: string, who: string) => string} */
-export const seenBy = (times, who) => `${times} as seen while time runs, last seen by ${who}`;
+export const seenBy = (times, who) => `${times} as seen while running, last seen by ${who}`;
 /** @type {(chips: number, isAll: boolean) => string} */
 export const heatCounted = (chips, isAll) => (
-  `Counted while time runs${chips > 1 ? `, in one of ${chips} chips at a time` : ""}${isAll ? "" : ", at full speed in samples"}.`);
+  `Counted while running${chips > 1 ? `, in one of ${chips} chips at a time` : ""}${isAll ? "" : ", at full speed in samples"}.`);
 export const NOTHING_EARLIER = "No earlier cycle is remembered.";
 /** @type {(time: string, isAll: boolean) => string} */
 export const inTheLast = (time, isAll) => `In the last ${time}${isAll ? "" : " (no more is remembered)"},`;
@@ -105,10 +105,10 @@ export const changedHow = (how) => `changed ${how}`;
 // --- machine/listing_rows.js ---
 /** @type {(address: string) => string} */
 export const insideBreakpoint = (address) => (
-  `breakpoint at ${address}, inside this instruction: a run that comes here does not stop; a click clears it`);
+  `breakpoint at ${address}, inside this instruction: a run that gets here does not stop; a click clears it`);
 
 // --- machine/machine_view.js ---
-export const OWED_STAYS = "No line changes what is owed: a step or a run does.";
+export const OWED_STAYS = "No line changes the pending cycle: a step or a run does.";
 export const PORTS_STAY = "No line changes a port: a program writes its latch, by WRR, and what it reads comes from keys and wires.";
 export const LINES_3_TO_0 = "lines 3 to 0";
 export const PORTS_OF_ROMS = "Ports of the ROMs";
@@ -119,7 +119,7 @@ export const RAM_PORTS_STAY = "No line changes the output of a RAM chip's port: 
 /** @type {(bank: number, chip: number, register: number) => string} */
 export const registerOfChip = (bank, chip, register) => `bank ${bank}, chip ${chip}, register ${register}`;
 export const NO_RAM = "This board has no RAM.";
-export const CHARACTERS = "characters 0 to F";
+export const CHARACTERS = "nibbles 0 to F";
 export const PORT = "port ";
 /** @type {(bank: number) => string} */
 export const bankOf = (bank) => `bank ${bank}`;
@@ -150,11 +150,11 @@ export const DOT_ENDS = "a line with only a dot ends the text";
 /** @type {(line: number) => string} */
 export const inThatLine = (line) => ` in line ${line}`;
 /** @type {(where: string, what: string) => string} */
-export const sourceHasFault = (where, what) => `The source has an error${where}: ${what}.`;
+export const sourceHasError = (where, what) => `The source has an error${where}: ${what}.`;
 /** @type {(address: string, line: number) => string} */
 export const noRomAt = (address, line) => `The board has no ROM at ${address}, where line ${line} of the source goes.`;
 /** @type {(address: string, line: number) => string} */
-export const differsAt = (address, line) => `The source differs from ROM at ${address}, line ${line}: assemble it.`;
+export const differsAt = (address, line) => `Source and ROM differ from line ${line} (${address}). Assemble to update.`;
 
 // --- machine/source_places.js ---
 /** @type {(address: string) => string} */
@@ -167,12 +167,12 @@ export const COUNTER_AND_RETURNS = "Counter and return addresses";
 
 // --- machine/usual_view.js ---
 /** @type {(fault: string) => string} */
-export const stopsBefore = (fault) => `time stops before ${fault}`;
+export const stopsBefore = (fault) => `pauses before ${fault}`;
 export const STOP_AT_THIS = " Break on this";
 
 // --- machine/watched_view.js ---
 /** @type {(most: number) => string} */
-export const mostWatched = (most) => `${most} is the most.`;
+export const mostWatched = (most) => `At most ${most}.`;
 /** @type {(name: string) => string} */
 export const stopWatching = (name) => `stop showing ${name}`;
 export const WHEN_PAUSED = "seen when paused";

@@ -1,4 +1,4 @@
-// What people read of the page as a whole: lines that are served, questions, notices, what the browser lacks.
+// Texts that users read about the page as a whole: lines that are served, questions, notices, missing features of the browser.
 
 // --- lines/lines_view.js ---
 export const LINES_HINT = "Enter runs, Shift+Enter adds a line, the up arrow recalls. Type help for commands.";
@@ -36,11 +36,11 @@ export const CLOSE = "Close";
 // --- ui/work_view.js ---
 export const CANCELLING = "Cancelling.";
 
-// --- board_ties.js ---
+// --- compose_board.js ---
 export const RECORDING_LINES = "Recording the lines.";
 export const NOTHING_RECORDED = "It was cancelled, and nothing was recorded.";
 
-// --- look_view.js ---
+// --- snapshot_view.js ---
 /** @type {(why: string) => string} */
 export const notSet = (why) => `Not set: ${why}`;
 export const NOT_DONE = "It was not done.";
@@ -51,7 +51,7 @@ export const MY_BOARD = "my board";
 
 // --- main.js ---
 export const NO_STORE = "This browser keeps nothing for this page: its store (IndexedDB) is missing, is blocked by the settings, or does "
-  + "not answer. All works, but save the session to a file before you leave.";
+  + "not answer. Everything works, but save the session to a file before you leave.";
 export const BULK_MEMORY = "WebAssembly with bulk memory";
 export const BIG_INTEGERS = "integers of any size (BigInt)";
 /** @type {(what: string, needs: string) => string} */
@@ -62,7 +62,7 @@ export const cannotStart = (why, needs) => `The bench could not be started: ${wh
 // --- ui/status_view.js ---
 export const ROM_MATCHES = "ROM matches source";
 export const ROM_DIFFERS = "ROM differs from source";
-/** Whether the session is saved. */
+/** True if the session is saved. */
 export const SAVED = { example: "Not saved", saved: "Saved in this browser", failed: "Not saved" };
 
 // --- print_view.js ---
@@ -77,10 +77,10 @@ export const WORKER_RESTARTED = "The bench's worker has stopped and was started 
 /** @type {(why: string) => string} */
 export const cannotRestart = (why) => `The bench has stopped and could not be started again: ${why}. Save the session to a file.`;
 
-// --- session_ties.js ---
+// --- compose_session.js ---
 export const TAKE_FROM_ROM = "Disassemble ROM";
 
-// --- text_ties.js ---
+// --- compose_texts.js ---
 export const RUNNING_TESTS = "Running the tests.";
 export const KEY_SCAN_INSERTED = "A routine that scans the keys is at the end of the source.";
 /** @type {(line: number) => string} */

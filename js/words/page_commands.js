@@ -1,6 +1,6 @@
-// What people read of commands: their names, their groups, and why one cannot be done now; the command palette; the list of keys.
+// Texts that users read about commands: their names, their groups, and why one cannot be done now; the command palette; the list of keys.
 
-/** The groups, in the order in which lists have them. */
+/** The groups, in the order of lists. */
 export const GROUPS = {
   time: "Time", project: "Project", show: "Show", board: "Board", text: "Text", debug: "Debug", tests: "Tests and properties",
   wiring: "Wiring", waves: "Waves", settings: "Settings", help: "Help", example: "Example", key: "Key of the board",
@@ -159,7 +159,7 @@ export const FILE = "File";
 export const THEME = "Theme";
 /** @type {Record<string, string>} shorter words on a button that has the command's name */
 export const SHORT = { "project.share": "Share" };
-/** @type {Record<string, string>} what a tooltip says beside the name of a command, by its id */
+/** @type {Record<string, string>} the text of a tooltip after the name of a command, by its id */
 export const TIPS = {
   "time.over": "Step over: one instruction; a subroutine that it calls runs whole",
   "time.into": "Step into: one instruction, into a subroutine that it calls",
@@ -168,10 +168,10 @@ export const TIPS = {
 };
 
 // --- commands/empty_panels.js ---
-/** @type {Record<string, { words: string, button: string }>} what a panel is for while it is empty, by the id of its list */
+/** @type {Record<string, { words: string, button: string }>} the purpose of a panel while it is empty, by the id of its list */
 export const EMPTY = {
-  "watched-list": { words: "Values under your own names.", button: "Add a watch" },
-  "breakpoint-list": { words: "", button: "Set one at the cursor" },
+  "watched-list": { words: "Named values.", button: "Add a watch" },
+  "breakpoint-list": { words: "", button: "Set at cursor" },
   "waves": { words: "Lamps, lines and registers over time, as a logic analyser shows them.", button: "Record" },
   "log": { words: "Lines for the bench, and its answers: type help, or poke r5 9.", button: "Type a line" },
 };
@@ -202,7 +202,7 @@ export const A_PROJECT = "project";
 export const KEY_TABLE = "Keys of commands";
 export const KEY = "Key";
 export const DOES = "Does";
-/** Where a key works that does not work everywhere, by its place. */
+/** The place of a key that does not work everywhere. */
 export const WHERE = {
   everywhere: "", texts: "in the texts", source: "in Source", board: "in Board", tests: "in Tests", properties: "in Properties",
 };

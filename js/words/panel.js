@@ -1,4 +1,4 @@
-// What people read at the panel of a terminal, `mcs4 panel`.
+// Texts that users read at the panel of a terminal, `mcs4 panel`.
 
 // --- panel/terminal_panel.js ---
 /** @type {(line: string, answer: string, words: string) => string} */
@@ -23,7 +23,7 @@ export const sourceHere = (place, line, text) => `${place}, line ${line}: ${text
 export const returnTo = (place) => `  ret ${place}`;
 /** @type {(chip: string, out: string) => string} */
 export const portOf = (chip, out) => `${chip} out ${out}`;
-export const PAPER = "--- paper --------------";
+export const PAPER = "--- printout -----------";
 /** @type {(test: string, hasMoreRam: boolean) => string} */
 export const keyLine = (test, hasMoreRam) => (
   `space pause/run  Enter step  Tab break  ^T ${test}  ^R reset  ^D end${hasMoreRam ? "  arrows RAM" : ""}`);

@@ -1,4 +1,4 @@
-// What people read at the prompt of mcs4 debug.
+// Texts that users read at the prompt of mcs4 debug.
 
 // --- prompt/breakpoint_commands.js ---
 export const WHICH_ONE = "which one? info breakpoints has their numbers";
@@ -45,7 +45,7 @@ export const tooManyCommands = (most) => `a breakpoint has at most ${most} comma
 /** @type {(id: number) => string} */
 export const commandsDropped = (id) => `the commands of breakpoint ${id} are dropped`;
 /** @type {(id: number) => string} */
-export const temporaryGone = (id) => `Breakpoint ${id} was temporary, and is deleted.`;
+export const temporaryDeleted = (id) => `Breakpoint ${id} was temporary, and is deleted.`;
 /** @type {(name: string, count: number) => string} */
 export const savedIn = (name, count) => `${count} ${count === 1 ? "breakpoint" : "breakpoints"} saved in ${name}.`;
 
@@ -99,7 +99,7 @@ export const IN_MEMORY = "in memory: nothing is kept";
 /** @type {(kinds: string) => string} */
 export const infoShows = (kinds) => `info shows ${kinds}`;
 /** @type {(kind: string) => string} */
-export const infoAlone = (kind) => `info ${kind} takes nothing after it`;
+export const infoTakesNoArgument = (kind) => `info ${kind} takes no argument`;
 export const SYMBOL_FORM = "it is written as info symbol PLACE, as info symbol 0x00F";
 export const NO_LOCALS = "a 4004 has no local variables; info registers shows the registers, info names the names of the program";
 /** @type {(line: number, first: string, name: string, last: string) => string} */
@@ -118,9 +118,9 @@ export const noRamAt = (place) => `the board has no RAM at ${place}`;
 
 // --- prompt/move_commands.js ---
 export const UNTIL_FORM = "it is written as until PLACE or until CONDITION, as until show, until r5 > 8";
-export const REVERSE_FORM = "reverse-continue takes nothing after it; reverse-step N goes back N instructions";
-export const FINISH_FORM = "finish takes nothing after it";
-export const CONTINUE_FORM = "continue takes nothing after it; run TIME runs for a time";
+export const REVERSE_FORM = "reverse-continue takes no argument; reverse-step N goes back N instructions";
+export const FINISH_FORM = "finish takes no argument";
+export const CONTINUE_FORM = "continue takes no argument; run TIME runs for a time";
 export const NOTHING_STOPS = "nothing would stop it: set a breakpoint, or let a time pass by run 100 ms";
 /** @type {(words: string, left: string) => string} */
 export const notPressed = (words, left) => `${words} Not pressed: ${left}.`;
@@ -129,10 +129,10 @@ export const notPressed = (words, left) => `${words} Not pressed: ${left}.`;
 /** @type {(where: string) => string} */
 export const backInSubroutine = (where) => `Back in the subroutine, at ${where}: what is remembered begins in it.`;
 /** @type {(where: string) => string} */
-export const backAt = (where) => `Back at ${where}: this instruction is not done.`;
+export const backAt = (where) => `Back at ${where}: this instruction has not run yet.`;
 
 // --- prompt/debugger_prompt.js ---
-/** How the words of what did nothing begin. */
+/** The beginning of the words about what did nothing. */
 export const NOTHING_DONE = "Nothing was done";
 export const PAGE_REMEMBERS = "the page remembers";
 export const SESSION_REMEMBERS = "the session remembers";

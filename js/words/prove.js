@@ -1,4 +1,4 @@
-// What people read of proofs: that properties hold for all inputs, and why something is not decided.
+// Texts that users read about proofs: that properties hold for all inputs, and why something is not decided.
 
 // --- prove/decided.js ---
 export const LOOKS_AT_TOO_MUCH = "its condition looks at too much at once";
@@ -35,6 +35,9 @@ export const moreThan = (states) => `more than ${states} states; a larger number
 export const fullAfter = (states) => `there is no memory for more than ${states} states; mcs4 prove, in a terminal, has more`;
 
 // --- prove/verdicts.js ---
+export const STATE = "state";
+export const SET = "set of states";
+export const SETS = "sets of states";
 /** @type {(words: string) => string} */
 export const notDecided = (words) => `TODO not decided: ${words}`;
 /** @type {(states: string) => string} */
@@ -52,7 +55,13 @@ export const foundBy = (steps, cycles, isGoal) => `${isGoal ? "reached" : "broke
 /** @type {(most: string) => string} */
 export const moreStates = (most) => `more than ${most} states; --most allows more`;
 export const NO_MEMORY = "there is no memory for more states";
+/** @type {(states: string) => string} */
+export const noRoom = (states) => `there is no memory for more than ${states} states`;
+/** @type {(states: string, megabytes: number) => string} */
+export const noRoomIn = (states, megabytes) => `there is no room for more than ${states} states in ${megabytes} MB; --memory allows more`;
 export const GAVE_UP = "the prover gave up";
+/** @type {(number: number, count: number, property: string, seconds: number) => string} */
+export const provingSoFar = (number, count, property, seconds) => `proving ${number} of ${count}, ${seconds} s: ${property}`;
 /** @type {(words: string) => string} */
 export const proverEnded = (words) => `the prover ended without an answer: ${words}`;
 
@@ -60,7 +69,6 @@ export const proverEnded = (words) => `the prover ended without an answer: ${wor
 export const PROVE = "Prove";
 export const CANCEL = "Cancel";
 export const STATES_FORM = "The states are a number, 1 to 999,999,999.";
-export const NO_PROPERTY = "Properties has no property: a line that begins with never, always, at or reach, for example.";
 export const CANCELLED_EARLY = "It was cancelled before anything was proved.";
 /** @type {(property: string) => string} */
 export const nextStepBreaks = (property) => `The next step breaks: ${property}`;
@@ -69,17 +77,17 @@ export const nextStepReaches = (property) => `The next step reaches: ${property}
 
 // --- page/prove/proofs_view.js ---
 export const CHANGED = "the program, the board or the text has changed since";
-export const ITS_TEST = "Its test";
+export const ITS_TEST = "Show as test";
 export const ITS_LINES = "Its lines";
 export const OPEN_FOUND = "Open counterexample";
 export const OPEN_WAY = "Open the way there";
-export const BEFORE_IT = "a new session, stopped before the step that breaks it; time goes back from there";
-export const BEFORE_GOAL = "a new session, stopped before the step that reaches it; time goes back from there";
-export const ADD_TO_TESTS = "Add it to the tests";
+export const BEFORE_IT = "a new session, paused before the step that breaks it; time goes back from there";
+export const BEFORE_GOAL = "a new session, paused before the step that reaches it; time goes back from there";
+export const ADD_TO_TESTS = "Add to tests";
 export const AT_END = "at the end of Tests";
 
 // --- words/proved.js ---
-/** What is said of a property, in one or two words. */
+/** The verdict on a property, in one or two words. */
 export const MARKS = { proved: "proved", never: "never reached", fails: "can fail", reached: "reached", open: "not decided" };
 /** @type {(states: string) => string} */
 export const forAllInputs = (states) => `for all inputs: ${states}`;

@@ -1,7 +1,7 @@
-// What came of proving properties on the page, in words: of all, of one. Without a document.
+// The results of proving properties on the page, in words: of all, of one.
 
-import { counted } from "../core/bench/numbers.js";
 import { grouped, stepsOf } from "../core/explore/report.js";
+import { statesOf } from "../core/prove/verdicts.js";
 import * as say from "./prove.js";
 
 /**
@@ -15,7 +15,7 @@ export function isRight({ isGoal, verdict }) {
 }
 
 /**
- * What is said of a property, in one or two words: proved, or not.
+ * The verdict on a property, in one or two words: proved, or not.
  * @param {JudgedLine} judged
  */
 export function markOf({ isGoal, verdict }) {
@@ -25,12 +25,12 @@ export function markOf({ isGoal, verdict }) {
 }
 
 /**
- * What is said beside the mark.
+ * The words next to the mark.
  * @param {JudgedLine} judged
  */
 export function wordsOfVerdict({ isGoal, verdict }) {
   if (verdict.kind === "open") return verdict.words;
-  if (verdict.kind === "proved") return say.forAllInputs(counted(verdict.states, "state"));
+  if (verdict.kind === "proved") return say.forAllInputs(statesOf(verdict));
   const { steps, cycles } = verdict.found;
   return say.foundBy(stepsOf(steps), grouped(cycles), isGoal);
 }
@@ -46,7 +46,7 @@ function countsOf(judged) {
 }
 
 /**
- * What came of all: `2 proved, 1 can fail.`
+ * The verdicts on all: `2 proved, 1 can fail.`
  * @param {JudgedLine[]} judged
  * @param {boolean} isStopped
  */
@@ -55,12 +55,12 @@ export function wordsOfEnd(judged, isStopped) {
   /** @type {[number, (count: string) => string][]} */
   const counts = [[proved, say.countProved], [broken, say.countBroken], [reached, say.countReached], [never, say.countNever],
     [open, say.countOpen]];
-  const told = counts.filter(([number]) => number > 0).map(([number, words]) => words(grouped(number)));
-  return `${isStopped ? say.CANCELLED : ""}${told.join(", ")}.`;
+  const parts = counts.filter(([number]) => number > 0).map(([number, words]) => words(grouped(number)));
+  return `${isStopped ? say.CANCELLED : ""}${parts.join(", ")}.`;
 }
 
 /**
- * How far it is.
+ * Returns the progress.
  * @param {Progress} progress
  */
 export function wordsSoFar({ judged, count, states }) {

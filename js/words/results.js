@@ -1,4 +1,4 @@
-// What came of tests, in words: of all, of one, of what was counted. Without a document.
+// The results of tests, in words: of all, of one, of the counts.
 
 import { counted } from "../core/bench/numbers.js";
 import { wordsOfCoverage } from "../core/testing/coverage.js";
@@ -14,7 +14,7 @@ import { CYCLE_MS } from "../core/time/mcs4_time.js";
 const WHERE = { board: "Board", program: "Source", tests: "Tests", properties: "Properties" };
 
 /**
- * How many passed, and how many did not.
+ * Returns how many passed, and how many did not.
  * @param {Outcome[]} outcomes
  */
 export function wordsOfOutcomes(outcomes) {
@@ -53,12 +53,12 @@ export function wordsOfTime({ cycles }) {
 }
 
 /**
- * What the tests have run of the program.
+ * The coverage of the program by the tests.
  * @param {Report} report
  */
 export function wordsOfCounts({ coverage }) {
   if (!coverage || coverage.instructions === 0) return "";
   const ways = coverage.lines.filter(({ isJump, count, taken }) => isJump && count > 0 && (taken === 0 || taken === count)).length;
   const oneWay = ways === 0 ? "" : ` ${counted(ways, "jump")} always went one way.`;
-  return `${wordsOfCoverage(coverage)}.${oneWay} The counts stand beside the source.`;
+  return `${wordsOfCoverage(coverage)}.${oneWay} Counts are in the margin.`;
 }

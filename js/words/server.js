@@ -1,4 +1,4 @@
-// What people read of the language server, in an editor, and of project files.
+// Texts that users read about the language server, in an editor, and of project files.
 
 // --- server/beside_language.js ---
 /** @type {(file: string) => string} */
@@ -24,9 +24,9 @@ export const standsIn = (isChain, line) => `; its ${isChain ? "chain" : "chip"} 
 export const messageTooLong = (bytes) => `a message of ${bytes} bytes was not read`;
 export const NOT_JSON = "a message is not JSON";
 export const MESSAGE_FORM = "a message has jsonrpc \"2.0\", a method, and an id if it is answered";
-export const EXIT_AFTER_SHUTDOWN = "after shutdown comes exit alone";
-export const INITIALIZE_FIRST = "initialize comes first";
-export const INITIALIZE_ONCE = "initialize comes once";
+export const EXIT_AFTER_SHUTDOWN = "after shutdown only exit is accepted";
+export const INITIALIZE_FIRST = "send initialize first";
+export const INITIALIZE_ONCE = "initialize can be sent only once";
 /** @type {(method: string) => string} */
 export const noMethod = (method) => `there is no ${method} here`;
 /** @type {(id: number | string | null) => string} */

@@ -1,6 +1,6 @@
-// What people read of sessions: those that are kept, files, links, projects, texts.
+// Texts that users read about sessions: saved ones, files, links, projects, texts.
 
-// --- session/bin.js ---
+// --- session/trash.js ---
 /** @type {(count: number) => string} */
 export const manySessions = (count) => `${count} sessions`;
 /** @type {(name: string) => string} */
@@ -8,7 +8,7 @@ export const openElsewhere = (name) => `The session "${name}" is open in another
 /** @type {(name: string, why: string) => string} */
 export const notDeleted = (name, why) => `The session "${name}" was not deleted: ${why}.`;
 /** @type {(name: string, why: string) => string} */
-export const notBroughtBack = (name, why) => `The session "${name}" was not brought back: ${why}.`;
+export const notRestored = (name, why) => `The session "${name}" was not brought back: ${why}.`;
 
 // --- session/current_session.js ---
 export const STOPPED = "Paused.";
@@ -17,7 +17,7 @@ export const titleOfPage = (name) => `${name} - Fethsaim`;
 /** @type {(why: string) => string} */
 export const notKept = (why) => `This session is not kept: ${why}. It is still in this page; save it to a file.`;
 
-// --- session/described.js ---
+// --- session/session_summary.js ---
 /** The parts of a board that are counted, one of each. */
 export const PARTS = ["ROM", "RAM chip", "shift register", "lamp", "key"];
 export const NO_CHIP = "no chip yet";
@@ -76,12 +76,12 @@ export const UNDO = "Undo";
 // --- session/opened_file.js ---
 /** @type {(why: string) => string} */
 export const opens = (why) => (
-  `${why}; the page opens projects (.mcsp), sessions (.mcs), programs (.asm), boards (.toml), tests (.test), `
+  `${why}; supported are projects (.mcsp), sessions (.mcs), programs (.asm), boards (.toml), tests (.test), `
   + "properties (.props), lines (.txt) and ROM (.hex, .bin)");
 export const NAMES_FILES = "it names files of a project: drop its folder on the page, or choose all of them";
 export const NOT_A_KIND = "not a kind of text that the bench has";
 /** @type {(size: string, most: string) => string} */
-export const tooLong = (size, most) => `a text of ${size} characters, and ${most} is the most`;
+export const tooLong = (size, most) => `a text of ${size} characters; at most ${most} are accepted`;
 export const NOT_A_TEXT = "not a text, a session or a project";
 export const EMPTY = "it is empty";
 
@@ -95,18 +95,18 @@ export const SOURCE_TEXT = "the source";
 export const TESTS_TEXT = "the tests' text";
 export const PROPERTIES_TEXT = "the properties' text";
 /** @type {(what: string, size: string, most: string) => string} */
-export const textTooLong = (what, size, most) => `${what} has ${size} characters, and ${most} is the most`;
+export const textTooLong = (what, size, most) => `${what} has ${size} characters; at most ${most} are accepted`;
 /** @type {(line: number, wanted: string) => string} */
 export const hasToBe = (line, wanted) => `line ${line} of the project must be ${wanted}`;
 /** @type {(word: string) => string} */
-export const noEnd = (word) => `the text after \`${word}\` has no end, a line with a dot alone`;
+export const noEnd = (word) => `the text after \`${word}\` has no end, a line with only a dot`;
 export const NO_PROJECT = "not a project of Fethsaim";
 /** @type {(version: string) => string} */
 export const otherVersion = (version) => `a project of version ${version}, which is not known here`;
 /** @type {(line: string) => string} */
 export const cutOff = (line) => `the project is cut off: its last line, \`${line}\`, is missing`;
-export const OTHER_CHECKSUM = "the project is damaged, or was changed by hand: its checksum is another one. "
-  + "Whoever changes one by hand takes its line `cksum` out";
+export const OTHER_CHECKSUM = "the project is damaged, or was edited: its checksum is wrong. "
+  + "If you edit a project, delete its line `cksum`";
 /** @type {(line: number) => string} */
 export const notOfSession = (line) => `line ${line} of the project is not one of a session`;
 export const TOO_MANY_BYTES = "the file has more bytes than a project can have";
@@ -130,37 +130,38 @@ export const emptyValue = (line) => `line ${line} is empty; a value is a line su
 /** @type {(chip: number, address: string) => string} */
 export const lacksRom = (chip, address) => (
   `the board has no ROM ${chip}, where the image has bytes (${address}): wire a [[rom]] with chip = ${chip}`);
-/** @type {(bytes: string, name: string, stand: string, first: string) => string} */
-export const bytesInRom = (bytes, name, stand, first) => `${bytes} of ${name} ${stand} in ROM, from ${first} on; nothing was reset.`;
+/** @type {(bytes: string, name: string, isOne: boolean, first: string) => string} */
+export const bytesInRom = (bytes, name, isOne, first) => (
+  `${bytes} of ${name} ${isOne ? "is" : "are"} in ROM, from ${first} on; nothing was reset.`);
 
 // --- session/session_manager.js ---
-export const IN_ANOTHER_TAB = "This session is open in another tab. Go on there, close that tab, or open a copy of it.";
+export const IN_ANOTHER_TAB = "This session is open in another tab. Continue there, close that tab, or open a copy of it.";
 export const OPEN_A_COPY = "Open a copy";
 /** @type {(why: string) => string} */
 export const cannotReadKept = (why) => `The sessions that are kept could not be read: ${why}.`;
 export const NO_LONGER_KEPT = "it is no longer kept here";
 /** @type {(why: string) => string} */
-export const notOpened = (why) => `The session was not opened: ${why}.`;
+export const notOpened = (why) => `Cannot open the session: ${why}.`;
 /** @type {(why: string) => string} */
 export const notMade = (why) => `No session was made: ${why}.`;
 /** @type {(name: string) => string} */
 export const aCopy = (name) => `${name}, a copy`;
 /** @type {(name: string, why: string) => string} */
-export const fileNotOpened = (name, why) => `${name} was not opened: ${why}. The session that is shown is as it was.`;
+export const fileNotOpened = (name, why) => `Cannot open ${name}: ${why}. The session that is shown is as it was.`;
 export const THE_FOLDER = "the folder";
 /** @type {(why: string) => string} */
 export const noProjectSaved = (why) => (
   `No project was saved: ${why}. Shorten it first; "Save session for mcs4" saves the session without its texts.`);
 
 // --- session/sessions_controller.js ---
-export const KEPT_HERE = "They are kept in this browser, on this machine. To have one elsewhere, or to be safe when the browser forgets, "
-  + "save it to a file. An example is kept from the first thing on that you do in it.";
-export const PROMISED = "\" The browser has promised to keep them even where its space is short.\"";
+export const KEPT_HERE = "They are saved in this browser only. Download a copy to keep one safe. "
+  + "Examples are saved once you change something.";
+export const PROMISED = " The browser has promised to keep them even when space is short.";
 export const KEPT_NOWHERE = "This browser keeps nothing for this page: save a session to a file before you leave.";
 /** @type {(name: string, isKept: boolean) => string} */
 export const sessionLeft = (name, isKept) => (
-  `The session "${name}" ${isKept ? "is kept" : "stays as long as this page is open"}, as you left it.`);
-export const BACK_TO_IT = "Back to it";
+  `"${name}" ${isKept ? "is saved" : "stays until this page is closed"}.`);
+export const BACK_TO_IT = "Reopen";
 /** @type {(name: string) => string} */
 export const noSuchExample = (name) => `The address names an example, "${name}", that this page does not have.`;
 /** @type {(hash: string) => string} */
@@ -169,7 +170,7 @@ export const namesNothing = (hash) => (
 /** @type {(names: string) => string} */
 export const deleted = (names) => `Deleted ${names}.`;
 /** @type {(name: string) => string} */
-export const notByItself = (name) => `The session "${name}" was not opened automatically: when it was last opened, that did not end.`;
+export const notByItself = (name) => `The session "${name}" was not opened automatically: the last time, opening it did not finish.`;
 export const OPEN_IT = "Open it";
 export const DELETE_IT = "Delete it";
 
@@ -193,29 +194,29 @@ export const THE_TESTS = "the tests";
 export const THE_PROPERTIES = "the properties";
 /** @type {(parts: string, last: string) => string} */
 export const itHolds = (parts, last) => `It holds ${parts} and ${last}, not the state of the machine.`;
-export const OF_A_FILE = " This page was opened from a file, so the link finds it on this machine alone: whoever has the page elsewhere "
-  + "puts the part from # on behind its address there.";
-export const LONG = "Some programs that carry messages cut a link of more than 8,000; a project file is safer.";
+export const OF_A_FILE = " This page was opened from a file, so the link works only on this machine. Others append the part from # "
+  + "on to the address of their own page.";
+export const LONG = "Some messaging programs cut a link of more than 8,000 characters; a project file is safer.";
 /** @type {(why: string) => string} */
 export const noLink = (why) => `No link was made: ${why}. Shorten it first.`;
 /** @type {(count: string) => string} */
 export const characters = (count) => `${count} characters`;
-/** @type {(size: string, told: string) => string} */
-export const linkCopied = (size, told) => `A link of ${size} was copied. ${told}`;
+/** @type {(size: string, warning: string) => string} */
+export const linkCopied = (size, warning) => `A link of ${size} was copied. ${warning}`;
 export const TOO_LONG_LINK = "Too long for a link";
 /** @type {(size: string, most: string) => string} */
 export const longLink = (size, most) => (
-  `These texts would make a link of ${size}, and browsers show none of more than ${most}. A project file has no such limit.`);
+  `These texts would make a link of ${size}; browsers show at most ${most}. A project file has no such limit.`);
 export const SAVE_PROJECT = "Save a project";
 export const LEAVE_IT = "Leave it";
 export const THE_LINK = "The link";
 export const COPY_LINK = "Copy this link";
-export const COPY_BY_HAND = "The browser does not let the page copy. Copy the link by hand.";
+export const COPY_BY_HAND = "The browser does not let the page copy. Copy the link manually.";
 /** @type {(name: string) => string} */
 export const openFromLink = (name) => `Open "${name}" from a link?`;
 export const OPEN_AS_NEW = "Open it as a new session";
 /** @type {(why: string) => string} */
-export const linkNotOpened = (why) => `The link was not opened: ${why}. What was here stays as it was.`;
+export const linkNotOpened = (why) => `Cannot open the link: ${why}. What was here stays as it was.`;
 /** @type {(isBoard: boolean, why: string) => string} */
 export const benchRefusesText = (isBoard, why) => (
   `The bench rejects its ${isBoard ? "board" : "source"} (${why}). The text is opened all the same.`);
@@ -237,11 +238,11 @@ export const NO_SPACE = "the browser has no more space for this page";
 export const storeFailed = (name) => `the browser's store failed (${name})`;
 
 // --- session/texts_controller.js ---
-/** The texts, as they are called in words. */
+/** The names of the texts in messages. */
 export const WHICH_TEXT = {
   board: "The board's text", program: "The source", tests: "The text of tests", properties: "The text of properties",
 };
-/** Where a text stands that is for the board and the program as they are, and what is done with it. */
+/** The position of a text for the present board and program, and its use. */
 export const BESIDE = {
   tests: "is in Tests. Run tests runs it on Board and Source as they are now.",
   properties: "is in Properties. Search looks for what breaks it, on Board and Source as they are now.",
@@ -255,7 +256,7 @@ export const BOARD_AND_SOURCE = "Board and Source";
 export const textIsIn = (name, where, what, then) => `${name} is in ${where}. ${what}${then}.`;
 export const THEN_ASSEMBLE = ", then Assemble and run";
 export const SAME_AS_ROM = "The source is the same as ROM already.";
-export const TAKEN_FROM_ROM = "The source was taken from ROM.";
+export const TAKEN_FROM_ROM = "The source was disassembled from ROM.";
 export const REPLACE_SOURCE = "Replace the source?";
 /** @type {(old: string, found: string) => string} */
 export const sizesOfSources = (old, found) => `The source has ${old}. What is in ROM gives ${found}, without comments and names.`;
@@ -266,7 +267,7 @@ export const eachLineWrong = (name) => `Each line of ${name} has an error, so it
 export const REPLACE_IT = "Replace it";
 export const LEAVE_AS_IS = "Leave it as it is";
 /** @type {(what: string) => string} */
-export const textIsBack = (what) => `${what} is back as it was.`;
-export const TEXTS_ARE_BACK = "The board's text and the source are back as they were.";
+export const textRestored = (what) => `${what} is back as it was.`;
+export const TEXTS_RESTORED = "The board's text and the source are back as they were.";
 /** @type {(name: string) => string} */
 export const inOtherSession = (name) => `That was in the session "${name}". Open it first; then it can be undone.`;

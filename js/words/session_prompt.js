@@ -1,12 +1,13 @@
-// What people read at the prompt of mcs4 new and mcs4 open, beside the answers.
+// Texts that users read at the prompt of mcs4 new and mcs4 open, in addition to the answers.
 
 // --- prompt/bench_prompt.js ---
 export const BEGINNING = "help shows the lines, quit leaves.";
 export const OWN_TITLE = "At this prompt:";
 /** Lines of the prompt itself, and what they do. @type {[string, string][]} */
 export const OWN_LINES = [
-  ["wire FILE, asm FILE", "takes the text of the board, or program, in a file"],
+  ["wire FILE, asm FILE", "reads the text of the board, or program, in a file"],
   ["map FILE", "shows the addresses of the program in a file"],
+  ["wiring FILE, errors FILE", "shows what is wrong with the text in a file"],
   ["source FILE", "serves the lines of a file, up to an error"],
   ["help LINE", "explains a line; also help places, help 41"],
   ["quit", "leaves; so does Ctrl-D"],

@@ -5,7 +5,7 @@ import { wordsOfCycles } from "../core/time/cycles.js";
 
 /**
  * @typedef {import("../core/engine/going_back.js").BackGoal} BackGoal
- * @typedef {import("../core/bench/protocol.js").Gone} Gone
+ * @typedef {import("../core/bench/protocol.js").TravelResult} TravelResult
  * @typedef {import("../core/debug/debugger.js").Stop} Stop
  * @typedef {import("../core/debug/goals.js").Goal} Goal
  * @typedef {import("../core/machine/source_map.js").SourceMap} SourceMap
@@ -15,12 +15,12 @@ import { wordsOfCycles } from "../core/time/cycles.js";
 export const REASONS = {
   code: "before a code that is not an instruction",
   break: "at a breakpoint",
-  watch: "after a watched character changed",
-  usual: "before a fault that is reported",
-  recorded: "where the waves after the trigger are recorded",
+  watch: "after a watched nibble changed",
+  usual: "before a mistake that is reported",
+  recorded: "because the waves after the trigger are recorded",
 };
 
-/** Out of a subroutine goes only who is in one. */
+/** Only a running subroutine can be stepped out of. */
 export const NO_CALL_WAITS = "no call waits for its return here";
 
 /** @type {(line: number) => string} a line of a text, by its number */
@@ -29,7 +29,7 @@ export const wordsOfLine = (line) => `line ${line}`;
 /**
  * An address with its name and its line: `00D (show + 3, line 12)`.
  * @param {string} address as it is written
- * @param {SourceMap | null} map the program that stands in ROM
+ * @param {SourceMap | null} map the program in ROM
  */
 export function wordsOfAddress(address, map) {
   const number = parseInt(address, 16);
@@ -39,26 +39,26 @@ export function wordsOfAddress(address, map) {
 }
 
 /**
- * What going back or forward came to.
+ * The result of going back or forward.
  * @param {BackGoal | { kind: "forward" }} goal
- * @param {Pick<Gone, "isDone" | "why" | "place" | "from" | "to" | "line" | "end" | "cycles">} gone
- * @param {string} where time stands still
- * @param {{ condition: string }} [breakpoint] at which it arrived there
+ * @param {Pick<TravelResult, "isDone" | "why" | "place" | "from" | "to" | "line" | "end" | "cycles">} gone
+ * @param {string} where the place where time is paused
+ * @param {{ condition: string }} [breakpoint] the breakpoint at the arrival
  */
 export function wordsOfGone(goal, gone, where, breakpoint) {
   const { isDone, why, from, to, line, end, cycles } = gone;
   if (!isDone) return `Nothing was done: ${whyNot(goal, why)}.`;
   const over = cycles === 0 ? "" : `, ${wordsOfCycles(cycles)}`;
   if (goal.kind === "forward") return `Forward again to ${where}${over}${over && " later"}.`;
-  const before = cycles === 0 ? "" : `${over} before`;
+  const before = cycles === 0 ? "" : `${over} earlier`;
   if (goal.kind === "stop") return `Back at the stop at ${where}${before}.`;
-  if (goal.kind === "instruction") return `Back at ${where}${before}: this instruction is not done.`;
+  if (goal.kind === "instruction") return `Back at ${where}${before}: this instruction has not run yet.`;
   if (goal.kind === "call") return `Back at ${where}${before}: the subroutine begins here.`;
   if (end === "break") {
     const when = wordsOfWhen(breakpoint && { ...breakpoint, from: 1, hits: 0 });
     return `Back at ${where}${before}, at a breakpoint${when}.`;
   }
-  if (end === "beginning") return `Back at ${where}${before}, where what is remembered begins: no breakpoint was passed since.`;
+  if (end === "beginning") return `Back at ${where}${before}, at the beginning of what is remembered: no breakpoint was passed since.`;
   const who = line ? `the line ${line}` : "this instruction";
   if (goal.kind === "when") return `Back at ${where}${before}: ${who} makes ${goal.condition} true.`;
   return `Back at ${where}${before}: ${who} changes ${gone.place} from ${from} to ${to}.`;
@@ -69,7 +69,7 @@ export function wordsOfGone(goal, gone, where, breakpoint) {
  * @param {string} why
  */
 function whyNot(goal, why) {
-  if (goal.kind === "forward") return "forward leads where going back came from, until something else is done";
+  if (goal.kind === "forward") return "forward returns to where going back started, until something else is done";
   if (goal.kind === "stop") return "no stop before this one is remembered";
   if (goal.kind === "call") return "what is remembered does not reach back to the call";
   if (goal.kind === "instruction" || why === "short" && goal.kind === "arrival") return "what is remembered reaches no further back";
@@ -79,10 +79,10 @@ function whyNot(goal, why) {
 }
 
 /**
- * When a place changed last, and by what; "" where there is no such place.
+ * Returns when a place changed last, and by what; "" if there is no such place.
  * @param {string} name of the place
- * @param {import("../core/debug/debugger.js").LastChange} told
- * @param {SourceMap | null} map the program that stands in ROM
+ * @param {import("../core/debug/debugger.js").LastChange} change
+ * @param {SourceMap | null} map the program in ROM
  */
 export function wordsOfLastChange(name, { isFound, why, from, to, line, cycles, address }, map) {
   if (why === "lacks") return "";
@@ -92,7 +92,7 @@ export function wordsOfLastChange(name, { isFound, why, from, to, line, cycles, 
 }
 
 /**
- * What is waited for.
+ * The goal in words.
  * @param {Goal} goal
  */
 export function wordsOfGoal(goal) {
@@ -104,7 +104,7 @@ export function wordsOfGoal(goal) {
 }
 
 /**
- * Time runs to a goal that did not come soon.
+ * Time runs to a goal that is not near.
  * @param {Goal} goal
  */
 export function wordsOfMove(goal) {
@@ -117,7 +117,7 @@ export function wordsOfMove(goal) {
  * @param {string} where
  */
 function reached(goal, returns, where) {
-  if (goal.kind === "here") return `Paused at ${where}, as wanted`;
+  if (goal.kind === "here") return `Paused at ${where}, as requested`;
   if (goal.kind === "change") return `Paused at ${where}, after ${goal.place} changed`;
   if (goal.kind === "when") return `Paused at ${where}, after ${goal.condition} became true`;
   if (goal.kind === "count") return `${goal.count.toLocaleString("en")} instruction${goal.count === 1 ? " was" : "s were"} done`;
@@ -125,10 +125,10 @@ function reached(goal, returns, where) {
 }
 
 /**
- * @param {Goal | null} goal null where time ran to none
+ * @param {Goal | null} goal null if time had none
  * @param {Pick<Stop, "why" | "cycles" | "returns" | "change">} stop
- * @param {string} where time stands still
- * @param {string} [when] what of the breakpoint that stopped it
+ * @param {string} where the place where time is paused
+ * @param {string} [when] the part of the breakpoint that stopped it
  */
 export function wordsOfStop(goal, { why, cycles, returns, change }, where, when = "") {
   if (why === "lacks") return `Nothing was done: this board has no ${goal && goal.kind === "change" ? goal.place : "such place"}.`;
@@ -148,7 +148,7 @@ export function wordsOfWhen(breakpoint, fault = "") {
   if (!breakpoint) return "";
   if (fault !== "") return ` that has an error, ${fault}`;
   const { condition, from, hits } = breakpoint;
-  return (condition.trim() ? `, where ${condition.trim()}` : "") + (from > 1 ? `, at hit ${hits.toLocaleString("en")}` : "");
+  return (condition.trim() ? `, when ${condition.trim()}` : "") + (from > 1 ? `, at hit ${hits.toLocaleString("en")}` : "");
 }
 
 /** @type {(where: string) => string} */
@@ -165,9 +165,9 @@ export function wordsOfHalt(goal, cycles, where) {
 }
 
 /**
- * A move was under way as the page was loaded anew, or as another session was shown.
+ * A move was under way when the page was reloaded, or another session was shown.
  * @param {Goal} goal
- * @param {boolean} ran whether time ran up to it; else it was looked for
+ * @param {boolean} ran whether time ran up to it; otherwise it was searched for
  * @param {string} where
  */
 export function wordsOfBroken(goal, ran, where) {

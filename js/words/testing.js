@@ -1,9 +1,9 @@
-// What people read of tests: their text, their results, what was covered.
+// Texts that users read about tests: their text, their results, their coverage.
 
 // --- testing/coverage.js ---
 /** @type {(counts: number[], percent: string, percentOfWays: string) => string} */
 export const covered = ([run, all, waysRun, ways], percent, percentOfWays) => (
-  `${run} of ${all} instructions were run${percent}, ${waysRun} of ${ways} ways of conditional jumps${percentOfWays}`);
+  `${run} of ${all} instructions were run${percent}, ${waysRun} of ${ways} branch directions${percentOfWays}`);
 
 // --- testing/coverage_text.js ---
 export const NEVER = "never";
@@ -14,7 +14,7 @@ export const wayOf = (line, isTaken) => `${line} (${isTaken ? "always" : "never"
 /** @type {(lines: string, areMany: boolean) => string} */
 export const neverRun = (lines, areMany) => `never run: ${areMany ? "lines" : "line"} ${lines}`;
 /** @type {(lines: string, areMany: boolean) => string} */
-export const oneWayAlone = (lines, areMany) => `one way alone: ${areMany ? "lines" : "line"} ${lines}`;
+export const oneDirectionOnly = (lines, areMany) => `only one way: ${areMany ? "lines" : "line"} ${lines}`;
 
 // --- testing/last_instructions.js ---
 /** @type {(row: string) => string} */
@@ -56,7 +56,7 @@ export const TAP_TRACE = "trace: |";
 
 // --- testing/test_run.js ---
 /** @type {(state: string, test: string) => string} */
-export const stateNotThere = (state, test) => `the state ${state} is not there, since the test \`${test}\` did not come to save it`;
+export const stateMissing = (state, test) => `the state ${state} is missing, because the test \`${test}\` did not reach its \`save\``;
 /** @type {(line: number, file: string) => string} a line of this text, or of another file */
 const placeOf = (line, file) => (file ? `${file}:${line}` : `line ${line}`);
 /** @type {(name: string, line: number, file: string) => string} */
@@ -75,16 +75,16 @@ export const hasKeys = (what, word, keys) => `${what}${word} has ${keys}`;
 export const hasNoKey = (what, key, digit) => `${what}the board has no key ${key}${digit}`;
 /** @type {(digit: string | number) => string} */
 export const norKey = (digit) => `, nor ${digit}`;
-/** @type {(cycles: number, why: string, told: string) => string} */
-export const runStoppedAt = (cycles, why, told) => `the run stopped after ${cycles} cycles ${why}; ${told}`;
-/** @type {(cycles: number, told: string, passed: string) => string} */
-export const didNotCome = (cycles, told, passed) => `it did not become true within ${cycles} cycles: ${told}${passed}`;
+/** @type {(cycles: number, why: string, message: string) => string} */
+export const runStoppedAt = (cycles, why, message) => `the run stopped after ${cycles} cycles ${why}; ${message}`;
+/** @type {(cycles: number, message: string, passed: string) => string} */
+export const didNotCome = (cycles, message, passed) => `it did not become true within ${cycles} cycles: ${message}${passed}`;
 
 // --- testing/test_text.js ---
 /** @type {(word: string) => string} */
 export const noRomAt = (word) => `the board has no ROM at ${word}`;
 export const RUN_FORM = "it is written as `run TIME`, as in: run 500, run 20 ms, run 1.5 s";
-export const REPEAT_FORM = "it is written as `repeat COUNT`, 1 to 100,000: the lines down to its `end` are done so often";
+export const REPEAT_FORM = "it is written as `repeat COUNT`, 1 to 100,000: the lines down to its `end` are done COUNT times";
 export const CHOICE_FORM =
   "a key by a value is written as `{PLACE}` or `{PLACE:KEY,KEY}`; places are acc, cy, dcl, r0 to r15, ram.B.S and st.B.H.K";
 export const FIRST_WORDS = "test, steps, from, save, press, release, keys, pace, run, until, expect, mark, set, reset, do, repeat or end";
@@ -95,20 +95,20 @@ export const beginsWithTest = (line) => `a text of tests begins with \`test NAME
 export const TEST_NAME = "a test has a name: test NAME";
 export const STEPS_NAME = "shared steps have a name, one word: steps NAME";
 /** @type {(name: string, line: number, file: string) => string} */
-export const stepsAlready = (name, line, file) => `the steps ${name} stand at ${placeOf(line, file)} already`;
+export const stepsDefinedTwice = (name, line, file) => `the steps ${name} are at ${placeOf(line, file)} already`;
 export const NO_END = "this `repeat` has no `end`";
-export const END_FORM = "`end` takes nothing after it";
+export const END_FORM = "`end` takes no argument";
 export const NO_REPEAT = "there is no `repeat` for this `end`";
 export const TOO_MANY_LINES = "this repeats more than 1,000,000 lines";
 export const DO_FORM = "it is written as `do STEPS`, the name of shared steps";
 /** @type {(name: string) => string} */
-export const stepsOfThemselves = (name) => `the steps ${name} cannot do themselves`;
+export const stepsUseThemselves = (name) => `the steps ${name} cannot do themselves`;
 /** @type {(there: string, name: string) => string} */
-export const stepsThere = (there, name) => (there ? `; there are: ${there}` : `; \`steps ${name}\` begins them`);
+export const knownSteps = (there, name) => (there ? `; there are: ${there}` : `; \`steps ${name}\` begins them`);
 /** @type {(name: string, there: string) => string} */
 export const noSteps = (name, there) => `there are no steps ${name} before this line${there}`;
 /** @type {(word: string) => string} */
-export const standsAlone = (word) => `\`${word}\` takes nothing after it`;
+export const takesNoArgument = (word) => `\`${word}\` takes no argument`;
 /** @type {(word: string, forms: string) => string} */
 export const noForm = (word, forms) => `no line of a test begins with \`${word}\`; they begin with ${forms}`;
 /** @type {(word: string) => string} */
@@ -120,7 +120,7 @@ export const noStates = (word) => `shared steps have no states: \`${word}\` belo
 export const savedBefore = (state, test) => `the state ${state} is saved by the test before, \`${test}\``;
 export const FROM_FORM = "`from` must be right below `test`";
 /** @type {(states: string) => string} */
-export const statesThere = (states) => `; there is: ${states}`;
+export const knownStates = (states) => `; there is: ${states}`;
 /** @type {(state: string, there: string) => string} */
 export const noSuchState = (state, there) => `no test before it saves a state ${state}${there}`;
 export const OWN_STATE = "a test cannot begin with a state of its own";
@@ -142,7 +142,7 @@ export const WAS_CANCELLED = "It was cancelled; what is shown is from before.";
 // --- testing/tests_view.js ---
 export const NOT_OK = "not ok";
 export const LAST_INSTRUCTIONS = "The last instructions";
-export const OPEN_THERE = "Open the session as it is there";
+export const OPEN_AT_FAILURE = "Open the session as it is there";
 export const NO_LABEL = "(no label)";
 export const BEGUN_BEFORE = "(begun before)";
 /** @type {(cycles: string, milliseconds: string) => string} */

@@ -1,14 +1,14 @@
-// What people read of the texts: the editors, faults of a program and of a board's text, names, what words mean.
+// Texts that users read about the texts: the editors, errors of a program and of a board's text, names, the meaning of words.
 
 // --- text/alike.js ---
 export const OR = " or ";
-/** @type {(words: string[], end?: string) => string} what is meant by a mistyped word, behind the sentence that rejects it */
+/** @type {(words: string[], end?: string) => string} suggestions for a mistyped word, after the sentence that rejects it */
 export const didYouMean = (words, end = "") => (
   words.length > 0 ? `; did you mean ${words.join(OR)}?${end && ` ${end}`}` : end && `; ${end}`);
 
 // --- text/assembling.js ---
 /** @type {(bytes: string, isOne: boolean, first: string) => string} */
-export const stays = (bytes, isOne, first) => `${bytes} of before ${isOne ? "stays" : "stay"} in ROM, from ${first} on.`;
+export const stays = (bytes, isOne, first) => `${bytes} from before ${isOne ? "stays" : "stay"} in ROM, from ${first} on.`;
 /** @type {(bytes: string, stay: string, counter: string) => string} */
 export const assembled = (bytes, stay, counter) => `${bytes} assembled.${stay} The counter stays at ${counter}; nothing was reset.`;
 
@@ -27,30 +27,11 @@ export const CHAIN_OF_REGISTERS = "a chain of shift registers";
 export const KEY_MATRIX = "the key matrix";
 export const A_LAMP = "a lamp";
 
-// --- text/board_parts.js ---
-/** @type {(bank: string) => string} */
-export const noRamInBank = (bank) => `the board has no RAM in bank ${bank}`;
-/** @type {(bank: string, chips: number) => string} */
-export const bankHas = (bank, chips) => `bank ${bank} has ${chips === 1 ? "chip 0 alone" : `chips 0 to ${chips - 1}`}`;
-/** @type {(chain: number, last: number) => string} */
-export const bitsOfChain = (chain, last) => `chain ${chain} has bits 0 to ${last}`;
-/** @type {(name: string) => string} */
-export const noInputLine = (name) => `${name} is not an input line: a column needs an i in its ROM's port`;
-/** @type {(name: string, what: string) => string} */
-export const isInputLine = (name, what) => `${name} is an input line (i in its ROM's port); ${what} takes an output line`;
-/** @type {(name: string, what: string) => string} */
-export const isBitOfChain = (name, what) => `${name} is a bit of a chain; ${what} takes an output line of a ROM or a RAM chip`;
-export const KEYS_ALREADY = "keys is there already: a board has one key matrix";
-/** @type {(most: number, table: string) => string} */
-export const mostOf = (most, table) => `a board has at most ${most} ${table}`;
-/** @type {(name: string, before: number) => string} */
-export const alreadyThere = (name, before) => `${name} is there already, in line ${before}`;
-
 // --- text/board_reader.js ---
 export const TABLE_FORM = "a table's name is in brackets: [[rom]]";
 /** @type {(table: string) => string} */
 export const bracketMissing = (table) => `] is missing: ${table}`;
-export const LINE_ENDS = "the line has to end here";
+export const LINE_ENDS = "the line must end here";
 export const KEY_FORM = "a key is missing before =";
 /** @type {(name: string) => string} */
 export const equalsMissing = (name) => `= is missing after ${name}`;
@@ -69,22 +50,45 @@ export const COMMA_OF_VALUES = "write a comma between two values, ] after the la
 export const NO_BRACE = "the closing } is missing in this line";
 export const COMMA_OF_KEYS = "write a comma between two keys, } after the last";
 
-// --- text/board_words.js ---
-export const LINE_FORMS = "rom1.0, ram0.0.3 or chain0.5";
-export const NO_QUOTES = ", a number without quotes";
-/** @type {(name: string, from: number, to: number, kind: string) => string} */
-export const range = (name, from, to, kind) => `${name} is ${from} to ${to}${kind}`;
-export const PORT_FORM = "port is four characters for lines 3, 2, 1 and 0, each i, 0 or 1: \"iiii\"";
-export const COLUMNS_FORM = "columns is one to eight lines: [\"rom1.0\", \"rom1.1\"]";
-/** @type {(name: string, forms: string) => string} */
-export const lineForm = (name, forms) => `${name} is the name of a line, in quotes: ${forms}`;
+// --- text/board_error.js ---
+/** @type {(name: string, before: number) => string} */
+export const alreadyThere = (name, before) => `${name} is there already, in line ${before}`;
+/** @type {(line: string, chip: string) => string} */
+export const noSuchRom = (line, chip) => `the board has no line ${line}: no [[rom]] has chip = ${chip}`;
+/** @type {(line: string, bank: string) => string} */
+export const noSuchBank = (line, bank) => `the board has no line ${line}: no [[ram]] has bank = ${bank}`;
+/** @type {(line: string, bank: string, chips: number) => string} */
+export const bankHas = (line, bank, chips) => (
+  `the board has no line ${line}: bank ${bank} has ${chips === 1 ? "chip 0 alone" : `chips 0 to ${chips - 1}`}`);
+/** @type {(line: string, chain: string, last: number) => string} */
+export const chainHas = (line, chain, last) => `the board has no line ${line}: chain ${chain} has bits 0 to ${last}`;
+/** @type {(chain: string, chains: number) => string} */
+export const noChain = (chain, chains) => (
+  `the board has no chain ${chain}: it has ${["no [[chain]]", "chain 0 alone"][chains] || `chains 0 to ${chains - 1}`}`);
+/** @type {(first: number, last: number, chain: number, end: number) => string} */
+export const rowsNeed = (first, last, chain, end) => `the rows need bits ${first} to ${last} of chain ${chain}, which has bits 0 to ${end}`;
+/** @type {(line: string) => string} */
+export const needsInput = (line) => `${line} is not an input line; a column needs a line of a ROM that is i in its port`;
+/** @type {(key: string, line: string, isBit: boolean) => string} */
+export const needsOutput = (key, line, isBit) => (
+  `${line} is ${isBit ? "a bit of a chain" : "an input line (i in its ROM's port)"}; ${
+    key === "line" ? "a lamp needs an output line" : `${key} needs an output line of a ROM or a RAM chip`}`);
+/** @type {(name: string) => string} */
+export const noLineName = (name) => `${name} is not the name of a line; names are as "rom1.0", "ram0.0.3" and "chain0.5"`;
+/** @type {(key: string, number: string) => string} */
+export const withoutQuotes = (key, number) => `${key} is a number: write ${number} without quotes`;
+/** @type {(most: number, table: string) => string} */
+export const mostTables = (most, table) => `a board has at most ${most} [[${table}]]`;
+/** @type {(most: number) => string} */
+export const mostColumns = (most) => `a key matrix has at most ${most} columns`;
+/** @type {(key: string, values: string) => string} */
+export const keyMustBe = (key, values) => `${key} must be ${values}`;
+/** @type {(section: string) => string} */
+export const mustBeTable = (section) => `a ${section} must be a table: [[${section}]]`;
 /** @type {(name: string, kind: string, meant: string) => string} */
 export const noKeyOf = (name, kind, meant) => `${name} is not a key of ${kind}${meant}`;
 /** @type {(keys: string) => string} */
 export const whichHas = (keys) => `, which has ${keys}`;
-export const A_COLUMN = "a column";
-/** @type {(most: number) => string} */
-export const mostColumns = (most) => `a matrix has at most ${most} columns`;
 /** @type {(kind: string, meant: string) => string} */
 export const noPart = (kind, meant) => `${kind} is not a part of a board${meant}`;
 export const ONE_MATRIX = "a board has one key matrix: [keys]";
@@ -92,11 +96,6 @@ export const ONE_MATRIX = "a board has one key matrix: [keys]";
 export const several = (kind) => `there may be several: [[${kind}]]`;
 /** @type {(kind: string, keys: string) => string} */
 export const lacks = (kind, keys) => `this ${kind} lacks ${keys}`;
-export const AND = " and ";
-/** @type {(name: string) => string} */
-export const isTable = (name) => `${name} is a table, or an array of tables`;
-/** @type {(name: string) => string} */
-export const noKeyAtTop = (name) => `${name} is not a key at the top of a board`;
 
 // --- text/count_marks.js ---
 /** @type {(number: number) => string} */
@@ -105,19 +104,19 @@ export const NO_TEST_RUNS = "no test runs it";
 /** @type {(times: string) => string} */
 export const ran = (times) => `run ${times}`;
 /** @type {(taken: string, left: string) => string} */
-export const jumped = (taken, left) => `; it jumped ${taken}, and went on ${left}`;
+export const jumped = (taken, left) => `; it jumped ${taken}, and continued ${left}`;
 
 // --- text/text_editor_view.js ---
-export const FAULTS = "Faults";
+export const FAULTS = "Errors";
 /** @type {(size: string, most: string) => string} */
-export const notPutIn = (size, most) => `It was not put in: the text would have ${size} characters, and ${most} is the most.`;
+export const notPutIn = (size, most) => `It was not inserted: the text would have ${size} characters; at most ${most} are accepted.`;
 /** @type {(size: string, most: string, unit: string) => string} */
 export const sizeOf = (size, most, unit) => `${size} of ${most} ${unit}`;
 
 // --- text/editors.js ---
 export const MAY_BE_MORE = "There may be more.";
 /** @type {(bytes: string) => string} */
-export const assembledAll = (bytes) => `${bytes} assembled, the rest of ROM is 0. It runs from 000 on.`;
+export const assembledAll = (bytes) => `Assembled ${bytes}; running from 000.`;
 /** @type {Record<string, string>} the texts, by their names */
 const TEXTS = { program: "Source", board: "Board", tests: "Tests", properties: "Properties" };
 /** @type {(name: string, line: number) => string} */
@@ -168,24 +167,24 @@ export const noRomForLine = (chip, address) => (
 export const layoutTooLong = (most, size) => `in columns the program would have ${size} characters; at most ${most} are accepted`;
 
 // --- text/program_words.js ---
-/** What other assemblers call it, and what does it here. */
+/** The words of other assemblers, and their replacements here. */
 export const ELSEWHERE = new Map(Object.entries({
   JMP: "JUN", GOTO: "JUN", BRA: "JUN", CALL: "JMS", JSR: "JMS", RET: "BBL", RTS: "BBL", MOV: "LD or XCH", LDA: "LD", STA: "XCH", STO: "XCH",
   JZ: "JCN 4", JNZ: "JCN 12", JC: "JCN 2", JNC: "JCN 10", DJNZ: "ISZ", BYTE: "DB", DEFB: "DB", EQU: "NAME = NUMBER", HLT: "JUN to itself",
   HALT: "JUN to itself", DEC: "DAC", INP: "RDR", OUT: "WRR", LDI: "LDM",
 }));
-export const A_PAIR = "a pair, P0 to P7";
-export const A_REGISTER = "a register, R0 to R15";
-export const A_CONDITION = "a condition, 0 to 15";
-export const A_VALUE = "a value, 0 to 15";
-export const A_BYTE = "a byte, 0 to 255";
-export const AN_ADDRESS = "an address, 0 to 4095, or a name";
+export const PAIR_OPERAND = "a pair, P0 to P7";
+export const REGISTER_OPERAND = "a register, R0 to R15";
+export const CONDITION_OPERAND = "a condition, 0 to 15";
+export const VALUE_OPERAND = "a value, 0 to 15";
+export const BYTE_OPERAND = "a byte, 0 to 255";
+export const ADDRESS_OPERAND = "an address, 0 to 4095, or a name";
 /** @type {(number: string) => string} */
 export const isHexadecimal = (number) => `hexadecimal is ${number}`;
 /** @type {(number: string) => string} */
-export const isBinary = (number) => `binary numbers are not written; it is ${number}`;
+export const isBinary = (number) => `binary numbers are not supported; it is ${number}`;
 /** @type {(letter: string, number: string) => string} */
-export const isLetter = (letter, number) => `letters are not written; the code of ${letter} is ${number}`;
+export const isLetter = (letter, number) => `characters are not supported; the code of ${letter} is ${number}`;
 /** @type {(number: string) => string} */
 export const withoutMark = (number) => `without #: ${number}`;
 export const NO_NEGATIVES = "there are no negative numbers";
@@ -219,7 +218,7 @@ export const DB_FORM = "DB takes bytes, 0 to 255, with commas between them";
 export const equalsForm = (reason) => `write one number after =${reason}`;
 export const COLON_FORM = "a name is missing before the colon";
 /** @type {(name: string) => string} */
-export const takesNothing = (name) => `${name} takes nothing after it`;
+export const takesNothing = (name) => `${name} takes no operand`;
 export const AND_AFTER = ", and ";
 /** @type {(name: string, what: string, isMore: boolean) => string} */
 export const takesNoMore = (name, what, isMore) => `${name} takes ${what}${isMore ? ", no more" : ""}`;
@@ -232,16 +231,17 @@ export const isMore = (word) => `; ${word} is more`;
 /** @type {(name: string, meant: string) => string} */
 export const notDefined = (name, meant) => `${name} is not defined${meant}`;
 /** @type {(name: string, line: number|undefined) => string} */
-export const definedAlready = (name, line) => `${name} is defined in line ${line} already`;
+export const definedBefore = (name, line) => `${name} is defined in line ${line} already`;
 /** @type {(name: string, head: string) => string} */
 export const otherPage = (name, head) => `${name} is on another page; ${head} reaches the page of the address after its two words`;
 export const IT = "it";
-export const BYTE_ALREADY = "an earlier line has put a byte at this address; look at the ORG lines";
+export const BYTE_TWICE = "an earlier line has put a byte at this address; look at the ORG lines";
 
 // --- text/property_words.js ---
-export const MAY_CHANGE = "What may change";
-export const MUST_HOLD = "What must hold";
-export const FIRST_PROPERTIES = "# What must hold, whatever is pressed and whenever. F1 has the words; Ctrl and Space completes them.\n\n";
+export const MAY_CHANGE = "Inputs";
+export const MUST_HOLD = "Properties";
+export const FIRST_PROPERTIES = "# Properties that hold whatever is pressed, and whenever. F1 has the words; "
+  + "Ctrl and Space completes them.\n\n";
 
 // --- text/references.js ---
 export const NAME_IS = "A name has letters of ASCII, digits and _, and begins with no digit.";
@@ -271,15 +271,18 @@ export const replaced = (count) => `${count} replaced`;
 /** @type {(at: number, count: number) => string} */
 export const foundOf = (at, count) => `${at} of ${count}`;
 
+// --- testing/sample_test.js ---
+const ABOUT_TESTS = "# Tests, line by line. F1 has the words; Ctrl and Space completes them.\n\n";
+/** Those that are tried after the display and the lamps by their names. */
+export const OTHER_CONDITIONS = ["lamps none", "not lamps none"];
+/** @type {(key: string, milliseconds: number, condition: string) => string} */
+export const sampleTest = (key, milliseconds, condition) => [
+  `${ABOUT_TESTS}test ${milliseconds} ms after ${key === "" ? "power-on" : `the key ${key}`}`,
+  ...(key === "" ? [] : [`  press ${key}`]), `  run ${milliseconds} ms`, `  expect ${condition}`, "",
+].join("\n");
+export const SAMPLE_OF_CYCLES = `${ABOUT_TESTS}test it has run for 100 cycles\n  run 100\n  expect cycles 100\n`;
+
 // --- text/test_words.js ---
-export const ABOUT_TESTS = "# What must hold, line by line. F1 has the words; Ctrl and Space completes them.\n\n";
-/** @type {(key: string, lamp: string) => string} */
-export const testOfKey = (key, lamp) => `test the key ${key} turns on ${lamp}\n  press ${key}\n  run 50 ms\n  expect lamp ${lamp} on\n`;
-/** @type {(key: string) => string} */
-export const testOfKeyAlone = (key) => `test the key ${key} turns on a lamp\n  press ${key}\n  run 50 ms\n  expect not lamps none\n`;
-/** @type {(lamp: string) => string} */
-export const testOfLamp = (lamp) => `test ${lamp} is on within a second\n  until lamp ${lamp} on within 1 s\n`;
-export const TEST_OF_CYCLES = "test it has run for 100 cycles\n  run 100\n  expect cycles 100\n";
 export const LINES_OF_TEST = "The lines of a test";
 export const CONDITIONS = "Conditions";
 
@@ -291,11 +294,11 @@ export const TAB_INDENTS = "Tab indents. Escape and then Tab leaves the text.";
 export const otherQuote = (character) => `${character} is not the mark " of ASCII`;
 export const OTHER_BLANK = "a blank that does not break (U+00A0); write a plain one";
 /** @type {(code: string) => string} */
-export const unseen = (code) => `a character that is not to be seen (U+${code}); delete it`;
+export const unseen = (code) => `an invisible character (U+${code}); delete it`;
 export const CONTROL_CHARACTER = "a control character; only tabs and printing characters of ASCII can be sent";
 /** @type {(character: string) => string} */
-export const otherCharacter = (character) => `${character} is not a character of ASCII; it may stand in comments alone`;
-export const DOT_ENDS = "a line that is a dot alone would end the text here";
+export const otherCharacter = (character) => `${character} is not a character of ASCII; it can be only in comments`;
+export const DOT_ENDS = "a line with only a dot would end the text here";
 /** @type {(most: number, length: number) => string} */
 export const lineTooLong = (most, length) => `a line has at most ${most} characters without its comment; this has ${length}`;
 /** @type {(most: string, size: string) => string} */
@@ -308,8 +311,8 @@ export const CARRY_STAYS = ". The carry stays";
 export const pairIs = (pair, upper, lower) => `P${pair}: the pair of R${upper}, its upper four bits, and R${lower}, its lower ones.`;
 /** @type {(register: number, isUpper: boolean, pair: number) => string} */
 export const registerIs = (register, isUpper, pair) => `R${register}: the ${isUpper ? "upper" : "lower"} half of P${pair}.`;
-export const ORG_IS = "ORG n: the next statement is at address n, 0 to 4095.";
-export const DB_IS = "DB v, v, ..: bytes, each 0 to 255.";
+export const ORG_HELP = "ORG n: the next statement is at address n, 0 to 4095.";
+export const DB_HELP = "DB v, v, ..: bytes, each 0 to 255.";
 /** @type {(name: string, line: number) => string} */
 export const definedInLine = (name, line) => `${name}: defined in line ${line}.`;
 export const KEYS_OF_TEXT = "The keys of the text";

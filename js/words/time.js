@@ -1,4 +1,4 @@
-// What people read of time: cycles, speeds, steps, back and forward.
+// Texts that users read about time: cycles, speeds, steps, back and forward.
 
 // --- time/cycles.js ---
 /** @type {(time: string) => string} */
@@ -16,20 +16,20 @@ export const onlyAnswers = (lines) => `there are only ${lines} lines of answers`
 export const NO_RUN = "none of these lines shows a run, as `ok 5 ran 100 end` does";
 /** @type {Record<string, string>} */
 export const WHY_STOPPED = {
-  end: "", break: ", to a breakpoint", watch: ", to a change of a watched character", code: ", to a code that is not an instruction",
+  end: "", break: ", to a breakpoint", watch: ", to a change of a watched nibble", code: ", to a code that is not an instruction",
 };
 /** @type {(place: string) => string} */
 export const toPlace = (place) => `, to ${place}`;
 
 // --- time/cycles_view.js ---
 export const MARKS_CYCLE = "marks this cycle; a second press shows how many cycles are in between";
-export const MARK = "Mark";
+export const MARK = "Set marker";
 export const OR_SINCE_BEGUN = "or since this session was begun or opened here";
-export const SINCE_RESET = "since reset ";
-export const LAST_STRETCH = "in the last time that ran without a stop";
-export const SINCE_STOP = "since pause ";
-export const SINCE_MARK = "since the mark ";
-export const BETWEEN_MARKS = "between the marks ";
+export const SINCE_RESET = "Since reset ";
+export const LAST_STRETCH = "in the last run without a stop";
+export const SINCE_STOP = "Since pause ";
+export const SINCE_MARK = "Since the mark ";
+export const BETWEEN_MARKS = "Between the marks ";
 
 // --- time/history_view.js ---
 /** @type {(most: string) => string} */
@@ -58,6 +58,6 @@ export const ONE_A_SECOND = "an instruction a second";
 export const FULL_SPEED = "full speed";
 
 // --- time/travel.js ---
-export const LOOKING_FOR_GOAL = "Looking for the goal.";
+export const LOOKING_FOR_GOAL = "Searching for the goal.";
 export const REPEATING_PAST = "Repeating the past on a copy.";
 export const GOING_FORWARD = "Going forward again.";

@@ -1,8 +1,8 @@
-// What people read of a trace: a line for each instruction.
+// Texts that users read about a trace: a line for each instruction.
 
 // --- trace/trace_lines.js ---
 export const SECOND_CYCLE = "(the second cycle)";
 
 // --- trace/session_trace.js ---
-/** @type {(why: string) => string} why the session stops, behind the instruction that comes next */
+/** @type {(why: string) => string} why the session stops, after the next instruction */
 export const stopsBefore = (why) => `stops before it: ${why === "code" ? "no instruction" : why}`;

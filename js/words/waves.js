@@ -1,9 +1,9 @@
-// What people read of the waves: recording, trigger, search, lines and values.
+// Texts that users read about the waves: recording, trigger, search, lines and values.
 
 // --- waves/live_waves.js ---
 /** @type {Record<string, string>} why nothing more is recorded */
 export const ENDS = {
-  hand: "It was stopped.",
+  hand: "Stopped by you.",
   back: "It ended where the session went back or forward.",
   board: "It ended where the board was wired again.",
   program: "It ended where other bytes were put into ROM.",
@@ -11,28 +11,26 @@ export const ENDS = {
   long: "It ended after 4,000,000,000 cycles.",
   lost: "It ended: the bench was started again.",
 };
-/** @type {(cycles: string, microseconds: string) => string} */
-export const span = (cycles, microseconds) => `${cycles}, ${microseconds} microseconds`;
 /** @type {(cycle: string) => string} */
-export const triggerCame = (cycle) => ` The trigger came at cycle ${cycle}.`;
+export const triggerCame = (cycle) => ` The trigger was at cycle ${cycle}.`;
 /** @type {(what: string, trigger: string) => string} */
-export const recorded = (what, trigger) => `Recorded: ${what}.${trigger}`;
+export const recorded = (what, trigger) => `Recorded ${what}.${trigger}`;
 /** @type {(what: string, end: string, trigger: string) => string} */
-export const recordedUntil = (what, end, trigger) => `Recorded: ${what}. ${end}${trigger}`;
+export const recordedUntil = (what, end, trigger) => `Recorded ${what}. ${end}${trigger}`;
 export const NOTHING = "nothing";
 /** @type {(trigger: string) => string} */
-export const recordsAfter = (trigger) => `It records what comes after the trigger.${trigger}`;
-export const RECORDS_SOON = "It records as soon as time runs.";
-export const RECORDS = "It records.";
+export const recordsAfter = (trigger) => `Recording what comes after the trigger.${trigger}`;
+export const RECORDS_SOON = "Records as soon as the machine runs.";
+export const RECORDS = "Recording.";
 /** @type {(trigger: string) => string} */
-export const waitsFor = (trigger) => ` It waits for ${trigger}.`;
+export const waitsFor = (trigger) => ` Waiting for ${trigger}.`;
 
 // --- waves/scope.js ---
 export const RECORD = "Record";
 /** @type {(least: number, most: string) => string} */
 export const howManyCycles = (least, most) => `How many cycles? A number from ${least} to ${most}.`;
 /** @type {(most: string) => string} */
-export const mostAfter = (most) => `${most} cycles are kept: no more of them can come after the trigger.`;
+export const mostAfter = (most) => `${most} cycles are kept: no more of them can follow the trigger.`;
 /** @type {(fault: string) => string} */
 export const triggerFault = (fault) => `The trigger is not understood: ${fault}.`;
 export const STOP_RECORDING = "Stop recording";
@@ -71,8 +69,8 @@ export const groupIs = (name) => `group ${name}, `;
 // --- waves/measuring.js ---
 /** @type {(value: string, isWhole: boolean, time: string) => string} */
 export const hasValueFor = (value, isWhole, time) => `${value} for ${isWhole ? "" : "at least "}${time}`;
-/** @type {(told: string, time: string, frequency: string) => string} */
-export const withPeriod = (told, time, frequency) => `${told}; period ${time}, ${frequency}`;
+/** @type {(text: string, time: string, frequency: string) => string} */
+export const withPeriod = (text, time, frequency) => `${text}; period ${time}, ${frequency}`;
 /** @type {(hertz: string) => string} */
 export const inHertz = (hertz) => `${hertz} Hz`;
 /** @type {(kilohertz: string) => string} */
@@ -83,11 +81,11 @@ export const inKilohertz = (kilohertz) => `${kilohertz} kHz`;
 export const noName = (name) => `Nothing here is called ${name}.`;
 /** @type {(count: number) => string} */
 export const notListed = (count) => (
-  `${count === 1 ? "1 character of RAM is" : `${count.toLocaleString("en")} characters of RAM are`} not listed: look for one, `
+  `${count === 1 ? "1 nibble of RAM is" : `${count.toLocaleString("en")} nibbles of RAM are`} not listed: find one, `
   + "as in: ram 0 0x12, or: st 0 1.");
 /** @type {Record<string, string>} */
 export const TITLES = {
-  lamps: "Lamps", keys: "Keys", test: "TEST pin", numbers: "Ports and chains as numbers", decoders: "Decoders",
+  lamps: "Lamps", keys: "Keys", test: "TEST pin", numbers: "Ports and shift registers as numbers", decoders: "Decoders",
   registers: "Registers and pairs", pc: "Counter", label: "Label",
 };
 
@@ -127,14 +125,14 @@ export const STATUS_CHARACTER = "a status character";
 // --- waves/wave_search.js ---
 export const SEARCH_FORMS = "a value of the marked line, as 9 or 0x1F; r5 = 9, rom0 != 0, lamp 3 rises, r5 changes, @LABEL";
 /** @type {(forms: string) => string} */
-export const whatIsWanted = (forms) => `What do you look for? ${forms}.`;
+export const searchQuestion = (forms) => `Enter something to find: ${forms}.`;
 /** @type {(label: string) => string} */
 export const noLabel = (label) => `The program of this recording has no label ${label}.`;
 /** @type {(name: string) => string} */
 export const notRecorded = (name) => `Nothing that was recorded is called ${name}: choose it, and record again.`;
 export const NO_LINE_MARKED = "No line is marked.";
 /** @type {(name: string) => string} */
-export const isDecoded = (name) => `${name} is decoded: look for its next change, or for a key of the key scan.`;
+export const isDecoded = (name) => `${name} is decoded: find its next change, or for a key of the key scan.`;
 /** @type {(name: string) => string} */
 export const isNumber = (name) => `${name} is a number: it changes, or it is = 5.`;
 /** @type {(value: string, forms: string) => string} */
@@ -143,25 +141,25 @@ export const noNumber = (value, forms) => `${value} is no number: 10, 0x0A or 0b
 export const hasBits = (name, width, most) => `${name} has ${width === 1 ? "1 bit" : `${width} bits`}: it is ${most} at most.`;
 
 // --- waves/wave_words.js ---
-/** @type {(cycles: string, microseconds: string) => string} */
-export const aToB = (cycles, microseconds) => `A to B: ${cycles}, ${microseconds} microseconds`;
+/** @type {(span: string) => string} */
+export const aToB = (span) => `A to B: ${span}`;
 export const SECOND_CYCLE = "the second cycle of an instruction";
 /** @type {(line: number, source: string) => string} */
 export const ofSource = (line, source) => `; line ${line} of the source: ${source}`;
 export const NEXT = "next: ";
-/** @type {(name: string, cycle: string, microseconds: string, instruction: string) => string} */
-export const cursorAt = (name, cycle, microseconds, instruction) => `${name}: cycle ${cycle}, ${microseconds} microseconds: ${instruction}`;
+/** @type {(name: string, cycle: string, time: string, instruction: string) => string} */
+export const cursorAt = (name, cycle, time, instruction) => `${name}: cycle ${cycle}, ${time}: ${instruction}`;
 /** @type {(name: string, value: string) => string} */
 export const valueIs = (name, value) => `${name} is ${value}, `;
 /** @type {(value: string, cycle: string, instruction: string) => string} */
 export const cycleAt = (value, cycle, instruction) => `${value}cycle ${cycle}, ${instruction}`;
 export const NOTHING_BEFORE = "Nothing was recorded: since the session was opened or wired, no cycle was done before this one.";
-/** @type {(cycles: string, microseconds: string) => string} */
-export const recordedSpan = (cycles, microseconds) => `${cycles} recorded, ${microseconds} microseconds.`;
-/** @type {(told: string) => string} */
-export const thenNoInstruction = (told) => `${told} Then comes a code that is not an instruction.`;
-/** @type {(told: string) => string} */
-export const noFurtherBack = (told) => `${told} The past reaches no further back.`;
+/** @type {(cycles: string, time: string) => string} */
+export const recordedSpan = (cycles, time) => `${cycles} recorded, ${time}.`;
+/** @type {(text: string) => string} */
+export const thenNoInstruction = (text) => `${text} Then comes a code that is not an instruction.`;
+/** @type {(text: string) => string} */
+export const noFurtherBack = (text) => `${text} The past reaches no further back.`;
 
 // --- waves/line_choice.js ---
 /** @type {(name: string) => string} */

@@ -1,4 +1,4 @@
-// What people read of the arrangement of the page: its panels.
+// Texts that users read about the arrangement of the page: its panels.
 
 // --- ui/panels.js ---
 /** The panels by their ids, in the order of the window. */

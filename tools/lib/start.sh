@@ -14,8 +14,7 @@ sums=$top/shipped/SUMS
 
 # To compare all sources takes a tenth of a second. So what was found is remembered with the size and the times of each file that was
 # read, and of each folder in which others might come to stand; while they are the same, it is not compared again. For each tree there
-# is `NAME.names` (the program, and then what was read) and `NAME.seen` (what it looked like), in a folder that is its user's alone; every
-# second one stands in `NAME.more` and `NAME.seen_more`, since two processors look faster than one.
+# is `NAME.names` (the program, and then what was read) and `NAME.seen` (what it looked like), in a folder that is its user's alone.
 # Where that cannot be written, each start compares again.
 case ${XDG_CACHE_HOME:-} in
     /*) remembered=$XDG_CACHE_HOME/fethsaim ;;
@@ -32,8 +31,6 @@ while [ "$rest" != "${rest#*/}" ]; do
 done
 names=$remembered/$names$rest.names
 seen=${names%.names}.seen
-more=${names%.names}.more
-seen_more=$seen'_more'
 # A line for each program that this user built, with the checksums of its sources and of its bytes. It is kept outside of the tree, which may
 # have come from somebody else with a program and any file beside it.
 built_from=$remembered/built
@@ -44,25 +41,16 @@ look() {
     (CDPATH='' cd -- "$top" && read -r _ && LC_ALL=C exec xargs -0 stat -L -c '%a %i %s %Y %.9Z' -- "$remembered") < "$1" 2> /dev/null || :
 }
 
-# The same of those in the other file, which has no first line, without one for the folder.
-look_at_more() {
-    (CDPATH='' cd -- "$top" && LC_ALL=C exec xargs -0 stat -L -c '%a %i %s %Y %.9Z' --) < "$1" 2> /dev/null || :
-}
-
 # The program that an earlier start found, where nothing has changed since. What another user might have written is not trusted.
 recall() {
     if [ -z "$remembered" ] || [ ! -O "$remembered" ]; then return 1; fi
-    for each in "$names" "$seen" "$more" "$seen_more"; do
+    for each in "$names" "$seen"; do
         if [ -h "$each" ] || [ ! -O "$each" ]; then return 1; fi
     done
-    look_at_more "$more" | cmp -s - "$seen_more" &
-    is_same=1
     look "$names" | {
         read -r mode _
-        [ "$mode" = 700 ] && cmp -s - "$seen"
-    } || is_same=
-    wait "$!" || is_same=
-    if [ -z "$is_same" ]; then return 1; fi
+        [ "$mode" = 700 ] && exec cmp -s - "$seen"
+    } || return 1
     read -r program < "$names"
     program=$top/$program
 }
@@ -83,24 +71,10 @@ remember() {
         names_of_start
     } > "$names.$$" && look "$names.$$" | sed 1d > "$seen.$$" && cmp -s "$seen.$$" "$seen.$$.before" &&
         awk -v now="$(date +%s)" '$4 >= now - 3 || $5 >= now - 3 { young = 1 } END { exit young || NR < 10 }' "$seen.$$" &&
-        halve && rm -f -- "$seen" && mv -f "$more.$$" "$more" && mv -f "$seen_more.$$" "$seen_more" && mv -f "$names.$$" "$names" &&
-        mv -f "$seen.$$" "$seen"
+        rm -f -- "$seen" && mv -f "$names.$$" "$names" && mv -f "$seen.$$" "$seen"
 }
 
-# Every second one of the names stands in a file of its own from then on, and so does what it looked like.
-halve() {
-    sort "$seen.$$" > "$seen.$$.before"
-    sed 1d "$names.$$" | tr '\000' '\n' | awk 'NR % 2 == 0' | tr '\n' '\000' > "$more.$$"
-    {
-        echo "${program#"$top/"}"
-        sed 1d "$names.$$" | tr '\000' '\n' | awk 'NR % 2' | tr '\n' '\000'
-    } > "$names.$$.half" && mv -f "$names.$$.half" "$names.$$"
-    look "$names.$$" | sed 1d > "$seen.$$"
-    look_at_more "$more.$$" > "$seen_more.$$"
-    sort "$seen.$$" "$seen_more.$$" | cmp -s - "$seen.$$.before"
-}
-
-# Whether a program runs on this system: without words it tells its usage, with status 2. `said` is what it, or the system, has said.
+# Whether a program runs on this system: without words it prints its usage, with status 2. `said` is what it, or the system, has said.
 runs_here() {
     status=0
     said=$({ "$1" < /dev/null; } 2>&1) || status=$?
@@ -195,7 +169,19 @@ find_program() {
     find_by_sources
     if [ -n "$kept" ]; then
         if [ -n "$program" ]; then (umask 077 && remember) 2> /dev/null || :; fi
-        rm -f -- "$names.$$" "$names.$$.half" "$seen.$$" "$seen.$$.before" "$more.$$" "$seen_more.$$"
+        rm -f -- "$names.$$" "$seen.$$" "$seen.$$.before"
+    fi
+}
+
+# Finds the program if no sources have to be compared for it, and nothing is to be said: it is installed, or an earlier start found it.
+find_known() {
+    program=
+    fault=
+    if is_installed; then
+        find_installed "$shipped" program
+        [ -n "$program" ]
+    else
+        recall && { [ "$program" = "$built" ] || [ -e "$remembered/told" ]; }
     fi
 }
 
@@ -233,7 +219,7 @@ find_or_build() {
         program=$built
     elif [ "$program" != "$built" ] && ! is_installed && [ -n "$remembered" ] && [ ! -e "$remembered/told" ] && make_remembered && { : > "$remembered/told"; } 2> /dev/null; then
         echo "mcs4: this is the program in shipped/. It was proved and built from these very sources, but not on this machine; tools/build" \
-            "proves and builds it here. This is said once" >&2 || :
+            "proves and builds it here. This message appears once" >&2 || :
     fi
 }
 

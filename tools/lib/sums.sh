@@ -73,7 +73,7 @@ names_of_crates() {
 }
 
 # What makes the program for aarch64 of the crate mcs4.
-made_for_aarch64='tools/aarch64 tools/lib/aarch64.c'
+made_for_aarch64='tools/aarch64 tools/lib/aarch64.c tools/lib/compile.sh'
 
 # The checksum of what a crate is made from: its line of crates.txt and those of the crates below, and their code, definitions and
 # proofs. Tests and must-fail edits are no part of it.
@@ -154,11 +154,11 @@ fault_of_shipped() {
     fi
 }
 
-# The checksum of what the page's module is made from: the crate `page` with those below it, and what compiles it.
+# The checksum of what the page's module is made from: the crate `wasm` with those below it, and what compiles it.
 sum_of_module() {
     {
-        sum_of_crate page
-        printf '%s\n' page/heap.c page/wasm | sums_of_files
+        sum_of_crate wasm
+        printf '%s\n' page/heap.c page/wasm tools/lib/compile.sh | sums_of_files
     } | sum_of_input
 }
 

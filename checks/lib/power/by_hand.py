@@ -26,12 +26,12 @@ def done(what: str, number: int) -> Event:
     return Event(what, number)
 
 
-def states(told: History, size: int) -> list[tuple[bytes, Image]]:
+def states(events: History, size: int) -> list[tuple[bytes, Image]]:
     """What the images of a history have in their first bytes, on a disk of zeros."""
     disk = Disk(BLOCK)
-    builder = Builder(disk, told)
+    builder = Builder(disk, events)
     found = []
-    for image in told.all_images():
+    for image in events.all_images():
         builder.build(image)
         found.append((disk.bytes[:size], image))
         disk.take_back()
@@ -73,9 +73,9 @@ def writes_at_one_place() -> bool:
 
 def bounds() -> bool:
     """What has to be found is bound by what was acknowledged before the cut, and sent before it; before a first answer by nothing."""
-    told = history([write(1, 0, A), done("answered", 0), done("sent", 1), write(2, 0, B), done("wrote", 2), done("flush", 3),
+    events = history([write(1, 0, A), done("answered", 0), done("sent", 1), write(2, 0, B), done("wrote", 2), done("flush", 3),
                     done("flushed", 3), done("answered", 1)])
-    found = {(image.durable, len(image.kept)): (image.least, image.most) for image in told.all_images() if image.how != "some"}
+    found = {(image.durable, len(image.kept)): (image.least, image.most) for image in events.all_images() if image.how != "some"}
     return found == {(0, 0): (0, 0), (0, 1): (0, 0), (0, 2): (0, 1), (1, 0): (1, 1), (1, 1): (1, 1)}
 
 
@@ -87,10 +87,10 @@ def bounds_of_a_copy() -> bool:
 
 def settled() -> bool:
     """An image that is settled is the disk from then on."""
-    told = history([write(1, 0, A), done("wrote", 1), done("flush", 2), done("flushed", 2), write(3, 0, B)])
+    events = history([write(1, 0, A), done("wrote", 1), done("flush", 2), done("flushed", 2), write(3, 0, B)])
     disk = Disk(BLOCK)
-    builder = Builder(disk, told)
-    images = told.all_images()
+    builder = Builder(disk, events)
+    images = events.all_images()
     builder.build(images[-1])
     disk.take_back()
     builder.settle(images[0])

@@ -34,39 +34,39 @@ static void hand_on(size_t size) {
     }
 }
 
-/* Copies a file, and says into `told` what it is. */
-static void copy(const char *file, char told[32]) {
+/* Copies a file, and says into `state` what it is. */
+static void copy(const char *file, char state[32]) {
     struct stat found;
     int opened = open(file, O_RDONLY);
     if (opened < 0) {
-        strcpy(told, errno == ENOENT || errno == ENOTDIR ? "absent" : "unreadable");
+        strcpy(state, errno == ENOENT || errno == ENOTDIR ? "absent" : "unreadable");
         return;
     }
     ssize_t count = fstat(opened, &found) < 0 ? -1 : pread(opened, bytes, MOST, 0);
     if (count < 0 || (count < found.st_size && count < MOST)) {
-        strcpy(told, "unreadable");
+        strcpy(state, "unreadable");
     } else {
         hand_on((size_t)count);
-        snprintf(told, 32, "size %lld", (long long)found.st_size);
+        snprintf(state, 32, "size %lld", (long long)found.st_size);
     }
     close(opened);
 }
 
 int main(void) {
-    char line[4096], type[32], name[1024], options[256], file[1100], told[32];
+    char line[4096], type[32], name[1024], options[256], file[1100], state[32];
     while (fgets(line, sizeof line, stdin)) {
         options[0] = 0;
         if (sscanf(line, "%31s %1023s %255s", type, name, options) < 2) return 0;
         snprintf(file, sizeof file, "/mnt/%s", name);
         forget();
         if (mount("/dev/vda", "/mnt", type, MS_NOATIME, options) < 0) {
-            strcpy(told, "not mounted");
+            strcpy(state, "not mounted");
         } else {
-            copy(file, told);
+            copy(file, state);
             if (umount("/mnt") < 0) return 1;
         }
         /* The disk is left alone from here on: it may be another one at once. */
-        puts(told);
+        puts(state);
         fflush(stdout);
     }
     return 1;

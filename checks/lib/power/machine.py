@@ -93,8 +93,8 @@ def modules_of(kernel: Kernel, names: list[str]) -> dict[str, bytes]:
 
 def libraries_of(program: str) -> dict[str, str]:
     """The shared libraries of a program, by their places in the machine; none where it is linked statically."""
-    told = subprocess.run(["ldd", program], stdout=subprocess.PIPE, stderr=subprocess.DEVNULL, text=True, check=False).stdout
-    return {place.lstrip("/"): place for place in re.findall(r"(/\S+) \(0x", told)}
+    listed = subprocess.run(["ldd", program], stdout=subprocess.PIPE, stderr=subprocess.DEVNULL, text=True, check=False).stdout
+    return {place.lstrip("/"): place for place in re.findall(r"(/\S+) \(0x", listed)}
 
 
 def initramfs(folder: pathlib.Path, kernel: Kernel, names: list[str], files: dict[str, str]) -> pathlib.Path:
@@ -182,9 +182,9 @@ class Machine:
         return time.monotonic() - self.started
 
     def last_lines(self) -> str:
-        """What the kernel and QEMU told last."""
-        told = self.console.read_bytes()[-4000:] + self.errors.read_bytes()[-1000:]
-        return "\n".join("    " + line for line in told.decode(errors="replace").splitlines()[-12:])
+        """What the kernel and QEMU reported last."""
+        output = self.console.read_bytes()[-4000:] + self.errors.read_bytes()[-1000:]
+        return "\n".join("    " + line for line in output.decode(errors="replace").splitlines()[-12:])
 
     def joins(self, name: str, listener: socket.socket) -> None:
         """QEMU has come for a line or a disk."""
@@ -232,17 +232,17 @@ class Machine:
     def do(self, text: str) -> tuple[list[str], int]:
         """Runs a line of shell: its lines of output, and its status."""
         self.shell.say(text)
-        told: list[str] = []
+        lines: list[str] = []
         while not re.fullmatch(r"done \d+", line := self.hear(self.shell)):
-            told.append(line)
-        return told, int(line.split()[1])
+            lines.append(line)
+        return lines, int(line.split()[1])
 
     def must(self, text: str) -> list[str]:
         """Runs a line of shell that has to answer 0."""
-        told, status = self.do(text)
+        lines, status = self.do(text)
         if status:
-            raise Fault(f"{text}: status {status}, {told}; the machine's last lines:\n{self.last_lines()}")
-        return told
+            raise Fault(f"{text}: status {status}, {lines}; the machine's last lines:\n{self.last_lines()}")
+        return lines
 
     def off(self) -> None:
         """Cuts the power."""

@@ -58,10 +58,10 @@ def find_kernels(folders: list[str]) -> list[Kernel]:
 def fetch_kernel() -> int:
     """Downloads Debian's kernel for virtual machines, and unpacks it; nothing of it is installed. The status of the check."""
     FETCHED.mkdir(parents=True, exist_ok=True)
-    told = subprocess.run(["apt-cache", "depends", KERNEL_PACKAGE], stdout=subprocess.PIPE, stderr=subprocess.PIPE, text=True, check=False)
-    found = re.search(r"Depends: (linux-image-\S+)", told.stdout)
+    depends = subprocess.run(["apt-cache", "depends", KERNEL_PACKAGE], stdout=subprocess.PIPE, stderr=subprocess.PIPE, text=True, check=False)
+    found = re.search(r"Depends: (linux-image-\S+)", depends.stdout)
     if not found:
-        print(f"checks/power: apt knows no {KERNEL_PACKAGE}; try apt-get update first. {told.stderr.strip()}", file=sys.stderr)
+        print(f"checks/power: apt knows no {KERNEL_PACKAGE}; try apt-get update first. {depends.stderr.strip()}", file=sys.stderr)
         return 1
     folder = FETCHED / found[1]
     ran = subprocess.run(["apt-get", "-o", "APT::Sandbox::User=root", "download", found[1]], cwd=FETCHED, stdout=subprocess.DEVNULL,
@@ -81,8 +81,8 @@ def fetch_kernel() -> int:
 def lack_of_room(folder: pathlib.Path, disk: int) -> str:
     """What there is too little of, in words: memory for a machine and a disk of so many bytes, and room for images of it."""
     needed = MEMORY * MEGA + 3 * disk
-    told = pathlib.Path("/proc/meminfo").read_text()
-    available = re.search(r"MemAvailable: +(\d+) kB", told)
+    memory = pathlib.Path("/proc/meminfo").read_text()
+    available = re.search(r"MemAvailable: +(\d+) kB", memory)
     if available and int(available[1]) * 1024 < needed:
         return f"{needed // MEGA} MB of memory are needed, {int(available[1]) // 1024} are available"
     free = shutil.disk_usage(folder).free

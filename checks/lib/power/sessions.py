@@ -1,6 +1,6 @@
 """The sessions that are served: their commands, the state after each of them, and which of these states a file holds.
 
-The program itself, run on this host, tells the states; what it answers is looked at by other checks.
+The program itself, run on this host, reports the states; what it answers is looked at by other checks.
 """
 
 from __future__ import annotations

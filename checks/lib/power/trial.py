@@ -27,14 +27,14 @@ from session_file import SIZE
 MEGA = 1 << 20
 # Another program that writes meanwhile, so that the file system's own commits come between.
 BUSY = "(cd /; n=/mnt/noise; while :; do echo noise >> $n/a; mv $n/a $n/b; sleep 0.3; mv $n/b $n/a; done) & busy=$!"
-# Begins the program on its line, which tells of an end that nobody asked for; and ends what is in the file system, where something that was
+# Begins the program on its line, which reports an end that nobody asked for; and ends what is in the file system, where something that was
 # started may still be for a moment.
-BEGIN = "{{ {wrong} mcs4 {words} <&3 >&3; told=$?; [ -e /tmp/end ] || echo ended with status $told >&3; }} &"
+BEGIN = "{{ {wrong} mcs4 {words} <&3 >&3; reported=$?; [ -e /tmp/end ] || echo ended with status $reported >&3; }} &"
 END = "cd /; : > /tmp/end; kill $busy; killall mcs4; wait; rm /tmp/end; umount /mnt || { sleep 1; umount /mnt; }"
 # What `new` may leave before its first answer, where a file system shows nothing that it was not given.
 BEFORE_NEW = ("absent", "size 0", "blank", 0)
-# So many faults of a recording are told, and so many images kept in all.
-TOLD, KEPT = 2, 6
+# So many faults of a recording are reported, and so many images kept in all.
+SHOWN, KEPT = 2, 6
 
 # A count of commands, or what else is found.
 Found = int | str
@@ -85,7 +85,7 @@ class Runner:
         self.kept = 0
 
     def run(self, trial: Trial) -> Outcome:
-        """Makes a trial, and tells what came of it."""
+        """Makes a trial, and says what came of it."""
         kind, case = KINDS[trial.kind], CASES[trial.case]
         self.make(kind, trial, case)
         last = ALL_COMMANDS if case.takes_all else case.begins + (MORE_COMMANDS if case.is_kept else FEW_COMMANDS)
@@ -183,9 +183,9 @@ class Runner:
     def found(self, kind: Kind, options: str, file: str) -> Found:
         """What a machine that looks finds on its disk after a cut: a count of commands, or words."""
         self.machine.shell.say(f"{kind.type} {file} {options}")
-        told = self.machine.hear(self.machine.shell)
-        if told != f"size {SIZE}":
-            return told
+        answer = self.machine.hear(self.machine.shell)
+        if answer != f"size {SIZE}":
+            return answer
         return self.sessions.found_in(bytes(self.out.bytes[:SIZE]))
 
     @contextlib.contextmanager
@@ -211,7 +211,7 @@ class Runner:
         return "good" if isinstance(found, int) and image.least <= found <= image.most else ""
 
     def judge(self, trial: Trial, generation: int, history: History, seen: list[Seen], builder: Builder, seconds: float) -> Outcome:
-        """Tells what was found on the images of a recording; keeps some of those with faults."""
+        """Reports what was found on the images of a recording; keeps some of those with faults."""
         notes: collections.Counter[str] = collections.Counter()
         wrong = []
         for one in seen:
@@ -228,14 +228,14 @@ class Runner:
         del notes["good"]
         if notes:
             print("    " + "; ".join(f"{number} {note}" for note, number in sorted(notes.items())), flush=True)
-        told = [self.words_of_fault(one, len(history.events)) for one in wrong[:TOLD]]
-        for words, one in zip(told, wrong):
+        faults = [self.words_of_fault(one, len(history.events)) for one in wrong[:SHOWN]]
+        for words, one in zip(faults, wrong):
             if not trial.wrong:
                 print(f"FAULT in {name}: {words}", flush=True)
                 if one.found == "not mounted":
                     print(f"    the machine's last lines:\n{self.machine.last_lines()}", flush=True)
                 self.keep_image(trial, generation, builder, one.image)
-        return Outcome(len(seen), len(wrong), told[0] if told else "")
+        return Outcome(len(seen), len(wrong), faults[0] if faults else "")
 
     @staticmethod
     def words_of_fault(seen: Seen, places: int) -> str:
@@ -250,7 +250,7 @@ class Runner:
     # --- images that are kept, and the next disk
 
     def keep_image(self, trial: Trial, generation: int, builder: Builder, image: Image) -> None:
-        """Keeps an image in a file, with what is to be found on it, and tells the line that looks at it again."""
+        """Keeps an image in a file, with what is to be found on it, and reports the line that looks at it again."""
         kind, case = KINDS[trial.kind], CASES[trial.case]
         if self.kept == KEPT:
             return
@@ -261,20 +261,20 @@ class Runner:
         builder.build(image)
         name.write_bytes(self.disk.bytes[:kind.size * MEGA])
         self.disk.take_back()
-        told = {"kind": trial.kind, "options": self.options(kind, trial), "file": case.file, "least": image.least, "most": image.most}
-        name.with_suffix(".json").write_text(json.dumps(told))
+        about = {"kind": trial.kind, "options": self.options(kind, trial), "file": case.file, "least": image.least, "most": image.most}
+        name.with_suffix(".json").write_text(json.dumps(about))
         print(f"    look at it again: {self.show} --show {name}", flush=True)
 
     def show_again(self, name: pathlib.Path) -> bool:
-        """Tells what is found on an image that was kept; whether that is as it has to be."""
-        told = json.loads(name.with_suffix(".json").read_text())
-        kind, image = KINDS[told["kind"]], name.read_bytes()
+        """Reports what is found on an image that was kept; whether that is as it has to be."""
+        about = json.loads(name.with_suffix(".json").read_text())
+        kind, image = KINDS[about["kind"]], name.read_bytes()
         self.disk.bytes[:len(image)] = image
         with self.looking():
-            found = self.found(kind, told["options"], told["file"])
-        least, most = told["least"], told["most"]
+            found = self.found(kind, about["options"], about["file"])
+        least, most = about["least"], about["most"]
         is_good = isinstance(found, int) and (least or 0) <= found <= most
-        print(f"{name}: {told['file']} on {kind.name}: {least} commands acknowledged, {most} sent, found: {found}")
+        print(f"{name}: {about['file']} on {kind.name}: {least} commands acknowledged, {most} sent, found: {found}")
         return is_good
 
     def next_disk(self, trial: Trial, generation: int, seen: list[Seen]) -> Seen:

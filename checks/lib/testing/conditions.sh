@@ -61,7 +61,7 @@ test the number of #
     until @wait within 1000
     expect lamps ..*
 end_of_tests
-cat > "$folder/told" <<'told'
+cat > "$folder/printed" <<'END'
 TAP version 13
 1..10
 ok 1 - the right lamp is lit first
@@ -71,7 +71,7 @@ ok 4 - a state is begun with as it was
 not ok 5 - a sum
   message: "r4 is 7, and has to be 8"
 not ok 6 - one that needs its state
-  message: "the state never is not there, since the test `a sum` did not come to save it"
+  message: "the state never is missing, because the test `a sum` did not reach its `save`"
 not ok 7 - a run into nothing
   message: "the run stopped after 19 cycles before a code that is not an instruction, at 018 (turn + 2)"
 not ok 8 - a limit
@@ -80,13 +80,13 @@ not ok 9 - a wait for a register
   message: "pc is 00D (next + 8), and has to be @first"
 ok 10 - the number of \#
 status 1
-told
+END
 tested() {
     verdict "$(outcome ./mcs4 test $three/board.toml $three/three_lamps.asm "$folder/lamps.test" 2>&1 | sed -n '/^TAP/p; /^1\.\./p; /ok [0-9]/p; /^  message/p; /^status/p')" \
-        "$(cat "$folder/told")" "$1"
+        "$(cat "$folder/printed")" "$1"
 }
 tested "conditions and failures"
-# Whatever awk is there says the same; mawk reads a pipe line by line where it is told so.
+# Whatever awk is there says the same; mawk reads a pipe line by line if an option says so.
 for other in gawk mawk original-awk "busybox awk"; do
     if command -v "${other%% *}" > /dev/null; then
         mkdir -p "$folder/bin"
@@ -97,7 +97,7 @@ for other in gawk mawk original-awk "busybox awk"; do
             outcome ./mcs4 test $three/board.toml $three/three_lamps.asm "$folder/lamps.test" |
                 sed -n '/^TAP/p; /^1\.\./p; /ok [0-9]/p; /^  message/p; /^status/p'
         ) > "$folder/other"
-        verdict "$(cat "$folder/other")" "$(cat "$folder/told")" "the same by $other"
+        verdict "$(cat "$folder/other")" "$(cat "$folder/printed")" "the same by $other"
     fi
 done
 

@@ -15,9 +15,9 @@ cat > "$folder/covered" <<'covered'
          2                        BBL 0
         10                end:    JUN end
 
-8 of 9 instructions were run (88.9 %), 3 of 4 ways of conditional jumps (75.0 %)
+8 of 9 instructions were run (88.9 %), 3 of 4 branch directions (75.0 %)
 never run: line 7
-one way alone: line 5 (never taken)
+only one way: line 5 (never taken)
 status 0
 covered
 # FIM 2, twice JMS 2, CLC 1, BBL 1, ISZ 2, then JCN 2 and JUN 2: 18 cycles, and 11 times 2 up to 40.
@@ -62,9 +62,9 @@ verdict "$(outcome ./mcs4 cover --lcov "$folder/always.info" $three/board.toml "
      never                        NOP
          8                next:   JUN turn
 
-3 of 4 instructions were run (75.0 %), 1 of 2 ways of conditional jumps (50.0 %)
+3 of 4 instructions were run (75.0 %), 1 of 2 branch directions (50.0 %)
 never run: line 3
-one way alone: line 2 (always taken)
+only one way: line 2 (always taken)
 status 0" "coverage of a jump that is always taken"
 verdict "$(sed -n '/^BR/p' "$folder/always.info" | tr '\n' ' ')" "BRDA:2,0,0,8 BRDA:2,0,1,0 BRF:2 BRH:1 " "LCOV's format of a jump that is always taken"
 
@@ -92,10 +92,10 @@ verdict "$(sed -n 's/^DA://p' "$folder/calc.info")" "$(awk '
         if (text ~ /^[ \t]*[A-Za-z]/ && text !~ /=|ORG|DB/) print FNR "," runs[at[++k]] + 0
     }
 ' "$folder/answers" "$folder/listing" $calculator/calculator.asm)" "counts by \`count\` and by steps"
-refuses 1 "cover: the session has another program than $lock/lock.asm: at 001 stands 24, and line 16 makes 2C" \
+refuses 1 "cover: the session has another program than $lock/lock.asm: 001 has 24, and line 16 makes 2C" \
     ./mcs4 cover --session "$folder/calc.mcs" 100 $lock/lock.asm
 refuses 1 "cover: cannot write $folder/none/x.info: its folder is not there, or cannot be written" ./mcs4 cover --lcov "$folder/none/x.info" --session "$folder/calc.mcs" 10 $calculator/calculator.asm
-misuses "CYCLES is a decimal number, 1 to 100000000" ./mcs4 cover --session "$folder/calc.mcs" 0 $calculator/calculator.asm
+misuses "CYCLES: '0' is not a decimal number from 1 to 100000000" ./mcs4 cover --session "$folder/calc.mcs" 0 $calculator/calculator.asm
 refuses 2 "cover: PROGRAM is missing
 usage: mcs4 cover [-C FOLDER] [--lcov FILE] [BOARD PROGRAM] [TEST ..]
        mcs4 cover [--lcov FILE] --session SESSION CYCLES PROGRAM" \
@@ -125,12 +125,12 @@ cover_usage="usage: mcs4 cover [-C FOLDER] [--lcov FILE] [BOARD PROGRAM] [TEST .
        mcs4 cover [--lcov FILE] --session SESSION CYCLES PROGRAM"
 stays "$folder/mine.toml" 2 "cover: TEST is missing
 $cover_usage" ./mcs4 cover --lcov "$folder/mine.toml" "$folder/count.asm" "$folder/count.test"
-stays "$folder/mine.toml" 1 "cover: $folder/mine.toml is there, and does not begin as a file of LCOV's format does (TN:); name another file, or move it away" \
+stays "$folder/mine.toml" 1 "cover: $folder/mine.toml exists, and does not begin as a file of LCOV's format does (TN:); name another file, or move it away" \
     ./mcs4 cover --lcov "$folder/mine.toml" $three/board.toml "$folder/count.asm" "$folder/count.test"
 stays "$folder/mine.asm" 1 "cover: $folder/mine.asm is read here, so it is not written; name another file" \
     ./mcs4 cover --lcov "$folder/mine.asm" $three/board.toml "$folder/mine.asm" "$folder/count.test"
 printf ' LDX 5\n' > "$folder/wrong.asm"
-stays "$folder/count.info" 1 "cover: $folder/wrong.asm: line 1: no 30: the line has no form that the assembler knows
+stays "$folder/count.info" 1 "cover: $folder/wrong.asm: line 1: no 30: LDX is not an instruction; LD or LDM?
 cover:      LDX 5" ./mcs4 cover --lcov "$folder/count.info" $three/board.toml "$folder/wrong.asm" "$folder/count.test"
 stays "$folder/calc.mcs" 1 "cover: $folder/calc.mcs is read here, so it is not written; name another file" \
     ./mcs4 cover --lcov "$folder/calc.mcs" --session "$folder/calc.mcs" 10 $calculator/calculator.asm

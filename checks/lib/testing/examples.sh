@@ -37,7 +37,7 @@ finds() {
     verdict "$(outcome ./mcs4 test "$1" "$folder/planted" "$2" | sed -n 's/^not ok [0-9]* - //p; /^status/p')" "$3
 status 1" "a bug found by $2"
 }
-# A division by zero is told as an overflow.
+# A division by zero is reported as an overflow.
 plant $calculator/calculator.asm 1 "LDM 2		; division by zero" "LDM 1		; division by zero"
 finds $calculator/board.toml $calculator/calculator.test "division by zero"
 # Behind several keys four scans are enough.

@@ -80,9 +80,9 @@ test: $folder/bad_steps.test:4: the steps one cannot do themselves
 test: $folder/bad_steps.test:5: shared steps have no states: \`save\` belongs in a test
 test: $folder/bad_steps.test:6: there are no steps two before this line; \`steps two\` begins them
 test: $folder/bad_steps.test:7: shared steps have no states: \`from\` belongs in a test
-test: $folder/bad_steps.test:8: the steps one stand at line 3 already
-test: $folder/bad_steps.test:10: it is written as \`repeat COUNT\`, 1 to 100,000: the lines down to its \`end\` are done so often
-test: $folder/bad_steps.test:11: it is written as \`repeat COUNT\`, 1 to 100,000: the lines down to its \`end\` are done so often
+test: $folder/bad_steps.test:8: the steps one are at line 3 already
+test: $folder/bad_steps.test:10: it is written as \`repeat COUNT\`, 1 to 100,000: the lines down to its \`end\` are done COUNT times
+test: $folder/bad_steps.test:11: it is written as \`repeat COUNT\`, 1 to 100,000: the lines down to its \`end\` are done COUNT times
 test: $folder/bad_steps.test:14: there is no \`repeat\` for this \`end\`
 test: $folder/bad_steps.test:15: it is written as \`do STEPS\`, the name of shared steps
 test: $folder/bad_steps.test:16: there are no steps three before this line; there are: one
@@ -97,8 +97,8 @@ test: $folder/bad_steps.test:22: this \`repeat\` has no \`end\`" \
     ./mcs4 test $lock/board.toml $lock/lock.asm "$folder/bad_steps.test"
 printf 'test b\n do one more\n end 3\n repeat 100001\n from a\n repeat 9\ntest c\n press {r4:1,,2}\n keys {r1 4}\n keys {}\n' > "$folder/no.test"
 refuses 1 "test: $folder/no.test:2: it is written as \`do STEPS\`, the name of shared steps
-test: $folder/no.test:3: \`end\` takes nothing after it
-test: $folder/no.test:4: it is written as \`repeat COUNT\`, 1 to 100,000: the lines down to its \`end\` are done so often
+test: $folder/no.test:3: \`end\` takes no argument
+test: $folder/no.test:4: it is written as \`repeat COUNT\`, 1 to 100,000: the lines down to its \`end\` are done COUNT times
 test: $folder/no.test:5: \`from\` must be right below \`test\`
 test: $folder/no.test:4: this \`repeat\` has no \`end\`
 test: $folder/no.test:6: this \`repeat\` has no \`end\`
@@ -119,8 +119,8 @@ refuses 1 "test: $folder/no.test:2: the board's text names no printer (\`# print
     ./mcs4 test $lock/board.toml $lock/lock.asm "$folder/no.test"
 printing=examples/printing_calculator
 printf 'test t\nexpect printed\ntest u\nuntil not printed within 9\n' > "$folder/no.test"
-refuses 1 "test: $folder/no.test:2: it is written as \`printed TEXT\`, the last lines of the paper, as in: printed 12+ 30= 42 (column 8)
-test: $folder/no.test:4: it is written as \`printed TEXT\`, the last lines of the paper, as in: printed 12+ 30= 42 (column 11)" \
+refuses 1 "test: $folder/no.test:2: it is written as \`printed TEXT\`, the last lines of the printout, as in: printed 12+ 30= 42 (column 8)
+test: $folder/no.test:4: it is written as \`printed TEXT\`, the last lines of the printout, as in: printed 12+ 30= 42 (column 11)" \
     ./mcs4 test $printing/board.toml $printing/printing_calculator.asm "$folder/no.test"
 printf 'test \303\244\n' > "$folder/no.test"
 refuses 1 "test: $folder/no.test:1: a byte that is neither a tab nor a printing character of ASCII" \
@@ -132,11 +132,11 @@ refuses 1 "test: cannot read none: there is no such file" ./mcs4 test none $lock
 refuses 2 "test: TEST is missing
 usage: mcs4 test [-C FOLDER] [BOARD PROGRAM] [TEST ..]" ./mcs4 test $lock/board.toml $lock/lock.asm
 sed 's/JMS key/JMS kez/' < $lock/lock.asm > "$folder/faulty.asm"
-refuses 1 "test: $folder/faulty.asm: line 31: no 32: a name that no line defines
+refuses 1 "test: $folder/faulty.asm: line 31: no 32: kez is not defined; key?
 test:     digit:  JMS kez" ./mcs4 test $lock/board.toml "$folder/faulty.asm" "$folder/one.test"
 sed 's/ISZ R4, digit/ISZ R4, digits/' < examples/stopwatch.txt > "$folder/faulty.txt"
 line=$(grep -n 'ISZ R4, digits' "$folder/faulty.txt" | sed 's/:.*//')
-refuses 1 "test: $folder/faulty.txt: line $line: no 32: a name that no line defines
+refuses 1 "test: $folder/faulty.txt: line $line: no 32: digits is not defined; digit?
 test:             ISZ R4, digits" ./mcs4 test "$folder/faulty.txt" "$folder/faulty.txt" "$folder/one.test"
 printf '#!/bin/sh\necho no such thing\n' > "$folder/no_bench"
 chmod +x "$folder/no_bench"

@@ -20,13 +20,13 @@ not ok 2 - never lamps none for 1 ms # TODO not decided: a property of the form 
 ok 3 - reach lamps ***.*** # reached, 1 step
   message: \"reached by 1 step, 91 cycles\"
   at: \"examples/die.props:10\"
-ok 4 - no code outside the instruction table # proved for all inputs (13 states)
-ok 5 - no fourth nested call # proved for all inputs (13 states)
-ok 6 - no BBL without a call # proved for all inputs (13 states)
-ok 7 - no RAM that is absent # proved for all inputs (13 states)
-ok 8 - no ROM that is absent # proved for all inputs (13 states)
-ok 9 - no RDR of a port without inputs # proved for all inputs (13 states)
-ok 10 - no WRR to a port without outputs # proved for all inputs (13 states)
+ok 4 - no code outside the instruction table # proved for all inputs (22 sets of states)
+ok 5 - no fourth nested call # proved for all inputs (22 sets of states)
+ok 6 - no BBL without a call # proved for all inputs (22 sets of states)
+ok 7 - no RAM that is absent # proved for all inputs (22 sets of states)
+ok 8 - no ROM that is absent # proved for all inputs (22 sets of states)
+ok 9 - no RDR of a port without inputs # proved for all inputs (22 sets of states)
+ok 10 - no WRR to a port without outputs # proved for all inputs (22 sets of states)
 status 3" "the die"
     grep '^never not' examples/die.props > "$folder/faces.props"
     verdict "$(outcome ./mcs4 prove examples/die.txt examples/die.txt "$folder/faces.props" | remarks)" \
@@ -140,7 +140,12 @@ status 3" "no memory"
     kill -INT "$(pgrep -P "$proving" node)"
     status=0
     wait "$proving" || status=$?
-    sleep 0.2
+    tenths=50
+    while pgrep -f "^sleep 61.$$\$" > /dev/null && [ "$tenths" -gt 0 ]; do
+        sleep 0.1
+        tenths=$((tenths - 1))
+    done
     verdict "$status $(pgrep -f "^sleep 61.$$\$" || echo ended)" "130 ended" "Ctrl-C"
 fi
-misuses "N is a decimal number, 1 to 999999999" ./mcs4 prove a b c --most 0
+misuses "N: '0' is not a decimal number from 1 to 999999999" ./mcs4 prove a b c --most 0
+misuses "MB: '0' is not a decimal number from 1 to 1000000" ./mcs4 prove a b c --memory 0

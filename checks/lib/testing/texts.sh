@@ -20,7 +20,7 @@ verdict "$(outcome ./mcs4 test $lock/board.toml $lock/lock.asm "$folder/unsaved.
   message: \"acc is 0, and has to be 1\"
   at: \"$folder/unsaved.test:2\"
 not ok 2 - b
-  message: \"the state begun is not there, since the test \`a\` did not come to save it\"
+  message: \"the state begun is missing, because the test \`a\` did not reach its \`save\`\"
   at: \"$folder/unsaved.test:5\"
 status 1" "a state that was not saved"
 # A text that is not UTF-8 is read as Latin 1, and shown in UTF-8.
@@ -28,7 +28,7 @@ printf 'loop: JUN loop ; \344\n' > "$folder/latin.asm"
 verdict "$(outcome ./mcs4 cover $lock/board.toml "$folder/latin.asm" "$folder/unsaved.test" | sed -n 's/.*loop:/loop:/p')" \
     "loop: JUN loop ; $(printf '\303\244')" "a program in Latin 1"
 
-# Shared steps of one text are known in those after it; where one of them fails, its text and line are told, and who does them.
+# Shared steps of one text are known in those after it; where one of them fails, its text and line are reported, and who does them.
 printf 'steps opened\n expect lamps open\nsteps enter # the code\n keys 4711#\n do opened\n' > "$folder/steps.test"
 printf 'test it opens\n run 100 ms\n do enter\ntest it does not\n run 100 ms\n keys 3\n do enter\n' > "$folder/opens.test"
 verdict "$(outcome ./mcs4 test $lock/board.toml $lock/lock.asm "$folder/steps.test" "$folder/opens.test" | results)" "ok 1 - it opens
@@ -44,8 +44,8 @@ verdict "$(outcome ./mcs4 cover $lock/board.toml $lock/lock.asm "$folder/steps.t
     "$(cat "$folder/steps.test" "$folder/opens.test" > "$folder/joined.test"
     outcome ./mcs4 cover $lock/board.toml $lock/lock.asm "$folder/joined.test" | sed -n '/^status/p; /instructions were run/s/ (.*//p')" "what two texts cover"
 cp "$folder/steps.test" "$folder/again.test"
-refuses 1 "test: $folder/again.test:1: the steps opened stand at $folder/steps.test:1 already
-test: $folder/again.test:3: the steps enter stand at $folder/steps.test:3 already" \
+refuses 1 "test: $folder/again.test:1: the steps opened are at $folder/steps.test:1 already
+test: $folder/again.test:3: the steps enter are at $folder/steps.test:3 already" \
     ./mcs4 test $lock/board.toml $lock/lock.asm "$folder/steps.test" "$folder/again.test" "$folder/opens.test"
 
 # Pipes, and standard input, where a text is read.
@@ -59,7 +59,7 @@ ok 2 - b \\# 1
 status 0" "texts from pipes"
 verdict "$(outcome ./mcs4 test - - examples/stopwatch.test < examples/stopwatch.txt | sed '1d;$!d')" "status 0" "one standard input that is board and program"
 sed 's/JMS key/JMS kez/' < $lock/lock.asm > "$folder/faulty.asm"
-verdict "$(outcome ./mcs4 test $lock/board.toml - "$folder/first.test" < "$folder/faulty.asm")" "test: -: line 31: no 32: a name that no line defines
+verdict "$(outcome ./mcs4 test $lock/board.toml - "$folder/first.test" < "$folder/faulty.asm")" "test: -: line 31: no 32: kez is not defined; key?
 test:     digit:  JMS kez
 status 1" "a fault on standard input"
 echo "first line" > "$folder/first.pipe.test"

@@ -14,23 +14,23 @@ for wrong in "" x -1 1e3 0 100000001; do
     case $wrong in
     -1) for tool in trace wave; do misuses "there is no option -1" ./mcs4 "$tool" "$session" "$wrong"; done ;;
     *)
-        misuses "CYCLES is a decimal number, 1 to 100000" ./mcs4 trace "$session" "$wrong"
-        misuses "CYCLES is a decimal number, 1 to 10000000" ./mcs4 wave "$session" "$wrong"
+        misuses "CYCLES: '$wrong' is not a decimal number from 1 to 100000" ./mcs4 trace "$session" "$wrong"
+        misuses "CYCLES: '$wrong' is not a decimal number from 1 to 10000000" ./mcs4 wave "$session" "$wrong"
         ;;
     esac
-    case $wrong in '' | -1) ;; *) misuses "N is a decimal number, 1 to 10000" ./mcs4 trace --last "$wrong" "$session" 5 ;; esac
+    case $wrong in '' | -1) ;; *) misuses "N: '$wrong' is not a decimal number from 1 to 10000" ./mcs4 trace --last "$wrong" "$session" 5 ;; esac
     case $wrong in -1) continue ;; esac
-    misuses "N is a decimal number, 1 to 99999" ./mcs4 back "$session" "$wrong"
-    misuses "CYCLES is a decimal number, 1 to 100000000" ./mcs4 cover --session "$session" "$wrong" "$program"
-    misuses "CYCLES is a decimal number, 1 to 100000000" ./mcs4 profile --session "$session" "$wrong" "$program"
+    misuses "N: '$wrong' is not a decimal number from 1 to 99999" ./mcs4 back "$session" "$wrong"
+    misuses "CYCLES: '$wrong' is not a decimal number from 1 to 100000000" ./mcs4 cover --session "$session" "$wrong" "$program"
+    misuses "CYCLES: '$wrong' is not a decimal number from 1 to 100000000" ./mcs4 profile --session "$session" "$wrong" "$program"
     case $wrong in '') continue ;; esac
-    misuses "CYCLES of --down is a decimal number, 1 to 100000" ./mcs4 keys --down "$wrong" $lock/board.toml 1
-    misuses "CYCLES of --up is a decimal number, 1 to 100000" ./mcs4 keys --up "$wrong" $lock/board.toml 1
+    misuses "CYCLES of --down: '$wrong' is not a decimal number from 1 to 100000" ./mcs4 keys --down "$wrong" $lock/board.toml 1
+    misuses "CYCLES of --up: '$wrong' is not a decimal number from 1 to 100000" ./mcs4 keys --up "$wrong" $lock/board.toml 1
 done
 for option in seconds:86400 jobs:64 seed:99999999; do
     name=$(printf '%s' "${option%:*}" | tr a-z A-Z)
     for wrong in x 0 100000000; do
-        misuses "$name is a decimal number, 1 to ${option#*:}" ./mcs4 explore $lock/board.toml $lock/lock.asm $lock/lock.props "--${option%:*}" "$wrong"
+        misuses "$name: '$wrong' is not a decimal number from 1 to ${option#*:}" ./mcs4 explore $lock/board.toml $lock/lock.asm $lock/lock.props "--${option%:*}" "$wrong"
     done
 done
 misuses "ADDRESS is 0 to 4095, decimal or with 0x" ./mcs4 rom load none.bin 4096
@@ -52,19 +52,19 @@ for words in "trace::10" "wave::10" "back:" "import:" "listing:" "explain:" "res
         set -- ${words#*:}
         if [ $# -eq 0 ]; then set -- ''; fi
         outcome ./mcs4 "$tool" "$@" | short_use
-    ) > "$folder/told"
-    verdict "$(cat "$folder/told")" "$tool: an argument is empty; it names a file
+    ) > "$folder/printed"
+    verdict "$(cat "$folder/printed")" "$tool: an argument is empty; it names a file
 usage: mcs4 $tool
 status 2" "$tool with an empty argument"
 done
 # A mistyped command, with and without `help`: one letter is another, missing or too much, two are exchanged.
 for pair in TEST:test tesst1:test tset:test tes:test testt:test tast:test lisitng:listing hlep:help opne:open ls:lsp; do
     word=${pair%:*}
-    refuses 2 "mcs4: there is no command $word; did you mean ${pair#*:}? mcs4 help shows which there are" ./mcs4 "$word"
-    refuses 2 "mcs4: there is no command $word; did you mean ${pair#*:}? mcs4 help shows which there are" ./mcs4 help "$word"
+    refuses 2 "mcs4: there is no command $word; did you mean ${pair#*:}? mcs4 help lists the commands" ./mcs4 "$word"
+    refuses 2 "mcs4: there is no command $word; did you mean ${pair#*:}? mcs4 help lists the commands" ./mcs4 help "$word"
 done
 for word in frobnicate tt -x; do
-    refuses 2 "mcs4: there is no command $word; mcs4 help shows which there are" ./mcs4 "$word"
+    refuses 2 "mcs4: there is no command $word; mcs4 help lists the commands" ./mcs4 "$word"
 done
 # Options stand anywhere, `--` ends them, a value is missing, one is too many, a mistyped option has a suggestion.
 verdict "$(outcome ./mcs4 listing $lock/lock.asm --names)" "$(outcome ./mcs4 listing --names $lock/lock.asm)" "an option behind the arguments"
@@ -81,6 +81,6 @@ misuses "--names is given twice" ./mcs4 listing --names --names $lock/lock.asm
 misuses "--names and --labels exclude each other" ./mcs4 listing --names --labels $lock/lock.asm
 misuses "FOLDER is missing after -C" ./mcs4 listing -C
 misuses "FOLDER is missing after --folder" ./mcs4 listing --folder --names
-misuses "SEED is a decimal number, 1 to 99999999" ./mcs4 explore --seed -1
+misuses "SEED: '-1' is not a decimal number from 1 to 99999999" ./mcs4 explore --seed -1
 misuses "'x' is one argument too many" ./mcs4 listing $lock/lock.asm x
 for name in lsp dap; do misuses "'x' is one argument too many" ./mcs4 $name --stdio x; done

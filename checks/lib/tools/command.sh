@@ -16,12 +16,12 @@ verdict "$(ls js/node/commands | sed 's/\.mjs//; /^table$/d' | LC_ALL=C sort)" "
 node js/node/command_pages.mjs "$folder/pages" > /dev/null
 for each in $commands; do
     verdict "$(apart ./mcs4 help "$each" | sed 's/^[0-9]*/some/')" "some 0 0" "mcs4 help $each"
-    verdict "$(head -n 1 "$folder/output" | cut -d ' ' -f 1-3); $(awk 'length > 79' "$folder/output" | grep -c '^[^ u]\|^ \{6\}[^ ]' || :)" "usage: mcs4 $each; 0" "what mcs4 help $each tells"
+    verdict "$(head -n 1 "$folder/output" | cut -d ' ' -f 1-3); $(awk 'length > 79' "$folder/output" | grep -c '^[^ u]\|^ \{6\}[^ ]' || :)" "usage: mcs4 $each; 0" "the output of mcs4 help $each"
     verdict "$(apart ./mcs4 "$each" --none --none --none --none --none --none --none | sed 's/^0 [0-9]* /0 some /'): $(sed 's/^\(usage: mcs4 \).*/\1/; 2q' "$folder/errors")" "0 some 2: $each: there is no option --none
 usage: mcs4 " "mcs4 $each with words that are none"
     if command -v man > /dev/null; then
         verdict "$(man --warnings -l "$folder/pages/man/mcs4-$each.1" 2>&1 > "$folder/page.txt")" "" "the manual page of $each"
-        verdict "$(grep -cE '^(NAME|SYNOPSIS|DESCRIPTION|EXIT STATUS|SEE ALSO)$' "$folder/page.txt")" 5 "what stands in the manual page of $each"
+        verdict "$(grep -cE '^(NAME|SYNOPSIS|DESCRIPTION|EXIT STATUS|SEE ALSO)$' "$folder/page.txt")" 5 "the headings of the manual page of $each"
     fi
 done
 for word in help --help -h "help version"; do
@@ -37,8 +37,8 @@ usage: mcs4 new FILE
        mcs4 help [COMMAND]
        mcs4 version" "mcs4 without words"
 for word in frob build lib ../mcs4 "" speed table constructor; do
-    refuses 2 "mcs4: there is no command $word; mcs4 help shows which there are" ./mcs4 help "$word"
-    if [ -n "$word" ]; then refuses 2 "mcs4: there is no command $word; mcs4 help shows which there are" ./mcs4 "$word" x; fi
+    refuses 2 "mcs4: there is no command $word; mcs4 help lists the commands" ./mcs4 help "$word"
+    if [ -n "$word" ]; then refuses 2 "mcs4: there is no command $word; mcs4 help lists the commands" ./mcs4 "$word" x; fi
 done
 # If standard output takes nothing, mcs4 says so; wrong arguments have their status whatever standard error takes.
 for stream in "> /dev/full" ">&-"; do
@@ -59,9 +59,9 @@ ln -s "../linked/command" "$folder/links/command"
 for name in more/command links/command; do
     verdict "$(cd "$folder" && outcome $name listing --names program.asm)" "$(outcome ./mcs4 listing --names "$folder/program.asm")" "a listing by the link $name"
 done
-refuses 2 "mcs4: there is too much behind version
+refuses 2 "mcs4: '4' is one argument too many
 $(./mcs4 2>&1 || :)" ./mcs4 version 4
-refuses 2 "mcs4: there is too much behind help
+refuses 2 "mcs4: 'rom' is one argument too many
 $(./mcs4 2>&1 || :)" ./mcs4 help listing rom
 
 # Without Node: help, version, new and open are there; other commands say what they need.
@@ -75,7 +75,7 @@ case $(./mcs4 version) in
 *"none so far"*) echo "not run: mcs4 new without Node, in checks/tools (the program in shipped/ is not of these sources)" ;;
 *)
     # What is said once to each user is said before.
-    ./mcs4 open "$folder/none.mcs" < /dev/null > "$folder/told" 2>&1 || :
+    ./mcs4 open "$folder/none.mcs" < /dev/null > "$folder/printed" 2>&1 || :
     verdict "$(echo seq | without_node new "$folder/plain.mcs")" "session 0
 seq 0
 status 0" "mcs4 new without Node"
@@ -88,6 +88,6 @@ verdict "$(without_node listing $lock/lock.asm)" "mcs4: listing needs node, 18 o
 status 1" "mcs4 listing without Node"
 for words in "frob" "help frob"; do
     # shellcheck disable=SC2086
-    verdict "$(without_node $words)" "mcs4: there is no command frob; mcs4 help shows which there are
+    verdict "$(without_node $words)" "mcs4: there is no command frob; mcs4 help lists the commands
 status 2" "mcs4 $words without Node"
 done

@@ -26,7 +26,7 @@ echo "lamps *..........***......*.." > "$folder/answers"
 verdict "$(outcome ./mcs4 display "$folder/board.toml" < "$folder/answers")" "-1.82
 status 0" "a display with points"
 
-# Digits that are lit by turns: what trace tells of 30 ms, and not an instant.
+# Digits that are lit by turns: what trace reports of 30 ms, and not an instant.
 ./mcs4 script examples/clock/board.toml examples/clock/clock.asm | sed '/^run /d' > "$folder/clock.txt"
 begins clock < "$folder/clock.txt"
 verdict "$(outcome ./mcs4 keys examples/clock/board.toml SET | tail -n 3)" "run 16000

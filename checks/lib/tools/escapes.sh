@@ -10,15 +10,15 @@ import os, pty, subprocess, sys
 own, end = pty.openpty()
 child = subprocess.Popen(sys.argv[1:], stdout=end, stderr=end)
 os.close(end)
-told = b""
+output = b""
 while True:
     try:
         part = os.read(own, 65536)
     except OSError:
         break
-    told += part
+    output += part
 child.wait()
-sys.stdout.buffer.write(told.replace(b"\r\n", b"\n"))
+sys.stdout.buffer.write(output.replace(b"\r\n", b"\n"))
 program
 
 # Each place where a stranger's text has them: comments, a title, the name of a key, a test, labels, names of files.
@@ -61,7 +61,7 @@ cat > "$folder/commands" <<commands
 1 y names $folder/bad.asm
 1 y rom load $folder/none$odd
 1 y back $folder/none$odd
-2 n back $folder/odd.mcs $odd
+2 y back $folder/odd.mcs $odd
 1 y wave $folder/odd.mcs 5 line$odd
 1 y project split $folder/none$odd $folder/none
 0 n project split $folder/named.mcsp $folder/none

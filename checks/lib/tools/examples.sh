@@ -17,9 +17,9 @@ done
 for keyed in checks/lib/keyed/*.keys; do
     awk -v script="$folder/script" -v answers="$folder/answers" -f checks/lib/keyed.awk "$calculator/board.toml" "$calculator/quotient.txt" \
         "$calculator/quotient.answers" "$keyed"
-    "$mcs4" new "$folder/session.mcs" < "$folder/script" > "$folder/told"
-    verdict "$(outcome cmp "$folder/told" "$folder/answers")" "status 0" "$keyed"
-    rm -f "$folder/session.mcs" "$folder/script" "$folder/answers" "$folder/told"
+    "$mcs4" new "$folder/session.mcs" < "$folder/script" > "$folder/printed"
+    verdict "$(outcome cmp "$folder/printed" "$folder/answers")" "status 0" "$keyed"
+    rm -f "$folder/session.mcs" "$folder/script" "$folder/answers" "$folder/printed"
 done
 
 board=$calculator/board.toml
@@ -48,7 +48,7 @@ verdict "$(./mcs4 keys "$board" '*7=' | "$mcs4" open "$folder/session.mcs" | ./m
 refuses 1 "script: $top/$board has no key x" examples/calculator/run "12x"
 refuses 2 "usage: run KEYS" examples/calculator/run
 
-# The calculator's `run` with a fault in its program, on a copy: it is told, and nothing is run.
+# The calculator's `run` with a fault in its program, on a copy: it is reported, and nothing is run.
 mkdir "$folder/copy" "$folder/copy/examples"
 ln -s "$top/mcs4" "$folder/copy/mcs4"
 cp -R examples/calculator "$folder/copy/examples"
@@ -56,6 +56,6 @@ for program in "$folder"/copy/examples/calculator/*.asm; do
     { echo " JUN nowhere" && cat "$program"; } > "$folder/faulty"
     cp "$folder/faulty" "$program"
 done
-verdict "$(outcome "$folder/copy/examples/calculator/run" 1 | sed 's/.*calculator\.asm: //')" "line 1: no 32: a name that no line defines
+verdict "$(outcome "$folder/copy/examples/calculator/run" 1 | sed 's/.*calculator\.asm: //')" "line 1: no 32: nowhere is not defined
 script:      JUN nowhere
 status 1" "the calculator with a fault in its program"

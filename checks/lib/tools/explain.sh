@@ -98,17 +98,15 @@ LDM 1
 script
 begins explain < "$folder/explain.txt" || true
 cat > "$folder/explained" <<'explained'
-line 1: no 21, line 10 of the text: a key that no board has, at the top or in a table in its place
+line 1: no 21, line 10 of the text: lamp is not a key of chain, which has clock, data, chips
     lamp = 3
-line 13: no 25, line 3 of the text: a line, a chain or a row's bit that the board lacks
+line 13: no 25, line 3 of the text: the board has no line ram3.0.0: no [[ram]] has bank = 3
         { line = "rom0.3" }, { line = "ram3.0.0" },
-line 34: no 24, lines 9 to 11 of the text: two ROMs of one chip number, or two entries for one bank
-    [[rom]]
+line 34: no 24, line 10 of the text: chip 1 is there already, in line 1
     chip = 1
-    port = "0000"
-line 49: no 20, line 3 of the text: the text is not TOML; a key that is there twice counts here
+line 49: no 20, line 3 of the text: a value is needed here, not =
     chips = = 4
-line 55: no 33, line 2 of the text: a value out of its range
+line 55: no 33, line 2 of the text: LDM takes a value, 0 to 15
      LDM 16
 line 63: no 11: a word that must be a number is not one, or the number is out of its range
     press 300 0
@@ -161,16 +159,16 @@ status 1"
 begins explain < "$folder/script"
 verdict "$(outcome ./mcs4 explain "$folder/script" < "$folder/answers" | sed 's/xxx*/x/')" "line 4: no 14, line 2 of the text: a byte that is neither a tab nor a printing character of ASCII: \`$(printf '\303\244')\`
      NOP ; $(printf '\303\244')
-line 8: no 42, line 3 of the text: an address in a ROM that the board lacks; of a program, nothing is loaded then
+line 8: no 42, line 3 of the text: this line is at 3FF, and the board has no ROM 3: wire a [[rom]] with chip = 3
      FIM P0, 0
 line 13: no 12, line 1 of the text: a line of more than 255 bytes
     ; x
-status 1" "lines of texts that no refusal tells"
+status 1" "lines of texts that no refusal names"
 printf ' NOP\n NO\303\244P ; \303\244\n' > "$folder/faulty.asm"
-refuses 1 "script: $folder/faulty.asm: line 2: no 14: $(printf '\303\244') is not a character of ASCII; it may stand in comments alone
+refuses 1 "script: $folder/faulty.asm: line 2: no 14: $(printf '\303\244') is not a character of ASCII; it can be only in comments
 script:      NO$(printf '\303\244')P ; $(printf '\303\244')" ./mcs4 script $three/board.toml "$folder/faulty.asm"
 printf ' NOP\n ORG 0x100\n NOP\n' > "$folder/faulty.asm"
-refuses 1 "script: $folder/faulty.asm: line 3: no 42: an address in a ROM that the board lacks; of a program, nothing is loaded then
+refuses 1 "script: $folder/faulty.asm: line 3: no 42: this line is at 100, and the board has no ROM 1: wire a [[rom]] with chip = 1
 script:      NOP" ./mcs4 script $three/board.toml "$folder/faulty.asm"
 
 # A listing ends after address FFF, whatever is asked for.

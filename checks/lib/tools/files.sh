@@ -3,7 +3,7 @@
 
 begins session < $calculator/quotient.txt
 
-# A folder for temporary files that is full is told as such.
+# A folder for temporary files that is full is reported as such.
 small=$folder/small
 mkdir "$small"
 if mount -t tmpfs -o size=64k tmpfs "$small" 2> /dev/null; then
@@ -62,23 +62,23 @@ printf '#!/bin/sh\necho "no 53"\necho "mcs4: s.mcs: in use by another program" >
 chmod +x "$folder/refusing"
 for words in "resume $folder/two.txt $folder/session.mcs" "trace $folder/session.mcs 1"; do
     # It opens a copy, and does not print what the program says of that.
-    verdict "$(MCS4=$folder/refusing outcome ./mcs4 $words)" "${words%% *}: the session $folder/session.mcs was refused: no 53: the device failed, or the host refused the file: is it there, may it be written, is it in use?
+    verdict "$(MCS4=$folder/refusing outcome ./mcs4 $words)" "${words%% *}: the session $folder/session.mcs was rejected: no 53: the device failed, or the host refused the file: is it there, may it be written, is it in use?
 status 1" "a session in use: $words"
 done
 
-# A session that another program has in use: resume tells it as a fault of its own, and answers nothing.
+# A session that another program has in use: resume reports it as a fault of its own, and answers nothing.
 echo reset | begins held
 if command -v flock > /dev/null; then
     verdict "$(outcome flock "$folder/held.mcs" ./mcs4 resume "$folder/two.txt" "$folder/held.mcs")" \
         "mcs4: $folder/held.mcs: in use by another program; wait until that has ended
-resume: the session $folder/held.mcs was refused: no 53: the device failed, or the host refused the file: is it there, may it be written, is it in use?
+resume: the session $folder/held.mcs was rejected: no 53: the device failed, or the host refused the file: is it there, may it be written, is it in use?
 status 1" "a session in use"
 fi
 verdict "$(outcome ./mcs4 resume "$folder/two.txt" "$folder/held.mcs")" "session 1
 seq 1
 status 0" "a session that is in use no more"
 
-# Ctrl-C ends a tool as shells tell of it, with nothing left behind.
+# Ctrl-C ends a tool as shells report it, with nothing left behind.
 awk 'BEGIN { print "test long"; for (i = 0; i < 400; i++) print " run 5 s" }' > "$folder/long.test"
 mkdir "$folder/interrupted"
 for each in INT:130 TERM:143 HUP:129; do

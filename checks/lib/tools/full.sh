@@ -31,18 +31,18 @@ run_tool() {
     # shellcheck disable=SC2086
     ./mcs4 ${1%% < *} < "$input"
 }
-printf 'session 0\nno 10\n' > "$folder/told"
-mv "$folder/told" "$folder/wrong.answers"
+printf 'session 0\nno 10\n' > "$folder/printed"
+mv "$folder/printed" "$folder/wrong.answers"
 sed -i 's/ < wrong$/ < wrong.answers/' "$folder/commands"
 while read -r line; do
     if [ -e /dev/full ]; then
         status=0
-        run_tool "$line" > /dev/full 2> "$folder/told" || status=$?
-        verdict "$(cat "$folder/told"); $status" "${line%% *}: not all was written; is there room where it goes to?; 1" "$line > /dev/full"
+        run_tool "$line" > /dev/full 2> "$folder/printed" || status=$?
+        verdict "$(cat "$folder/printed"); $status" "${line%% *}: not all was written; is there room where it goes to?; 1" "$line > /dev/full"
     fi
     status=0
-    run_tool "$line" >&- 2> "$folder/told" || status=$?
-    verdict "$(cat "$folder/told"); $status" "${line%% *}: standard output is closed; 1" "$line >&-"
+    run_tool "$line" >&- 2> "$folder/printed" || status=$?
+    verdict "$(cat "$folder/printed"); $status" "${line%% *}: standard output is closed; 1" "$line >&-"
     # Who reads the first line alone is no error.
     verdict "$(run_tool "$line" 2>&1 | sed 1q | grep -c 'not all was written')" 0 "$line | sed 1q"
 done < "$folder/commands"

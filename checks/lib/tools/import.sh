@@ -126,21 +126,21 @@ for example in examples/*/*.asm; do
     verdict "$(rom_of "$folder/example.asm" | cksum)" "$(rom_of "$example" | cksum)" "the bytes of $example in Intel's spelling"
     verdict "$(grep -c , "$folder/example.src" | awk '{ print ($1 > 3) }')" 1 "$example is spelled otherwise there"
 done
-# The other tools tell of the spelling, where a line is in one of these.
-while IFS='|' read -r line hint; do
+# The other tools hint at the spelling, where a line is in one of these.
+while IFS='|' read -r line words; do
     echo "$line" > "$folder/spelled.asm"
-    refuses 1 "listing: $folder/spelled.asm: line 1: no 30: the line has no form that the assembler knows$hint
+    refuses 1 "listing: $folder/spelled.asm: line 1: no 30: $words
 listing:     $line" ./mcs4 listing "$folder/spelled.asm" < /dev/null
 done <<'lines'
-zero EQU 4 ; none|; a name gets its number by =: zero = 4
- FIM 0P, 0|; mcs4 import takes programs in Intel's and AS's spelling
- LDM 0AH|; mcs4 import takes programs in Intel's and AS's spelling
- LDM $A|; mcs4 import takes programs in Intel's and AS's spelling
-LOOP, NOP|; mcs4 import takes programs in Intel's and AS's spelling
- NOP / none|; mcs4 import takes programs in Intel's and AS's spelling
- JMP 4|
+zero EQU 4 ; none|a name gets its number by =: zero = 4
+ FIM 0P, 0|FIM takes a pair, P0 to P7; mcs4 import takes programs in Intel's and AS's spelling
+ LDM 0AH|LDM takes a value, 0 to 15; hexadecimal is 0x0A; mcs4 import takes programs in Intel's and AS's spelling
+ LDM $A|LDM takes a value, 0 to 15; hexadecimal is 0xA; mcs4 import takes programs in Intel's and AS's spelling
+LOOP, NOP|LOOP is not an instruction; mcs4 import takes programs in Intel's and AS's spelling
+ NOP / none|NOP takes no operand; mcs4 import takes programs in Intel's and AS's spelling
+ JMP 4|JMP is not an instruction; JUN?
 lines
-# What it cannot take is told by line, and nothing is printed.
+# What it cannot take is reported by line, and nothing is printed.
 cat > "$folder/bad.src" <<'source'
        JMP START
 X      EQU Y
@@ -199,8 +199,8 @@ awk 'BEGIN { for (i = 0; i < 900; i++) printf " "; print "; so far" }' > "$folde
     outcome timeout 60 ./mcs4 import "$folder/less.src" | cut -c 1-13
     outcome timeout 60 ./mcs4 import "$folder/blank.src"
     outcome timeout 60 ./mcs4 import "$folder/blanks.src" | sed 's/ *;/ ;/'
-} > "$folder/told"
-verdict "$(cat "$folder/told")" "import: $folder/long.src:1: the line has more than 1024 bytes before its comment
+} > "$folder/printed"
+verdict "$(cat "$folder/printed")" "import: $folder/long.src:1: the line has more than 1024 bytes before its comment
 status 1
         LDM 1           ; +1+1
 status 0

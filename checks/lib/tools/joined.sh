@@ -13,7 +13,7 @@ else
     cp -R tools/lib tools/join_commands.mjs "$tree/tools"
     node "$tree/tools/join_commands.mjs" "$tree/shipped/commands" listing keys
     joined() {
-        node --input-type=module -e "import { joinedFile } from '$tree/js/node/joined.cjs'; console.log(joinedFile('$1') ? 'joined' : 'modules')"
+        node --input-type=module -e "import { joinedCommand } from '$tree/js/node/joined.cjs'; console.log(joinedCommand('$1') ? 'joined' : 'modules')"
     }
     verdict "$(joined listing) $(joined keys) $(joined test) $(joined ../keys)" "joined joined modules modules" "which commands are joined"
     for words in "listing $lock/lock.asm" "listing -h" "listing --none" "keys $lock/board.toml 1" "keys $lock/board.toml x" "listing none"; do
@@ -31,6 +31,26 @@ else
     verdict "$(joined listing); $(cat "$XDG_CACHE_HOME/fethsaim"/*.joined | wc -c | tr -d ' ')" "joined; 0" "a folder that others can read"
     chmod 700 "$XDG_CACHE_HOME/fethsaim"
     verdict "$(joined listing); $(joined listing)" "joined; joined" "a joined file that is remembered again"
+    # So is its compiled code, the user's alone: first of the help, then of what the command does. Code that is cut, zeroed or of another version
+    # is compiled again.
+    code=$XDG_CACHE_HOME/fethsaim/listing.code
+    kind_of_code() {
+        "$tree/mcs4" listing "$@" > "$folder/listed" 2> /dev/null || :
+        echo "$(head -c 80 "$code" | cut -d ' ' -f 2) $(ls -l "$code" | cut -c 1-10)"
+    }
+    rm -f "$code"
+    verdict "$(kind_of_code -h); $(kind_of_code); $(kind_of_code "$lock/lock.asm"); $(kind_of_code -h)" \
+        "asked -rw-------; asked -rw-------; done -rw-------; done -rw-------" "compiled code is remembered"
+    cp "$code" "$folder/code"
+    for damage in cut zeroed other; do
+        case $damage in
+        cut) head -c 50000 "$folder/code" > "$code" ;;
+        zeroed) { head -c 80 "$folder/code" && tail -c +81 "$folder/code" | tr '\001-\377' '\000'; } > "$code" ;;
+        other) sed '1s/^......../00000000/' "$folder/code" > "$code" ;;
+        esac
+        verdict "$(outcome "$tree/mcs4" listing $lock/lock.asm); $(head -c 69 "$code")" "$(outcome ./mcs4 listing $lock/lock.asm); $(head -c 69 "$folder/code")" \
+            "compiled code that is $damage"
+    done
     echo "// damaged" >> "$tree/js/core/text/escaped.js"
     verdict "$(joined listing)" modules "a joined file that is remembered, of other sources"
     cp -p js/core/text/escaped.js "$tree/js/core/text"

@@ -25,7 +25,7 @@ sed 's/# row 1: 4 5 6/# row 0: 4 5 6/' < $lock/board.toml > "$folder/board.toml"
 refuses 1 "keys: $folder/board.toml: line 9: row 0 has its names in line 8" ./mcs4 keys "$folder/board.toml" 1
 grep -v '^# row' < $lock/board.toml > "$folder/board.toml"
 refuses 1 "keys: $folder/board.toml has no comments \`# row R: NAME ..\` that name its keys" ./mcs4 keys "$folder/board.toml" 1
-misuses "CYCLES of --down is a decimal number, 1 to 100000" ./mcs4 keys --down 0 $lock/board.toml 1
+misuses "CYCLES of --down: '0' is not a decimal number from 1 to 100000" ./mcs4 keys --down 0 $lock/board.toml 1
 refuses 2 "keys: KEYS is missing
 usage: mcs4 keys [-C FOLDER] [--down CYCLES] [--up CYCLES] [--until-stop SESSION] [BOARD] KEYS" ./mcs4 keys $lock/board.toml
 # A breakpoint where a digit is taken: the key is still down then, and nothing is done after it.

@@ -33,7 +33,7 @@ same_on_module() {
 
 # It is said once, by a command that needs a session.
 verdict "$(outcome elsewhere listing $lock/lock.asm | sed -n '/^mcs4: /p; $p')" \
-    "mcs4: commands run on the proved module, more slowly, since the native program is not started: $why. This is said once
+    "mcs4: commands run on the proved module, more slowly, because the native program is not started: $why. This message appears once
 status 0" "what is said of the module"
 same_on_module /dev/null listing $lock/lock.asm
 
@@ -74,10 +74,10 @@ verdict "$count" "$(find examples -name '*.txt' -path 'examples/*' ! -path 'exam
 # --- the other commands, and errors
 
 begins session < $calculator/quotient.txt
-cp "$folder/answers" "$folder/told"
-same_on_module "$folder/told" cycles --source $calculator/calculator.asm "$folder/session.mcs" 1 3
+cp "$folder/answers" "$folder/printed"
+same_on_module "$folder/printed" cycles --source $calculator/calculator.asm "$folder/session.mcs" 1 3
 same_on_module $calculator/quotient.txt names $calculator/calculator.asm
-same_on_module "$folder/told" display $calculator/board.toml
+same_on_module "$folder/printed" display $calculator/board.toml
 same_on_module /dev/null keys $calculator/board.toml 12+3=
 same_on_module /dev/null rom ask 0 300
 same_on_module $lock/lock.asm import -

@@ -93,7 +93,7 @@ verdict "$(cat "$folder/split_guessed"/board.toml.*); $(cmp "$folder/split_guess
 # Signals at any moment: the file is the old or the new one, a folder is made whole or not at all, and nothing else is left.
 mkdir "$folder/stopped" "$folder/temporary"
 outcome_of_stop() {
-    TMPDIR=$folder/temporary setsid env --default-signal=INT,TERM,HUP timeout --foreground -s KILL 60 "$@" > "$folder/told" 2>&1 &
+    TMPDIR=$folder/temporary setsid env --default-signal=INT,TERM,HUP timeout --foreground -s KILL 60 "$@" > "$folder/printed" 2>&1 &
     child=$!
     sleep "0.$(printf '%03d' "$wait")"
     if [ "$whom" = group ]; then kill -s "$signal" -- "-$child" 2> /dev/null || :; else kill -s "$signal" "$child" 2> /dev/null || :; fi

@@ -40,12 +40,12 @@ while [ "$lines" -lt 22 ]; do
 done
 verdict "$(./mcs4 resume "$folder/resume.txt" "$folder/cut.mcs" | sed 1q)" "session 6" "a script of which only questions are left"
 echo 'reset' | goes_on cut
-refuses 1 "resume: $folder/cut.mcs has not begun with $folder/resume.txt: it has accepted 7 commands, and the whole script makes 6" \
+refuses 1 "resume: $folder/cut.mcs did not begin with $folder/resume.txt: it has accepted 7 commands, and the whole script makes 6" \
     ./mcs4 resume "$folder/resume.txt" "$folder/cut.mcs"
 printf 'poke r9 8\n' | begins cut
 cp "$folder/cut.mcs" "$folder/copy.mcs"
 verdict "$(outcome ./mcs4 resume "$folder/resume.txt" "$folder/cut.mcs" | sed '2,$d')" \
-    "resume: $folder/cut.mcs has not begun with $folder/resume.txt: after 1 commands some answers differ (< $folder/cut.mcs, > what $folder/resume.txt leads to)" \
+    "resume: $folder/cut.mcs did not begin with $folder/resume.txt: after 1 commands some answers differ (< $folder/cut.mcs, > what $folder/resume.txt leads to)" \
     "a session of another script"
 verdict_of_files "$folder/cut.mcs" "$folder/copy.mcs" "a session that was not resumed"
 refuses 2 "resume: SESSION is missing
@@ -65,7 +65,7 @@ verdict "$(./mcs4 resume "$folder/long.txt" "$folder/cut.mcs" | tail -n 1)" \
     "acc 0 cy 0 pc A00 owed 0 dcl 0 test 1 r 8888888888888888 ret 000 000 000" "a script that was killed"
 verdict "$(echo seq | "$mcs4" open "$folder/cut.mcs" | tail -n 1)" "seq 800" "the commands of a script that was killed"
 
-# A session by other lines than the script's first ones: what differs is told, and nothing is sent.
+# A session by other lines than the script's first ones: what differs is reported, and nothing is sent.
 differs() {
     printf "$1" > "$folder/script"
     printf "$2" | begins other

@@ -101,7 +101,7 @@ refuses 1 "rom: $folder/few.bnpf: line 2: past the last address, FFF" ./mcs4 rom
 # Texts are no binary images, unless that is said.
 for text in $calculator/calculator.asm "$folder/z.asm"; do
     printf ' NOP ; z\303\244hler\n' > "$folder/z.asm"
-    refuses 1 "rom: $text is a text, and no Intel HEX, S-records or BNPF; where its letters are the bytes of an image: rom load --binary" ./mcs4 rom load "$text"
+    refuses 1 "rom: $text is a text, and no Intel HEX, S-records or BNPF; if its characters are the bytes of an image: rom load --binary" ./mcs4 rom load "$text"
 done
 printf 'S0' > "$folder/letters.bin"
 verdict "$(outcome ./mcs4 rom load --binary "$folder/letters.bin")" "asm

@@ -31,7 +31,7 @@ verdict "$(wc -c < "$folder/long.asm" | tr -d ' '), $(outcome ./mcs4 listing --n
 verdict "$(./mcs4 script "$board" "$folder/long.asm" | sed -n '/^asm$/{n;p;}')" NOP "a script of a text that is long by its comments"
 verdict "$(./mcs4 script "$board" "$folder/long.asm" | grep -c '^# row')" "$(grep -c '^# row' "$board")" "the comments of its board"
 sed 's/JUN here/JUN there ; not here/' "$folder/long.asm" > "$folder/wrong.asm"
-refuses 1 "listing: $folder/wrong.asm: line 201: no 32: a name that no line defines
+refuses 1 "listing: $folder/wrong.asm: line 201: no 32: there is not defined; here?
 listing:     here: JUN there ; not here" ./mcs4 listing "$folder/wrong.asm"
 awk 'BEGIN { for (i = 0; i < 1100; i++) print " DB 1, 2, 3, 4 ; four" }' > "$folder/wrong.asm"
 awk 'BEGIN { for (i = 0; i < 100; i++) print "DB 1, 2, 3, 4" }' >> "$folder/wrong.asm"
@@ -39,7 +39,7 @@ refuses 1 "test: $folder/wrong.asm: line 1171: no 13: a text has at most 16,384 
 test:     DB 1, 2, 3, 4" \
     ./mcs4 test "$board" "$folder/wrong.asm" "$folder/marked.test"
 printf ' NOP\n L\303\204M 1 ; \303\244\n' > "$folder/bad.asm"
-refuses 1 "listing: $folder/bad.asm: line 2: no 14: $(printf '\303\204') is not a character of ASCII; it may stand in comments alone
+refuses 1 "listing: $folder/bad.asm: line 2: no 14: $(printf '\303\204') is not a character of ASCII; it can be only in comments
 listing:      L$(printf '\303\204')M 1 ; $(printf '\303\244')" ./mcs4 listing "$folder/bad.asm"
 printf ' NOP\n \007 ; \007\n' > "$folder/bad.asm"
 verdict "$(outcome ./mcs4 listing "$folder/bad.asm" | sed 1q)" "listing: $folder/bad.asm: line 2: no 14: a control character; only tabs and printing characters of ASCII can be sent" "a control character"

@@ -90,8 +90,8 @@ refuses 2 "trace: --names and --source exclude each other
 $usage" \
     ./mcs4 trace --names "$folder/source.asm" --source "$folder/source.asm" "$folder/source.mcs" 1
 
-misuses "CYCLES is a decimal number, 1 to 100000" ./mcs4 trace "$folder/trace.mcs" 100001
-misuses "N is a decimal number, 1 to 10000" ./mcs4 trace --last 0 "$folder/trace.mcs" 10
+misuses "CYCLES: '100001' is not a decimal number from 1 to 100000" ./mcs4 trace "$folder/trace.mcs" 100001
+misuses "N: '0' is not a decimal number from 1 to 10000" ./mcs4 trace --last 0 "$folder/trace.mcs" 10
 refuses 2 "trace: CYCLES is missing
 $usage" ./mcs4 trace "$folder/trace.mcs"
 refuses 2 "trace: SESSION and CYCLES are missing
@@ -107,7 +107,7 @@ refuses 2 "trace: there is no option --first
 $usage" ./mcs4 trace --first 3 "$folder/trace.mcs" 40
 refuses 2 "trace: '50' is one argument too many
 $usage" ./mcs4 trace "$folder/trace.mcs" 40 50
-refuses 1 "trace: the session $folder/trace.txt was refused: no 50: not a session file: its size or the name inside it is another" ./mcs4 trace "$folder/trace.txt" 1
+refuses 1 "trace: the session $folder/trace.txt was rejected: no 50: not a session file: its size or the name inside it is another" ./mcs4 trace "$folder/trace.txt" 1
 
 cat > "$folder/trace.txt" <<'script'
 wire
@@ -141,7 +141,7 @@ verdict "$(outcome ./mcs4 trace --names "$folder/trace.asm" "$folder/trace.mcs" 
        9  FFE BB    XCH R11          acc 0 cy 0  r11 3
       10  FFF 40 20 JUN 0x020        acc 0 cy 0
 status 0" "a trace of ports, a chain, and the last address"
-refuses 1 "trace: the session has another program than $three/three_lamps.asm: at 003 stands D2, and line 6 makes D1" \
+refuses 1 "trace: the session has another program than $three/three_lamps.asm: 003 has D2, and line 6 makes D1" \
     ./mcs4 trace --names $three/three_lamps.asm "$folder/trace.mcs" 12
 
 # A chain that a RAM chip's port clocks.
@@ -159,7 +159,7 @@ verdict "$(./mcs4 trace "$folder/stand.mcs" 15 | cut -c 1-13,36-)" "       0  00
       10  006  acc 0 cy 0  r12 0
       12  008  acc 0 cy 0
       14  008  acc 0 cy 0" "instructions that jump to themselves"
-# What a trace of the calculator tells is what `step` and `state` tell. Of both: the cycles before each instruction, its address, and
+# What a trace of the calculator reports is what `step` and `state` report. Of both: the cycles before each instruction, its address, and
 # after it accumulator, carry, registers, return addresses, chains and lamps.
 begins steps < $calculator/quotient.txt
 ./mcs4 keys --until-stop "$folder/steps.mcs" $calculator/board.toml "3*" > "$folder/answers"

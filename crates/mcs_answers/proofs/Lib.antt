@@ -4,6 +4,6 @@ pub mod RamTexts
 pub mod ListedWords
 pub mod RegisterTexts
 pub mod StateText
-pub mod AheadLines
-pub mod AheadLaws
+pub mod ForecastLines
+pub mod ForecastLaws
 pub mod Resting

@@ -16,9 +16,9 @@ use Rattle.mcs_model.specs.QueryText.{address_text, digit_text, hex_2, lamp_mark
 use Rattle.mcs_model.specs.Running.{Machine, Stops, after_cycles}
 use Rattle.mcs_bench.specs.declared.running.Went.{Went}
 use Rattle.mcs_bench.specs.Runs.{WentTo}
-use Rattle.mcs_ahead.specs.declared.probe.Probe.{Probe}
-use Rattle.mcs_ahead.specs.declared.probe.Probe.TheVariants as place
-use Rattle.mcs_ahead.specs.Probes.{level_on, levels_on, probe_text, row}
+use Rattle.mcs_probe.specs.declared.probe.Probe.{Probe}
+use Rattle.mcs_probe.specs.declared.probe.Probe.TheVariants as place
+use Rattle.mcs_probe.specs.Probes.{level_on, levels_on, probe_text, row}
 use Rattle.mcs_trace.proofs.Steps.{rests, with_owed}
 use Rattle.mcs_answers.specs.declared.traces.Seen.{Seen}
 use Rattle.mcs_answers.specs.Resting.{Keeps, Rests, RowKeeps, RowRests, SeesToo, WritesPort, WritesStatus, touches}

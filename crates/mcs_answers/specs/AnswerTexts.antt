@@ -16,15 +16,15 @@ use Rattle.mcs_wiring.specs.BoardText.{query_lines}
 abbrev pub session_text : BenchState → List ℕ
 session_text s = codes "session " ++ as_line (decimal s.seq)
 
--- why a run or a step stopped
+-- the word for why a run or a step stopped
 abbrev pub stop_name : Stop → List ℕ
 stop_name Outside = codes "code"
 stop_name Breakpoint = codes "break"
 stop_name Watched = codes "watch"
 stop_name Ended = codes "end"
 
--- what a reply tells after the count of commands: how many bytes were loaded, or how many cycles
--- were run and why no more
+-- The part of an answer after the count of commands: how many bytes were loaded, or how many cycles
+-- were run and why no more.
 abbrev pub reply_text : Reply → List ℕ
 reply_text Done = []
 reply_text (Loaded bytes) = codes " bytes " ++ decimal bytes
@@ -34,11 +34,11 @@ reply_text (Ran cycles stop) = codes " ran " ++ (decimal cycles ++ (codes " " ++
 abbrev pub ok_text : Reply → BenchState → List ℕ
 ok_text r s = codes "ok " ++ (decimal s.seq ++ as_line (reply_text r))
 
--- the answer to what is refused
+-- the answer to a rejected line
 abbrev pub no_text : ℕ → List ℕ
 no_text number = codes "no " ++ as_line (decimal number)
 
--- the answer to a text that is refused for what one of its lines says; its lines are counted from 1
+-- the answer to a text that is rejected for one of its lines, counted from 1
 abbrev pub no_line_text : ℕ → ℕ → List ℕ
 no_line_text number line =
     codes "no " ++ (decimal number ++ (codes " line " ++ as_line (decimal line)))

@@ -1,4 +1,4 @@
--- What the clauses of private functions cite.
+-- Texts with commas, which only contracts of private functions cite.
 use Rattle.std.specs.Prelude.{ℕ, List, ◌++◌, codes}
 use Rattle.std.specs.List.{flat_map}
 

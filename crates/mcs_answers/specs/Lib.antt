@@ -2,7 +2,7 @@ pub mod AnswerTexts
 pub mod Commas
 pub mod PortPieces
 pub mod Version1
-pub mod AheadTexts
-pub mod AheadLaws
+pub mod ForecastTexts
+pub mod ForecastLaws
 pub mod Traced
 pub mod Resting

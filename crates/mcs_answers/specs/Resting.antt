@@ -1,12 +1,12 @@
--- Which instructions surely leave what stands at a place as it is.
+-- The instructions that cannot change the value of a place.
 use Rattle.std.specs.Prelude.{◌≡◌, ◌⊎◌, Bool, false, List, Option, Some, None}
 use Rattle.mcs_model.specs.declared.op.Op.{Op}
 use Rattle.mcs_model.specs.declared.op.Op.TheVariants.{Src, Jms, Bbl, Wrm, Wmp, Wrr, Wr0, Wr1, Wr2, Wr3}
 use Rattle.mcs_model.specs.declared.regs.Regs.{Regs}
 use Rattle.mcs_model.specs.Bus.{BusState}
 use Rattle.mcs_model.specs.Effect.{bus_after, effect}
-use Rattle.mcs_ahead.specs.declared.probe.Probe.{Probe}
-use Rattle.mcs_ahead.specs.Probes.{probe_text, row}
+use Rattle.mcs_probe.specs.declared.probe.Probe.{Probe}
+use Rattle.mcs_probe.specs.Probes.{probe_text, row}
 use Rattle.mcs_answers.specs.declared.traces.Seen.{Seen}
 
 abbrev pub WritesPort : Op → Type 0
@@ -15,33 +15,34 @@ WritesPort op = (op ≡ Wmp) ⊎ (op ≡ Wrr)
 abbrev pub WritesStatus : Op → Type 0
 WritesStatus op = (op ≡ Wr0) ⊎ ((op ≡ Wr1) ⊎ ((op ≡ Wr2) ⊎ (op ≡ Wr3)))
 
--- whether a place tells the same before an instruction that led from some registers to others, and
--- after it
+-- Holds if a place has the same text before an instruction and after it. The instruction leads from
+-- the registers `before` to the registers `after`, on any bus.
 abbrev pub Rests : Op → Regs → Regs → Probe → Type 0
 Rests op before after probe =
     (m : BusState) → probe_text (after, bus_after op before m) probe ≡ probe_text (before, m) probe
 
--- the same of a row; of none where no instruction was begun
+-- holds if a row has the same text so; never if no instruction was begun
 abbrev pub RowRests : Option Op → Regs → Regs → List Probe → Type 0
 RowRests None before after probes = ⊥
 RowRests (Some op) before after probes =
     (m : BusState) → row probes (after, bus_after op before m) ≡ row probes (before, m)
 
--- whether a place tells the same before an instruction and after it, whatever stood in registers
--- and on the bus
+-- holds if a place has the same text before an instruction and after it, whatever the registers and
+-- the bus held
 abbrev pub Keeps : Op → Probe → Type 0
 Keeps op probe =
     (regs : Regs) (m : BusState) → probe_text (effect op regs m) probe ≡ probe_text (regs, m) probe
 
--- the same of a row; of none where no instruction was begun
+-- holds if a row has the same text so; never if no instruction was begun
 abbrev pub RowKeeps : Option Op → List Probe → Type 0
 RowKeeps None probes = ⊥
 RowKeeps (Some op) probes =
     (regs : Regs) (m : BusState) → row probes (effect op regs m) ≡ row probes (regs, m)
 
--- ---- what is seen of a row
+-- ---- the kinds of places that a row has
 
--- whether an instruction may change what is seen outside the registers, or the return addresses
+-- true if an instruction may change a place that the row has outside the registers, or the
+-- return addresses
 abbrev pub touches : Seen → Op → Bool
 touches seen Wmp = seen.ports
 touches seen Wrr = seen.ports
@@ -55,13 +56,14 @@ touches seen (Jms high low) = seen.returns
 touches seen (Bbl digit) = seen.returns
 touches seen op = false
 
--- what is seen where one place more is looked at: that, and all that was seen before
+-- holds if `more` covers one place more: that place, and all that `seen` covers
 pub record SeesToo (seen more : Seen) (probe : Probe) : Type 0 where
   pub registers : more.registers ≡ false → seen.registers ≡ false
   pub others : (op : Op) → touches more op ≡ false → touches seen op ≡ false
   pub place : more.registers ≡ false → (op : Op) → touches more op ≡ false → Keeps op probe
 
--- what is seen of a row: an instruction that touches none of it leaves the row as it is
+-- holds if `seen` covers a row: if it has no register, an instruction that touches none of it
+-- leaves the row as it is
 abbrev pub SeesAll : Seen → List Probe → Type 0
 SeesAll seen probes =
     seen.registers ≡ false → (op : Op) → touches seen op ≡ false → (regs : Regs) (m : BusState)

@@ -1,4 +1,4 @@
--- What is told of a run instruction by instruction.
+-- The trace of a run, instruction by instruction.
 use Rattle.std.specs.Prelude.{◌≡◌, ◌==◌, ℕ, Bool, List, ◌∷◌, [], ◌++◌, codes, length, if◌then◌else◌}
 use Rattle.std.specs.Fmt.{decimal}
 use Rattle.std.specs.List.{flat_map}
@@ -7,21 +7,21 @@ use Rattle.mcs_model.specs.Command.{machine_of, stops_of}
 use Rattle.mcs_model.specs.QueryText.{address_text}
 use Rattle.mcs_model.specs.TextLines.{as_line}
 use Rattle.mcs_model.specs.Running.{run_length, run_stop}
-use Rattle.mcs_ahead.specs.declared.probe.Probe.{Probe}
+use Rattle.mcs_probe.specs.declared.probe.Probe.{Probe}
 use Rattle.mcs_answers.specs.declared.traces.Traced.{Traced}
-use Rattle.mcs_answers.specs.AheadTexts.{is_told, trace_lines}
+use Rattle.mcs_answers.specs.ForecastTexts.{is_reported, trace_lines}
 
--- a line where one is told
+-- one line if the first argument is true, and none otherwise
 abbrev pub line_when : Bool → ℕ → ℕ → List ℕ → List (List ℕ)
-line_when told cycles at row =
-    if told then (decimal cycles ++ codes " " ++ address_text at ++ row) ∷ [] else []
+line_when report cycles at row =
+    if report then (decimal cycles ++ codes " " ++ address_text at ++ row) ∷ [] else []
 
--- the line of a cycle: none where a cycle was owed before it
+-- the lines of a cycle: none if a second cycle was pending before it
 abbrev pub cycle_lines : List Probe → ℕ → ℕ → ℕ → List ℕ → List ℕ → List (List ℕ)
 cycle_lines probes owed cycles at before after =
-    if owed == 0 then line_when (is_told probes before after) cycles at after else []
+    if owed == 0 then line_when (is_reported probes before after) cycles at after else []
 
--- a run of n cycles, told line by line
+-- the trace of a run of n cycles, line by line
 pub record IsTraced (probes : List Probe) (n : ℕ) (b : BenchState) (t : Traced) (text : List ℕ) : Type 0 where
   pub cycles : t.cycles ≡ run_length (stops_of b) n (machine_of b)
   pub stop : t.stop ≡ run_stop (stops_of b) n (machine_of b)

@@ -4,11 +4,11 @@ ghost use Rattle.std.specs.Fmt.{decimal};
 ghost use Rattle.mcs_model.specs.Command.{machine_of};
 ghost use Rattle.mcs_model.specs.QueryText.{address_text};
 ghost use Rattle.mcs_model.specs.TextLines.{as_line};
-ghost use Rattle.mcs_ahead.specs.Ahead.{is_branch};
-ghost use Rattle.mcs_answers.specs.AheadTexts.{count_answer};
+ghost use Rattle.mcs_probe.specs.Forecast.{is_branch};
+ghost use Rattle.mcs_answers.specs.ForecastTexts.{count_answer};
 
-use crate::ahead::put_head;
 use crate::digits::{put, put_address};
+use crate::forecast::put_head;
 use crate::numbers::put_counted;
 use crate::size::ANSWER_BYTES;
 use arrayvec::ArrayVec;
@@ -18,7 +18,7 @@ use mcs_nibble::Addr;
 use mcs_trace::count_run;
 use std::alloc::{AllocError, Global};
 
-/// Whether JCN or ISZ stands at an address.
+/// Returns true if there is a JCN or an ISZ at an address.
 #[tactic(auto, unfolding(mcs_model::specs::Bus::fetch_of))]
 fn is_branch(bench: &Bench, at: Addr) -> bool
     ensures { result ≡ is_branch (machine_of bench.now) at }
@@ -31,7 +31,7 @@ fn is_branch(bench: &Bench, at: Addr) -> bool
     }
 }
 
-/// The number of an address.
+/// Returns the number that a list has for an address.
 fn number_at(numbers: &Vec<u32>, at: Addr) -> u32
     requires { length numbers.now.items ≡ 4096 }
     ensures { result ≡ slice_index numbers.now.items at }
@@ -39,7 +39,7 @@ fn number_at(numbers: &Vec<u32>, at: Addr) -> u32
     numbers[usize::from(at.get())]
 }
 
-/// Puts the line of an address into an empty one.
+/// Writes the line of an address into an empty buffer.
 fn put_line(line: &mut ArrayVec<u8, ANSWER_BYTES>, bench: &Bench, at: Addr, runs: u32, jumps: u32)
     requires { line.old.items ≡ [] }
     ensures { line.new.items ≡ as_line (address_text at ++ codes " " ++ decimal runs
@@ -53,9 +53,9 @@ fn put_line(line: &mut ArrayVec<u8, ANSWER_BYTES>, bench: &Bench, at: Addr, runs
     put(line, b"\n");
 }
 
-/// Tells how often instructions would be begun at each address in a run of at most `n` cycles: a head is put into an empty
-/// answer, and the lines after it, which take memory, are handed back. It fails where memory is refused, and then the head
-/// counts for nothing.
+/// Counts how often a run of at most `n` cycles would begin an instruction at each address. It
+/// writes a head into an empty answer and returns the lines after it, which need memory. It fails
+/// if memory runs out; then the head has no meaning.
 pub fn put_count(
     alloc: Global,
     head: &mut ArrayVec<u8, ANSWER_BYTES>,

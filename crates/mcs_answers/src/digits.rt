@@ -1,4 +1,4 @@
-//! Bytes, digits and numbers after a text of an answer.
+//! Functions that add bytes, digits and numbers to an answer.
 ghost use Rattle.std.specs.Prelude.{◌≡◌, ◌+◌, ◌++◌, ◌<◌, ◌≤◌, length, map};
 ghost use Rattle.std.specs.Fmt.{decimal};
 ghost use Rattle.arrayvec.specs.ArrayVec.{array_vec_len};
@@ -31,7 +31,7 @@ pub fn put_decimal(answer: &mut ArrayVec<u8, ANSWER_BYTES>, n: u64)
     }
 }
 
-/// The upper case hexadecimal digit of a nibble.
+/// Returns the upper-case hexadecimal digit of a nibble.
 pub fn hex_digit(nibble: u8) -> u8
     requires { nibble < 16 }
     ensures { result ≡ hex_digit nibble }

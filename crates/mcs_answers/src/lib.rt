@@ -1,9 +1,9 @@
 //! The texts of answers.
 #![tactic(auto)]
 
-mod ahead;
 mod counts;
 mod digits;
+mod forecast;
 pub mod laws;
 mod lists;
 mod numbers;
@@ -12,10 +12,10 @@ mod queries;
 mod ram;
 mod registers;
 mod size;
-mod standing;
 mod state;
 mod state_lists;
 mod traces;
+mod unchanged_rows;
 
 pub use counts::put_count;
 pub use numbers::{put_number, put_refusal_at, put_reply};

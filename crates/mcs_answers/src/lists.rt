@@ -13,7 +13,7 @@ use mcs_bench::Bench;
 use mcs_model::limits::LAMPS;
 use mcs_nibble::{Addr, Bit};
 
-/// The mark of a lamp.
+/// Returns the mark of a lamp: `*` for on, `.` for off.
 pub(crate) fn lamp_mark(level: Bit) -> u8
     ensures { result ≡ lamp_mark level }
 {
@@ -34,7 +34,7 @@ fn put_marks(answer: &mut ArrayVec<u8, ANSWER_BYTES>, bench: &Bench)
     }
 }
 
-/// Adds a mark for each lamp of the board, in order, or a dash where there is none.
+/// Adds a mark for each lamp of the board, in order, or a dash if the board has no lamp.
 pub(crate) fn put_lamp_marks(answer: &mut ArrayVec<u8, ANSWER_BYTES>, bench: &Bench)
     requires { array_vec_len answer.old + LAMPS ≤ ANSWER_BYTES }
     ensures text { answer.new.items ≡ answer.old.items
@@ -58,7 +58,7 @@ pub(crate) fn add_lamps(answer: &mut ArrayVec<u8, ANSWER_BYTES>, bench: &Bench)
     put_lamp_marks(answer, bench);
 }
 
-/// Tells the levels of the lamps, in an empty answer.
+/// Writes the levels of the lamps into an empty answer.
 pub fn put_lamps(answer: &mut ArrayVec<u8, ANSWER_BYTES>, bench: &Bench)
     requires { answer.old.items ≡ [] }
     ensures { answer.new.items ≡ as_line (lamps_text bench.now.bus) }
@@ -79,7 +79,7 @@ fn put_addresses(answer: &mut ArrayVec<u8, ANSWER_BYTES>, list: &[Addr])
     }
 }
 
-/// Tells the breakpoints, in an empty answer.
+/// Writes the breakpoints into an empty answer.
 pub fn put_breaks(answer: &mut ArrayVec<u8, ANSWER_BYTES>, bench: &Bench)
     requires { answer.old.items ≡ [] }
     ensures { answer.new.items ≡ as_line (breaks_text bench.now.breakpoints) }
@@ -94,7 +94,7 @@ pub fn put_breaks(answer: &mut ArrayVec<u8, ANSWER_BYTES>, bench: &Bench)
     }
 }
 
-/// Adds a word, and the bank and the SRC byte of a watched character.
+/// Adds a word, and the bank and the SRC byte of a watched nibble.
 pub(crate) fn put_watch(answer: &mut ArrayVec<u8, ANSWER_BYTES>, word: &[u8], watch: Addr)
     requires { array_vec_len answer.old + length word.now + 4 ≤ ANSWER_BYTES }
     ensures text { answer.new.items ≡ answer.old.items ++ word.now ++ watch_text watch }
@@ -105,7 +105,7 @@ pub(crate) fn put_watch(answer: &mut ArrayVec<u8, ANSWER_BYTES>, word: &[u8], wa
     put_byte(answer, b".", (index % 256) as u8);
 }
 
-/// Adds watched characters, each after a space.
+/// Adds watched nibbles, each after a space.
 fn put_watched(answer: &mut ArrayVec<u8, ANSWER_BYTES>, list: &[Addr])
     requires room { array_vec_len answer.old + 5 * length list.now ≤ ANSWER_BYTES }
     ensures text { answer.new.items
@@ -117,7 +117,7 @@ fn put_watched(answer: &mut ArrayVec<u8, ANSWER_BYTES>, list: &[Addr])
     }
 }
 
-/// Tells the watched characters, in an empty answer.
+/// Writes the watched nibbles into an empty answer.
 pub fn put_watches(answer: &mut ArrayVec<u8, ANSWER_BYTES>, bench: &Bench)
     requires { answer.old.items ≡ [] }
     ensures { answer.new.items ≡ as_line (watches_text bench.now.watches) }

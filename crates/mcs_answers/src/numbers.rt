@@ -1,4 +1,4 @@
-//! Answers that tell a number.
+//! Answers that contain a number.
 ghost use Rattle.std.specs.Prelude.{◌≡◌, ◌+◌, ◌++◌, ◌≤◌, [], length};
 ghost use Rattle.std.specs.Fmt.{decimal};
 ghost use Rattle.arrayvec.specs.ArrayVec.{array_vec_len};
@@ -22,7 +22,7 @@ pub(crate) fn put_counted(answer: &mut ArrayVec<u8, ANSWER_BYTES>, word: &[u8], 
     put_decimal(answer, n);
 }
 
-/// Puts a word, a number and a line feed into an empty answer.
+/// Writes a word, a number and a line feed into an empty answer.
 pub fn put_number(answer: &mut ArrayVec<u8, ANSWER_BYTES>, word: &[u8], n: u64)
     requires empty { answer.old.items ≡ [] }
     requires short { length word.now ≤ 20 }
@@ -32,8 +32,8 @@ pub fn put_number(answer: &mut ArrayVec<u8, ANSWER_BYTES>, word: &[u8], n: u64)
     put(answer, b"\n");
 }
 
-/// Tells the refusal of a text by its number and the line that it is for, counted from 1, in an
-/// empty answer.
+/// Writes the error of a text into an empty answer: its number, and the line that it is about,
+/// counted from 1.
 pub fn put_refusal_at(answer: &mut ArrayVec<u8, ANSWER_BYTES>, number: u8, line: u64)
     requires { answer.old.items ≡ [] }
     ensures { answer.new.items ≡ no_line_text number line }
@@ -43,7 +43,7 @@ pub fn put_refusal_at(answer: &mut ArrayVec<u8, ANSWER_BYTES>, number: u8, line:
     put(answer, b"\n");
 }
 
-/// The name of a reason to stop.
+/// Returns the name of a reason to stop.
 pub(crate) fn stop_name(stop: Stop) -> &'static [u8]
     ensures name { result.now ≡ stop_name stop }
     ensures short { length result.now ≤ 5 }
@@ -56,7 +56,7 @@ pub(crate) fn stop_name(stop: Stop) -> &'static [u8]
     }
 }
 
-/// Adds what a reply tells after the count of commands.
+/// Adds the part of an answer that depends on the reply, after the count of commands.
 fn put_reply_text(answer: &mut ArrayVec<u8, ANSWER_BYTES>, reply: &Reply)
     requires { array_vec_len answer.old ≤ 100 }
     ensures text { answer.new.items ≡ answer.old.items ++ reply_text reply.now }
@@ -73,7 +73,8 @@ fn put_reply_text(answer: &mut ArrayVec<u8, ANSWER_BYTES>, reply: &Reply)
     }
 }
 
-/// Tells of an accepted command, in an empty answer, from its reply and the bench after it.
+/// Writes the answer to an accepted command into an empty answer, from its reply and the bench
+/// after it.
 pub fn put_reply(answer: &mut ArrayVec<u8, ANSWER_BYTES>, reply: &Reply, bench: &Bench)
     requires { answer.old.items ≡ [] }
     ensures { answer.new.items ≡ ok_text reply.now bench.now }

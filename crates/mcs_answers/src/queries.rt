@@ -17,7 +17,7 @@ use mcs_nibble::Addr;
 use mcs_wiring::board_text;
 use std::alloc::{AllocError, Global};
 
-/// Tells what a query asks of the state, in an empty answer. It takes no memory.
+/// Writes the answer to a query into an empty answer. It needs no memory.
 pub fn put_query(answer: &mut ArrayVec<u8, ANSWER_BYTES>, query: Query, bench: &Bench)
     requires { answer.old.items ≡ [] }
     ensures { answer.new.items ≡ query_answer query bench.now }
@@ -33,8 +33,8 @@ pub fn put_query(answer: &mut ArrayVec<u8, ANSWER_BYTES>, query: Query, bench: &
     }
 }
 
-/// The answer to `list`: a listing of a bench's ROM, from an address on. It fails where memory is
-/// refused.
+/// Returns the answer to `list`: a listing of a bench's ROM from an address on. It fails if memory
+/// runs out.
 pub fn listing_answer(
     alloc: Global,
     from: Addr,
@@ -47,9 +47,8 @@ pub fn listing_answer(
     Ok(listing(alloc, &rom, from, usize::from(lines))?.into_bytes())
 }
 
-/// Tells the wiring of the board: its head is put into an empty answer, and the lines after it,
-/// which take memory, are handed back. It fails where memory is refused, and then the head counts
-/// for nothing.
+/// Writes the head of the answer to `board` into an empty answer and returns the lines after it,
+/// which need memory. It fails if memory runs out; then the head has no meaning.
 pub fn put_board(
     alloc: Global,
     head: &mut ArrayVec<u8, ANSWER_BYTES>,

@@ -13,7 +13,7 @@ use arrayvec::ArrayVec;
 use mcs_bench::Bench;
 use mcs_nibble::Nibble;
 
-/// A law: a bench has all places of RAM, and no bank has more than four chips.
+/// Shows that a bench has all nibbles of RAM, and that no bank has more than four chips.
 fn are_whole(bench: &Bench)
     ensures ram { length bench.now.bus.ram ≡ 2048 }
     ensures status { length bench.now.bus.status ≡ 512 }
@@ -22,7 +22,7 @@ fn are_whole(bench: &Bench)
     bench.show_state_is_valid();
 }
 
-/// Adds the 16 main characters of register `r` of a RAM chip.
+/// Adds the 16 main nibbles of register `r` of a RAM chip.
 fn put_main(answer: &mut ArrayVec<u8, ANSWER_BYTES>, bench: &Bench, bank: u8, chip: u8, r: u8)
     requires bank { bank < 8 }
     requires chip { chip < 4 }
@@ -39,7 +39,7 @@ fn put_main(answer: &mut ArrayVec<u8, ANSWER_BYTES>, bench: &Bench, bank: u8, ch
     }
 }
 
-/// Adds the 4 status characters of register `r` of a RAM chip.
+/// Adds the 4 status nibbles of register `r` of a RAM chip.
 fn put_status(answer: &mut ArrayVec<u8, ANSWER_BYTES>, bench: &Bench, bank: u8, chip: u8, r: u8)
     requires bank { bank < 8 }
     requires chip { chip < 4 }
@@ -107,7 +107,7 @@ fn put_chip(answer: &mut ArrayVec<u8, ANSWER_BYTES>, bench: &Bench, bank: u8, ch
     put_port(answer, bench, bank, chip);
 }
 
-/// How many chips a bank has: 4 at most.
+/// Returns the number of chips of a bank, which is 4 at most.
 pub(crate) fn chips_of(bench: &Bench, bank: u8) -> u8
     requires { bank < 8 }
     ensures chips { result ≡ chips_of bench.now.bus bank }
@@ -117,7 +117,7 @@ pub(crate) fn chips_of(bench: &Bench, bank: u8) -> u8
     bench.board().bank_chips(bank)
 }
 
-/// Tells how many chips a bank has and what they hold, in an empty answer.
+/// Writes how many chips a bank has, and what they hold, into an empty answer.
 pub fn put_ram(answer: &mut ArrayVec<u8, ANSWER_BYTES>, bench: &Bench, bank: u8)
     requires bank { bank < 8 }
     requires empty { answer.old.items ≡ [] }

@@ -1,37 +1,37 @@
-//! How long an answer gets that takes no memory.
+//! The lengths of the answers that need no memory.
 
 use mcs_model::limits::{
     BANK_CHIPS, BANKS, BREAKPOINTS, CHAIN_CHIPS, CHAINS, KEYS, LAMPS, ROMS, WATCHES,
 };
 
-/// Bytes of the longest answer to `ram`: its head, and of each chip four registers and the port.
+/// Length of the longest answer to `ram`: its head, and four registers and the port of each chip.
 const RAM_BYTES: usize = 14 + (4 * 28 + 10) * BANK_CHIPS as usize;
 
-/// Bytes of `regs` but its return addresses.
+/// Length of `regs` without its return addresses.
 pub(crate) const REGISTER_BYTES: usize = 56;
 
-/// Bytes of the longest list of SRC bytes in `state`: its key, of each bank five, and one to end it.
+/// Length of the longest `banks` list in `state`: key, five bytes per bank, and one byte to end it.
 pub(crate) const BANK_LIST_BYTES: usize = 8 + 5 * BANKS;
 
-/// Bytes of the longest list of ROM ports in `state`.
+/// Length of the longest list of ROM ports in `state`.
 pub(crate) const ROM_LIST_BYTES: usize = 7 + 7 * ROMS;
 
-/// Bytes of the longest list of RAM ports in `state`.
+/// Length of the longest list of RAM ports in `state`.
 pub(crate) const RAM_LIST_BYTES: usize = 7 + 6 * BANK_CHIPS as usize * BANKS;
 
-/// Bytes of the longest chain in `state`: of each chip ten bits, and a comma.
+/// Length of the longest chain in `state`: ten bits per chip, and a comma.
 pub(crate) const CHAIN_ITEM_BYTES: usize = 10 * CHAIN_CHIPS as usize + 1;
 
-/// Bytes of the longest list of chains in `state`.
+/// Length of the longest list of chains in `state`.
 pub(crate) const CHAIN_LIST_BYTES: usize = 9 + CHAIN_ITEM_BYTES * CHAINS;
 
-/// Bytes of the longest list of keys in `state`.
+/// Length of the longest list of keys in `state`.
 pub(crate) const KEY_LIST_BYTES: usize = 7 + 4 * KEYS;
 
-/// Bytes of the longest answer to `lamps`, without its line feed.
+/// Length of the longest answer to `lamps`, without its line feed.
 pub(crate) const LAMP_BYTES: usize = 6 + LAMPS;
 
-/// Bytes of the longest answer to `state`: the count, the registers and the return addresses, the
+/// Length of the longest answer to `state`: the count, the registers and the return addresses, the
 /// SRC byte of the ROMs, the lists, and the line feed.
 const STATE_BYTES: usize = 30
     + (1 + REGISTER_BYTES)
@@ -47,10 +47,11 @@ const STATE_BYTES: usize = 30
     + (10 + 5 * WATCHES)
     + 1;
 
-/// Bytes of the longest place of `trace`, that of a chain, after a space; while it is put, a comma stands behind it.
+/// Length of the longest place of `trace`, a chain after a space. While it is added, a comma
+/// follows it.
 pub(crate) const PROBE_BYTES: usize = 1 + CHAIN_ITEM_BYTES;
 
-/// Bytes of the longest answer that takes no memory: that to `ram` or that to `state`.
+/// Length of the longest answer that needs no memory: the one to `ram` or the one to `state`.
 pub const ANSWER_BYTES: usize = if RAM_BYTES < STATE_BYTES {
     STATE_BYTES
 } else {

@@ -1,5 +1,5 @@
-//! The lists of the answer to `state`, each in one word: its items are added with a comma after
-//! each, and then the last comma is taken off.
+//! The lists of the answer to `state`, each in one word. Items are added with a comma after each;
+//! then the last comma is removed.
 ghost use Rattle.std.specs.Prelude.{◌≡◌, ℕ, ◌+◌, ◌*◌, ◌++◌, ◌<◌, ◌≤◌, List, true, Some, codes, length, map};
 ghost use Rattle.std.specs.Fmt.{decimal};
 ghost use Rattle.std.specs.List.{flat_map, range_with_len};
@@ -8,7 +8,7 @@ ghost use Rattle.mcs_model.specs.declared.board.KeyMatrix.{KeyMatrix};
 ghost use Rattle.mcs_model.specs.Boards.{chain_bits, chain_count, chain_part, has_key};
 ghost use Rattle.mcs_model.specs.QueryText.{address_text, bank_items, chain_item, key_item, key_items, one_word, ram_items, rom_items, row_items, watch_text};
 ghost use Rattle.mcs_answers.specs.PortPieces.{ram_item};
-ghost use Rattle.mcs_ahead.specs.Probes.{bits_text};
+ghost use Rattle.mcs_probe.specs.Probes.{bits_text};
 ghost use Rattle.mcs_answers.specs.Commas.{with_comma, with_commas};
 
 use crate::digits::{put, put_address, put_byte, put_decimal, put_digit};
@@ -25,7 +25,7 @@ use mcs_model::limits::{
 };
 use mcs_nibble::{Addr, Bit, Nibble};
 
-/// A law: the parts of a bench's board are no more than a board can have.
+/// Shows that a bench's board has no more parts than a board can have.
 fn are_within_limits(bench: &Bench)
     ensures chains { chain_count bench.now.bus.board ≤ CHAINS }
     ensures chips { (n : ℕ) → (chain_part bench.now.bus.board n).chips ≤ CHAIN_CHIPS }
@@ -36,8 +36,8 @@ fn are_within_limits(bench: &Bench)
     bench.show_state_is_valid();
 }
 
-/// Ends a list whose items, each with a comma after it, begin at `start`: the last comma goes, and
-/// a list of nothing becomes a dash.
+/// Ends a list whose items, each with a comma after it, begin at `start`: removes the last comma,
+/// or adds a dash if the list is empty.
 fn end_list(answer: &mut ArrayVec<u8, ANSWER_BYTES>, start: usize)
     requires { array_vec_len answer.old + 1 ≤ ANSWER_BYTES }
     ensures text { (before : List ℕ) (items : List (List ℕ)) → length before ≡ start
@@ -79,7 +79,7 @@ pub(crate) fn put_address_list(answer: &mut ArrayVec<u8, ANSWER_BYTES>, word: &[
     end_list(answer, start);
 }
 
-/// Adds watched characters, each with a comma after it.
+/// Adds watched nibbles, each with a comma after it.
 fn put_watch_items(answer: &mut ArrayVec<u8, ANSWER_BYTES>, list: &[Addr])
     requires { array_vec_len answer.old + 5 * length list.now ≤ ANSWER_BYTES }
     ensures text { answer.new.items
@@ -92,7 +92,7 @@ fn put_watch_items(answer: &mut ArrayVec<u8, ANSWER_BYTES>, list: &[Addr])
     }
 }
 
-/// Adds the list of the watched characters.
+/// Adds the list of the watched nibbles.
 pub(crate) fn put_watch_list(answer: &mut ArrayVec<u8, ANSWER_BYTES>, list: &[Addr])
     requires { array_vec_len answer.old + 5 * length list.now + 10 ≤ ANSWER_BYTES }
     ensures text { answer.new.items
@@ -105,7 +105,7 @@ pub(crate) fn put_watch_list(answer: &mut ArrayVec<u8, ANSWER_BYTES>, list: &[Ad
     end_list(answer, start);
 }
 
-/// Adds the SRC byte that a bank keeps, where it has chips.
+/// Adds the SRC byte that a bank keeps, if the bank has chips.
 fn put_bank_item(answer: &mut ArrayVec<u8, ANSWER_BYTES>, bench: &Bench, bank: u8)
     requires bank { bank < 8 }
     requires room { array_vec_len answer.old + 5 ≤ ANSWER_BYTES }
@@ -145,7 +145,8 @@ fn put_small(answer: &mut ArrayVec<u8, ANSWER_BYTES>, n: u8)
     put_decimal(answer, u64::from(n));
 }
 
-/// Adds the port of a ROM, where the ROM is there: its latch, and what is read there now.
+/// Adds the port of a ROM, if the board has this ROM: its latch, and what a program would read
+/// there now.
 fn put_rom_item(answer: &mut ArrayVec<u8, ANSWER_BYTES>, bench: &Bench, chip: u8)
     requires chip { chip < 16 }
     requires room { array_vec_len answer.old + 7 ≤ ANSWER_BYTES }
@@ -220,7 +221,7 @@ pub(crate) fn put_ram_list(answer: &mut ArrayVec<u8, ANSWER_BYTES>, bench: &Benc
     end_list(answer, start);
 }
 
-/// How many bits a chain has.
+/// Returns the number of bits of a chain.
 fn bits_of(bench: &Bench, n: u8) -> u8
     requires { n < chain_count bench.now.bus.board }
     ensures bits { result ≡ chain_bits bench.now.bus.board n }
@@ -244,7 +245,7 @@ fn put_chain_item(answer: &mut ArrayVec<u8, ANSWER_BYTES>, bench: &Bench, n: u8)
     put(answer, b",");
 }
 
-/// Adds the bits of a chain, or a dash where the board has no such chain.
+/// Adds the bits of a chain, or a dash if the board has no such chain.
 pub(crate) fn put_chain_bits(answer: &mut ArrayVec<u8, ANSWER_BYTES>, bench: &Bench, n: u8)
     requires { array_vec_len answer.old + CHAIN_ITEM_BYTES ≤ ANSWER_BYTES }
     ensures text { answer.new.items ≡ answer.old.items ++ bits_text bench.now.bus n }
@@ -276,7 +277,7 @@ pub(crate) fn put_chain_list(answer: &mut ArrayVec<u8, ANSWER_BYTES>, bench: &Be
     end_list(answer, start);
 }
 
-/// Adds the row and the column of a key, where it is down.
+/// Adds the row and the column of a key, if the key is down.
 fn put_key_item(answer: &mut ArrayVec<u8, ANSWER_BYTES>, bench: &Bench, row: u8, column: u8)
     requires key { has_key bench.now.bus.board row column ≡ true }
     requires row { row < 16 }
@@ -309,7 +310,7 @@ fn put_row_items(answer: &mut ArrayVec<u8, ANSWER_BYTES>, bench: &Bench, columns
     }
 }
 
-/// Adds the keys of the rows that are down, row by row.
+/// Adds the keys that are down in the first rows, row by row.
 fn put_rows_items(answer: &mut ArrayVec<u8, ANSWER_BYTES>, bench: &Bench, rows: u8, columns: u8)
     requires keys { (row column : ℕ) → row < rows → column < columns
         → has_key bench.now.bus.board row column ≡ true }

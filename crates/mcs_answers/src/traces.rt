@@ -6,29 +6,29 @@ ghost use Rattle.mcs_model.specs.Command.{machine_of};
 ghost use Rattle.mcs_model.specs.QueryText.{address_text, one_word};
 ghost use Rattle.mcs_model.specs.TextLines.{as_line};
 ghost use Rattle.mcs_bench.specs.Runs.{stop_by};
-ghost use Rattle.mcs_ahead.specs.Probes.{probe_text, row};
-ghost use Rattle.mcs_answers.specs.AheadTexts.{is_told, trace_answer};
+ghost use Rattle.mcs_probe.specs.Probes.{probe_text, row};
+ghost use Rattle.mcs_answers.specs.ForecastTexts.{is_reported, trace_answer};
 ghost use Rattle.mcs_answers.specs.Resting.{Rests, RowKeeps, RowRests, SeesAll, SeesToo, WritesPort, WritesStatus, touches};
 ghost use Rattle.mcs_answers.specs.Traced.{IsTraced, cycle_lines, line_when};
 ghost use Rattle.mcs_model.specs.declared.op.Op.TheVariants.{Src, Wrm};
 ghost use Rattle.mcs_model.specs.declared.regs.Regs.{Regs};
 ghost use Rattle.std.specs.List.{flat_map};
 
-use crate::ahead::put_head;
 use crate::digits::{put, put_address, put_byte, put_digit};
+use crate::forecast::put_head;
 use crate::lists::put_lamp_marks;
 use crate::numbers::put_counted;
 use crate::port_levels::{ram_levels, rom_levels};
 use crate::size::{ANSWER_BYTES, PROBE_BYTES};
-use crate::standing::stands;
 use crate::state_lists::put_chain_bits;
+use crate::unchanged_rows::stands;
 use arrayvec::ArrayVec;
-use mcs_ahead::{PROBES, Probe};
 use mcs_bench::Bench;
 use mcs_model::op::Op;
 use mcs_model::regs::Regs;
 use mcs_model::stop::Stop;
 use mcs_nibble::Addr;
+use mcs_probe::{PROBES, Probe};
 use std::alloc::{AllocError, Global};
 
 /// Adds the return addresses, after a space.
@@ -44,7 +44,7 @@ fn put_returns(answer: &mut ArrayVec<u8, ANSWER_BYTES>, ret: [Addr; 3])
     put_address(answer, b",", third);
 }
 
-/// Adds what stands at a place, after a space.
+/// Adds a space and the value of a place.
 fn put_probe(answer: &mut ArrayVec<u8, ANSWER_BYTES>, probe: Probe, bench: &Bench)
     requires { array_vec_len answer.old + PROBE_BYTES ≤ ANSWER_BYTES }
     ensures text { answer.new.items
@@ -79,7 +79,7 @@ fn put_probe(answer: &mut ArrayVec<u8, ANSWER_BYTES>, probe: Probe, bench: &Benc
     }
 }
 
-/// Adds what stands at each of the places.
+/// Adds a space and the value of each place, in order.
 fn put_row(answer: &mut ArrayVec<u8, ANSWER_BYTES>, probes: &[Probe], bench: &Bench)
     requires { array_vec_len answer.old + PROBE_BYTES * length probes.now ≤ ANSWER_BYTES }
     ensures text { answer.new.items ≡ answer.old.items ++ row probes.now (machine_of bench.now) }
@@ -91,8 +91,8 @@ fn put_row(answer: &mut ArrayVec<u8, ANSWER_BYTES>, probes: &[Probe], bench: &Be
     }
 }
 
-/// Adds the line of an instruction: how many cycles were done before it, its address, and a row. What stood in `start` is
-/// lost.
+/// Adds the line of an instruction: the cycles done before it, its address, and a row. It
+/// overwrites `start`.
 fn add_line(
     text: &mut Vec<u8>,
     start: &mut ArrayVec<u8, ANSWER_BYTES>,
@@ -111,35 +111,37 @@ fn add_line(
     text.extend_from_slice(b"\n")
 }
 
-/// Whether an instruction is WMP or WRR, which alone change what stands at lines.
+/// Returns true if an instruction is WMP or WRR, the only ones that change the levels of lines.
 fn writes_port(op: &Op) -> bool
     ensures { result ≡ true ↔ WritesPort op.now }
 {
     matches!(op, Op::Wmp | Op::Wrr)
 }
 
-/// Whether an instruction is WRM, which alone changes RAM characters.
+/// Returns true if an instruction is WRM, the only one that changes main RAM nibbles.
 fn writes_ram(op: &Op) -> bool
     ensures { result ≡ true ↔ op.now ≡ Wrm }
 {
     matches!(op, Op::Wrm)
 }
 
-/// Whether an instruction is one of WR0 to WR3, which alone change status characters.
+/// Returns true if an instruction is one of WR0 to WR3, the only ones that change status nibbles.
 fn writes_status(op: &Op) -> bool
     ensures { result ≡ true ↔ WritesStatus op.now }
 {
     matches!(op, Op::Wr0 | Op::Wr1 | Op::Wr2 | Op::Wr3)
 }
 
-/// Whether an instruction is SRC, which alone changes the SRC byte that the ROMs keep.
+/// Returns true if an instruction is SRC, the only one that changes the SRC byte that the ROMs
+/// keep.
 fn writes_src(op: &Op) -> bool
     ensures { (k : ℕ) → op.now ≡ Src k → result ≡ true }
 {
     matches!(op, Op::Src(_))
 }
 
-/// Whether an instruction surely leaves what stands at a place outside the processor as it is; no of any other place.
+/// Returns true only if an instruction cannot change the value of a place outside the processor. It
+/// returns false for every other place.
 #[inline(always)]
 fn keeps_outside(probe: Probe, op: &Op) -> bool
     ensures { result ≡ true → (before after : Regs) → Rests op.now before after probe }
@@ -158,24 +160,26 @@ fn keeps_outside(probe: Probe, op: &Op) -> bool
     }
 }
 
-/// What a row has places of: for each kind of instructions whether one of it may change the row.
+/// The kinds of places that a row has. Each field is true if an instruction of its kind may change
+/// the row.
 #[derive(Clone, Copy)]
 struct Seen {
     /// Lines, ports, chains or lamps.
     ports: bool,
-    /// RAM characters.
+    /// Main RAM nibbles.
     ram: bool,
-    /// Status characters.
+    /// Status nibbles.
     status: bool,
     /// The SRC byte that the ROMs keep.
     src: bool,
     /// The return addresses.
     returns: bool,
-    /// Any other register, which each instruction may change.
+    /// Any other register, which every instruction may change.
     registers: bool,
 }
 
-/// Whether an instruction may change what is seen outside the registers, or the return addresses.
+/// Returns true if an instruction may change a place of the row that is outside the registers, or
+/// the return addresses.
 #[inline(always)]
 fn touches(seen: &Seen, op: &Op) -> bool
     ensures { result ≡ touches seen.now op.now }
@@ -190,8 +194,8 @@ fn touches(seen: &Seen, op: &Op) -> bool
     }
 }
 
-/// What is seen where one place more is looked at.
-fn seen_too(seen: Seen, probe: Probe) -> Seen
+/// Returns the kinds of places after one place more.
+fn visible_too(seen: Seen, probe: Probe) -> Seen
     ensures { SeesToo seen result probe }
 {
     match probe {
@@ -233,7 +237,7 @@ fn seen_too(seen: Seen, probe: Probe) -> Seen
     }
 }
 
-/// What is seen of a row.
+/// Returns the kinds of places that a row has.
 fn seen_of(probes: &[Probe]) -> Seen
     ensures { SeesAll result probes.now }
 {
@@ -246,13 +250,13 @@ fn seen_of(probes: &[Probe]) -> Seen
         registers: false,
     };
     for probe in probes {
-        seen = seen_too(seen, *probe);
+        seen = visible_too(seen, *probe);
     }
     seen
 }
 
-/// Whether an instruction alone tells that it leaves a row as it is, by what is seen of it; no where no instruction was
-/// begun.
+/// Returns true only if the instruction, by itself, cannot change the row. It decides by the kinds
+/// of places alone, and returns false if no instruction was begun.
 #[inline(always)]
 fn all_keep(probes: &[Probe], seen: &Seen, op: Option<Op>) -> bool
     requires { SeesAll seen.now probes.now }
@@ -269,8 +273,8 @@ fn all_keep(probes: &[Probe], seen: &Seen, op: Option<Op>) -> bool
     }
 }
 
-/// Whether an instruction that led from some registers to others surely leaves what stands at a place as it is. No text is
-/// made of it.
+/// Returns true only if an instruction that led from some registers to others leaves the value of a
+/// place as it is. It builds no text.
 fn rests(probe: Probe, op: &Op, before: &Regs, after: &Regs) -> bool
     ensures { result ≡ true → Rests op.now before.now after.now probe }
 {
@@ -285,7 +289,8 @@ fn rests(probe: Probe, op: &Op, before: &Regs, after: &Regs) -> bool
     }
 }
 
-/// The same of all places; no where no instruction was begun.
+/// Returns true only if such an instruction leaves the value of each place as it is. It returns
+/// false if no instruction was begun.
 fn all_rest(probes: &[Probe], op: Option<Op>, before: &Regs, after: &Regs) -> bool
     ensures { result ≡ true → RowRests op before.now after.now probes.now }
 {
@@ -302,8 +307,8 @@ fn all_rest(probes: &[Probe], op: Option<Op>, before: &Regs, after: &Regs) -> bo
     }
 }
 
-/// Whether an instruction that led from some registers to others surely leaves a row as it is. Where no place is a
-/// register, nothing is looked at but the instruction.
+/// Returns true only if an instruction that led from some registers to others leaves a row as it
+/// is. If no place is a register, it looks only at the instruction.
 #[inline(always)]
 fn row_stays<const REGISTERS: bool>(
     probes: &[Probe],
@@ -322,7 +327,7 @@ fn row_stays<const REGISTERS: bool>(
     }
 }
 
-/// What a run would come to, and how many of its instructions are told.
+/// The result of a run: its cycles, why it stopped, and how many lines its trace has.
 #[derive(Drop)]
 struct Traced {
     cycles: u32,
@@ -330,7 +335,8 @@ struct Traced {
     lines: u32,
 }
 
-/// What a run came to that led to this bench, by what stopped it but for a code outside and its end.
+/// Returns the result of a run that led to this bench. `mark` is the breakpoint or watch that
+/// stopped it, if one did.
 fn came_to(bench: &Bench, cycles: u32, mark: Option<Stop>, lines: u32) -> Traced
     ensures cycles { result.cycles ≡ cycles }
     ensures stop { result.stop ≡ stop_by (machine_of bench.now) mark }
@@ -343,14 +349,14 @@ fn came_to(bench: &Bench, cycles: u32, mark: Option<Stop>, lines: u32) -> Traced
     }
 }
 
-/// The last row, and room for the next one.
+/// The last row, and a buffer for the next one.
 #[derive(Drop)]
 struct Rows {
     last: ArrayVec<u8, ANSWER_BYTES>,
     next: ArrayVec<u8, ANSWER_BYTES>,
 }
 
-/// The row of a bench, before any instruction is told.
+/// Returns the row of a bench before the first line, with an empty buffer.
 fn first_row(probes: &[Probe], bench: &Bench) -> Rows
     requires { length probes.now ≤ PROBES }
     ensures { result.last.items ≡ row probes.now (machine_of bench.now) }
@@ -363,9 +369,9 @@ fn first_row(probes: &[Probe], bench: &Bench) -> Rows
     }
 }
 
-/// Adds the line of the instruction that the last cycle began, where it is told; whether it was. The last row becomes the
-/// one after it.
-fn add_told(
+/// Adds the line of the instruction that the last cycle began, if it has one, and returns true if
+/// it does. The row after the instruction becomes the last row.
+fn add_reported(
     text: &mut Vec<u8>,
     rows: &mut Rows,
     cycles: u32,
@@ -375,10 +381,10 @@ fn add_told(
 ) -> Result<bool, AllocError>
     requires { length probes.now ≤ PROBES }
     ensures row { IfOk result (λ _. rows.new.last.items ≡ row probes.now (machine_of bench.now)) }
-    ensures told { IfOk result (λ told. told
-        ≡ is_told probes.now rows.old.last.items (row probes.now (machine_of bench.now))) }
-    ensures text { IfOk result (λ told. text.new.items ≡ text.old.items ++ flat_map as_line
-        (line_when told cycles at (row probes.now (machine_of bench.now)))) }
+    ensures report { IfOk result (λ report. report
+        ≡ is_reported probes.now rows.old.last.items (row probes.now (machine_of bench.now))) }
+    ensures text { IfOk result (λ report. text.new.items ≡ text.old.items ++ flat_map as_line
+        (line_when report cycles at (row probes.now (machine_of bench.now)))) }
 {
     rows.next.clear();
     put_row(&mut rows.next, probes, bench);
@@ -391,8 +397,9 @@ fn add_told(
     Ok(false)
 }
 
-/// Adds the line of a cycle that was begun at an address, where it has one; how many it added: none where a cycle was owed.
-/// The last row becomes the one after it. A call, since a row is seldom made.
+/// Adds the line of a cycle that began at an address, if it has one, and returns the number of
+/// lines added. A second cycle that was pending has no line. The row after the cycle becomes the
+/// last row. It stays a call because a row is seldom built.
 #[inline(never)]
 fn add_began(
     text: &mut Vec<u8>,
@@ -419,14 +426,15 @@ fn add_began(
         put_row(&mut rows.last, probes, bench);
         return Ok(0);
     }
-    if add_told(text, rows, cycles, at, probes, bench)? {
+    if add_reported(text, rows, cycles, at, probes, bench)? {
         return Ok(1);
     }
     Ok(0)
 }
 
-/// Adds the line of an instruction that led from these registers to a bench, where it has one; how many it added. The last
-/// row becomes the one after it. It may be told that they are the same.
+/// Adds the line of an instruction that led from these registers to a bench, if it has one, and
+/// returns the number of lines added. The row after the instruction becomes the last row. If
+/// `rests` is true, the caller knows that the row is still the same.
 #[inline(always)]
 fn add_went(
     text: &mut Vec<u8>,
@@ -452,8 +460,8 @@ fn add_went(
     add_began(text, rows, cycles, regs.owed, regs.pc, probes, bench)
 }
 
-/// Adds a line for each instruction of a run of at most `n` cycles after which another row stands at the places. It is told
-/// whether any of them is a register.
+/// Adds a line for each instruction of a run of at most `n` cycles that changes the row, or for
+/// every instruction if there are no places. `REGISTERS` is true if a place is a register.
 fn add_lines<const REGISTERS: bool>(
     alloc: Global,
     text: &mut Vec<u8>,
@@ -488,7 +496,7 @@ fn add_lines<const REGISTERS: bool>(
     Ok(came_to(&copy, n, None, lines))
 }
 
-/// The same, by the loop that copies no registers where no place is one.
+/// Does the same, and picks the loop: without a register among the places, it copies no registers.
 fn add_lines_of(
     alloc: Global,
     text: &mut Vec<u8>,
@@ -508,9 +516,9 @@ fn add_lines_of(
     }
 }
 
-/// Tells what would happen in a run of at most `n` cycles: a head is put into an empty answer, and a line for each
-/// instruction after which another row stands at the places, which take memory, is handed back. It fails where memory is
-/// refused, and then the head counts for nothing.
+/// Traces a run of at most `n` cycles without doing it: writes a head into an empty answer and
+/// returns a line for each instruction that changes the row. Without places every instruction has a
+/// line. The lines need memory. It fails if memory runs out; then the head has no meaning.
 pub fn put_trace(
     alloc: Global,
     head: &mut ArrayVec<u8, ANSWER_BYTES>,

@@ -4,5 +4,6 @@ pub mod CellPairs
 pub mod NameLists
 pub mod LineLists
 pub mod PassLists
+pub mod ErrorLists
 pub mod ValueLists
 pub mod SpelledLists

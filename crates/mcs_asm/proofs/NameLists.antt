@@ -31,15 +31,15 @@ value_pushed bs v (n ∷ names) h w =
     kept (bytes_eq n.0 w) (bytes_eq bs w) (Some n.1) (Some v) (value_of w names) (value_of w (names ++ (bs, v) ∷ []))
     (apart n.0 bs w (or_parts (bytes_eq n.0 bs) (is_known bs names) h).0) (value_pushed bs v names (or_parts (bytes_eq n.0 bs) (is_known bs names) h).1 w)
 
-pub tells_more : (bs : List ℕ) (v : ℕ) (old new : BTreeMap (Bor (List ℕ)) ℕ) (names : Names) → is_known bs names ≡ false
+pub reports_more : (bs : List ℕ) (v : ℕ) (old new : BTreeMap (Bor (List ℕ)) ℕ) (names : Names) → is_known bs names ≡ false
     → UpdatesBy (λ x y. slice_cmp nat_cmp x.now y.now) (λ k. slice_cmp nat_cmp bs k.now) old new (Some v) → HasNames old names → HasNames new (names ++ (bs, v) ∷ [])
-tells_more bs v old new names h more before w =
+reports_more bs v old new names h more before w =
     btree_map_updates_str bs old new (Some v) more w ∙ (ap (λ (o : Option ℕ). cond (bytes_eq bs w) (Some v) o) (before w) ∙ sym (value_pushed bs v names h w))
 
 abbrev pub seen : List (Bor (List ℕ) × ℕ) → Names
 seen es = map (λ e. (e.0.now, e.1)) es
 
-pub tells_pushed : (name : Bor (List ℕ)) (v : ℕ) (old new : BTreeMap (Bor (List ℕ)) ℕ) (es more : List (Bor (List ℕ) × ℕ)) → more ≡ es ++ (name, v) ∷ [] → is_known name.now (seen es) ≡ false
+pub reports_pushed : (name : Bor (List ℕ)) (v : ℕ) (old new : BTreeMap (Bor (List ℕ)) ℕ) (es more : List (Bor (List ℕ) × ℕ)) → more ≡ es ++ (name, v) ∷ [] → is_known name.now (seen es) ≡ false
     → UpdatesBy (λ x y. slice_cmp nat_cmp x.now y.now) (λ k. slice_cmp nat_cmp name.now k.now) old new (Some v) → HasNames old (seen es) → HasNames new (seen more)
-tells_pushed name v old new es more is h updates before =
-    rw (is, map_push {Y = List ℕ × ℕ} (λ (e : Bor (List ℕ) × ℕ). (e.0.now, e.1)) es (name, v)) (tells_more name.now v old new (seen es) h updates before)
+reports_pushed name v old new es more is h updates before =
+    rw (is, map_push {Y = List ℕ × ℕ} (λ (e : Bor (List ℕ) × ℕ). (e.0.now, e.1)) es (name, v)) (reports_more name.now v old new (seen es) h updates before)

@@ -30,12 +30,12 @@ texts ls = map (λ l. l.now) ls
 abbrev pub said : List (Bor (List ℕ)) → List (Option SourceLine)
 said ls = read (texts ls)
 
-said_at : (ls : List (Bor (List ℕ))) (i : ℕ) (d : Bor (List ℕ)) → i < length ls → ith_line (said ls) i ≡ line_of (tokens (get_or ls i d).now)
+pub said_at : (ls : List (Bor (List ℕ))) (i : ℕ) (d : Bor (List ℕ)) → i < length ls → ith_line (said ls) i ≡ line_of (tokens (get_or ls i d).now)
 said_at ls i d lt =
     let within : i < length (texts ls) = omega (arith, length-map ls (λ (l : Bor (List ℕ)). l.now), lt) in
     get_or-map (λ (l : List ℕ). line_of (tokens l)) (texts ls) i d.now None within ∙ ap (λ (l : List ℕ). line_of (tokens l)) (get_or-map (λ (l : Bor (List ℕ)). l.now) ls i d d.now lt)
 
-said_length : (ls : List (Bor (List ℕ))) → length (said ls) ≡ length ls
+pub said_length : (ls : List (Bor (List ℕ))) → length (said ls) ≡ length ls
 said_length ls = length-map (texts ls) (λ (l : List ℕ). line_of (tokens l)) ∙ length-map ls (λ (l : Bor (List ℕ)). l.now)
 
 -- ---- the first pass
@@ -56,16 +56,16 @@ with_names_is (Some (Define w n)) at names = refl
 with_names_is (Some (Code None s)) at names = sym (append-nil names)
 with_names_is (Some (Code (Some w) s)) at names = refl
 
-before_more : (lines : List (Option SourceLine)) (i : ℕ) → before_next (before lines i) (ith_line lines i) ≡ before lines (i + 1)
+pub before_more : (lines : List (Option SourceLine)) (i : ℕ) → before_next (before lines i) (ith_line lines i) ≡ before lines (i + 1)
 before_more lines i =
     let names : with_names (ith_line lines i) (address_of lines i) (names_before lines i) ≡ names_before lines (i + 1) = with_names_is (ith_line lines i) (address_of lines i) (names_before lines i) ∙ sym (names_next lines i) in
     ap (λ (n : Names). record { at = next_at (ith_line lines i) (address_of lines i); names = n }) names ∙ ap (λ (a : ℕ). record { at = a; names = names_before lines (i + 1) }) (sym (address_next lines i))
 
-line_passed : {A : Type 0} (fault : Option SourceFault) (next new : A) → unless_fault fault (Ok next) ≡ Ok new → (fault ≡ None) × (new ≡ next)
+pub line_passed : {A : Type 0} (fault : Option SourceFault) (next new : A) → unless_fault fault (Ok next) ≡ Ok new → (fault ≡ None) × (new ≡ next)
 line_passed {A} None next new e = (refl, cc)
 line_passed {A} (Some f) next new e = absurd (cc)
 
-line_refused : {A : Type 0} (fault : Option SourceFault) (next : A) (f : SourceFault) → unless_fault fault (Ok next) ≡ Err f → fault ≡ Some f
+pub line_refused : {A : Type 0} (fault : Option SourceFault) (next : A) (f : SourceFault) → unless_fault fault (Ok next) ≡ Err f → fault ≡ Some f
 line_refused {A} None next f e = absurd (cc)
 line_refused {A} (Some g) next f e = cc
 
@@ -118,7 +118,7 @@ four_false false false true w a b c d e = absurd (cc)
 four_false false false false true a b c d e = absurd (cc)
 four_false false false false false a b c d e = (refl, refl)
 
-no_fault : (at : ℕ) (names : Names) (line : Option SourceLine) → fault_one at names line ≡ None → HasNoFault at line
+pub no_fault : (at : ℕ) (names : Names) (line : Option SourceLine) → fault_one at names line ≡ None → HasNoFault at line
 no_fault at names None e = absurd (cc)
 no_fault at names (Some line) e = four_false (has_bad_number line) (is_known_name (defined_name line) names) (is_some (defined_name line) && leb 512 (length names)) (passes_end line at) OutOfRange DoubleName TooManyNames PastEnd e
 
@@ -130,7 +130,7 @@ line_passes ls names i at cells spans d lt one h =
     let passes : HasNoFault (address_of (said ls) i) (ith_line (said ls) i) = no_fault (address_of (said ls) i) (names_before (said ls) i) (ith_line (said ls) i) none in
     subst (λ (n : ℕ). HasNoFault n (line_of (tokens (get_or ls i d).now))) (sym h.here) (subst (HasNoFault (address_of (said ls) i)) (said_at ls i d lt) passes)
 
-bytes_passed : (s : SpelledLines) (next : ℕ) (r : Result (List ℕ) SourceFault) (t : SpelledLines) → spelled_with_bytes s next r ≡ Ok t → (fault_two s.at s.pairs r ≡ None) × (t ≡ record { at = next; pairs = s.pairs ++ from_address s.at (bytes_or_none r) })
+pub bytes_passed : (s : SpelledLines) (next : ℕ) (r : Result (List ℕ) SourceFault) (t : SpelledLines) → spelled_with_bytes s next r ≡ Ok t → (fault_two s.at s.pairs r ≡ None) × (t ≡ record { at = next; pairs = s.pairs ++ from_address s.at (bytes_or_none r) })
 bytes_passed s next (Err f) t e = absurd (cc)
 bytes_passed s next (Ok bytes) t e =
     let new : SpelledLines = record { at = next; pairs = s.pairs ++ from_address s.at bytes } in
@@ -140,7 +140,7 @@ bytes_passed s next (Ok bytes) t e =
       | false ↦ λ h. (refl, cc)
     ]) e
 
-bytes_refused : (s : SpelledLines) (next : ℕ) (r : Result (List ℕ) SourceFault) (f : SourceFault) → spelled_with_bytes s next r ≡ Err f → fault_two s.at s.pairs r ≡ Some f
+pub bytes_refused : (s : SpelledLines) (next : ℕ) (r : Result (List ℕ) SourceFault) (f : SourceFault) → spelled_with_bytes s next r ≡ Err f → fault_two s.at s.pairs r ≡ Some f
 bytes_refused s next (Err g) f e = cc
 bytes_refused s next (Ok bytes) f e =
     let new : SpelledLines = record { at = next; pairs = s.pairs ++ from_address s.at bytes } in

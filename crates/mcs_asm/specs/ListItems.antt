@@ -4,12 +4,12 @@ use Rattle.mcs_source.specs.Lexical.{Token, Word, Comma}
 use Rattle.mcs_source.specs.Lines.{Operand, operand_of}
 use Rattle.mcs_model.specs.Options.{◌>>=◌}
 
--- what follows, where a comma stands before it
+-- the tokens that follow, if a comma is before them
 abbrev pub rest_if : Bool → List Token → Option (List Token)
 rest_if true ts = Some ts
 rest_if false ts = None
 
--- the first operand, and what follows its comma
+-- the first operand, and the tokens after its comma
 abbrev pub list_item : List Token → Option (Operand × Option (List Token))
 list_item (Word w ∷ []) = operand_of w >>= λ v. Some (v, None)
 list_item (Word w ∷ Comma ∷ more) = operand_of w >>= λ v. Some (v, Some more)

@@ -1,4 +1,5 @@
--- What `assemble` and `survey` promise, and what the code's tokens, statements and lines stand for.
+-- The promises of `assemble` and `survey`, and what the code's tokens, statements and lines stand
+-- for.
 use Rattle.std.specs.Prelude.{◌≡◌, ◌<◌, ◌∷◌, [], List, ℕ, map, option_map, Option, Some, Result, Ok, Err, None}
 use Rattle.std.specs.List.{Contains}
 use Rattle.std.specs.Option.{option_copied, option_to_list}
@@ -29,19 +30,19 @@ use Rattle.mcs_model.specs.Images.{by_address}
 use Rattle.mcs_source.specs.Assembly.{Names, value_of}
 use Rattle.mcs_source.specs.Survey.{Survey}
 
--- ---- what `assemble` and `survey` promise; lack of memory says nothing of the text
+-- ---- the promises of `assemble` and `survey`; lack of memory says nothing of the text
 
--- the fault that is wanted, with its line; line 0 where memory is refused
+-- Holds for the wanted error, with its line; line 0 if memory is refused.
 abbrev pub FailsAs : FaultKind → ℕ → {A : Type 0} → Result A (ℕ × SourceFault) → Type 0
 FailsAs NoMemory line wanted = line ≡ 0
 FailsAs (Refused f) line wanted = wanted ≡ Err (line, f)
 
--- each address is one of 0 to 4095, and none stands with two different bytes
+-- Holds if each address is one of 0 to 4095, and none has two different bytes.
 pub record HaveOneByteEach (pairs : List (ℕ × ℕ)) : Type 0 where
   pub within : (at byte : ℕ) → Contains pairs (at, byte) → at < 4096
   pub once : (at one other : ℕ) → Contains pairs (at, one) → Contains pairs (at, other) → one ≡ other
 
--- the pairs that are wanted by rising address, or the fault that is wanted
+-- Holds for the wanted pairs by rising address, or for the wanted error.
 abbrev pub Assembles : Result (List (ℕ × ℕ)) AsmFault → Result (List (ℕ × ℕ)) (ℕ × SourceFault)
     → Type 0
 Assembles (Ok image) wanted =
@@ -49,12 +50,12 @@ Assembles (Ok image) wanted =
     × HaveOneByteEach pairs
 Assembles (Err f) wanted = FailsAs f.kind f.line wanted
 
--- the survey that is wanted, or the fault that is wanted
+-- Holds for the wanted survey, or for the wanted error.
 abbrev pub Surveys : Result Survey AsmFault → Result Survey (ℕ × SourceFault) → Type 0
 Surveys (Ok s) wanted = wanted ≡ Ok s
 Surveys (Err f) wanted = FailsAs f.kind f.line wanted
 
--- ---- what the code's values stand for; this and the rest is cited by clauses of private functions alone
+-- ---- the views of the code's values; from here on cited by clauses of private functions alone
 
 abbrev pub token_view : Token → spec.Token
 token_view (code.Word w) = spec.Word w.now
@@ -83,7 +84,7 @@ abbrev pub line_view : SourceLine → lines.SourceLine
 line_view (line.Code label s) = lines.Code (option_copied label) (option_map statement_view s)
 line_view (line.Define w n) = lines.Define w.now n
 
--- a line that begins with no label, or with no `NAME =`
+-- Holds for a line that begins with no label; holds for a line that begins with no `NAME =`.
 abbrev pub NoLabel : List spec.Token → Type 0
 NoLabel ts = lines.line_of ts ≡ lines.unlabelled ts
 
@@ -93,18 +94,18 @@ NoDefinition ts = lines.unlabelled ts ≡ lines.rest_of None ts
 abbrev pub words_view : Words → List ℕ
 words_view w = w.first ∷ option_to_list w.second
 
--- what is wanted is what the result stands for, or the fault
+-- Holds if the wanted result is what the result stands for, or the error.
 abbrev pub GivesAs : {A B : Type 0} → (A → B) → Result A FaultKind → Result B SourceFault → Type 0
 GivesAs view (Ok x) wanted = wanted ≡ Ok (view x)
 GivesAs view (Err NoMemory) wanted = Unit {0}
 GivesAs view (Err (Refused f)) wanted = wanted ≡ Err f
 
--- the instruction that is wanted, or the fault
+-- Holds for the wanted instruction, or for the error.
 abbrev pub GivesOp : Result Op SourceFault → Result (List ℕ) SourceFault → Type 0
 GivesOp (Ok o) wanted = wanted ≡ Ok (spelling o)
 GivesOp (Err f) wanted = wanted ≡ Err f
 
--- the instruction of a statement that is not a `DB`; an `ORG` has none
+-- Holds for the instruction of a statement that is not a `DB`; an `ORG` has none.
 abbrev pub SaysOp : Result (Option Op) SourceFault → Result (List ℕ) SourceFault → Type 0
 SaysOp (Ok None) wanted = wanted ≡ Ok []
 SaysOp (Ok (Some o)) wanted = wanted ≡ Ok (spelling o)
@@ -118,7 +119,7 @@ abbrev pub IsNoData : lines.Statement → Type 0
 IsNoData (lines.Data vs) = ⊥
 IsNoData s = Unit {0}
 
--- a map has the names with their values
+-- Holds if a map has the names with their values.
 abbrev pub HasNames : BTreeMap (Bor (List ℕ)) ℕ → Names → Type 0
 HasNames values names =
     (w : List ℕ) → get_by (λ k. slice_cmp nat_cmp w k.now) values ≡ value_of w names

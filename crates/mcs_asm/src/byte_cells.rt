@@ -26,7 +26,7 @@ impl Model for ByteCells {
 }
 
 impl ByteCells {
-    /// No byte at any address.
+    /// Returns cells with no byte at any address.
     #[tactic(auto, using(crate::proofs::CellPairs::new_rules))]
     pub fn new(alloc: Global) -> Result<ByteCells, AllocError>
         ensures { IfOk result (λ c. c ≡ replicate 4096 None) }
@@ -38,7 +38,7 @@ impl ByteCells {
         Ok(ByteCells { bytes })
     }
 
-    /// Whether one of `count` addresses from `at` on has a byte.
+    /// Returns true if one of `count` addresses from `at` on has a byte.
     pub fn is_taken(&self, at: usize, count: usize) -> bool
         requires { at + count ≤ 4096 }
         ensures { result ≡ list_any is_some (take count (drop at self.now)) }
@@ -56,7 +56,7 @@ impl ByteCells {
         }
     }
 
-    /// The bytes that are there, rising.
+    /// Returns the bytes that are in the cells, rising.
     pub fn image(&self, alloc: Global) -> Result<Image, AllocError>
         ensures { IfOk result (λ i. i ≡ pairs_from 0 self.now) }
     {

@@ -14,7 +14,7 @@ use mcs_model::op::Op;
 use mcs_nibble::{Addr, Nibble, PairNo, RegNo};
 use std::alloc::{AllocError, Global};
 
-/// The values of some operands; None where a name has none.
+/// Returns the values of some operands; `None` if a name has none.
 fn values<'a>(
     alloc: Global,
     names: &Names<'a>,
@@ -33,14 +33,14 @@ fn values<'a>(
     Ok(Some(found))
 }
 
-/// Whether each value is a byte.
+/// Returns true if each value is a byte.
 fn are_bytes(values: &[u64]) -> bool
     ensures { result ≡ list_all (λ n. nat_lt n 256) values.now }
 {
     values.iter().all(|n| *n < 256)
 }
 
-/// Values below 256 as bytes.
+/// Returns values below 256 as bytes.
 fn as_bytes(alloc: Global, values: &[u64]) -> Result<Vec<u8>, AllocError>
     requires { list_all (λ n. nat_lt n 256) values.now ≡ true }
     ensures { IfOk result (λ v. v.items ≡ values.now) }
@@ -52,7 +52,7 @@ fn as_bytes(alloc: Global, values: &[u64]) -> Result<Vec<u8>, AllocError>
     Ok(bytes)
 }
 
-/// The bytes of a `DB`.
+/// Returns the bytes of a `DB`.
 fn data_bytes<'a>(
     alloc: Global,
     names: &Names<'a>,
@@ -70,14 +70,14 @@ fn data_bytes<'a>(
     Ok(as_bytes(alloc, &values)?)
 }
 
-/// The value of an operand; a name that no line defines is refused.
+/// Returns the value of an operand. It fails for a name that no line defines.
 fn value<'a>(names: &Names<'a>, operand: &Operand<'a>) -> Result<u64, SourceFault>
     ensures { result ≡ if_known (value_in names.now.names (operand_view operand.now)) (λ n. Ok n) }
 {
     names.value(operand).ok_or(SourceFault::UnknownName)
 }
 
-/// A value of 0 to 15.
+/// Returns a value as one of 0 to 15. It fails if the value is above 15.
 fn nibble(value: u64) -> Result<Nibble, SourceFault>
     ensures { result ≡ if_in_range (nat_lt value 16) (Ok value) }
 {
@@ -87,14 +87,14 @@ fn nibble(value: u64) -> Result<Nibble, SourceFault>
         .ok_or(SourceFault::OutOfRange)
 }
 
-/// A value of 0 to 255.
+/// Returns a value as one of 0 to 255. It fails if the value is above 255.
 fn byte(value: u64) -> Result<u8, SourceFault>
     ensures { result ≡ if_in_range (nat_lt value 256) (Ok value) }
 {
     u8::try_from(value).ok().ok_or(SourceFault::OutOfRange)
 }
 
-/// A value of 0 to 4095, as an address.
+/// Returns a value of 0 to 4095 as an address. It fails if the value is above 4095.
 fn target(value: u64) -> Result<Addr, SourceFault>
     ensures { result ≡ if_in_range (nat_lt value 4096) (Ok value) }
 {
@@ -104,7 +104,8 @@ fn target(value: u64) -> Result<Addr, SourceFault>
         .ok_or(SourceFault::OutOfRange)
 }
 
-/// The low byte of a target on the page after two words.
+/// Returns the low byte of a target on the page after two words. It fails if the target is on
+/// another page.
 fn near_byte(at: u16, target: Addr) -> Result<u8, SourceFault>
     requires { at ≤ 4096 }
     ensures { result ≡ if_on_page (is_near at target) (Ok (target % 256)) }
@@ -116,7 +117,7 @@ fn near_byte(at: u16, target: Addr) -> Result<u8, SourceFault>
     }
 }
 
-/// The value of an operand, as a value of 0 to 15.
+/// Returns the value of an operand, as a value of 0 to 15.
 fn nibble_value<'a>(names: &Names<'a>, operand: &Operand<'a>) -> Result<Nibble, SourceFault>
     ensures { result ≡ if_known (value_in names.now.names (operand_view operand.now))
         (λ n. if_in_range (nat_lt n 16) (Ok n)) }
@@ -124,7 +125,7 @@ fn nibble_value<'a>(names: &Names<'a>, operand: &Operand<'a>) -> Result<Nibble, 
     nibble(value(names, operand)?)
 }
 
-/// The value of an operand, as an address.
+/// Returns the value of an operand, as an address.
 fn target_value<'a>(names: &Names<'a>, operand: &Operand<'a>) -> Result<Addr, SourceFault>
     ensures { result ≡ if_known (value_in names.now.names (operand_view operand.now))
         (λ t. if_in_range (nat_lt t 4096) (Ok t)) }
@@ -183,7 +184,7 @@ fn isz<'a>(at: u16, names: &Names<'a>, register: RegNo, t: &Operand<'a>) -> Resu
     Ok(Op::Isz(register, near_byte(at, target_value(names, t)?)?))
 }
 
-/// The instruction of a statement at an address; an `ORG` has none.
+/// Returns the instruction of a statement at an address; an `ORG` has none.
 fn op<'a>(at: u16, names: &Names<'a>, statement: &Statement<'a>) -> Result<Option<Op>, SourceFault>
     requires start { at ≤ 4096 }
     requires statement { IsNoData (statement_view statement.now) }
@@ -202,14 +203,14 @@ fn op<'a>(at: u16, names: &Names<'a>, statement: &Statement<'a>) -> Result<Optio
     }
 }
 
-/// The words of an instruction, as the code table has them.
+/// Returns the words of an instruction, as the code table has them.
 fn words(op: Op) -> Words
     ensures { words_view result ≡ spelling op }
 {
     encode(op)
 }
 
-/// One or two words as a list.
+/// Returns one or two words as a list.
 fn word_list(alloc: Global, words: Words) -> Result<Vec<u8>, AllocError>
     ensures { IfOk result (λ v. v.items ≡ words_view words) }
 {
@@ -221,7 +222,7 @@ fn word_list(alloc: Global, words: Words) -> Result<Vec<u8>, AllocError>
     Ok(bytes)
 }
 
-/// The bytes that a statement at an address spells.
+/// Returns the bytes that a statement at an address spells.
 fn statement_bytes<'a>(
     alloc: Global,
     at: u16,
@@ -241,7 +242,7 @@ fn statement_bytes<'a>(
     }
 }
 
-/// The bytes that a line at an address spells.
+/// Returns the bytes that a line at an address spells.
 pub fn line_bytes<'a>(
     alloc: Global,
     at: u16,

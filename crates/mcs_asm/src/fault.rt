@@ -1,4 +1,4 @@
-//! Why a text is refused.
+//! The reasons why a text is refused.
 ghost use Rattle.std.specs.Prelude.{◌≡◌};
 ghost use Rattle.mcs_asm.specs.RefusalNumbers.{assembler_fault_number};
 
@@ -7,19 +7,19 @@ pub use mcs_source::fault::SourceFault;
 use std::alloc::AllocError;
 use thiserror::Error;
 
-/// Why a text has no image.
+/// The reason why a text has no image.
 #[derive(Clone, Copy, Debug, PartialEq, Eq, Error)]
 pub enum FaultKind {
     /// Memory was refused (no 90).
     #[error("out of memory")]
     NoMemory,
-    /// A line has a fault.
+    /// A line has an error.
     #[error("{0}")]
     Refused(SourceFault),
 }
 
 impl FaultKind {
-    /// The number that the refusal is reported as.
+    /// Returns the number of the refusal.
     pub fn number(self) -> u8
         ensures { result ≡ assembler_fault_number self }
     {
@@ -30,13 +30,13 @@ impl FaultKind {
     }
 }
 
-/// The first fault of a text, with the number of its line from 1; 0 where memory was refused.
+/// The first error of a text, with the number of its line from 1; 0 if memory was refused.
 #[derive(Clone, Copy, Debug, Error)]
 #[error("line {line}: {kind}")]
 pub struct AsmFault {
     /// The number of the line.
     pub line: usize,
-    /// What is wrong.
+    /// The reason.
     pub kind: FaultKind,
 }
 

@@ -1,6 +1,7 @@
-//! The assembler: from a source text to its image or its survey, or to its first fault.
+//! The assembler: from a source text to its image or its survey, or to its first error.
 #![tactic(auto)]
 
+mod all_errors;
 mod byte_cells;
 mod bytes;
 mod fault;
@@ -13,6 +14,7 @@ mod text;
 mod tokens;
 mod words;
 
+pub use all_errors::{ERROR_ROWS, LineError, errors, errors_text, the_first_error_is_the_fault};
 pub use fault::{AsmFault, FaultKind, SourceFault};
 pub use mcs_source::survey::Span;
 pub use passes::{assemble, survey};

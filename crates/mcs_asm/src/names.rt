@@ -19,12 +19,12 @@ use std::alloc::{AllocError, Global};
 use std::collections::BTreeMap;
 use std::marker::Model;
 
-/// What the lines so far say: their names with their values, and where the next statement stands.
+/// The names of the lines so far with their values, and the address of the next statement.
 #[derive(Drop)]
 pub struct Names<'a> {
     at: u16,
     names: ArrayVec<(&'a [u8], u16), NAMES>,
-    // The same by name: a value is asked for at each operand, so no search may go over all names.
+    // The same by name. A value is asked for at each operand, so no search may visit all names.
     values: BTreeMap<&'a [u8], u16>,
 }
 
@@ -50,7 +50,7 @@ fn statement_size(statement: &Option<Statement<'_>>) -> usize
     }
 }
 
-/// How many bytes a statement spells.
+/// Returns the count of bytes that a statement spells.
 fn size(statement: &Statement<'_>) -> usize
     ensures { result ≡ size (statement_view statement.now) }
 {
@@ -65,7 +65,7 @@ fn size(statement: &Statement<'_>) -> usize
 }
 
 impl<'a> Names<'a> {
-    /// Before the first line.
+    /// Returns the names before the first line.
     pub fn new(alloc: Global) -> Names<'a>
         ensures { result ≡ nothing_before }
     {
@@ -97,14 +97,14 @@ impl<'a> Names<'a> {
         self.names.len() >= NAMES
     }
 
-    /// The names with their values, in the order of the lines that define them.
+    /// Returns the names with their values, in the order of the lines that define them.
     pub fn list(&self) -> &[(&'a [u8], u16)]
         ensures { map (λ e. (e.0.now, e.1)) result.now ≡ self.now.names }
     {
         &self.names
     }
 
-    /// Where the next statement stands.
+    /// Returns the address of the next statement.
     fn at(&self) -> u16
         ensures at { result ≡ self.now.at }
         ensures within { result ≤ 4096 }
@@ -112,7 +112,8 @@ impl<'a> Names<'a> {
         self.at
     }
 
-    /// The first fault of class one that a line has, of those that a line with a form can have.
+    /// Returns the first error of class one that a line has, of those that a line with a form can
+    /// have.
     pub fn fault(&self, line: &SourceLine<'a>) -> Option<SourceFault>
         ensures { result ≡ fault_one self.now.at self.now.names (Some (line_view line.now)) }
     {
@@ -130,7 +131,8 @@ impl<'a> Names<'a> {
         }
     }
 
-    /// Adds what a line without such a fault says. Where memory is refused nothing is added.
+    /// Adds the name that a line without such an error defines, and sets the address of the next
+    /// statement. If memory is refused nothing is added.
     pub fn add(&mut self, line: &SourceLine<'a>) -> Result<(), AllocError>
         requires { fault_one self.old.at self.old.names (Some (line_view line.now)) ≡ None }
         ensures added { OnOk result (self.new ≡ before_next self.old (Some (line_view line.now))) }
@@ -145,7 +147,7 @@ impl<'a> Names<'a> {
         Ok(())
     }
 
-    /// Adds a name that is not known, where there is room for one.
+    /// Adds a name that is not known. There is room for one.
     fn define(&mut self, name: &'a [u8], value: u16) -> Result<(), AllocError>
         requires unknown { is_known name.now self.old.names ≡ false }
         requires room { length self.old.names < NAMES }
@@ -158,7 +160,7 @@ impl<'a> Names<'a> {
         Ok(())
     }
 
-    /// The value of an operand, where it has one.
+    /// Returns the value of an operand, if it has one.
     pub fn value(&self, operand: &Operand<'a>) -> Option<u64>
         ensures { result ≡ value_in self.now.names (operand_view operand.now) }
     {
@@ -175,14 +177,14 @@ fn knows(names: &[(&[u8], u16)], name: &[u8]) -> bool
     names.iter().any(|e| e.0 == name)
 }
 
-/// The value of a name.
+/// Returns the value of a name.
 fn value_of<'a>(values: &BTreeMap<&'a [u8], u16>, name: &'a [u8]) -> Option<u64>
     ensures { result ≡ get_by (λ k. slice_cmp nat_cmp name.now k.now) values.now }
 {
     values.get(&name).map(|value| u64::from(*value))
 }
 
-/// The name that a line defines.
+/// Returns the name that a line defines.
 fn defined_name<'a>(line: &SourceLine<'a>) -> Option<&'a [u8]>
     ensures { option_copied result ≡ defined_name (line_view line.now) }
 {
@@ -201,7 +203,7 @@ fn is_bad_origin(statement: &Option<Statement<'_>>) -> bool
     }
 }
 
-/// Whether a line puts a statement or a name outside the addresses.
+/// Returns true if a line puts a statement or a name outside the addresses.
 fn has_bad_number(line: &SourceLine<'_>) -> bool
     ensures { result ≡ has_bad_number (line_view line.now) }
 {
@@ -211,7 +213,7 @@ fn has_bad_number(line: &SourceLine<'_>) -> bool
     }
 }
 
-/// Whether a line has its label, or a byte, past the last address.
+/// Returns true if a line has its label, or a byte, past the last address.
 fn passes_end(line: &SourceLine<'_>, at: u16) -> bool
     requires { at ≤ 4096 }
     ensures { result ≡ passes_end (line_view line.now) at }
@@ -236,7 +238,8 @@ fn next_statement(statement: &Option<Statement<'_>>, at: u16) -> u16
     }
 }
 
-/// Where the statement of the next line stands, after a line without a fault of class one.
+/// Returns the address of the statement of the next line, after a line without an error of class
+/// one.
 pub fn next_at(line: &SourceLine<'_>, at: u16) -> u16
     requires start { at ≤ 4096 }
     requires number { has_bad_number (line_view line.now) ≡ false }

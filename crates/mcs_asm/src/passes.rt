@@ -1,5 +1,5 @@
 //! The two passes over the lines of a text: first the names, then the bytes.
-ghost use Rattle.std.specs.Prelude.{List, ℕ, ◌+◌, length, Ok, ◌≡◌, ◌<◌, ◌≤◌, ◌^◌, ◌++◌, ◌∷◌, [], map, None, OnOk};
+ghost use Rattle.std.specs.Prelude.{List, ℕ, ◌+◌, length, Ok, ◌≡◌, ◌<◌, ◌≤◌, ◌^◌, ◌++◌, ◌∷◌, [], map, None, OnErr, OnOk};
 ghost use Rattle.mcs_source.specs.Lexical.{tokens};
 ghost use Rattle.mcs_source.specs.Lines.{line_of};
 ghost use Rattle.mcs_source.specs.Assembly.{read, first_of_class_one, all_names, assembly_of_text, line_bytes};
@@ -19,9 +19,14 @@ use mcs_model::image::Image;
 use mcs_source::survey::Span;
 use std::alloc::{AllocError, Global};
 
-/// Adds what one more line says of names and addresses.
-fn add_line<'a>(alloc: Global, names: &mut Names<'a>, line: &'a [u8]) -> Result<(), FaultKind>
-    ensures { GivesNew result names.new (before_with_line names.old (line_of (tokens line.now))) }
+/// Adds the names and addresses of one more line.
+pub(crate) fn add_line<'a>(
+    alloc: Global,
+    names: &mut Names<'a>,
+    line: &'a [u8],
+) -> Result<(), FaultKind>
+    ensures added { GivesNew result names.new (before_with_line names.old (line_of (tokens line.now))) }
+    ensures unchanged { OnErr result (names.new ≡ names.old) }
 {
     let Some(line) = read_line(alloc, line)? else {
         return Err(FaultKind::Refused(SourceFault::BadStatement));
@@ -32,7 +37,7 @@ fn add_line<'a>(alloc: Global, names: &mut Names<'a>, line: &'a [u8]) -> Result<
     }
 }
 
-/// A fault of the line that has this index.
+/// Returns an error of the line that has this index.
 fn fault_at(index: usize, kind: FaultKind) -> AsmFault
     requires { index < 2 ^ 63 }
     ensures { (result.kind ≡ kind) × NumbersLine kind index result.line }
@@ -46,7 +51,7 @@ fn fault_at(index: usize, kind: FaultKind) -> AsmFault
     }
 }
 
-/// What came of the line that has this index, a fault with the line's number.
+/// Returns the result of the line that has this index; an error has the line's number.
 fn at_line(index: usize, came: Result<(), FaultKind>) -> Result<(), AsmFault>
     requires { index < 2 ^ 63 }
     ensures { ComesOf index came result }
@@ -57,7 +62,7 @@ fn at_line(index: usize, came: Result<(), FaultKind>) -> Result<(), AsmFault>
     }
 }
 
-/// What all lines say of names and addresses, or the first fault of class one.
+/// Returns the names and addresses of all lines, or the first error of class one.
 fn first_pass<'a>(alloc: Global, lines: &[&'a [u8]]) -> Result<Names<'a>, AsmFault>
     ensures { PassesFirst result (read (map (λ l. l.now) lines.now)) }
 {
@@ -68,7 +73,7 @@ fn first_pass<'a>(alloc: Global, lines: &[&'a [u8]]) -> Result<Names<'a>, AsmFau
     Ok(names)
 }
 
-/// Adds the span of a line that has these bytes and stands at `at`. It fails where memory is refused.
+/// Adds the span of a line that has these bytes and is at `at`. It fails if memory is refused.
 fn push_span(spans: &mut Vec<Span>, at: u16, bytes: &[u8]) -> Result<(), AllocError>
     requires { length bytes.now ≤ 4096 }
     ensures { OnOk result (spans.new.items ≡ spans.old.items ++ span_at at (Ok bytes.now) ∷ []) }
@@ -78,19 +83,19 @@ fn push_span(spans: &mut Vec<Span>, at: u16, bytes: &[u8]) -> Result<(), AllocEr
     Ok(())
 }
 
-/// What the lines so far spell, where they stand, and where the next statement stands.
+/// The bytes that the lines so far spell, their spans, and the address of the next statement.
 #[derive(Drop)]
-struct SpelledLines {
-    at: u16,
-    spans: Vec<Span>,
-    cells: ByteCells,
+pub(crate) struct SpelledLines {
+    pub(crate) at: u16,
+    pub(crate) spans: Vec<Span>,
+    pub(crate) cells: ByteCells,
     ghost in_range: { at ≤ 4096 },
 }
 
 impl SpelledLines {
-    /// Adds the bytes of a line; the next statement stands at `next`.
+    /// Adds the bytes of a line; the next statement is at `next`.
     #[tactic(auto, using(crate::proofs::SpelledLists::taken_stops, crate::proofs::SpelledLists::free_goes))]
-    fn add(&mut self, bytes: &[u8], next: u16) -> Result<(), FaultKind>
+    pub(crate) fn add(&mut self, bytes: &[u8], next: u16) -> Result<(), FaultKind>
         requires room { self.old.at + length bytes.now ≤ 4096 }
         requires next { next ≤ 4096 }
         ensures bytes { (pairs : List (ℕ × ℕ)) → HoldsPairs self.old.cells pairs
@@ -98,6 +103,8 @@ impl SpelledLines {
             (spelled_with_bytes (record { at = self.old.at; pairs = pairs }) next (Ok bytes.now)) }
         ensures span { OnOk result (self.new.spans.items
             ≡ self.old.spans.items ++ span_at self.old.at (Ok bytes.now) ∷ []) }
+        ensures kept { OnErr result (self.new.cells ≡ self.old.cells) }
+        ensures next { OnOk result (self.new.at ≡ next) }
     {
         let at = usize::from(self.at);
         if self.cells.is_taken(at, bytes.len()) {
@@ -109,7 +116,7 @@ impl SpelledLines {
         Ok(())
     }
 
-    /// Adds the bytes of one more line, which has no fault of class one.
+    /// Adds the bytes of one more line, which has no error of class one.
     fn spell<'a>(
         &mut self,
         alloc: Global,
@@ -133,7 +140,7 @@ impl SpelledLines {
     }
 }
 
-/// The survey of all lines and the bytes that they spell, or the first fault of class two.
+/// Returns the survey of all lines and the bytes that they spell, or the first error of class two.
 fn second_pass<'a>(
     alloc: Global,
     names: Names<'a>,
@@ -154,7 +161,7 @@ fn second_pass<'a>(
     Ok((Survey::new(spelled.spans, names), spelled.cells))
 }
 
-/// The survey of a source text and the bytes that it spells, or its first fault.
+/// Returns the survey of a source text and the bytes that it spells, or its first error.
 fn both_passes<'a>(alloc: Global, source: &'a str) -> Result<(Survey<'a>, ByteCells), AsmFault>
     ensures { PassesBoth result source.now }
 {
@@ -163,10 +170,10 @@ fn both_passes<'a>(alloc: Global, source: &'a str) -> Result<(Survey<'a>, ByteCe
     second_pass(alloc, names, &lines)
 }
 
-/// The image of a source text, or its first fault with the number of its line, from 1.
+/// Returns the image of a source text, or its first error with the number of its line, from 1.
 ///
 /// A line is an optional label `NAME:`, an optional statement and an optional comment from `;` on,
-/// or `NAME = NUMBER`. It fails with [`FaultKind::NoMemory`] and line 0 where memory is refused.
+/// or `NAME = NUMBER`. It fails with [`FaultKind::NoMemory`] and line 0 if memory is refused.
 pub fn assemble(alloc: Global, source: &str) -> Result<Image, AsmFault>
     ensures { Assembles result (assembly_of_text source.now) }
 {
@@ -175,10 +182,10 @@ pub fn assemble(alloc: Global, source: &str) -> Result<Image, AsmFault>
     Ok(image)
 }
 
-/// The survey of a source text: where each of its lines stands, how many bytes it spells, and the
-/// names with their values.
+/// Returns the survey of a source text: the address of each of its lines, the count of bytes that
+/// it spells, and the names with their values.
 ///
-/// A text that [`assemble`] refuses has the same fault, with the same line, here.
+/// A text that [`assemble`] refuses has the same error, with the same line, here.
 pub fn survey<'a>(alloc: Global, source: &'a str) -> Result<Survey<'a>, AsmFault>
     ensures { Surveys result (survey_of_text source.now) }
 {

@@ -8,7 +8,7 @@ use crate::surveys::Survey;
 use mcs_source::survey::Span;
 use std::alloc::{AllocError, Global};
 
-/// The upper case hexadecimal digit of a number below 16.
+/// Returns the upper case hexadecimal digit of a number below 16.
 fn hex_digit(number: u16) -> char
     requires { number < 16 }
     ensures digit { result ≡ hex_digit number }
@@ -33,7 +33,7 @@ fn push_address(out: &mut String, at: u16) -> Result<(), AllocError>
     Ok(())
 }
 
-/// Writes an address, or `1000` for the place after the last one.
+/// Writes an address, or `1000` for the address after the last one.
 fn push_address_or_end(out: &mut String, at: u16) -> Result<(), AllocError>
     ensures { OnOk result (string_bytes out.new ≡ string_bytes out.old ++ address_or_end_text at) }
 {
@@ -45,7 +45,7 @@ fn push_address_or_end(out: &mut String, at: u16) -> Result<(), AllocError>
     }
 }
 
-/// Writes where a line stands and how many bytes it spells.
+/// Writes the address of a line and the count of bytes that it spells.
 fn push_line(out: &mut String, number: usize, span: Span) -> Result<(), AllocError>
     ensures { OnOk result (string_bytes out.new
         ≡ string_bytes out.old ++ as_line (line_row number span)) }
@@ -57,7 +57,7 @@ fn push_line(out: &mut String, number: usize, span: Span) -> Result<(), AllocErr
     Ok(())
 }
 
-/// Writes a name and its value. It fails where memory is refused.
+/// Writes a name and its value. It fails if memory is refused.
 fn push_name(alloc: Global, out: &mut Vec<u8>, name: &[u8], value: u16) -> Result<(), AllocError>
     ensures { OnOk result (out.new.items ≡ out.old.items ++ as_line (name_row (name.now, value))) }
 {
@@ -71,7 +71,7 @@ fn push_name(alloc: Global, out: &mut Vec<u8>, name: &[u8], value: u16) -> Resul
     Ok(())
 }
 
-/// Writes how many rows of each kind follow.
+/// Writes the count of rows of each kind that follow.
 fn push_head(out: &mut String, lines: usize, names: usize) -> Result<(), AllocError>
     ensures { OnOk result (string_bytes out.new
         ≡ string_bytes out.old ++ as_line (head_row lines names)) }
@@ -90,7 +90,7 @@ fn push_lines(out: &mut String, spans: &[Span]) -> Result<(), AllocError>
     Ok(())
 }
 
-/// Writes a row for each name. It fails where memory is refused.
+/// Writes a row for each name. It fails if memory is refused.
 fn push_names(alloc: Global, out: &mut Vec<u8>, names: &[(&[u8], u16)]) -> Result<(), AllocError>
     ensures { OnOk result (out.new.items ≡ out.old.items
         ++ text_of (map name_row (map (λ e. (e.0.now, e.1)) names.now))) }
@@ -101,10 +101,11 @@ fn push_names(alloc: Global, out: &mut Vec<u8>, names: &[(&[u8], u16)]) -> Resul
     Ok(())
 }
 
-/// The text of a survey: a head, a row for each line of the source, and a row for each name.
+/// Returns the text of a survey: a head, a row for each line of the source, and a row for each
+/// name.
 ///
 /// `map lines 2 names 1`, `line 1 000 0`, `line 2 FFE 2`, `name last FFE`: counts and numbers of
-/// lines in decimal, addresses and values in hexadecimal. It fails where memory is refused.
+/// lines in decimal, addresses and values in hexadecimal. It fails if memory is refused.
 pub fn survey_text(alloc: Global, survey: &Survey<'_>) -> Result<Vec<u8>, AllocError>
     ensures { IfOk result (λ text. text.items ≡ survey_text survey.now) }
 {

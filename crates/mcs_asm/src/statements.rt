@@ -1,4 +1,4 @@
-//! What a line of a source text says.
+//! The statement or the definition of a line of a source text.
 ghost use Rattle.std.specs.Prelude.{◌≡◌, map, option_map, IfOk, MatchOption, ◌∷◌, Some, None};
 ghost use Rattle.std.specs.Option.{option_copied};
 ghost use Rattle.mcs_source.specs.Lexical.{Word, Colon, Equals, tokens, Token};
@@ -44,7 +44,7 @@ pub enum SourceLine<'a> {
     Define(&'a [u8], u64),
 }
 
-/// The value that a word writes.
+/// Reads the value that a word writes.
 fn operand_in(word: &[u8]) -> Option<Operand<'_>>
     ensures { option_map operand_view result ≡ operand_of word.now }
 {
@@ -55,7 +55,7 @@ fn operand_in(word: &[u8]) -> Option<Operand<'_>>
     }
 }
 
-/// The word that is all that is left.
+/// Reads the word that is all that is left.
 fn only_word<'a>(tokens: &mut Tokens<'a>) -> Option<&'a [u8]>
     ensures { option_copied result ≡ word_only tokens.old }
 {
@@ -68,7 +68,7 @@ fn only_word<'a>(tokens: &mut Tokens<'a>) -> Option<&'a [u8]>
     Some(word)
 }
 
-/// The word before a comma.
+/// Reads the word before a comma.
 fn word_before_comma<'a>(tokens: &mut Tokens<'a>) -> Option<&'a [u8]>
     ensures { option_map (λ w. (w, tokens.new)) (option_copied result) ≡ word_first tokens.old }
 {
@@ -123,7 +123,7 @@ fn first_pair(tokens: &mut Tokens<'_>) -> Option<PairNo>
     pair_named(word_before_comma(tokens)?)
 }
 
-/// An instruction without operands.
+/// Reads an instruction without operands.
 fn without_operands<'a>(op: Op, tokens: &mut Tokens<'a>) -> Option<Statement<'a>>
     ensures { option_map statement_view result ≡ bare_statement op tokens.old }
 {
@@ -134,7 +134,7 @@ fn without_operands<'a>(op: Op, tokens: &mut Tokens<'a>) -> Option<Statement<'a>
     }
 }
 
-/// The first operand, and whether a comma follows it.
+/// Reads the first operand. The second value is true if a comma follows it.
 fn list_item<'a>(tokens: &mut Tokens<'a>) -> Option<(Operand<'a>, bool)>
     ensures { option_map (λ x. (operand_view x.0, rest_if x.1 tokens.new)) result
         ≡ list_item tokens.old }
@@ -150,7 +150,7 @@ fn list_item<'a>(tokens: &mut Tokens<'a>) -> Option<(Operand<'a>, bool)>
     }
 }
 
-/// One or more values with commas between.
+/// Reads one or more values with commas between.
 fn operands<'a>(
     alloc: Global,
     tokens: &mut Tokens<'a>,
@@ -170,7 +170,7 @@ fn operands<'a>(
     }
 }
 
-/// The operands of JCN.
+/// Reads the operands of JCN.
 fn jump_on_condition<'a>(tokens: &mut Tokens<'a>) -> Option<Statement<'a>>
     ensures { option_map statement_view result ≡ after_mnemonic Jcn tokens.old }
 {
@@ -179,7 +179,7 @@ fn jump_on_condition<'a>(tokens: &mut Tokens<'a>) -> Option<Statement<'a>>
     Some(Statement::Jcn(condition, target))
 }
 
-/// The operands of FIM.
+/// Reads the operands of FIM.
 fn fetch_immediate<'a>(tokens: &mut Tokens<'a>) -> Option<Statement<'a>>
     ensures { option_map statement_view result ≡ after_mnemonic Fim tokens.old }
 {
@@ -188,7 +188,7 @@ fn fetch_immediate<'a>(tokens: &mut Tokens<'a>) -> Option<Statement<'a>>
     Some(Statement::Fim(pair, value))
 }
 
-/// The operands of ISZ.
+/// Reads the operands of ISZ.
 fn increment_and_skip<'a>(tokens: &mut Tokens<'a>) -> Option<Statement<'a>>
     ensures { option_map statement_view result ≡ after_mnemonic Isz tokens.old }
 {
@@ -197,7 +197,7 @@ fn increment_and_skip<'a>(tokens: &mut Tokens<'a>) -> Option<Statement<'a>>
     Some(Statement::Isz(register, target))
 }
 
-/// The operand of `ORG`.
+/// Reads the operand of `ORG`.
 fn origin<'a>(tokens: &mut Tokens<'a>) -> Option<Statement<'a>>
     ensures { option_map statement_view result ≡ after_mnemonic Org tokens.old }
 {
@@ -212,7 +212,7 @@ fn whole<'a>(op: Option<Op>) -> Option<Statement<'a>>
     Some(Statement::Whole(op))
 }
 
-/// The statement that a mnemonic begins, from what follows it. A `DB` is not read here.
+/// Reads the statement that a mnemonic begins, from the tokens after it. A `DB` is not read here.
 fn plain_statement<'a>(mnemonic: Mnemonic, tokens: &mut Tokens<'a>) -> Option<Statement<'a>>
     requires { IsNotDb mnemonic }
     ensures { option_map statement_view result ≡ after_mnemonic mnemonic tokens.old }
@@ -239,7 +239,7 @@ fn plain_statement<'a>(mnemonic: Mnemonic, tokens: &mut Tokens<'a>) -> Option<St
     }
 }
 
-/// The statement that a mnemonic begins, from what follows it.
+/// Reads the statement that a mnemonic begins, from the tokens after it.
 fn statement_after<'a>(
     alloc: Global,
     mnemonic: Mnemonic,
@@ -253,7 +253,7 @@ fn statement_after<'a>(
     }
 }
 
-/// The statement that the tokens are, all of them.
+/// Reads the statement that the tokens are, all of them.
 #[tactic(auto, unfolding(mcs_source::specs::Lines::statement_of))]
 fn read_statement<'a>(
     alloc: Global,
@@ -270,7 +270,7 @@ fn read_statement<'a>(
     statement_after(alloc, mnemonic, tokens)
 }
 
-/// What follows a label, or the whole line where there is none.
+/// Reads the tokens after a label, or the whole line if there is none.
 fn rest_of_line<'a>(
     alloc: Global,
     label: Option<&'a [u8]>,
@@ -288,7 +288,7 @@ fn rest_of_line<'a>(
     }
 }
 
-/// The word before a colon, and what follows.
+/// Returns the word before a colon, and the tokens after it.
 fn label_of<'a>(line: &'a [u8]) -> Option<(&'a [u8], Tokens<'a>)>
     ensures { MatchOption result (NoLabel (tokens line.now))
         (λ x. tokens line.now ≡ Word x.0.now ∷ Colon ∷ x.1) }
@@ -300,7 +300,7 @@ fn label_of<'a>(line: &'a [u8]) -> Option<(&'a [u8], Tokens<'a>)>
     }
 }
 
-/// The word before a `=`, and what follows.
+/// Returns the word before a `=`, and the tokens after it.
 fn definition_of<'a>(line: &'a [u8]) -> Option<(&'a [u8], Tokens<'a>)>
     ensures { MatchOption result (NoDefinition (tokens line.now))
         (λ x. tokens line.now ≡ Word x.0.now ∷ Equals ∷ x.1) }
@@ -312,7 +312,7 @@ fn definition_of<'a>(line: &'a [u8]) -> Option<(&'a [u8], Tokens<'a>)>
     }
 }
 
-/// What a line without a label says.
+/// Reads a line without a label.
 fn read_unlabelled<'a>(alloc: Global, line: &'a [u8]) -> Result<Option<SourceLine<'a>>, AllocError>
     ensures { IfOk result (λ o. option_map line_view o ≡ unlabelled (tokens line.now)) }
 {
@@ -325,7 +325,7 @@ fn read_unlabelled<'a>(alloc: Global, line: &'a [u8]) -> Result<Option<SourceLin
     }
 }
 
-/// What a line says; None where it has no form.
+/// Reads a line; returns `None` if it has no form.
 pub fn read_line<'a>(alloc: Global, line: &'a [u8]) -> Result<Option<SourceLine<'a>>, AllocError>
     ensures { IfOk result (λ o. option_map line_view o ≡ line_of (tokens line.now)) }
 {

@@ -1,11 +1,12 @@
-//! The survey of a text: where its lines stand, and the values of its names.
+//! The survey of a text: the addresses of its lines, and the values of its names.
 ghost use Rattle.std.specs.Prelude.{◌≡◌, map};
 
 use crate::names::Names;
 use mcs_source::survey::Span;
 use std::marker::Model;
 
-/// Where each line of a text stands and how many bytes it spells, and the names with their values.
+/// The address of each line of a text and the count of bytes that it spells, and the names with
+/// their values.
 #[derive(Drop)]
 pub struct Survey<'a> {
     spans: Vec<Span>,
@@ -27,14 +28,14 @@ impl<'a> Survey<'a> {
         Survey { spans, names }
     }
 
-    /// The span of each line, in order.
+    /// Returns the span of each line, in order.
     pub fn spans(&self) -> &[Span]
         ensures { result.now ≡ self.now.spans }
     {
         &self.spans
     }
 
-    /// The names with their values, in the order of the lines that define them.
+    /// Returns the names with their values, in the order of the lines that define them.
     pub fn names(&self) -> &[(&'a [u8], u16)]
         ensures { map (λ e. (e.0.now, e.1)) result.now ≡ self.now.names }
     {

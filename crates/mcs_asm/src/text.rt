@@ -6,7 +6,7 @@ ghost use Rattle.mcs_model.specs.TextLines.{is_line_feed, lines_of};
 use mcs_model::text_lines::without_return;
 use std::alloc::{AllocError, Global};
 
-/// How many bytes come before the first LF.
+/// Returns the count of bytes before the first LF.
 fn line_len(bytes: &[u8]) -> usize
     ensures len { result ≡ position_or_len is_line_feed bytes.now }
     ensures within { result ≤ length bytes.now }
@@ -14,7 +14,7 @@ fn line_len(bytes: &[u8]) -> usize
     bytes.iter().take_while(|b| **b != b'\n').count()
 }
 
-/// The first line, without its end, and what follows it.
+/// Returns the first line, without its end, and the bytes after it.
 #[tactic(auto, using(crate::proofs::LineLists::no_lines, crate::proofs::LineLists::last_front, crate::proofs::LineLists::more_front))]
 fn first_line(bytes: &[u8]) -> Option<(&[u8], &[u8])>
     ensures { MatchOption result (lines_of bytes.now ≡ [])
@@ -31,7 +31,7 @@ fn first_line(bytes: &[u8]) -> Option<(&[u8], &[u8])>
     }
 }
 
-/// The lines, without their ends.
+/// Returns the lines, without their ends.
 pub fn lines(alloc: Global, bytes: &[u8]) -> Result<Vec<&[u8]>, AllocError>
     ensures { IfOk result (λ v. map (λ l. l.now) v.items ≡ lines_of bytes.now) }
 {

@@ -18,14 +18,14 @@ pub enum Token<'a> {
     Other,
 }
 
-/// Whether a byte is part of a word: a letter, a digit or `_`.
+/// Returns true if a byte is part of a word: a letter, a digit or `_`.
 fn is_word_byte(b: u8) -> bool
     ensures { result ≡ is_word_byte b }
 {
     b.is_ascii_digit() || b.is_ascii_uppercase() || b.is_ascii_lowercase() || b == b'_'
 }
 
-/// How many bytes the word at the front has, 0 where there is none.
+/// Returns the count of bytes of the word at the front, 0 if there is none.
 fn word_len(bytes: &[u8]) -> usize
     ensures len { result ≡ prefix_len is_word_byte bytes.now }
     ensures within { result ≤ length bytes.now }
@@ -33,7 +33,7 @@ fn word_len(bytes: &[u8]) -> usize
     bytes.iter().take_while(|b| is_word_byte(**b)).count()
 }
 
-/// How many spaces and tabs the line begins with.
+/// Returns the count of spaces and tabs that the line begins with.
 fn blank_len(bytes: &[u8]) -> usize
     ensures len { result ≡ prefix_len is_blank bytes.now }
     ensures within { result ≤ length bytes.now }
@@ -41,7 +41,7 @@ fn blank_len(bytes: &[u8]) -> usize
     bytes.iter().take_while(|b| is_blank(**b)).count()
 }
 
-/// A line without the spaces and tabs that it begins with.
+/// Returns a line without the spaces and tabs that it begins with.
 #[tactic(auto, using(crate::proofs::Lexing::trimmed_rules))]
 fn without_blanks(line: &[u8]) -> &[u8]
     ensures same { tokens result.now ≡ tokens line.now }
@@ -51,7 +51,7 @@ fn without_blanks(line: &[u8]) -> &[u8]
     bytes
 }
 
-/// The token of a byte that is not in a word.
+/// Returns the token of a byte that is not in a word.
 fn symbol<'a>(b: u8) -> Token<'a>
     ensures { token_view result ≡ symbol b }
 {
@@ -63,8 +63,8 @@ fn symbol<'a>(b: u8) -> Token<'a>
     }
 }
 
-/// The first token of a line that begins with neither a word nor a blank, and what follows it; None
-/// where the line, or all of it but a comment, ends.
+/// Returns the first token of a line that begins with neither a word nor a blank, and the bytes
+/// after it. Returns `None` if the line, or all of it but a comment, ends.
 #[tactic(auto, using(crate::proofs::Lexing::symbol_rules))]
 fn first_symbol(bytes: &[u8]) -> Option<(Token<'_>, &[u8])>
     requires no_word { prefix_len is_word_byte bytes.now ≡ 0 }
@@ -81,7 +81,7 @@ fn first_symbol(bytes: &[u8]) -> Option<(Token<'_>, &[u8])>
     Some((symbol(*b), rest))
 }
 
-/// The first token of a line, and what follows it.
+/// Returns the first token of a line, and the bytes after it.
 #[tactic(auto, using(crate::proofs::Lexing::word_first))]
 fn first_token(line: &[u8]) -> Option<(Token<'_>, &[u8])>
     ensures { MatchOption result (tokens line.now ≡ [])
@@ -112,21 +112,21 @@ impl<'a> Model for Tokens<'a> {
 }
 
 impl<'a> Tokens<'a> {
-    /// All tokens of a line.
+    /// Returns all tokens of a line.
     pub fn new(line: &'a [u8]) -> Tokens<'a>
         ensures { result ≡ tokens line.now }
     {
         Tokens { rest: line }
     }
 
-    /// Whether no token is left.
+    /// Returns true if no token is left.
     pub fn is_empty(&self) -> bool
         ensures { IsTrue result ↔ (self.now ≡ []) }
     {
         first_token(self.rest).is_none()
     }
 
-    /// The next token.
+    /// Returns the next token.
     pub fn next(&mut self) -> Option<Token<'a>>
         ensures { MatchOption result (self.old ≡ []) (λ t. self.old ≡ token_view t ∷ self.new) }
     {

@@ -1,7 +1,7 @@
 //! The words of a source text.
 ghost use Rattle.std.specs.Prelude.{◌≡◌, ◌<◌, IfSome};
 ghost use Rattle.std.specs.Str.{str_eq_ignore_ascii_case};
-ghost use Rattle.mcs_source.specs.Mnemonics.{on_addresses, on_registers, on_ports, on_memory, on_accumulator, on_carry, mnemonic_of};
+ghost use Rattle.mcs_source.specs.Mnemonics.{in_group1, in_group2, in_group3, in_group4, in_group5, in_group6, mnemonic_of};
 ghost use Rattle.mcs_source.specs.Lines.{begins_name, up_to_15, register_named, pair_named, is_reserved, is_name};
 
 use mcs_code::instructions;
@@ -10,14 +10,14 @@ use mcs_model::op::Op;
 use mcs_nibble::{PairNo, RegNo};
 use mcs_source::mnemonic::Mnemonic;
 
-/// Whether a word is this name, in upper or lower case.
+/// Returns true if a word is this name, in upper or lower case.
 fn equals_ignoring_case(word: &[u8], name: &str) -> bool
     ensures { result ≡ str_eq_ignore_ascii_case word.now name.now }
 {
     word.eq_ignore_ascii_case(name.as_bytes())
 }
 
-/// What the name of a row asks for.
+/// Expands to the mnemonic of a row's name.
 macro_rules! asked {
     ($name:ident none) => {
         Mnemonic::Bare(Op::$name)
@@ -27,7 +27,7 @@ macro_rules! asked {
     };
 }
 
-/// Returns what a row's name asks for, where the word is that name.
+/// Returns the mnemonic of a row's name, if the word is that name.
 macro_rules! answered {
     ($word:ident $name:ident $kind:ident $text:literal) => {
         if equals_ignoring_case($word, $text) {
@@ -36,33 +36,33 @@ macro_rules! answered {
     };
 }
 
-/// The same for a row of the wanted group; nothing for another row.
+/// Does the same for a row of the wanted group, and nothing for another row.
 ///
-/// The rows are looked up in six groups, since a proof about one list of 45 names takes far longer
+/// The rows are in six numbered groups: a proof about one list of 45 names takes far longer
 /// than six proofs about eight names each.
 macro_rules! tried {
-    (addresses addresses $word:ident $name:ident $kind:ident $text:literal) => {
+    (group1 group1 $word:ident $name:ident $kind:ident $text:literal) => {
         answered!($word $name $kind $text)
     };
-    (registers registers $word:ident $name:ident $kind:ident $text:literal) => {
+    (group2 group2 $word:ident $name:ident $kind:ident $text:literal) => {
         answered!($word $name $kind $text)
     };
-    (ports ports $word:ident $name:ident $kind:ident $text:literal) => {
+    (group3 group3 $word:ident $name:ident $kind:ident $text:literal) => {
         answered!($word $name $kind $text)
     };
-    (memory memory $word:ident $name:ident $kind:ident $text:literal) => {
+    (group4 group4 $word:ident $name:ident $kind:ident $text:literal) => {
         answered!($word $name $kind $text)
     };
-    (accumulator accumulator $word:ident $name:ident $kind:ident $text:literal) => {
+    (group5 group5 $word:ident $name:ident $kind:ident $text:literal) => {
         answered!($word $name $kind $text)
     };
-    (carry carry $word:ident $name:ident $kind:ident $text:literal) => {
+    (group6 group6 $word:ident $name:ident $kind:ident $text:literal) => {
         answered!($word $name $kind $text)
     };
     ($wanted:ident $group:ident $word:ident $name:ident $kind:ident $text:literal) => {};
 }
 
-/// What the word asks for by the rows of a group, one after another.
+/// Looks up the word in the rows of a group, one after another.
 macro_rules! group_rows {
     (($wanted:ident, $word:ident) $($codes:pat, $name:ident $kind:ident $words:literal $cycles:literal $group:ident $text:literal;)*) => {{
         $(tried!($wanted $group $word $name $kind $text);)*
@@ -70,10 +70,10 @@ macro_rules! group_rows {
     }};
 }
 
-/// `ORG`, `DB` and the instructions of the codes 10 to 5F.
-#[tactic(auto, unfolding(mcs_source::specs::Mnemonics::on_addresses))]
+/// Returns the mnemonic of `ORG`, `DB` and the instructions of the codes 10 to 5F.
+#[tactic(auto, unfolding(mcs_source::specs::Mnemonics::in_group1))]
 fn on_address(word: &[u8]) -> Option<Mnemonic>
-    ensures { result ≡ on_addresses word.now }
+    ensures { result ≡ in_group1 word.now }
 {
     if equals_ignoring_case(word, "ORG") {
         return Some(Mnemonic::Org);
@@ -81,50 +81,50 @@ fn on_address(word: &[u8]) -> Option<Mnemonic>
     if equals_ignoring_case(word, "DB") {
         return Some(Mnemonic::Db);
     }
-    instructions!(group_rows!(addresses, word))
+    instructions!(group_rows!(group1, word))
 }
 
-/// `NOP` and those of 60 to DF.
-#[tactic(auto, unfolding(mcs_source::specs::Mnemonics::on_registers))]
+/// Returns the mnemonic of `NOP` and the instructions of 60 to DF.
+#[tactic(auto, unfolding(mcs_source::specs::Mnemonics::in_group2))]
 fn on_register(word: &[u8]) -> Option<Mnemonic>
-    ensures { result ≡ on_registers word.now }
+    ensures { result ≡ in_group2 word.now }
 {
-    instructions!(group_rows!(registers, word))
+    instructions!(group_rows!(group2, word))
 }
 
-/// Those of E0 to E7, which write to RAM and ports.
-#[tactic(auto, unfolding(mcs_source::specs::Mnemonics::on_ports))]
+/// Returns the mnemonic of the instructions of E0 to E7, which write to RAM and ports.
+#[tactic(auto, unfolding(mcs_source::specs::Mnemonics::in_group3))]
 fn on_port(word: &[u8]) -> Option<Mnemonic>
-    ensures { result ≡ on_ports word.now }
+    ensures { result ≡ in_group3 word.now }
 {
-    instructions!(group_rows!(ports, word))
+    instructions!(group_rows!(group3, word))
 }
 
-/// Those of E8 to EF, which read them.
-#[tactic(auto, unfolding(mcs_source::specs::Mnemonics::on_memory))]
+/// Returns the mnemonic of the instructions of E8 to EF, which read RAM and ports.
+#[tactic(auto, unfolding(mcs_source::specs::Mnemonics::in_group4))]
 fn on_memory_word(word: &[u8]) -> Option<Mnemonic>
-    ensures { result ≡ on_memory word.now }
+    ensures { result ≡ in_group4 word.now }
 {
-    instructions!(group_rows!(memory, word))
+    instructions!(group_rows!(group4, word))
 }
 
-/// Those of F0 to F6.
-#[tactic(auto, unfolding(mcs_source::specs::Mnemonics::on_accumulator))]
+/// Returns the mnemonic of the instructions of F0 to F6.
+#[tactic(auto, unfolding(mcs_source::specs::Mnemonics::in_group5))]
 fn on_accumulator_word(word: &[u8]) -> Option<Mnemonic>
-    ensures { result ≡ on_accumulator word.now }
+    ensures { result ≡ in_group5 word.now }
 {
-    instructions!(group_rows!(accumulator, word))
+    instructions!(group_rows!(group5, word))
 }
 
-/// Those of F7 to FD.
-#[tactic(auto, unfolding(mcs_source::specs::Mnemonics::on_carry))]
+/// Returns the mnemonic of the instructions of F7 to FD.
+#[tactic(auto, unfolding(mcs_source::specs::Mnemonics::in_group6))]
 fn on_carry_word(word: &[u8]) -> Option<Mnemonic>
-    ensures { result ≡ on_carry word.now }
+    ensures { result ≡ in_group6 word.now }
 {
-    instructions!(group_rows!(carry, word))
+    instructions!(group_rows!(group6, word))
 }
 
-/// What a word that begins a statement asks for.
+/// Returns the mnemonic of a word that begins a statement.
 #[tactic(auto, unfolding(mcs_source::specs::Mnemonics::mnemonic_of))]
 pub fn mnemonic_in(word: &[u8]) -> Option<Mnemonic>
     ensures { result ≡ mnemonic_of word.now }
@@ -147,7 +147,7 @@ pub fn mnemonic_in(word: &[u8]) -> Option<Mnemonic>
     on_carry_word(word)
 }
 
-/// A number of 0 to 15 without leading zeros.
+/// Reads a number of 0 to 15 without leading zeros.
 fn small_decimal(digits: &[u8]) -> Option<u8>
     ensures value { result ≡ up_to_15 digits.now }
     ensures within { IfSome result (λ n. n < 16) }
@@ -159,7 +159,7 @@ fn small_decimal(digits: &[u8]) -> Option<u8>
     }
 }
 
-/// `R0` to `R15`, in either case.
+/// Reads `R0` to `R15`, in either case.
 pub fn register_named(word: &[u8]) -> Option<RegNo>
     ensures { result ≡ register_named word.now }
 {
@@ -169,7 +169,7 @@ pub fn register_named(word: &[u8]) -> Option<RegNo>
     }
 }
 
-/// `P0` to `P7`, in either case.
+/// Reads `P0` to `P7`, in either case.
 pub fn pair_named(word: &[u8]) -> Option<PairNo>
     ensures { result ≡ pair_named word.now }
 {
@@ -179,7 +179,7 @@ pub fn pair_named(word: &[u8]) -> Option<PairNo>
     }
 }
 
-/// Whether a word is reserved, in upper or lower case, so that it cannot be a name.
+/// Returns true if a word is reserved, in upper or lower case, so that it cannot be a name.
 #[tactic(auto, unfolding(mcs_source::specs::Lines::is_reserved))]
 fn is_reserved(word: &[u8]) -> bool
     ensures { result ≡ is_reserved word.now }
@@ -190,7 +190,7 @@ fn is_reserved(word: &[u8]) -> bool
         || pair_named(word).is_some()
 }
 
-/// Whether a word begins as a name does: with a letter or `_`.
+/// Returns true if a word begins as a name does: with a letter or `_`.
 fn begins_name(word: &[u8]) -> bool
     ensures { result ≡ begins_name word.now }
 {
@@ -200,7 +200,7 @@ fn begins_name(word: &[u8]) -> bool
     }
 }
 
-/// Whether a word is a name.
+/// Returns true if a word is a name.
 pub fn is_name(word: &[u8]) -> bool
     ensures { result ≡ is_name word.now }
 {

@@ -1,11 +1,11 @@
--- What a bench keeps beside its breakpoints, so that a run asks for one in constant time. (Our own
--- choice.)
+-- The flags that a bench keeps beside its breakpoints, so that a run looks one up in constant time.
+-- (Our own choice.)
 use Rattle.mcs_model.specs.declared.limits.TheConstants.{WATCHES}
 use Rattle.std.specs.Prelude.{◌≡◌, ℕ, ◌<◌, ◌≤◌, All, Bool, false, List, length, slice_index_or}
 use Rattle.std.specs.List.Sorted.{IsStrictlyIncreasing}
 use Rattle.mcs_model.specs.Listed.{is_listed}
 
--- rising, with a mark for each address, true at the breakpoints
+-- rising, with a flag for each address, true at the breakpoints
 pub record IsMarked (marks : List Bool) (breakpoints : List ℕ) : Type 0 where
   pub rising : IsStrictlyIncreasing breakpoints
   pub whole : length marks ≡ 4096

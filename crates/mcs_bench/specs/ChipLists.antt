@@ -22,7 +22,7 @@ with_list s StatusCharacters xs = record s { status = xs }
 with_list s RamPorts xs = record s { ram_ports = xs }
 with_list s BankSrcs xs = record s { ram_src = xs }
 
--- how many numbers it has, and what each of them is below
+-- the number of its elements, and the limit that each of them is below
 abbrev pub count_of : ChipList → ℕ
 count_of RomBytes = 4096
 count_of Characters = 2048
@@ -35,7 +35,7 @@ limit_of RomBytes = 256
 limit_of BankSrcs = 256
 limit_of _ = 16
 
--- whether the chip is absent that would hold number i of the list
+-- true if the chip that would hold number i of the list is absent
 abbrev pub is_absent : BoardParts → ChipList → ℕ → Bool
 is_absent b RomBytes i = is_none (masks_on b (i / 256))
 is_absent b Characters i = nat_le (slice_index b.banks (i / 256)) (i % 256 / 64)
@@ -48,14 +48,14 @@ abbrev pub IsZeroWhereAbsent : BusState → ChipList → Type 0
 IsZeroWhereAbsent s h =
     (i : ℕ) → i < count_of h → is_absent s.board h i ≡ true → slice_index (list_of s h) i ≡ 0
 
--- number i of the list set; lost where its chip is absent
+-- number i of the list set; the write is lost if its chip is absent
 abbrev pub with_cell : BusState → ChipList → ℕ → ℕ → BusState
 with_cell s h i n =
     if is_absent s.board h i
     then s
     else with_list s h (slice_set (list_of s h) i n)
 
--- key i, row by row, of a board whose keys have that many columns
+-- key i, row by row, of a board whose keys have `columns` columns
 pub record IsKeyAt (b : BoardParts) (columns i : ℕ) : Type 0 where
   pub some : 0 < columns
   pub there : has_key b (i / columns) (i % columns) ≡ true

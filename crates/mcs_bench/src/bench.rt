@@ -1,4 +1,4 @@
-//! What a bench holds.
+//! The contents of a bench.
 ghost use Rattle.std.specs.Prelude.{◌≡◌, IfOk};
 ghost use Rattle.mcs_model.specs.BenchState.{new_bench_state};
 
@@ -28,11 +28,11 @@ impl Model for Bench {
 }
 
 impl Bench {
-    /// A bench on which no command was done: the empty board, all 0, and TEST 1.
+    /// Returns a bench on which no command was done: the empty board, all 0, and TEST 1.
     ///
     /// # Errors
     ///
-    /// Where memory is refused. No command on a bench takes memory.
+    /// Fails if memory is refused. No command on a bench takes memory.
     pub fn new(alloc: Global) -> Result<Bench, AllocError>
         ensures { IfOk result (λ bench. bench ≡ new_bench_state) }
     {
@@ -45,11 +45,11 @@ impl Bench {
         })
     }
 
-    /// An equal bench, which goes its own way.
+    /// Returns an equal bench, which is independent of this one.
     ///
     /// # Errors
     ///
-    /// Where memory is refused.
+    /// Fails if memory is refused.
     pub fn copy(&self, alloc: Global) -> Result<Bench, AllocError>
         ensures { IfOk result (λ bench. bench ≡ self.now) }
     {

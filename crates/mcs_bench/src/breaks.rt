@@ -11,7 +11,7 @@ use mcs_model::limits::BREAKPOINTS;
 use mcs_nibble::Addr;
 use std::marker::Model;
 
-/// The breakpoints by rising address, with a mark for each address, so that a run asks for one in constant time.
+/// The breakpoints by rising address, with a flag for each address. A run looks one up in constant time.
 #[derive(Drop)]
 pub(crate) struct Breaks {
     list: ArrayVec<Addr, BREAKPOINTS>,
@@ -29,7 +29,7 @@ impl Model for Breaks {
     ghost invariant = { λ b. IsMarked b.marks b.list.items };
 }
 
-/// Where the first address above another one stands; after the last one where there is none.
+/// Returns the index of the first address above another one, or the end of the list if there is none.
 fn index_of(list: &[Addr], at: Addr) -> usize
     ensures index { insert list.now result at ≡ insert_in_order list.now at }
     ensures within { result ≤ length list.now }
@@ -42,7 +42,7 @@ fn index_of(list: &[Addr], at: Addr) -> usize
     list.len()
 }
 
-/// The other addresses.
+/// Returns the addresses other than `at`.
 fn others(list: &ArrayVec<Addr, BREAKPOINTS>, at: Addr) -> ArrayVec<Addr, BREAKPOINTS>
     ensures { result.items ≡ without_listed list.now.items at }
 {
@@ -55,7 +55,7 @@ fn others(list: &ArrayVec<Addr, BREAKPOINTS>, at: Addr) -> ArrayVec<Addr, BREAKP
     kept
 }
 
-/// The same addresses.
+/// Returns the same addresses.
 fn copied(list: &ArrayVec<Addr, BREAKPOINTS>) -> ArrayVec<Addr, BREAKPOINTS>
     ensures { result.items ≡ list.now.items }
 {
@@ -67,7 +67,7 @@ fn copied(list: &ArrayVec<Addr, BREAKPOINTS>) -> ArrayVec<Addr, BREAKPOINTS>
 }
 
 impl Breaks {
-    /// No breakpoints.
+    /// Returns no breakpoints.
     pub(crate) fn new() -> Breaks
         ensures { result ≡ [] }
     {
@@ -77,7 +77,7 @@ impl Breaks {
         }
     }
 
-    /// Equal breakpoints.
+    /// Returns equal breakpoints.
     pub(crate) fn copy(&self) -> Breaks
         ensures { result ≡ self.now }
     {
@@ -87,7 +87,7 @@ impl Breaks {
         }
     }
 
-    /// The breakpoints, rising.
+    /// Returns the breakpoints, rising.
     pub(crate) fn list(&self) -> &[Addr]
         ensures same { result.now ≡ self.now }
         ensures few { length result.now ≤ BREAKPOINTS }
@@ -96,21 +96,21 @@ impl Breaks {
         self.list.as_slice()
     }
 
-    /// Whether an address is one.
+    /// Returns whether an address is a breakpoint.
     pub(crate) fn contains(&self, at: Addr) -> bool
         ensures { result ≡ is_listed self.now at }
     {
         self.marks[usize::from(at.get())]
     }
 
-    /// Whether an address is one, or can be made one.
+    /// Returns whether an address is a breakpoint, or can become one.
     pub(crate) fn has_room_for(&self, at: Addr) -> bool
         ensures { result ≡ (is_listed self.now at || nat_lt (length self.now) BREAKPOINTS) }
     {
         self.contains(at) || self.list.len() < BREAKPOINTS
     }
 
-    /// Makes an address one; nothing where it was.
+    /// Makes an address a breakpoint. Nothing changes if it was one.
     pub(crate) fn set(&mut self, at: Addr)
         requires { (is_listed self.old at || nat_lt (length self.old) BREAKPOINTS) ≡ true }
         ensures { self.new ≡ with_listed self.old at }
@@ -122,7 +122,7 @@ impl Breaks {
         }
     }
 
-    /// Makes an address none; nothing where it was none.
+    /// Removes an address from the breakpoints. Nothing changes if it was none.
     pub(crate) fn clear(&mut self, at: Addr)
         ensures { self.new ≡ without_listed self.old at }
     {
@@ -130,7 +130,7 @@ impl Breaks {
         self.marks[usize::from(at.get())] = false;
     }
 
-    /// A law: they are at most that many, each an address, rising.
+    /// Proves that the breakpoints are at most `BREAKPOINTS`, each an address, rising.
     pub(crate) fn show_state_is_valid(&self)
         ensures { AreBreakpoints self.now }
     {

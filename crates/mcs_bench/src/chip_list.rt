@@ -1,4 +1,4 @@
-//! The lists of numbers that the chips of a board hold: each place is told and set by its index.
+//! The lists of numbers that the chips of a board hold. Each number is read and set by its index.
 ghost use Rattle.std.specs.Prelude.{◌≡◌, ℕ, ◌<◌, ◌↔◌, true, IsTrue, length, slice_index};
 ghost use Rattle.mcs_model.specs.Validity.{AreBelow};
 ghost use Rattle.mcs_bench.specs.ChipLists.{count_of, limit_of, is_absent, with_list, with_cell};
@@ -7,7 +7,7 @@ use mcs_board::BenchRig;
 use mcs_model::board::Board;
 use mcs_nibble::{Addr, Nibble};
 
-/// A list of numbers that chips hold, each at a place of its own; 0 where the chip is absent.
+/// A list of numbers that chips hold, each at an index of its own, or 0 if the chip is absent.
 #[derive(Clone, Copy)]
 pub enum ChipList {
     /// The bytes of the ROMs, by address.
@@ -23,7 +23,7 @@ pub enum ChipList {
 }
 
 impl ChipList {
-    /// How many numbers the list has.
+    /// Returns the number of elements of the list.
     pub fn count(self) -> usize
         ensures { result ≡ count_of self }
     {
@@ -37,7 +37,7 @@ impl ChipList {
     }
 }
 
-/// Whether the chip is absent that would hold number `i` of a list.
+/// Returns whether the chip that would hold number `i` of a list is absent.
 fn is_absent(board: &Board, list: ChipList, i: usize) -> bool
     requires { i < count_of list }
     ensures { result ≡ is_absent board.now list i }
@@ -51,7 +51,7 @@ fn is_absent(board: &Board, list: ChipList, i: usize) -> bool
     }
 }
 
-/// Whether all numbers of absent chips are 0.
+/// Returns whether all numbers of absent chips are 0.
 pub(crate) fn is_absent_zero(board: &Board, list: ChipList, numbers: &[u8]) -> bool
     requires { length numbers.now ≡ count_of list }
     ensures { IsTrue result
@@ -66,7 +66,7 @@ pub(crate) fn is_absent_zero(board: &Board, list: ChipList, numbers: &[u8]) -> b
     true
 }
 
-/// Sets number `i` of a list; lost where its chip is absent.
+/// Sets number `i` of a list. The write is lost if its chip is absent.
 fn set(rig: &mut BenchRig, list: ChipList, i: usize, n: u8)
     requires index { i < count_of list }
     requires fits { n < limit_of list }

@@ -1,8 +1,8 @@
-//! Which commands a bench accepts, and what it does at them.
+//! The commands that a bench accepts, and their effects.
 ghost use Rattle.std.specs.Prelude.{◌≡◌, ◌&&◌, ◌<◌, Some, Ok, Err, None, IsOk, MatchOption, length, if◌then◌else◌};
 ghost use Rattle.std.specs.List.{list_any};
 ghost use Rattle.mcs_model.specs.ChipWrites.{with_rom_bytes};
-ghost use Rattle.mcs_model.specs.Command.{refusal, own_refusal, place_refusal, lacks_rom, after, after_change, reply, with_place};
+ghost use Rattle.mcs_model.specs.Command.{refusal, refusal_of_command, place_refusal, lacks_rom, after, after_change, reply, with_place};
 
 use crate::bench::Bench;
 use crate::running::{run, step};
@@ -15,35 +15,35 @@ use mcs_model::limits::{ACCEPTED_COMMANDS, BREAKPOINTS, RUN_CYCLES};
 use mcs_model::refusals::BenchFault;
 use mcs_nibble::{Addr, BankNo};
 
-/// A fault, but where all is well.
+/// Returns a fault unless all is well.
 fn unless(well: bool, fault: BenchFault) -> Option<BenchFault>
     ensures { result ≡ (if well then None else Some fault) }
 {
     if well { None } else { Some(fault) }
 }
 
-/// A fault, where there is one.
+/// Returns a fault if something is wrong.
 fn when(ill: bool, fault: BenchFault) -> Option<BenchFault>
     ensures { result ≡ (if ill then Some fault else None) }
 {
     if ill { Some(fault) } else { None }
 }
 
-/// Whether the board lacks the ROM of an address.
+/// Returns whether the board lacks the ROM of an address.
 fn lacks_rom(board: &Board, at: Addr) -> bool
     ensures { result ≡ lacks_rom board.now at }
 {
     board.mask(at.page().get()).is_none()
 }
 
-/// Whether the board lacks the ROM of some byte of an image.
+/// Returns whether the board lacks the ROM of some byte of an image.
 fn lacks_a_rom(board: &Board, image: &Image) -> bool
     ensures { result ≡ list_any (λ p. lacks_rom board.now p.0) image.now }
 {
     image.pairs().iter().any(|pair| lacks_rom(board, pair.0))
 }
 
-/// Puts the bytes of an image into ROM, and answers how many there are.
+/// Puts the bytes of an image into ROM, and returns their number as the reply.
 fn load(rig: &mut BenchRig, image: &Image) -> Reply
     ensures bytes { rig.new ≡ with_rom_bytes rig.old image.now }
     ensures count { result ≡ Reply.Loaded (length image.now) }
@@ -55,7 +55,7 @@ fn load(rig: &mut BenchRig, image: &Image) -> Reply
 }
 
 impl Bench {
-    /// Why a value cannot be put into a place, if so.
+    /// Returns the reason that a value cannot be put into a place, or `None` if it can.
     fn place_refusal(&self, place: Place) -> Option<BenchFault>
         ensures { result ≡ place_refusal self.now.bus place }
     {
@@ -77,9 +77,9 @@ impl Bench {
         }
     }
 
-    /// Why the bench refuses a command for the command's own sake, if so.
-    fn own_refusal(&self, command: &Command) -> Option<BenchFault>
-        ensures { result ≡ own_refusal self.now command.now }
+    /// Returns the reason that the bench rejects a command because of the command itself, or `None` if there is none.
+    fn refusal_of_command(&self, command: &Command) -> Option<BenchFault>
+        ensures { result ≡ refusal_of_command self.now command.now }
     {
         let board = self.rig.board();
         match command {
@@ -105,13 +105,14 @@ impl Bench {
         }
     }
 
-    /// Whether a command is accepted, or why not. Nothing changes.
+    /// Checks whether a command is accepted. Nothing changes.
     ///
     /// # Errors
     ///
-    /// `Worn` where as many commands were accepted as can be counted; else `NoKey` for a key that the board lacks,
-    /// `NoRom` for an address in a ROM that it lacks, `NoSuchPlace` for a RAM chip that it lacks, `BadCount` for a run of
-    /// no cycle or of more than 100,000, `BreaksFull` for one breakpoint more than 32, `WatchesFull` for one watch more than 8.
+    /// `Worn` if the bench has accepted as many commands as it can count. Otherwise: `NoKey` for a key that the board
+    /// lacks; `NoRom` for an address in a ROM that it lacks; `NoSuchPlace` for a RAM chip that it lacks; `BadCount` for
+    /// a run of no cycle or of more than 100,000; `BreaksFull` for one breakpoint more than 32; `WatchesFull` for one
+    /// watch more than 8.
     pub fn check(&self, command: &Command) -> Result<(), BenchFault>
         ensures { MatchOption (refusal self.now command.now) (IsOk result)
             (λ fault. result ≡ Err fault) }
@@ -119,7 +120,7 @@ impl Bench {
         if self.seq == ACCEPTED_COMMANDS {
             return Err(BenchFault::Worn);
         }
-        match self.own_refusal(command) {
+        match self.refusal_of_command(command) {
             Some(fault) => Err(fault),
             None => Ok(()),
         }
@@ -141,7 +142,7 @@ impl Bench {
         self.cpu.set_dcl(bank.get());
     }
 
-    /// Puts a value into a place; lost where the place is absent.
+    /// Puts a value into a place. The write is lost if the place is absent.
     fn put(&mut self, place: Place)
         ensures { self.new ≡ with_place self.old place }
     {
@@ -159,7 +160,7 @@ impl Bench {
         }
     }
 
-    /// Power off and on.
+    /// Turns the power off and on.
     fn reset(&mut self)
         ensures { self.new ≡ after_change self.old Command.Reset }
     {
@@ -176,7 +177,7 @@ impl Bench {
         Reply::Ran { cycles, stop }
     }
 
-    /// Does one instruction, or the idle cycle of one.
+    /// Does one instruction, or the pending idle cycle of one.
     fn step(&mut self) -> Reply
         ensures state { self.new ≡ after_change self.old Command.Step }
         ensures reply { result ≡ reply self.old Command.Step }
@@ -185,9 +186,9 @@ impl Bench {
         Reply::Ran { cycles, stop }
     }
 
-    /// Does what a command does, except for the count of commands.
+    /// Does a command, except for the count of commands.
     fn change(&mut self, command: &Command) -> Reply
-        requires { own_refusal self.old command.now ≡ None }
+        requires { refusal_of_command self.old command.now ≡ None }
         ensures state { self.new ≡ after_change self.old command.now }
         ensures reply { result ≡ reply self.old command.now }
     {
@@ -209,7 +210,7 @@ impl Bench {
         Reply::Done
     }
 
-    /// Does an accepted command, and answers what there is to tell. It takes no memory.
+    /// Does an accepted command, and returns its reply. It takes no memory.
     pub fn apply(&mut self, command: &Command) -> Reply
         requires accepted { refusal self.old command.now ≡ None }
         ensures state { self.new ≡ after self.old command.now }

@@ -9,7 +9,7 @@ use mcs_model::limits::{BREAKPOINTS, CHAIN_SOCKETS, CHAINS, KEYS, WATCHES};
 use std::alloc::{AllocError, Global};
 use std::marker::Model;
 
-/// That many bytes. Contracts see them as their list.
+/// A list of bytes whose length is fixed. Contracts see it as the list.
 #[derive(Drop)]
 pub struct Cells {
     bytes: Vec<u8>,
@@ -24,7 +24,7 @@ impl Model for Cells {
 }
 
 impl Cells {
-    /// That many bytes, all 0.
+    /// Returns `count` bytes, all 0. Fails if memory is refused.
     fn zeros(alloc: Global, count: usize) -> Result<Cells, AllocError>
         ensures { IfOk result (λ cells. cells ≡ replicate count 0) }
     {
@@ -33,21 +33,21 @@ impl Cells {
         })
     }
 
-    /// How many there are.
+    /// Returns the number of bytes.
     pub fn len(&self) -> usize
         ensures { result ≡ length self.now }
     {
         self.bytes.len()
     }
 
-    /// All of them.
+    /// Returns all bytes.
     pub(crate) fn bytes(&self) -> &[u8]
         ensures { result.now ≡ self.now }
     {
         &self.bytes
     }
 
-    /// Byte `i`, counted from 0.
+    /// Returns byte `i`, counted from 0.
     pub fn get(&self, i: usize) -> u8
         requires { i < length self.now }
         ensures { result ≡ slice_index self.now i }
@@ -64,10 +64,11 @@ impl Cells {
     }
 }
 
-/// The state of a bench as plain numbers. They may be any: `check` tells whether a bench can be in that state.
+/// The state of a bench as plain numbers. They can be any numbers: `check` returns whether a bench can be in that
+/// state.
 #[derive(Drop)]
 pub struct Flat {
-    /// How many commands were accepted.
+    /// The number of accepted commands.
     pub seq: u32,
     /// The board.
     pub board: Board,
@@ -97,11 +98,11 @@ pub struct Flat {
     pub rom_src: u8,
     /// The SRC byte that each bank keeps, 0 in a bank without chips.
     pub ram_src: [u8; 8],
-    /// How many idle cycles are owed, 0 or 1.
+    /// The number of pending idle cycles, 0 or 1.
     pub owed: u8,
     /// The bits of each chain of the board, bit 0 first.
     pub chains: ArrayVec<ArrayVec<u8, CHAIN_SOCKETS>, CHAINS>,
-    /// The keys of the board, row by row: 1 where one is down.
+    /// The keys of the board, row by row: 1 for a key that is down.
     pub keys: ArrayVec<u8, KEYS>,
     /// The level of the TEST pin, a bit.
     pub test: u8,
@@ -112,11 +113,11 @@ pub struct Flat {
 }
 
 impl Flat {
-    /// The state of a new bench: the empty board, all 0, and TEST 1.
+    /// Returns the state of a new bench: the empty board, all 0, and TEST 1.
     ///
     /// # Errors
     ///
-    /// Where memory is refused.
+    /// Fails if memory is refused.
     pub fn new(alloc: Global) -> Result<Flat, AllocError>
         ensures { IfOk result (λ flat. state_of flat ≡ new_bench_state) }
     {

@@ -7,15 +7,15 @@ use crate::bench::Bench;
 use mcs_model::regs::Regs;
 use mcs_nibble::{Addr, Nibble};
 
-/// Where no breakpoint is set and no character watched, two runs come to the state that one run of all their cycles comes
-/// to, the count of commands aside.
+/// Proves that, if no breakpoint is set and no character watched, two runs reach the state that one run of all their
+/// cycles reaches, except for the count of commands.
 pub fn runs_add_up()
     ensures { RunsAddUp }
 {
     mcs_model::laws::runs_compose();
 }
 
-/// A law: each number of a list of nibbles is below 16.
+/// Proves that each number of a list of nibbles is below 16.
 fn are_nibbles(list: &[Nibble])
     ensures { All (λ n. n < 16) list.now }
 {
@@ -24,7 +24,7 @@ fn are_nibbles(list: &[Nibble])
     }
 }
 
-/// A law: each number of a list of addresses is below 4096.
+/// Proves that each number of a list of addresses is below 4096.
 pub(crate) fn are_addresses(list: &[Addr])
     ensures { All (λ a. a < 4096) list.now }
 {
@@ -33,7 +33,7 @@ pub(crate) fn are_addresses(list: &[Addr])
     }
 }
 
-/// A law: each register holds a number of its kind.
+/// Proves that each register holds a number of its kind.
 fn registers_are_valid(regs: Regs)
     requires dcl { regs.dcl < 8 }
     requires owed { regs.owed < 2 }
@@ -45,7 +45,7 @@ fn registers_are_valid(regs: Regs)
 }
 
 impl Bench {
-    /// A law: the state of a bench is valid.
+    /// Proves that the state of a bench is valid.
     pub fn show_state_is_valid(&self)
         ensures { IsValid self.now }
     {

@@ -1,7 +1,7 @@
 //! The bench: a processor on a rig, with breakpoints and a count of the commands that it accepted.
 //!
 //! `Bench` does commands; contracts see it as the flat state of `mcs_model`. `Flat` is such a state as plain numbers,
-//! which may be any: `Flat::check` tells whether a bench can be in it, and `Bench::restore` makes that bench.
+//! which can be any: `Flat::check` returns whether a bench can be in it, and `Bench::restore` makes that bench.
 #![tactic(auto)]
 
 mod bench;

@@ -1,4 +1,4 @@
-//! What a bench tells of its state.
+//! Readers of a bench's state.
 ghost use Rattle.std.specs.Prelude.{◌≡◌, ◌+◌, ◌*◌, ◌<◌, ◌≤◌, true, IfOk, length, option_map, slice_get, slice_index, if◌then◌else◌};
 ghost use Rattle.std.specs.List.Sorted.{IsStrictlyIncreasing};
 ghost use Rattle.mcs_model.specs.Boards.{exists_on, has_key, key_index};
@@ -15,7 +15,7 @@ use mcs_model::regs::Regs;
 use mcs_nibble::{Addr, Bit, Nibble};
 use std::alloc::{AllocError, Global};
 
-/// Whether a board has a line.
+/// Returns whether a board has a line.
 fn has_line(board: &Board, line: Line) -> bool
     ensures { result ≡ exists_on board.now line }
 {
@@ -30,21 +30,21 @@ fn has_line(board: &Board, line: Line) -> bool
 }
 
 impl Bench {
-    /// How many commands were accepted.
+    /// Returns the number of accepted commands.
     pub fn seq(&self) -> u32
         ensures { result ≡ self.now.seq }
     {
         self.seq
     }
 
-    /// The board.
+    /// Returns the board.
     pub fn board(&self) -> &Board
         ensures { result.now ≡ self.now.bus.board }
     {
         self.rig.board()
     }
 
-    /// The registers of the processor.
+    /// Returns the registers of the processor.
     pub fn regs(&self) -> Regs
         ensures same { result ≡ self.now.processor }
         ensures registers { length result.r ≡ 16 }
@@ -55,18 +55,18 @@ impl Bench {
         self.cpu.regs()
     }
 
-    /// The ROM byte at an address; 0 where the ROM is absent.
+    /// Returns the ROM byte at an address, or 0 if the ROM is absent.
     pub fn rom_byte(&self, at: Addr) -> u8
         ensures { result ≡ slice_index self.now.bus.rom at }
     {
         self.rig.rom_byte(at)
     }
 
-    /// The 4,096 bytes of the ROMs, by address, those of absent ROMs 0.
+    /// Returns the 4,096 bytes of the ROMs, by address. The bytes of absent ROMs are 0.
     ///
     /// # Errors
     ///
-    /// Where memory is refused.
+    /// Fails if memory is refused.
     pub fn rom(&self, alloc: Global) -> Result<Vec<u8>, AllocError>
         ensures bytes { IfOk result (λ rom. rom.items ≡ self.now.bus.rom) }
         ensures whole { IfOk result (λ rom. length rom.items ≡ 4096) }
@@ -79,7 +79,7 @@ impl Bench {
         Ok(rom)
     }
 
-    /// The RAM character of a bank, 0 to 7, and an SRC byte; 0 where the chip is absent.
+    /// Returns the RAM character of a bank, 0 to 7, and an SRC byte, or 0 if the chip is absent.
     pub fn ram(&self, bank: u8, src: u8) -> Nibble
         requires { bank < 8 }
         ensures { result ≡ slice_index self.now.bus.ram (ram_index bank src) }
@@ -87,8 +87,8 @@ impl Bench {
         self.rig.ram(bank, src)
     }
 
-    /// Status character `k`, 0 to 3, of the register that the high nibble of an SRC byte selects in a bank, 0 to 7;
-    /// 0 where the chip is absent.
+    /// Returns status character `k`, 0 to 3, of a bank, 0 to 7, or 0 if the chip is absent. The high nibble of an SRC
+    /// byte, `high`, selects the register.
     pub fn status(&self, bank: u8, high: Nibble, k: u8) -> Nibble
         requires bank { bank < 8 }
         requires k { k < 4 }
@@ -97,7 +97,7 @@ impl Bench {
         self.rig.status(bank, high, k)
     }
 
-    /// What the port latch of a RAM chip holds, of bank 0 to 7 and chip 0 to 3; 0 where the chip is absent.
+    /// Returns the port latch of a RAM chip, of bank 0 to 7 and chip 0 to 3, or 0 if the chip is absent.
     pub fn ram_port(&self, bank: u8, chip: u8) -> Nibble
         requires bank { bank < 8 }
         requires chip { chip < 4 }
@@ -106,7 +106,7 @@ impl Bench {
         self.rig.ram_latch(bank, chip)
     }
 
-    /// What the port latch of a ROM, 0 to 15, holds; 0 on input lines, and where the ROM is absent.
+    /// Returns the port latch of a ROM, 0 to 15. It is 0 on input lines, and if the ROM is absent.
     pub fn rom_port(&self, chip: u8) -> Nibble
         requires { chip < 16 }
         ensures { result ≡ slice_index self.now.bus.rom_ports chip }
@@ -114,21 +114,21 @@ impl Bench {
         self.rig.rom_latch(chip)
     }
 
-    /// What is read at the port of a ROM now; 0 where it is absent.
+    /// Returns what is read at the port of a ROM now, or 0 if it is absent.
     pub fn read_port(&self, chip: Nibble) -> Nibble
         ensures { result ≡ port_at self.now.bus chip }
     {
         self.rig.read_port(chip)
     }
 
-    /// The SRC byte that the ROMs keep.
+    /// Returns the SRC byte that the ROMs keep.
     pub fn rom_src(&self) -> u8
         ensures { result ≡ self.now.bus.rom_src }
     {
         self.rig.rom_src()
     }
 
-    /// The SRC byte that a bank, 0 to 7, keeps; 0 in a bank without chips.
+    /// Returns the SRC byte that a bank, 0 to 7, keeps, or 0 for a bank without chips.
     pub fn ram_src(&self, bank: u8) -> u8
         requires { bank < 8 }
         ensures { result ≡ slice_index self.now.bus.ram_src bank }
@@ -136,7 +136,7 @@ impl Bench {
         self.rig.ram_src(bank)
     }
 
-    /// Number `i` of a list that the chips hold; 0 where the chip is absent.
+    /// Returns number `i` of a list that the chips hold, or 0 if the chip is absent.
     pub fn chip_number(&self, list: ChipList, i: usize) -> u8
         requires { i < count_of list }
         ensures { result ≡ slice_index (list_of self.now.bus list) i }
@@ -153,14 +153,14 @@ impl Bench {
         }
     }
 
-    /// Bit `i` of a chain, both counted from 0; 0 where the board has no such bit.
+    /// Returns bit `i` of a chain, both counted from 0, or 0 if the board has no such bit.
     pub fn chain_bit(&self, chain: u8, i: u8) -> Bit
         ensures { result ≡ chain_bit self.now.bus chain i }
     {
         self.rig.chain_bit(chain, i)
     }
 
-    /// The key of a row and a column of the board: 1 where it is down.
+    /// Returns the key of a row and a column of the board: 1 if it is down.
     pub fn key(&self, row: u8, column: u8) -> Bit
         requires { has_key self.now.bus.board row column ≡ true }
         ensures { result ≡ slice_index self.now.bus.keys (key_index self.now.bus.board row column) }
@@ -168,14 +168,14 @@ impl Bench {
         self.rig.key(row, column)
     }
 
-    /// The level of the TEST pin.
+    /// Returns the level of the TEST pin.
     pub fn test(&self) -> Bit
         ensures { result ≡ self.now.bus.test }
     {
         self.rig.test_level()
     }
 
-    /// The level of a line; 0 where the board has no such line.
+    /// Returns the level of a line, or 0 if the board has no such line.
     pub fn level(&self, line: Line) -> Bit
         ensures { result ≡ (if exists_on self.now.bus.board line then level self.now.bus line else 0) }
     {
@@ -186,7 +186,7 @@ impl Bench {
         }
     }
 
-    /// The level of the line that lamp `i`, counted from 0, is at; none beyond the board's lamps.
+    /// Returns the level of the line of lamp `i`, counted from 0, or `None` beyond the board's lamps.
     pub fn lamp(&self, i: usize) -> Option<Bit>
         ensures { result ≡ option_map (level self.now.bus)
             (slice_get self.now.bus.board.lamps.items i) }
@@ -194,7 +194,7 @@ impl Bench {
         self.rig.lamp(i)
     }
 
-    /// The breakpoints, by rising address.
+    /// Returns the breakpoints, by rising address.
     pub fn breaks(&self) -> &[Addr]
         ensures same { result.now ≡ self.now.breakpoints }
         ensures few { length result.now ≤ BREAKPOINTS }
@@ -203,7 +203,7 @@ impl Bench {
         self.breaks.list()
     }
 
-    /// The watched RAM characters, each as bank * 256 + SRC byte, rising.
+    /// Returns the watched RAM characters, each as bank * 256 + SRC byte, rising.
     pub fn watches(&self) -> &[Addr]
         ensures same { result.now ≡ self.now.watches }
         ensures valid { AreWatches result.now }

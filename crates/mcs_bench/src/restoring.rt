@@ -1,4 +1,4 @@
-//! A bench made from a state.
+//! Creation of a bench from a state.
 ghost use Rattle.std.specs.Prelude.{◌≡◌, ◌<◌, ◌≤◌, ℕ, All, IfOk, MatchOption, length, slice_index, slice_index_or, slice_set, []};
 ghost use Rattle.mcs_nibble.specs.Ports.{latch_value};
 ghost use Rattle.mcs_model.specs.Boards.{masks_on, chain_count, chain_bits, key_count};
@@ -19,7 +19,7 @@ use mcs_model::limits::{CHAIN_SOCKETS, KEYS};
 use mcs_nibble::{Addr, Bit, Nibble};
 use std::alloc::{AllocError, Global};
 
-/// The nibbles of these numbers.
+/// Returns the nibbles of these numbers.
 fn nibbles(numbers: &[u8; 16]) -> [Nibble; 16]
     requires { All (λ n. n < 16) numbers.now }
     ensures { result ≡ numbers.now }
@@ -31,7 +31,7 @@ fn nibbles(numbers: &[u8; 16]) -> [Nibble; 16]
     nibbles
 }
 
-/// The addresses of these numbers.
+/// Returns the addresses of these numbers.
 fn addresses(numbers: &[u16; 3]) -> [Addr; 3]
     requires { All (λ a. a < 4096) numbers.now }
     ensures { result ≡ numbers.now }
@@ -43,7 +43,7 @@ fn addresses(numbers: &[u16; 3]) -> [Addr; 3]
     ]
 }
 
-/// The processor with these registers.
+/// Returns the processor with these registers.
 fn processor(flat: &Flat) -> Cpu
     requires { IsValidRegs (state_of flat.now).processor }
     ensures { result ≡ (state_of flat.now).processor }
@@ -98,7 +98,7 @@ fn fill_chains(rig: &mut BenchRig, chains: &[ArrayVec<u8, CHAIN_SOCKETS>])
     }
 }
 
-/// How many columns the keys of a board have, by which the row and the column of each key are told.
+/// Returns the number of key columns of a board. It gives the row and the column of each key.
 fn columns_of(board: &Board) -> usize
     ensures { (i : ℕ) → i < key_count board.now → IsKeyAt board.now result i }
 {
@@ -125,7 +125,7 @@ fn fill_keys(rig: &mut BenchRig, keys: &[u8])
     }
 }
 
-/// The breakpoints of a list.
+/// Returns the breakpoints of a list.
 fn breakpoints(list: &[u16]) -> Breaks
     requires { AreBreakpoints list.now }
     ensures { result ≡ list.now }
@@ -137,7 +137,7 @@ fn breakpoints(list: &[u16]) -> Breaks
     breaks
 }
 
-/// The watches of a list.
+/// Returns the watches of a list.
 fn watches(list: &[u16]) -> Watches
     requires { AreWatches list.now }
     ensures { result ≡ list.now }
@@ -149,7 +149,7 @@ fn watches(list: &[u16]) -> Watches
     watches
 }
 
-/// Puts a rig on the board of a state, and sets all that its chips hold.
+/// Puts a rig on the board of a state, and sets everything that its chips hold.
 fn restore_rig(rig: &mut BenchRig, flat: &Flat)
     requires { IsValidBus (state_of flat.now).bus }
     ensures { rig.new ≡ (state_of flat.now).bus }
@@ -169,11 +169,11 @@ fn restore_rig(rig: &mut BenchRig, flat: &Flat)
 }
 
 impl Bench {
-    /// The bench that is in a state.
+    /// Returns the bench that is in a state.
     ///
     /// # Errors
     ///
-    /// Where memory is refused.
+    /// Fails if memory is refused.
     pub fn restore(alloc: Global, flat: &Flat) -> Result<Bench, AllocError>
         requires { IsValid (state_of flat.now) }
         ensures { IfOk result (λ bench. bench ≡ state_of flat.now) }

@@ -4,7 +4,7 @@ ghost use Rattle.mcs_model.specs.Effect.{cycle_of, instruction_at};
 ghost use Rattle.mcs_model.specs.Running.{is_outside};
 ghost use Rattle.mcs_model.specs.declared.op.Op.TheVariants.{Wrm};
 ghost use Rattle.mcs_model.specs.Listed.{is_listed};
-ghost use Rattle.mcs_bench.specs.Runs.{CameTo, RanTo, SteppedTo, WentTo, WillChange, mark_of, stop_by};
+ghost use Rattle.mcs_bench.specs.Runs.{CameTo, RanTo, SteppedTo, WentTo, WillChange, debug_stop_of, stop_by};
 
 use crate::breaks::Breaks;
 use crate::watches::Watches;
@@ -14,17 +14,18 @@ use mcs_model::op::Op;
 use mcs_model::stop::Stop;
 use mcs_nibble::Addr;
 
-/// Whether no cycle can follow.
+/// Returns whether no cycle can follow.
 fn is_outside(cpu: &Cpu, rig: &BenchRig) -> bool
     ensures { result ≡ is_outside (cpu.now, rig.now) }
 {
     cpu.is_outside(rig)
 }
 
-/// Why a run stops after a cycle, where the processor's counter is at an address, except for a code outside and its end.
+/// Returns the mark of a run after a cycle, with the processor's counter at an address: a breakpoint, or a changed
+/// watched character, if either stops the run.
 #[inline(always)]
-fn mark_at(cpu: &Cpu, at: Addr, breaks: &Breaks, changed: bool) -> Option<Stop>
-    ensures mark { result ≡ mark_of (cpu.now.owed == 0 && is_listed breaks.now at) changed }
+fn debug_stop_at(cpu: &Cpu, at: Addr, breaks: &Breaks, changed: bool) -> Option<Stop>
+    ensures mark { result ≡ debug_stop_of (cpu.now.owed == 0 && is_listed breaks.now at) changed }
     ensures owed { cpu.now.owed < 2 }
 {
     let owed = cpu.regs().owed;
@@ -37,7 +38,7 @@ fn mark_at(cpu: &Cpu, at: Addr, breaks: &Breaks, changed: bool) -> Option<Stop>
     }
 }
 
-/// Whether an instruction is WRM, the one that writes a RAM character.
+/// Returns whether an instruction is WRM, the one that writes a RAM character.
 #[inline(always)]
 fn is_wrm(op: &Op) -> bool
     ensures { result ≡ true ↔ op.now ≡ Wrm }
@@ -45,7 +46,7 @@ fn is_wrm(op: &Op) -> bool
     matches!(op, Op::Wrm)
 }
 
-/// Whether the instruction that is at an address will give a watched character another value.
+/// Returns whether the instruction at an address will give a watched character another value.
 #[inline(always)]
 fn will_change(cpu: &Cpu, rig: &BenchRig, watches: &Watches, op: &Op, at: Addr) -> bool
     requires { instruction_at (record cpu.now { pc = at }) rig.now ≡ Some op.now }
@@ -67,7 +68,7 @@ fn will_change(cpu: &Cpu, rig: &BenchRig, watches: &Watches, op: &Op, at: Addr) 
     src / 64 < rig.board().bank_chips(bank)
 }
 
-/// The same, which looks at nothing where no character is watched.
+/// Returns the same, without reading anything if no character is watched.
 #[inline(always)]
 fn foresees_change<const WATCHED: bool>(
     cpu: &Cpu,
@@ -86,7 +87,7 @@ fn foresees_change<const WATCHED: bool>(
     will_change(cpu, rig, watches, op, at)
 }
 
-/// The same, which asks whether any character is watched.
+/// Returns the same, and tests whether any character is watched.
 #[inline(always)]
 fn foresees(cpu: &Cpu, rig: &BenchRig, watches: &Watches, op: &Op, at: Addr) -> bool
     requires { instruction_at (record cpu.now { pc = at }) rig.now ≡ Some op.now }
@@ -98,7 +99,7 @@ fn foresees(cpu: &Cpu, rig: &BenchRig, watches: &Watches, op: &Op, at: Addr) -> 
     will_change(cpu, rig, watches, op, at)
 }
 
-/// Why a run stops, by what stopped it but for a code outside and its end.
+/// Returns the reason that a run stops: a code outside the table, else `mark`, else its end.
 pub(crate) fn stop_by(cpu: &Cpu, rig: &BenchRig, mark: Option<Stop>) -> Stop
     ensures { result ≡ stop_by (cpu.now, rig.now) mark }
 {
@@ -111,36 +112,36 @@ pub(crate) fn stop_by(cpu: &Cpu, rig: &BenchRig, mark: Option<Stop>) -> Stop
     }
 }
 
-/// What an instruction of a run did, or the second cycle of one.
+/// The result of an instruction of a run, or of the second cycle of one.
 #[derive(Clone, Copy)]
 pub struct Went {
-    /// How many cycles it did: at least one.
+    /// The number of cycles done: at least one.
     pub cycles: u32,
-    /// Why the run stops after them, but for a code outside and its end.
+    /// The breakpoint or the changed watched character that stops the run after them, if either does.
     pub mark: Option<Stop>,
-    /// The instruction; none where it was begun before.
+    /// The instruction, or `None` if it was begun before.
     pub op: Option<Op>,
 }
 
-/// The second cycle of an instruction that was begun.
+/// Does the second cycle of an instruction that was begun.
 fn finish(cpu: &mut Cpu, breaks: &Breaks) -> Went
     requires { cpu.old.owed ≡ 1 }
     ensures state { cpu.new ≡ record cpu.old { owed = 0 } }
     ensures cycles { result.cycles ≡ 1 }
-    ensures mark { result.mark ≡ mark_of (is_listed breaks.now cpu.old.pc) false }
+    ensures mark { result.mark ≡ debug_stop_of (is_listed breaks.now cpu.old.pc) false }
     ensures op { result.op ≡ None }
 {
     cpu.set_owed(0);
     let at = cpu.regs().pc;
     Went {
         cycles: 1,
-        mark: mark_at(cpu, at, breaks, false),
+        mark: debug_stop_at(cpu, at, breaks, false),
         op: None,
     }
 }
 
-/// The instruction at the counter, or the second cycle of one that was begun, for at most `left` cycles, where one can
-/// follow.
+/// Does the instruction at the counter, or the second cycle of one that was begun, for at most `left` cycles. A cycle
+/// can follow before it.
 #[inline(always)]
 pub(crate) fn go_on(
     cpu: &mut Cpu,
@@ -168,16 +169,16 @@ pub(crate) fn go_on(
             cpu.set_pc(next);
             Some(Went {
                 cycles,
-                mark: mark_at(cpu, next, breaks, changes),
+                mark: debug_stop_at(cpu, next, breaks, changes),
                 op: Some(op),
             })
         }
     }
 }
 
-/// Begins a run of at most `n` cycles, and goes on up to a breakpoint, or to an instruction that may end it otherwise:
-/// how many cycles it did, the address that it came to, and whether the breakpoint stops it. The counter itself stays
-/// as it is.
+/// Begins a run of at most `n` cycles, and continues up to a breakpoint, or up to an instruction that can end it
+/// otherwise. Returns the number of cycles done, the address reached, and whether the breakpoint stops the run. The
+/// counter itself stays as it is.
 #[inline(always)]
 fn fast_loop<const WATCHED: bool>(
     cpu: &mut Cpu,
@@ -192,7 +193,7 @@ fn fast_loop<const WATCHED: bool>(
 {
     let mut at = cpu.regs().pc;
     let mut left = n;
-    // From here on, no cycle is owed before the last one.
+    // From here on, no cycle is pending before the last one.
     if n > 0 && cpu.regs().owed == 1 {
         left = n - 1;
         if let Some(why) = finish(cpu, breaks).mark {
@@ -212,13 +213,13 @@ fn fast_loop<const WATCHED: bool>(
             }
         }
         if breaks.contains(at) {
-            return (n - left, at, mark_at(cpu, at, breaks, false));
+            return (n - left, at, debug_stop_at(cpu, at, breaks, false));
         }
     }
     (n - left, at, None)
 }
 
-/// The same, which sets the counter, by the loop that looks at no character where none is watched.
+/// Does the same, and sets the counter. If no character is watched, it uses the loop that reads none.
 fn run_fast(
     cpu: &mut Cpu,
     rig: &mut BenchRig,
@@ -241,7 +242,7 @@ fn run_fast(
     (done, mark)
 }
 
-/// A run of at most `n` cycles: how many it did, and why it stopped.
+/// Runs for at most `n` cycles. Returns the number of cycles done, and the reason that the run stopped.
 pub(crate) fn run(
     cpu: &mut Cpu,
     rig: &mut BenchRig,
@@ -253,7 +254,8 @@ pub(crate) fn run(
         (cpu.new, rig.new) result.0 result.1 }
 {
     let (mut done, mut mark) = run_fast(cpu, rig, breaks, watches, n);
-    // An instruction that may end it is left: the last one, one that changes a watched character, or a code outside.
+    // An instruction that can end the run is left: the last one, one that changes a watched character, or a code
+    // outside the table.
     while done < n && mark.is_none() {
         match go_on(cpu, rig, breaks, watches, n - done) {
             None => return (done, Stop::Outside),
@@ -266,7 +268,7 @@ pub(crate) fn run(
     (done, stop_by(cpu, rig, mark))
 }
 
-/// One cycle, if one can follow, and whether one could.
+/// Does one cycle, if one can follow. Returns whether one could.
 #[inline(never)]
 fn advance(cpu: &mut Cpu, rig: &mut BenchRig) -> bool
     ensures went { result ≡ not (is_outside (cpu.old, rig.old)) }
@@ -278,7 +280,7 @@ fn advance(cpu: &mut Cpu, rig: &mut BenchRig) -> bool
     }
 }
 
-/// One instruction, or its idle cycle: how many cycles it did, and why it stopped.
+/// Does one instruction, or its idle cycle. Returns the number of cycles done, and the reason that the step stopped.
 pub(crate) fn step(cpu: &mut Cpu, rig: &mut BenchRig) -> (u32, Stop)
     ensures { SteppedTo (cpu.old, rig.old) (cpu.new, rig.new) result.0 result.1 }
 {

@@ -1,4 +1,4 @@
-//! Whether a bench can be in a state.
+//! The check that a bench can be in a state.
 ghost use Rattle.std.specs.Prelude.{◌≡◌, ◌<◌, ◌≤◌, ◌↔◌, ℕ, All, IsTrue, MatchOption, None, length, slice_index, slice_index_or, []};
 ghost use Rattle.std.specs.List.Sorted.{IsStrictlyIncreasing};
 ghost use Rattle.mcs_nibble.specs.Ports.{latch_value};
@@ -15,7 +15,7 @@ use mcs_model::limits::CHAIN_SOCKETS;
 use mcs_nibble::Nibble;
 use mcs_rom4001::held_port;
 
-/// Whether there are that many numbers, each below a limit.
+/// Returns whether there are `count` numbers, each below a limit.
 fn are_below(numbers: &[u8], count: usize, limit: u8) -> bool
     ensures { IsTrue result ↔ AreBelow count limit numbers.now }
 {
@@ -30,21 +30,21 @@ fn are_below(numbers: &[u8], count: usize, limit: u8) -> bool
     true
 }
 
-/// Whether there are that many bytes.
+/// Returns whether there are `count` bytes.
 fn are_bytes(numbers: &[u8], count: usize) -> bool
     ensures { IsTrue result ↔ AreBelow count 256 numbers.now }
 {
     numbers.len() == count
 }
 
-/// Eight bytes are eight, each below 256: their type says so, and proofs learn it here.
+/// Proves that eight bytes are eight, each below 256. Their type says so, and proofs learn it here.
 fn are_eight(numbers: &[u8; 8])
     ensures { AreBelow 8 256 numbers.now }
 {
     let _numbers = numbers.as_slice();
 }
 
-/// Whether all are below a limit.
+/// Returns whether all numbers are below a limit.
 fn are_numbers_below(numbers: &[u16], limit: u16) -> bool
     ensures { IsTrue result ↔ All (λ a. a < limit) numbers.now }
 {
@@ -56,7 +56,7 @@ fn are_numbers_below(numbers: &[u16], limit: u16) -> bool
     true
 }
 
-/// Whether each number is above the one before it.
+/// Returns whether each number is above the one before it.
 fn is_rising(numbers: &[u16]) -> bool
     requires { length numbers.now ≤ 32 }
     ensures { IsTrue result ↔ IsStrictlyIncreasing numbers.now }
@@ -69,7 +69,7 @@ fn is_rising(numbers: &[u16]) -> bool
     true
 }
 
-/// Whether there are that many bits for each chain of a board.
+/// Returns whether each chain of a board has its number of bits.
 fn are_chains(board: &Board, chains: &[ArrayVec<u8, CHAIN_SOCKETS>]) -> bool
     ensures { IsTrue result
         ↔ ((length chains.now ≡ chain_count board.now) ×
@@ -87,7 +87,7 @@ fn are_chains(board: &Board, chains: &[ArrayVec<u8, CHAIN_SOCKETS>]) -> bool
     true
 }
 
-/// Whether the port latch of a ROM, 0 to 15, can hold a nibble.
+/// Returns whether the port latch of a ROM, 0 to 15, can hold a nibble.
 fn can_hold(board: &Board, chip: u8, n: u8) -> bool
     requires { n < 16 }
     ensures { IsTrue result
@@ -99,7 +99,7 @@ fn can_hold(board: &Board, chip: u8, n: u8) -> bool
     }
 }
 
-/// Whether the port latches of the ROMs can hold these nibbles.
+/// Returns whether the port latches of the ROMs can hold these nibbles.
 fn can_all_hold(board: &Board, ports: &[u8]) -> bool
     requires { AreBelow 16 16 ports.now }
     ensures { IsTrue result
@@ -116,7 +116,7 @@ fn can_all_hold(board: &Board, ports: &[u8]) -> bool
 }
 
 impl Flat {
-    /// Whether each register holds a number of its kind.
+    /// Returns whether each register holds a number of its kind.
     fn has_valid_registers(&self) -> bool
         ensures { IsTrue result ↔ IsValidRegs (state_of self.now).processor }
     {
@@ -132,7 +132,7 @@ impl Flat {
         are_numbers_below(&self.ret, 4096)
     }
 
-    /// Whether the lists of the chips have their lengths, and numbers of their kinds.
+    /// Returns whether the lists of the chips have their lengths, and numbers of their kinds.
     fn has_valid_cells(&self) -> bool
         ensures { IsTrue result
             ↔ (AreBelow 4096 256 self.now.rom × AreBelow 2048 16 self.now.ram ×
@@ -154,7 +154,7 @@ impl Flat {
         are_below(self.rom_ports.bytes(), 16, 16)
     }
 
-    /// Whether each place of the chips holds a number of its kind, and there are as many places as the board gives.
+    /// Returns whether each chip value is in its range, and the lists are as long as the board says.
     fn is_in_range(&self) -> bool
         ensures { IsTrue result ↔ IsInRange (state_of self.now).bus }
     {
@@ -172,7 +172,7 @@ impl Flat {
         are_below(self.keys.as_slice(), self.board.key_count(), 2)
     }
 
-    /// Whether the numbers of absent chips in a list are 0.
+    /// Returns whether the numbers of absent chips in a list are 0.
     fn is_zero_where_absent(&self, list: ChipList) -> bool
         requires { IsInRange (state_of self.now).bus }
         ensures { IsTrue result ↔ IsZeroWhereAbsent (state_of self.now).bus list }
@@ -187,7 +187,7 @@ impl Flat {
         }
     }
 
-    /// Whether what is absent holds 0.
+    /// Returns whether absent locations hold 0.
     fn is_absent_zero(&self) -> bool
         requires { IsInRange (state_of self.now).bus }
         ensures { IsTrue result ↔ IsAbsentZero (state_of self.now).bus }
@@ -210,7 +210,7 @@ impl Flat {
         can_all_hold(&self.board, self.rom_ports.bytes())
     }
 
-    /// Whether the board and what its chips hold are valid.
+    /// Returns whether the board and what its chips hold are valid.
     fn has_valid_bus(&self) -> bool
         ensures { IsTrue result ↔ IsValidBus (state_of self.now).bus }
     {
@@ -221,7 +221,7 @@ impl Flat {
         self.is_absent_zero()
     }
 
-    /// Whether the breakpoints are addresses, rising.
+    /// Returns whether the breakpoints are addresses, rising.
     fn has_valid_breakpoints(&self) -> bool
         ensures { IsTrue result ↔ AreBreakpoints self.now.breakpoints.items }
     {
@@ -232,7 +232,7 @@ impl Flat {
         is_rising(breakpoints)
     }
 
-    /// Whether the watches are indices of RAM characters, rising.
+    /// Returns whether the watches are indices of RAM characters, rising.
     fn has_valid_watches(&self) -> bool
         ensures { IsTrue result ↔ AreWatches self.now.watches.items }
     {
@@ -243,7 +243,7 @@ impl Flat {
         is_rising(watches)
     }
 
-    /// Whether a bench can be in this state.
+    /// Returns whether a bench can be in this state.
     pub fn check(&self) -> bool
         ensures { IsTrue result ↔ IsValid (state_of self.now) }
     {

@@ -9,8 +9,8 @@ use mcs_model::limits::WATCHES;
 use mcs_nibble::Addr;
 use std::marker::Model;
 
-/// The indices of the watched characters, each at bank * 256 + SRC byte, rising, with a mark for each. A run asks for
-/// one in constant time.
+/// The indices of the watched characters, each at bank * 256 + SRC byte, rising, with a flag for each. A run looks one
+/// up in constant time.
 #[derive(Drop)]
 pub(crate) struct Watches {
     indices: Breaks,
@@ -27,7 +27,7 @@ impl Model for Watches {
     ghost invariant = { λ w. AreFew w.indices };
 }
 
-/// Where the character of a bank and an SRC byte stands.
+/// Returns the index of the character of a bank and an SRC byte.
 #[inline(always)]
 fn index_of(bank: u8, src: u8) -> Addr
     requires { bank < 8 }
@@ -37,7 +37,7 @@ fn index_of(bank: u8, src: u8) -> Addr
 }
 
 impl Watches {
-    /// No character is watched.
+    /// Returns watches without a character.
     pub(crate) fn new() -> Watches
         ensures { result ≡ [] }
     {
@@ -46,7 +46,7 @@ impl Watches {
         }
     }
 
-    /// Equal watches.
+    /// Returns equal watches.
     pub(crate) fn copy(&self) -> Watches
         ensures { result ≡ self.now }
     {
@@ -55,7 +55,7 @@ impl Watches {
         }
     }
 
-    /// The indices, rising.
+    /// Returns the indices, rising.
     pub(crate) fn list(&self) -> &[Addr]
         ensures same { result.now ≡ self.now }
         ensures valid { AreWatches result.now }
@@ -63,14 +63,14 @@ impl Watches {
         self.indices.list()
     }
 
-    /// Whether no character is watched.
+    /// Returns whether no character is watched.
     pub(crate) fn is_empty(&self) -> bool
         ensures { result ≡ true → self.now ≡ [] }
     {
         self.indices.list().is_empty()
     }
 
-    /// Whether a character is watched.
+    /// Returns whether a character is watched.
     #[inline(always)]
     pub(crate) fn contains(&self, bank: u8, src: u8) -> bool
         requires { bank < 8 }
@@ -79,7 +79,7 @@ impl Watches {
         self.indices.contains(index_of(bank, src))
     }
 
-    /// Whether a character is watched, or can be.
+    /// Returns whether a character is watched, or can be.
     pub(crate) fn has_room_for(&self, bank: u8, src: u8) -> bool
         requires { bank < 8 }
         ensures { result ≡ (is_listed self.now (ram_index bank src)
@@ -99,7 +99,7 @@ impl Watches {
         self.indices.set(index_of(bank, src));
     }
 
-    /// Watches it no more.
+    /// Stops watching a character.
     pub(crate) fn clear(&mut self, bank: u8, src: u8)
         requires { bank < 8 }
         ensures { self.new ≡ without_listed self.old (ram_index bank src) }
@@ -107,7 +107,7 @@ impl Watches {
         self.indices.clear(index_of(bank, src));
     }
 
-    /// A law: they are at most that many, each an index, rising.
+    /// Proves that the indices are at most `WATCHES`, each an index of a character, rising.
     pub(crate) fn show_state_is_valid(&self)
         ensures { AreWatches self.now }
     {

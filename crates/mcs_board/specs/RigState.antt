@@ -13,7 +13,7 @@ use Rattle.mcs_model.specs.Boards.{masks_on, chain_count, chain_bits, key_count}
 use Rattle.mcs_model.specs.Bus.{BusState, with_ram, with_status}
 use Rattle.mcs_model.specs.ChipWrites.{with_ram_latch, with_ram_src}
 
--- what is read where a bank, or a ROM, is absent: nothing but 0
+-- the value that is read if a bank, or a ROM, is absent: nothing but 0
 abbrev pub no_bank : BankState
 no_bank = record { wired = 0; src = 0; main = []; status = []; ports = [] }
 
@@ -25,11 +25,11 @@ abbrev pub masks_of_rom : Option PortState → Option (List LineMask)
 masks_of_rom (Some r) = Some r.mask
 masks_of_rom None = None
 
--- the chains that the board has, of those that a rig keeps
+-- the chains that the board has, among those that a rig keeps
 abbrev pub wired_chains : BoardParts → List (List ℕ) → List (List ℕ)
 wired_chains b chains = table_of (chain_count b) (λ i. slice_index_or chains i [])
 
--- what a rig keeps: a board, and a socket for each chip that may be on it
+-- the contents of a rig: a board, and a socket for each chip that can be on it
 pub record RigParts : Type 0 where
   pub board : BoardParts
   pub roms : List (Option PortState)
@@ -57,9 +57,9 @@ rig_of p = record {
   test = p.test;
 }
 
--- the chips are those of the board: that many sockets for each kind of chip, the board's ROMs with
--- their masks, that many chips in each bank, each of the board's chains with its bits, and a bit
--- for each key; an absent ROM's bytes are 0
+-- the chips are those of the board: these numbers of sockets for each kind of chip, the board's
+-- ROMs with their masks, and in each bank its number of chips; each of the board's chains with its
+-- bits, and a bit for each key; an absent ROM's bytes are 0
 pub record Fitted (p : RigParts) (rom_sockets bank_sockets chain_sockets : ℕ) : Type 0 where
   pub roms_len : length p.roms ≡ rom_sockets
   pub banks_len : length p.banks ≡ bank_sockets

@@ -1,4 +1,4 @@
--- What a port write does to shift chains, told by the latch that it changes.
+-- The effect of a port write on shift-register chains, given by the latch that it changes.
 use Rattle.std.specs.Prelude.{ℕ, Bool, false, ◌&&◌, ◌==◌, List, [], slice_index_or, if◌then◌else◌}
 use Rattle.mcs_nibble.specs.Bits.{bit_of}
 use Rattle.mcs_nibble.specs.Shifting.{bits_after_shift}
@@ -9,13 +9,13 @@ use Rattle.mcs_model.specs.Boards.{chain_part, chain_count}
 use Rattle.mcs_model.specs.Bus.{BusState}
 use Rattle.mcs_model.specs.Levels.{level}
 
--- whether a line is one of the port that another is of, and its bit is 0 before and 1 after
+-- true if a line belongs to the port of another line, and its bit is 0 before and 1 after
 abbrev pub is_raised : Line → ℕ → ℕ → Line → Bool
 is_raised (Rom c j) before after (Rom d k) = c == d && (bit_of before k == 0 && bit_of after k == 1)
 is_raised (Ram b c j) before after (Ram e d k) = b == e && c == d && (bit_of before k == 0 && bit_of after k == 1)
 is_raised port before after line = false
 
--- the bits of chain i, where the latch of a port held `before` and holds `after`
+-- the bits of chain i after the latch of a port changed from `before` to `after`
 unfoldable pub chain_raised : BusState → Line → ℕ → ℕ → ℕ → List ℕ → List ℕ
 chain_raised s port before after i bits =
     if is_raised port before after (chain_part s.board i).clock

@@ -14,14 +14,14 @@ use mcs_nibble::Addr;
 /// A rig that every board fits.
 pub type BenchRig = Rig<ROMS, BANKS, CHAINS, CHAIN_SOCKETS>;
 
-/// A law: every board fits the bench's rig.
+/// Proves that every board fits the bench's rig.
 pub fn every_board_fits_the_bench(board: &Board)
     ensures { FitsCounts board.now ROMS BANKS CHAINS CHAIN_SOCKETS }
 {
     let _parts = board.parts();
 }
 
-/// One instruction cycle of a processor over a rig, which is the cycle on their flat states.
+/// Does one instruction cycle of a processor over a rig, which is the cycle on their flat states.
 #[inline(always)]
 pub fn cycle(cpu: &mut Cpu, rig: &mut BenchRig) -> Cycle
     ensures outside { (result ≡ Cycle.Outside) ↔ IsNone (cycle_of cpu.old rig.old) }
@@ -31,7 +31,7 @@ pub fn cycle(cpu: &mut Cpu, rig: &mut BenchRig) -> Cycle
     cpu.cycle(rig)
 }
 
-/// The instruction at an address, if its code is in the table.
+/// Returns the instruction at an address, if its code is in the table.
 #[inline(always)]
 pub fn instruction(cpu: &Cpu, rig: &BenchRig, at: Addr) -> Option<Op>
     ensures { result ≡ instruction_at (record cpu.now { pc = at }) rig.now }
@@ -39,8 +39,9 @@ pub fn instruction(cpu: &Cpu, rig: &BenchRig, at: Addr) -> Option<Op>
     cpu.instruction(rig, at)
 }
 
-/// The cycles of the instruction that is at an address, at most `left` of them, of a processor over a rig, where none is
-/// owed: the address where the processor goes on, and how many cycles it did. The counter itself stays as it is.
+/// Does the cycles of the instruction at an address, at most `left` of them, on a processor over a rig. No cycle is
+/// pending before it. Returns the address where the processor continues, and the number of cycles done. The counter
+/// itself stays as it is.
 #[inline(always)]
 pub fn run_instruction(
     cpu: &mut Cpu,

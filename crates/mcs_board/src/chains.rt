@@ -1,4 +1,5 @@
-//! The shift chains of a rig: put on a board and cleared, and a reader and a setter of their bits, which shifts nothing.
+//! The shift-register chains of a rig: placed on a board and cleared, and a reader and a setter of their bits. The
+//! setter shifts nothing.
 ghost use Rattle.std.specs.Prelude.{◌≡◌, ℕ, ◌<◌, ◌≤◌, ◌↔◌, All, IsTrue, length, replicate, [], IfOk, slice_index_or};
 ghost use Rattle.mcs_model.specs.Boards.{chain_bits, chain_count};
 ghost use Rattle.mcs_model.specs.Levels.{chain_bit};
@@ -10,7 +11,7 @@ use mcs_nibble::Bit;
 use mcs_shift4003::Chain;
 use std::alloc::{AllocError, Global};
 
-/// That many chains without bits.
+/// Returns `count` chains without bits. Fails if memory is refused.
 pub(crate) fn no_chains<const MAX: usize>(
     alloc: Global,
     count: usize,
@@ -24,7 +25,7 @@ pub(crate) fn no_chains<const MAX: usize>(
     Ok(chains)
 }
 
-/// How many bits chain `i` has; 0 where the board has no such chain.
+/// Returns the number of bits in chain `i`, or 0 if the board has no such chain.
 fn bits_of(board: &Board, i: usize) -> usize
     ensures { result ≡ chain_bits board.now i }
 {
@@ -35,7 +36,7 @@ fn bits_of(board: &Board, i: usize) -> usize
     }
 }
 
-/// Whether each chain of the board has at most `size` bits.
+/// Returns whether each chain of the board has at most `size` bits.
 pub(crate) fn chains_fit(board: &Board, size: usize) -> bool
     ensures { IsTrue result ↔ ((k : ℕ) → chain_bits board.now k ≤ size) }
 {
@@ -47,7 +48,7 @@ pub(crate) fn chains_fit(board: &Board, size: usize) -> bool
     true
 }
 
-/// Makes the chains those of a new board, with all bits 0.
+/// Replaces the chains by those of a new board, with all bits 0.
 pub(crate) fn rewire_chains<const MAX: usize>(chains: &mut Vec<Chain<MAX>>, board: &Board)
     requires { (k : ℕ) → chain_bits board.now k ≤ MAX }
     ensures count { length chains.new.items ≡ length chains.old.items }
@@ -59,7 +60,7 @@ pub(crate) fn rewire_chains<const MAX: usize>(chains: &mut Vec<Chain<MAX>>, boar
     }
 }
 
-/// Makes all bits of the chains 0.
+/// Sets all bits of the chains to 0.
 pub(crate) fn clear_chains<const MAX: usize>(chains: &mut Vec<Chain<MAX>>)
     ensures count { length chains.new.items ≡ length chains.old.items }
     ensures rows { (k : ℕ) → k < length chains.old.items → slice_index_or chains.new.items k []
@@ -70,7 +71,7 @@ pub(crate) fn clear_chains<const MAX: usize>(chains: &mut Vec<Chain<MAX>>)
     }
 }
 
-/// Equal chains.
+/// Returns equal chains. Fails if memory is refused.
 pub(crate) fn copied_chains<const MAX: usize>(
     alloc: Global,
     chains: &Vec<Chain<MAX>>,
@@ -90,7 +91,7 @@ impl<const ROMS: usize, const BANKS: usize, const CHAINS: usize, const MAX: usiz
     CHAINS,
     MAX,
 > {
-    /// How many chains the board has.
+    /// Returns the number of chains on the board.
     pub(crate) fn chain_count(&self) -> usize
         ensures count { result ≡ chain_count self.now.board }
         ensures rows { length self.now.chains ≡ chain_count self.now.board }
@@ -100,7 +101,7 @@ impl<const ROMS: usize, const BANKS: usize, const CHAINS: usize, const MAX: usiz
         self.parts().chains.len()
     }
 
-    /// Bit `i` of chain `n`; 0 beyond its end.
+    /// Returns bit `i` of chain `n`, or 0 beyond its end.
     pub(crate) fn bit_of_chain(&self, n: usize, i: usize) -> Bit
         requires { n < chain_count self.now.board }
         ensures { result ≡ chain_bit self.now n i }
@@ -112,7 +113,7 @@ impl<const ROMS: usize, const BANKS: usize, const CHAINS: usize, const MAX: usiz
         }
     }
 
-    /// Bit `i` of a chain, both counted from 0; 0 where the board has no such bit.
+    /// Returns bit `i` of a chain, both counted from 0, or 0 if the board has no such bit.
     pub fn chain_bit(&self, chain: u8, i: u8) -> Bit
         ensures { result ≡ chain_bit self.now chain i }
     {
@@ -123,7 +124,8 @@ impl<const ROMS: usize, const BANKS: usize, const CHAINS: usize, const MAX: usiz
         self.bit_of_chain(n, usize::from(i))
     }
 
-    /// Sets bit `i` of a chain, both counted from 0; lost where the board has no such bit. Nothing is shifted.
+    /// Sets bit `i` of a chain, both counted from 0. The write is lost if the board has no such bit. Nothing is
+    /// shifted.
     pub fn set_chain_bit(&mut self, chain: u8, i: u8, bit: Bit)
         ensures { self.new ≡ with_chain_bit self.old chain i bit }
     {
@@ -131,7 +133,7 @@ impl<const ROMS: usize, const BANKS: usize, const CHAINS: usize, const MAX: usiz
         if n >= self.chain_count() {
             return;
         }
-        // That there is memory for all sockets bounds the size of one, which `set_bit` asks for.
+        // Memory holds all sockets, which bounds the size of one; `set_bit` requires it.
         let chains = self.chains.as_slice();
         let _sockets = chains.len();
         let index = usize::from(i);
@@ -141,7 +143,7 @@ impl<const ROMS: usize, const BANKS: usize, const CHAINS: usize, const MAX: usiz
         self.chains[n].set_bit(index, bit);
     }
 
-    /// A law: each bit of the board's chains is 0 or 1.
+    /// Proves that each bit of the board's chains is 0 or 1.
     pub(crate) fn chains_are_valid(&self)
         ensures { (i : ℕ) → i < chain_count self.now.board →
             All (λ bit. bit < 2) (slice_index_or self.now.chains i []) }

@@ -1,8 +1,8 @@
 //! The rig: the chips on a board, as the processor's bus.
 //!
-//! A `Rig` holds the ROMs, RAM banks, shift chains and keys of a board, and is seen as one flat state. The counts of
-//! its sockets are its parameters; every board that fits them can be wired to it.
-//! Source: Intel MCS-4 Users Manual, the chips; what it leaves open is said beside the definitions in `mcs_model`.
+//! A `Rig` holds the ROMs, RAM banks, shift-register chains and keys of a board. Contracts see it as one flat state.
+//! The counts of its sockets are its parameters; every board that fits them can be wired to it. Source: Intel MCS-4
+//! Users Manual, the chips. The definitions in `mcs_model` say what the manual leaves open.
 #![tactic(auto)]
 
 mod banks;

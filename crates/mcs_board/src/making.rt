@@ -1,4 +1,4 @@
-//! A rig made, put on another board, and reset.
+//! Creation, rewiring and reset of a rig.
 
 ghost use Rattle.std.specs.Prelude.{◌≡◌, ◌↔◌, IfOk, IsTrue};
 ghost use Rattle.mcs_model.specs.Bus.{zero_bus};
@@ -18,11 +18,11 @@ use mcs_model::board::Board;
 use mcs_nibble::Bit;
 use std::alloc::{AllocError, Global};
 
-/// The most bits of a chain: a chain has room for a word of two bytes for each, so that one of more would be larger
+/// The most bits of a chain. A chain has room for a word of two bytes for each bit, so a longer one would be larger
 /// than any memory.
 const MOST_BITS: usize = isize::MAX as usize / 4;
 
-/// How many addresses the ROMs have.
+/// The number of addresses of the ROMs.
 const ADDRESSES: usize = 4096;
 
 impl<const ROMS: usize, const BANKS: usize, const CHAINS: usize, const MAX: usize> Rig<
@@ -31,11 +31,11 @@ impl<const ROMS: usize, const BANKS: usize, const CHAINS: usize, const MAX: usiz
     CHAINS,
     MAX,
 > {
-    /// A rig with the empty board. All is 0, but TEST, which is 1.
+    /// Returns a rig with the empty board. All state is 0, except TEST, which is 1.
     ///
     /// # Errors
     ///
-    /// Where memory for the sockets of its chips and for their program is refused, or where one chain would not fit any
+    /// Fails if memory for the sockets of its chips and for their program is refused, or if one chain would not fit any
     /// memory. No other call of a rig takes memory.
     pub fn new(alloc: Global) -> Result<Self, AllocError>
         ensures { IfOk result (λ rig. rig ≡ record zero_bus { test = 1 }) }
@@ -54,12 +54,12 @@ impl<const ROMS: usize, const BANKS: usize, const CHAINS: usize, const MAX: usiz
         })
     }
 
-    /// An equal rig.
+    /// Returns an equal rig.
     ///
     /// # Errors
     ///
-    /// Where memory for the sockets of its chips and for their program is refused, or where one chain would not fit any
-    /// memory, of which no rig is made.
+    /// Fails if memory for the sockets of its chips and for their program is refused, or if one chain would not fit any
+    /// memory. No rig has such a chain.
     pub fn copy(&self, alloc: Global) -> Result<Self, AllocError>
         ensures { IfOk result (λ rig. rig ≡ self.now) }
     {
@@ -77,8 +77,8 @@ impl<const ROMS: usize, const BANKS: usize, const CHAINS: usize, const MAX: usiz
         })
     }
 
-    /// Puts the rig on another board, which has to fit its counts. All keys are up, all that a reset clears is
-    /// cleared, and the bytes of ROMs that the board lacks become 0; the other bytes and TEST stay.
+    /// Puts the rig on another board, which must fit its counts. All keys are up, everything that a reset clears is
+    /// cleared, and the bytes of ROMs that the board lacks become 0. The other bytes and TEST stay.
     pub fn wire(&mut self, board: &Board)
         requires { FitsCounts board.now ROMS BANKS CHAINS MAX }
         ensures { self.new ≡ after_wire self.old board.now }
@@ -88,14 +88,14 @@ impl<const ROMS: usize, const BANKS: usize, const CHAINS: usize, const MAX: usiz
         rewire_banks(&mut self.banks, board);
         self.keys = KeyPad::of(board.copy());
         self.rom_src = 0;
-        // A rig without a socket for a chain has none to put on the board.
+        // A rig without a socket for a chain has no chain to put on the board.
         if self.chains.as_slice().is_empty() {
             return;
         }
         rewire_chains(&mut self.chains, board);
     }
 
-    /// A power cycle: RAM, port latches, the kept SRC bytes and the chains become 0, and nothing is shifted. ROM,
+    /// Does a power cycle: RAM, port latches, the kept SRC bytes and the chains become 0, and nothing is shifted. ROM,
     /// keys, TEST and the board stay.
     pub fn reset(&mut self)
         ensures { self.new ≡ after_reset self.old }
@@ -103,14 +103,14 @@ impl<const ROMS: usize, const BANKS: usize, const CHAINS: usize, const MAX: usiz
         clear_ports(&mut self.roms);
         clear_banks(&mut self.banks);
         self.rom_src = 0;
-        // A rig without a socket for a chain has none to clear.
+        // A rig without a socket for a chain has no chain to clear.
         if self.chains.as_slice().is_empty() {
             return;
         }
         clear_chains(&mut self.chains);
     }
 
-    /// Whether a board fits the counts of the rig, so that the rig can be wired to it.
+    /// Returns whether a board fits the counts of the rig, so that the rig can be wired to it.
     pub fn fits(board: &Board) -> bool
         ensures { IsTrue result ↔ FitsCounts board.now ROMS BANKS CHAINS MAX }
     {
@@ -123,8 +123,8 @@ impl<const ROMS: usize, const BANKS: usize, const CHAINS: usize, const MAX: usiz
         board.chain_count() <= CHAINS && chains_fit(board, MAX)
     }
 
-    /// A law: the board is valid, each place of the chips holds a number of its kind, there are as many places as the
-    /// board gives, and what is absent holds 0.
+    /// Proves that the board is valid, that each chip value is in its range, that the lists are as long as the board
+    /// says, and that absent locations hold 0.
     pub fn show_state_is_valid(&self)
         ensures { IsValidBus self.now }
     {

@@ -1,4 +1,4 @@
-//! What a rig holds: the chips, which have a module for each kind, the board and the level of TEST.
+//! The contents of a rig: the chips, which have a module for each kind, the board and the level of TEST.
 ghost use Rattle.std.specs.Prelude.{◌≡◌, None};
 ghost use Rattle.mcs_model.specs.Boards.{board_fault_of, IsSized};
 
@@ -10,12 +10,12 @@ use mcs_rom4001::RomPort;
 use mcs_shift4003::Chain;
 use std::marker::Model;
 
-/// A board and the chips on it: at most `ROMS` ROMs, `BANKS` banks of RAM chips, and `CHAINS` shift chains of at most
-/// `MAX` bits. Contracts see it as the flat state that its chips are in.
+/// A board and the chips on it: at most `ROMS` ROMs, `BANKS` banks of RAM chips, and `CHAINS` shift-register chains of
+/// at most `MAX` bits. Contracts see it as the flat state of its chips.
 #[derive(Drop)]
 pub struct Rig<const ROMS: usize, const BANKS: usize, const CHAINS: usize, const MAX: usize> {
     pub(crate) roms: Vec<Option<RomPort>>,
-    // The bytes of the ROMs, by address: a fetch reads one place.
+    // The bytes of the ROMs, by address: a fetch reads one element.
     pub(crate) program: Vec<u8>,
     pub(crate) banks: Vec<Bank<4>>,
     pub(crate) chains: Vec<Chain<MAX>>,
@@ -45,7 +45,7 @@ impl<const ROMS: usize, const BANKS: usize, const CHAINS: usize, const MAX: usiz
     CHAINS,
     MAX,
 > {
-    /// The parts of the board. Nothing is wrong with them.
+    /// Returns the parts of the board. They have no fault.
     pub(crate) fn parts(&self) -> &BoardParts
         ensures same { result.now ≡ self.now.board }
         ensures valid { board_fault_of self.now.board ≡ None }
@@ -55,14 +55,14 @@ impl<const ROMS: usize, const BANKS: usize, const CHAINS: usize, const MAX: usiz
         self.keys.board().parts()
     }
 
-    /// The board.
+    /// Returns the board.
     pub fn board(&self) -> &Board
         ensures { result.now ≡ self.now.board }
     {
         self.keys.board()
     }
 
-    /// The level of the TEST pin.
+    /// Returns the level of the TEST pin.
     pub fn test_level(&self) -> Bit
         ensures { result ≡ self.now.test }
     {

@@ -1,5 +1,5 @@
-//! The ROMs of a rig: put on a board and cleared, and a reader and a setter of what each holds. A setter changes its
-//! place alone and clocks nothing.
+//! The ROMs of a rig: placed on a board and cleared, and a reader and a setter of each value. A setter changes its
+//! location alone and clocks nothing.
 ghost use Rattle.std.specs.Prelude.{◌≡◌, ℕ, ◌<◌, ◌≤◌, ◌↔◌, IsTrue, All, length, replicate, None, IfOk, IfSome, slice_index, slice_index_or};
 ghost use Rattle.mcs_rom4001.specs.Roms.{IsValidPort};
 ghost use Rattle.mcs_model.specs.Boards.{masks_on};
@@ -14,7 +14,7 @@ use mcs_nibble::{Addr, LineMask, Nibble};
 use mcs_rom4001::RomPort;
 use std::alloc::{AllocError, Global};
 
-/// That many sockets for ROMs, all empty.
+/// Returns `count` sockets for ROMs, all empty. Fails if memory is refused.
 pub(crate) fn no_roms(alloc: Global, count: usize) -> Result<Vec<Option<RomPort>>, AllocError>
     ensures { IfOk result (λ roms. roms.items ≡ replicate count None) }
 {
@@ -25,7 +25,7 @@ pub(crate) fn no_roms(alloc: Global, count: usize) -> Result<Vec<Option<RomPort>
     Ok(roms)
 }
 
-/// That many bytes, all 0.
+/// Returns `count` bytes, all 0. Fails if memory is refused.
 pub(crate) fn no_program(alloc: Global, count: usize) -> Result<Vec<u8>, AllocError>
     ensures { IfOk result (λ program. program.items ≡ replicate count 0) }
 {
@@ -36,7 +36,7 @@ pub(crate) fn no_program(alloc: Global, count: usize) -> Result<Vec<u8>, AllocEr
     Ok(program)
 }
 
-/// The masks of ROM `i`, if the board has it.
+/// Returns the masks of ROM `i`, if the board has it.
 fn mask_of(board: &Board, i: usize) -> Option<[LineMask; 4]>
     ensures { result ≡ masks_on board.now i }
 {
@@ -48,7 +48,7 @@ fn mask_of(board: &Board, i: usize) -> Option<[LineMask; 4]>
     }
 }
 
-/// Whether the board has no ROM beyond the first `sockets`.
+/// Returns whether the board has no ROM beyond the first `sockets`.
 pub(crate) fn roms_fit(board: &Board, sockets: usize) -> bool
     ensures { IsTrue result ↔ ((k : ℕ) → sockets ≤ k → masks_on board.now k ≡ None) }
 {
@@ -61,7 +61,7 @@ pub(crate) fn roms_fit(board: &Board, sockets: usize) -> bool
     true
 }
 
-/// The port of a ROM with these masks, if the ROM is there. The latch is 0.
+/// Returns the port of a ROM with these masks, if the ROM is present. The latch is 0.
 fn port_with(mask: Option<[LineMask; 4]>) -> Option<RomPort>
     ensures { result ≡ port_on mask }
 {
@@ -82,7 +82,7 @@ pub(crate) fn rewire_roms(roms: &mut Vec<Option<RomPort>>, board: &Board)
     }
 }
 
-/// Makes the bytes of the ROMs that a board lacks 0.
+/// Sets the bytes of the ROMs that a board lacks to 0.
 pub(crate) fn clear_absent(program: &mut Vec<u8>, board: &Board)
     requires { length program.old.items ≡ 4096 }
     ensures { program.new.items ≡ kept_rom board.now program.old.items }
@@ -95,7 +95,7 @@ pub(crate) fn clear_absent(program: &mut Vec<u8>, board: &Board)
     }
 }
 
-/// Makes the latch of a ROM 0, if it is there.
+/// Sets the latch of a ROM to 0, if the ROM is present.
 fn clear_port(rom: &mut Option<RomPort>)
     ensures { rom.new ≡ port_after_reset rom.old }
 {
@@ -104,7 +104,7 @@ fn clear_port(rom: &mut Option<RomPort>)
     }
 }
 
-/// Makes the latches of the ROMs 0.
+/// Sets the latches of the ROMs to 0.
 pub(crate) fn clear_ports(roms: &mut Vec<Option<RomPort>>)
     ensures count { length roms.new.items ≡ length roms.old.items }
     ensures roms { (k : ℕ) → k < length roms.old.items → slice_index_or roms.new.items k None
@@ -115,7 +115,7 @@ pub(crate) fn clear_ports(roms: &mut Vec<Option<RomPort>>)
     }
 }
 
-/// An equal socket of a ROM.
+/// Returns an equal socket of a ROM.
 fn copied_rom(rom: &Option<RomPort>) -> Option<RomPort>
     ensures { result ≡ rom.now }
 {
@@ -125,7 +125,7 @@ fn copied_rom(rom: &Option<RomPort>) -> Option<RomPort>
     }
 }
 
-/// Equal sockets of the ROMs.
+/// Returns equal sockets of the ROMs. Fails if memory is refused.
 pub(crate) fn copied_roms(
     alloc: Global,
     roms: &Vec<Option<RomPort>>,
@@ -139,7 +139,7 @@ pub(crate) fn copied_roms(
     Ok(copy)
 }
 
-/// A law: a ROM's socket is empty, or its ROM is valid.
+/// Proves that a ROM's socket is empty, or that its ROM is valid.
 fn rom_is_valid(rom: &Option<RomPort>)
     ensures { IfSome rom.now IsValidPort }
 {
@@ -148,7 +148,7 @@ fn rom_is_valid(rom: &Option<RomPort>)
     }
 }
 
-/// A law: each ROM that is there is valid.
+/// Proves that each ROM that is present is valid.
 pub(crate) fn roms_are_valid(roms: &Vec<Option<RomPort>>)
     ensures { (k : ℕ) → k < length roms.now.items →
         IfSome (slice_index_or roms.now.items k None) IsValidPort }
@@ -158,14 +158,14 @@ pub(crate) fn roms_are_valid(roms: &Vec<Option<RomPort>>)
     }
 }
 
-/// A law: each byte is below 256.
+/// Proves that each byte is below 256.
 pub(crate) fn are_bytes(program: &Vec<u8>)
     ensures { All (λ byte. byte < 256) program.now.items }
 {
     let _bytes = program.as_slice();
 }
 
-/// The latch of a ROM, if it is there.
+/// Returns the latch of a ROM, if the ROM is present.
 fn latch_in(rom: &Option<RomPort>) -> Nibble
     ensures { result ≡ port_of_rom rom.now }
 {
@@ -181,14 +181,14 @@ impl<const ROMS: usize, const BANKS: usize, const CHAINS: usize, const MAX: usiz
     CHAINS,
     MAX,
 > {
-    /// The byte at an address; 0 where the ROM is absent.
+    /// Returns the byte at an address, or 0 if the ROM is absent.
     pub fn rom_byte(&self, at: Addr) -> u8
         ensures { result ≡ slice_index self.now.rom at }
     {
         self.program[usize::from(at.get())]
     }
 
-    /// Sets the byte at an address; lost where the ROM is absent.
+    /// Sets the byte at an address. The write is lost if the ROM is absent.
     pub fn set_rom_byte(&mut self, at: Addr, byte: u8)
         ensures { self.new ≡ with_rom_byte self.old at byte }
     {
@@ -197,7 +197,7 @@ impl<const ROMS: usize, const BANKS: usize, const CHAINS: usize, const MAX: usiz
         }
     }
 
-    /// What the port latch of a ROM, 0 to 15, holds; 0 on input lines, and where the ROM is absent.
+    /// Returns the port latch of a ROM, 0 to 15. It is 0 on input lines, and if the ROM is absent.
     pub fn rom_latch(&self, chip: u8) -> Nibble
         requires { chip < 16 }
         ensures { result ≡ slice_index self.now.rom_ports chip }
@@ -210,8 +210,8 @@ impl<const ROMS: usize, const BANKS: usize, const CHAINS: usize, const MAX: usiz
         }
     }
 
-    /// Sets the port latch of a ROM, 0 to 15, whose bits at input lines stay 0; lost where the ROM is absent. No chain
-    /// is clocked.
+    /// Sets the port latch of a ROM, 0 to 15. Its bits at input lines stay 0. The write is lost if the ROM is absent.
+    /// No chain is clocked.
     pub fn set_rom_latch(&mut self, chip: u8, n: Nibble)
         requires { chip < 16 }
         ensures { self.new ≡ with_rom_latch self.old chip n }
@@ -225,7 +225,7 @@ impl<const ROMS: usize, const BANKS: usize, const CHAINS: usize, const MAX: usiz
         }
     }
 
-    /// The SRC byte that the ROMs keep.
+    /// Returns the SRC byte that the ROMs keep.
     pub fn rom_src(&self) -> u8
         ensures { result ≡ self.now.rom_src }
     {

@@ -12,3 +12,5 @@ pub mod Ignoring
 pub mod Always
 pub mod Pressing
 pub mod Beginning
+pub mod Scoping
+pub mod Spinning

@@ -9,3 +9,4 @@ pub mod Walking
 pub mod Searched
 pub mod Promised
 pub mod Held
+pub mod Scopes

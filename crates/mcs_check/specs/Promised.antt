@@ -9,4 +9,5 @@ abbrev pub IsProved : (Tracked → Bool) → Tracked → Outcome → Type 0
 IsProved p s (outcome.Holds n) = Holds p s
 IsProved p s (outcome.MayFail values) = Unit {0}
 IsProved p s outcome.TooMany = Unit {0}
+IsProved p s (outcome.NoMemory n) = Unit {0}
 IsProved p s outcome.GaveUp = Unit {0}

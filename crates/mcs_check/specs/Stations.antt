@@ -1,12 +1,13 @@
 -- What a machine reads of the outside, and its run to where the next cycle reads again.
-use Rattle.std.specs.Prelude.{◌≡◌, ◌<◌, ◌≤◌, ◌/◌, ◌%◌, ◌==◌, ◌&&◌, ℕ, Bool, true, false, Some, None, nat_le}
+use Rattle.std.specs.Prelude.{◌≡◌, ◌<◌, ◌≤◌, ◌+◌, ◌/◌, ◌%◌, ◌==◌, ◌&&◌, ℕ, Bool, true, false, Some, None, nat_le}
 use Rattle.mcs_nibble.specs.Bits.{bit_of}
 use Rattle.mcs_nibble.specs.Ports.{read_lines}
 use Rattle.mcs_model.specs.declared.op.Op.{Op}
-use Rattle.mcs_model.specs.declared.op.Op.TheVariants.{Jcn, Rdr}
+use Rattle.mcs_model.specs.declared.op.Op.TheVariants.{Isz, Jcn, Rdr}
 use Rattle.mcs_model.specs.Boards.{masks_on}
 use Rattle.mcs_model.specs.Bus.{BusState}
-use Rattle.mcs_model.specs.Effect.{instruction_at}
+use Rattle.mcs_model.specs.Effect.{address_beside, instruction_at}
+use Rattle.mcs_model.specs.Registers.{register_of, with_register}
 use Rattle.mcs_drive.specs.Driven.{Levels, FitBoard}
 use Rattle.mcs_drive.specs.Asking.{asks}
 use Rattle.mcs_drive.specs.Tracked.{Tracked, under, plain, cycled, after_cycles, is_asking, answer}
@@ -65,3 +66,17 @@ pub record Reaches (p : Tracked → Bool) (s t : Tracked) : Type 0 where
   pub quiet : (i : ℕ) → i < cycles → is_asking (after_cycles i s) ≡ false
   pub well : (i : ℕ) → i ≤ cycles → p (after_cycles i s) ≡ true
   pub at : t ≡ after_cycles cycles s
+
+-- the next cycle begins an ISZ of register r that jumps to itself, and not for the last time
+pub record Spins (r : ℕ) (s : Tracked) : Type 0 where
+  pub free : s.0.owed ≡ 0
+  pub word : ℕ
+  pub next : instruction_at s.0 s.1 ≡ Some (Isz r word)
+  pub back : address_beside ((s.0.pc + 2) % 4096) word ≡ s.0.pc
+  pub few : register_of s.0 r < 15
+
+-- all passes of it but the last one lead from s to t
+pub record HasSpun (s t : Tracked) : Type 0 where
+  pub register : ℕ
+  pub spins : Spins register s
+  pub at : t ≡ (with_register s.0 register 15, s.1, s.2)

@@ -1,5 +1,5 @@
 //! The cells of a machine, and the layout of a board: the cells that its machines have.
-ghost use Rattle.std.specs.Prelude.{◌≡◌, ◌<◌, IfOk, OnOk};
+ghost use Rattle.std.specs.Prelude.{◌≡◌, ◌<◌, ◌%◌, IfOk, OnOk};
 ghost use Rattle.mcs_check.specs.Cells.{count_of, is_there, HasAll, HasList, IsComplete};
 
 use mcs_model::board::{Board, Line};
@@ -58,6 +58,15 @@ impl CellList {
             CellList::Counters => 14,
             CellList::Chain(_) => 256,
         }
+    }
+}
+
+impl Cell {
+    /// Returns the index into the list. An index beyond the list begins again at its front.
+    pub(crate) fn place(self) -> u16
+        ensures { result ≡ self.index % count_of self.list }
+    {
+        self.index % self.list.count()
     }
 }
 

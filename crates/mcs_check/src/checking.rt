@@ -21,17 +21,28 @@ pub enum Outcome {
     MayFail(Vec<u8>),
     /// There are more states than were asked for.
     TooMany,
+    /// Memory has room for this many states, and there may be more.
+    NoMemory(usize),
     /// The search gave up.
     GaveUp,
 }
 
-/// Searches through all that a machine can do, whatever its keys and its TEST pin do, in at most `most` states, and looks
-/// whether conditions are met after each cycle. A pause without reads is cut every `pause` cycles.
+/// The bytes that a state takes beside its key, at most: its parent, and its part of the table.
+const STATE_BYTES: usize = 24;
+
+/// Returns how many states of a key this long have room in so many bytes.
+fn room_in(memory: usize, key_len: usize) -> usize {
+    memory / key_len.saturating_add(STATE_BYTES)
+}
+
+/// Searches through all that a machine can do, whatever its keys and its TEST pin do, in at most `most` states and about
+/// `memory` bytes, and looks whether conditions are met after each cycle. A pause without reads is cut every `pause` cycles.
 pub fn check_all(
     alloc: Global,
     mut replica: Replica,
     nevers: Vec<Never>,
     most: usize,
+    memory: usize,
     pause: u32,
 ) -> Result<Outcome, AllocError>
     requires { most ≤ MOST }
@@ -51,10 +62,13 @@ pub fn check_all(
         nevers,
         most: pause,
     };
-    match search_all(alloc, &mut walker, &key, most)? {
+    let limit = most.min(room_in(memory, key.len()));
+    match search_all(alloc, &mut walker, &key, limit)? {
         Verdict::Holds(states) => Ok(Outcome::Holds(states)),
         Verdict::Broken(values) => Ok(Outcome::MayFail(values)),
+        Verdict::TooMany if limit < most => Ok(Outcome::NoMemory(limit)),
         Verdict::TooMany => Ok(Outcome::TooMany),
+        Verdict::NoMemory(states) => Ok(Outcome::NoMemory(states)),
         Verdict::GaveUp => Ok(Outcome::GaveUp),
     }
 }

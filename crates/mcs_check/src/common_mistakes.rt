@@ -39,6 +39,17 @@ impl Mistakes {
         no_inputs: false,
         no_outputs: false,
     };
+
+    /// Looks for all.
+    pub(crate) const ALL: Mistakes = Mistakes {
+        no_code: true,
+        fourth_call: true,
+        lone_return: true,
+        absent_ram: true,
+        absent_rom: true,
+        no_inputs: true,
+        no_outputs: true,
+    };
 }
 
 /// Returns whether an instruction is a JMS while three calls are open.
@@ -180,7 +191,7 @@ impl Replica {
     }
 
     /// Returns whether an instruction makes one of these mistakes.
-    fn makes(&self, asked: &Mistakes, op: &Op) -> bool
+    pub(crate) fn makes(&self, asked: &Mistakes, op: &Op) -> bool
         ensures { result ≡ makes asked.now op.now self.now }
     {
         self.errs_in_calls(asked, op)

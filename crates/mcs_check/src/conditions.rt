@@ -129,6 +129,13 @@ impl Never {
         Never { conditions }
     }
 
+    /// Returns the conditions.
+    pub(crate) fn conditions(&self) -> &[Condition]
+        ensures { result.now ≡ self.now }
+    {
+        &self.conditions
+    }
+
     /// Returns whether all conditions are met.
     fn is_met(&self, replica: &Replica) -> bool
         ensures { result ≡ are_met replica.now self.now }

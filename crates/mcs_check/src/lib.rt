@@ -14,6 +14,7 @@ mod laws;
 mod packing;
 mod reading;
 mod replica;
+mod scope;
 mod station;
 mod walker;
 mod walking;

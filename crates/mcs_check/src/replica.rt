@@ -128,19 +128,27 @@ impl Replica {
     pub fn value(&self, cell: Cell) -> u8
         ensures { result ≡ value_at self.now cell }
     {
-        let i = cell.index % cell.list.count();
         match cell.list {
-            CellList::Characters => self.rig.ram((i / 256) as u8, (i % 256) as u8).get(),
+            CellList::Characters => {
+                let i = cell.place();
+                self.rig.ram((i / 256) as u8, (i % 256) as u8).get()
+            }
             CellList::StatusCharacters => {
+                let i = cell.place();
                 let high = Nibble::low_of((i / 4 % 16) as u8);
                 self.rig.status((i / 64) as u8, high, (i % 4) as u8).get()
             }
-            CellList::RamPorts => self.rig.ram_latch((i / 4) as u8, (i % 4) as u8).get(),
-            CellList::RomPorts => self.rig.rom_latch(i as u8).get(),
-            CellList::BankSrcs => self.rig.ram_src(i as u8),
-            CellList::Registers => self.cpu.regs().r[usize::from(i)].get(),
-            CellList::Counters => counters(&self.cpu, &self.rig, self.calls)[usize::from(i)],
-            CellList::Chain(n) => self.rig.chain_bit(n, i as u8).get(),
+            CellList::RamPorts => {
+                let i = cell.place();
+                self.rig.ram_latch((i / 4) as u8, (i % 4) as u8).get()
+            }
+            CellList::RomPorts => self.rig.rom_latch(cell.place() as u8).get(),
+            CellList::BankSrcs => self.rig.ram_src(cell.place() as u8),
+            CellList::Registers => self.cpu.regs().r[usize::from(cell.place())].get(),
+            CellList::Counters => {
+                counters(&self.cpu, &self.rig, self.calls)[usize::from(cell.place())]
+            }
+            CellList::Chain(n) => self.rig.chain_bit(n, cell.place() as u8).get(),
         }
     }
 
@@ -148,29 +156,34 @@ impl Replica {
     fn set(&mut self, cell: Cell, n: u8)
         ensures { Keeps self.old.1 self.new.1 }
     {
-        let i = cell.index % cell.list.count();
         match cell.list {
             CellList::Characters => {
+                let i = cell.place();
                 self.rig
                     .set_ram((i / 256) as u8, (i % 256) as u8, Nibble::low_of(n));
             }
             CellList::StatusCharacters => {
+                let i = cell.place();
                 let high = Nibble::low_of((i / 4 % 16) as u8);
                 self.rig
                     .set_status((i / 64) as u8, high, (i % 4) as u8, Nibble::low_of(n));
             }
             CellList::RamPorts => {
+                let i = cell.place();
                 self.rig
                     .set_ram_latch((i / 4) as u8, (i % 4) as u8, Nibble::low_of(n));
             }
-            CellList::RomPorts => self.rig.set_rom_latch(i as u8, Nibble::low_of(n)),
-            CellList::BankSrcs => self.rig.set_ram_src(i as u8, n),
+            CellList::RomPorts => self
+                .rig
+                .set_rom_latch(cell.place() as u8, Nibble::low_of(n)),
+            CellList::BankSrcs => self.rig.set_ram_src(cell.place() as u8, n),
             CellList::Registers => {
                 let mut r = self.cpu.regs().r;
-                r[usize::from(i)] = Nibble::low_of(n);
+                r[usize::from(cell.place())] = Nibble::low_of(n);
                 self.cpu.set_r(r);
             }
             CellList::Counters => {
+                let i = cell.place();
                 if i == 12 {
                     self.rig.set_rom_src(n);
                 } else if i == 13 {
@@ -179,7 +192,10 @@ impl Replica {
                     set_counter(&mut self.cpu, i, n);
                 }
             }
-            CellList::Chain(chain) => self.rig.set_chain_bit(chain, i as u8, Bit::low_of(n)),
+            CellList::Chain(chain) => {
+                self.rig
+                    .set_chain_bit(chain, cell.place() as u8, Bit::low_of(n));
+            }
         }
     }
 

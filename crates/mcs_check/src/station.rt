@@ -1,20 +1,26 @@
 //! The run of a machine from where a cycle reads of the outside to where the next one does.
-ghost use Rattle.std.specs.Prelude.{◌≡◌, ◌<◌, ◌==◌, ◌||◌, ◌&&◌, false, length, Some, IsTrue, replicate};
+ghost use Rattle.std.specs.Prelude.{◌≡◌, ◌<◌, ◌+◌, ◌%◌, ◌==◌, ◌||◌, ◌&&◌, ◌⊎◌, true, false, length, nat_lt, IfSome, Some, IsTrue, replicate};
 ghost use Rattle.mcs_model.specs.Boards.{key_count};
+ghost use Rattle.mcs_model.specs.Effect.{address_beside, instruction_at};
 ghost use Rattle.mcs_model.specs.Levels.{port_of};
+ghost use Rattle.mcs_model.specs.Registers.{register_of};
 ghost use Rattle.mcs_model.specs.declared.op.Op.TheVariants.{Rdr};
 ghost use Rattle.mcs_drive.specs.Asking.{asks};
-ghost use Rattle.mcs_drive.specs.Tracked.{calls_after, cycled, is_asking, open_after};
+ghost use Rattle.mcs_drive.specs.Tracked.{calls_after, cycled, is_asking, next_op, open_after};
 ghost use Rattle.mcs_check.specs.Conditions.{keeps_to};
 ghost use Rattle.mcs_check.specs.Keys.{Keeps};
-ghost use Rattle.mcs_check.specs.Stations.{Begins, LooksAtTest, Reads, CannotRead, HasRead, Reaches, has_no_more, port_unpressed};
+ghost use Rattle.mcs_check.specs.Scopes.{cycle_changes, errs};
+ghost use Rattle.mcs_check.specs.Stations.{Begins, LooksAtTest, Reads, CannotRead, HasRead, HasSpun, Reaches, Spins, has_no_more, port_unpressed};
 
 use crate::cells::Cell;
+use crate::common_mistakes::Mistakes;
 use crate::conditions::{Never, keeps_to};
 use crate::reading::{Source, source_of};
 use crate::replica::Replica;
+use crate::scope::{Scope, scope_of};
 use mcs_model::op::Op;
-use mcs_nibble::{Addr, Bit, Nibble};
+use mcs_model::regs::Regs;
+use mcs_nibble::{Addr, Bit, Nibble, RegNo};
 use mcs_rom4001::read_port_of;
 
 /// Returns whether each bit of a nibble is one of another nibble.
@@ -38,13 +44,22 @@ fn calls_after_op(op: &Op, calls: u8) -> u8
     }
 }
 
-/// What is known of the next cycle before it is run.
+/// The most cycles that an ISZ which jumps to itself takes before its last pass.
+const MOST_PASSED: u32 = 30;
+
+/// What is known of the next cycle before it is run, and of the scope of conditions.
 #[derive(Clone, Copy)]
 struct Ahead {
     /// Whether it may read of the outside.
     may_read: bool,
+    /// Whether it makes a mistake, if mistakes are in the scope.
+    errs: bool,
+    /// Whether it may change a register or a chip that is in the scope.
+    changes: bool,
     /// How many calls are open after it.
     calls: u8,
+    /// The register of an ISZ that it begins, if that jumps to itself, and not for the last time.
+    spins: Option<RegNo>,
 }
 
 /// Returns whether an instruction may read of the outside.
@@ -55,6 +70,29 @@ fn may_read(op: Op) -> bool
         Source::Nothing => false,
         Source::Port | Source::Test => true,
     }
+}
+
+/// Returns whether a word leads from after a two-word instruction at an address back to it.
+fn leads_back(at: Addr, word: u8) -> bool
+    ensures { result ≡ (address_beside ((at + 2) % 4096) word == at) }
+{
+    Addr::on_page(at.plus(2).page(), word).get() == at.get()
+}
+
+/// Returns whether an ISZ at the counter jumps to itself, and not for the last time.
+fn is_pass(regs: &Regs, r: RegNo, word: u8) -> bool
+    ensures { result ≡ (regs.now.owed == 0 && address_beside ((regs.now.pc + 2) % 4096) word == regs.now.pc
+        && nat_lt (register_of regs.now r) 15) }
+{
+    regs.owed == 0 && leads_back(regs.pc, word) && regs.register(r).get() < 15
+}
+
+/// Returns whether the passes of a loop may be run at once: there are cycles left for them, no machine is looked for among
+/// them, conditions are in a scope in which nothing is changed, and no mistake is made.
+fn may_spin(left: u32, is_sought: bool, has_each: bool, ahead: &Ahead) -> bool
+    ensures { result ≡ true → (has_each ≡ true) × ((ahead.now.errs ≡ false) × (ahead.now.changes ≡ false)) }
+{
+    left >= MOST_PASSED && !is_sought && has_each && !ahead.errs && !ahead.changes
 }
 
 impl Replica {
@@ -77,16 +115,54 @@ impl Replica {
         self.cpu.regs().pc
     }
 
-    /// Returns what is known of the next cycle.
-    fn ahead(&self) -> Ahead
+    /// Returns how many calls are open after the next cycle.
+    fn open_after(&self) -> u8
+        ensures { result ≡ open_after self.now.0 self.now.1 self.now.2 }
+    {
+        let registers = self.cpu.regs();
+        if registers.owed == 1 {
+            return self.calls;
+        }
+        match mcs_board::instruction(&self.cpu, &self.rig, registers.pc) {
+            Some(op) => calls_after_op(&op, self.calls),
+            None => self.calls,
+        }
+    }
+
+    /// Returns the register of this instruction at the counter, if it is an ISZ that jumps to itself, and not for the last
+    /// time.
+    fn spins(&self, op: Op) -> Option<RegNo>
+        requires { instruction_at self.now.0 self.now.1 ≡ Some op }
+        ensures { IfSome result (λ r. Spins r self.now) }
+    {
+        match op {
+            Op::Isz(r, word) => {
+                if is_pass(&self.cpu.regs(), r, word) {
+                    Some(r)
+                } else {
+                    None
+                }
+            }
+            _ => None,
+        }
+    }
+
+    /// Returns what is known of the next cycle, and of a scope.
+    fn ahead(&self, scope: &Scope) -> Ahead
         ensures quiet { result.may_read ≡ false → is_asking self.now ≡ false }
+        ensures errs { result.errs ≡ errs scope.now self.now }
+        ensures changes { result.changes ≡ cycle_changes scope.now (next_op self.now.0 self.now.1) }
         ensures calls { result.calls ≡ open_after self.now.0 self.now.1 self.now.2 }
+        ensures spins { IfSome result.spins (λ r. Spins r self.now) }
     {
         let registers = self.cpu.regs();
         if registers.owed == 1 {
             return Ahead {
                 may_read: false,
+                errs: false,
+                changes: false,
                 calls: self.calls,
+                spins: None,
             };
         }
         match mcs_board::instruction(&self.cpu, &self.rig, registers.pc) {
@@ -94,12 +170,18 @@ impl Replica {
                 let calls = calls_after_op(&op, self.calls);
                 Ahead {
                     may_read: may_read(op),
+                    errs: scope.mistakes && self.makes(&Mistakes::ALL, &op),
+                    changes: scope.changes(op),
                     calls,
+                    spins: self.spins(op),
                 }
             }
             None => Ahead {
                 may_read: false,
+                errs: scope.mistakes,
+                changes: false,
                 calls: self.calls,
+                spins: None,
             },
         }
     }
@@ -111,6 +193,31 @@ impl Replica {
     {
         let _cycle = mcs_board::cycle(&mut self.cpu, &mut self.rig);
         self.calls = calls;
+    }
+
+    /// Runs all passes of an ISZ that jumps to itself but the last one. Returns the number of their cycles.
+    fn spin(&mut self, r: RegNo) -> u32
+        requires { Spins r self.old }
+        ensures { HasSpun self.old self.new }
+    {
+        let passes = 15 - self.cpu.regs().register(r).get();
+        self.cpu.set_register(r, Nibble::low_of(15));
+        2 * u32::from(passes)
+    }
+
+    /// Runs one cycle, or all passes of an ISZ that jumps to itself but the last one, if it may. Returns the number of cycles.
+    fn go_on(&mut self, ahead: &Ahead, may_spin: bool) -> u32
+        requires calls { ahead.now.calls ≡ open_after self.old.0 self.old.1 self.old.2 }
+        requires spins { IfSome ahead.now.spins (λ r. Spins r self.old) }
+        ensures { (self.new ≡ cycled self.old) ⊎ ((may_spin ≡ true) × HasSpun self.old self.new) }
+    {
+        if may_spin {
+            if let Some(r) = ahead.spins {
+                return self.spin(r);
+            }
+        }
+        self.cycle(ahead.calls);
+        1
     }
 
     /// Returns whether the next cycle may answer this value though it reads nothing.
@@ -162,8 +269,8 @@ impl Replica {
         ensures read { HasRead value self.old self.new }
         ensures keeps { Keeps self.old.1 self.new.1 }
     {
-        let ahead = self.ahead();
-        self.cycle(ahead.calls);
+        let calls = self.open_after();
+        self.cycle(calls);
         self.cpu.set_acc(Nibble::low_of(value));
     }
 
@@ -177,8 +284,8 @@ impl Replica {
         self.show_state_is_valid();
         let level = self.rig.test_level();
         self.rig.set_test(Bit::low_of(value));
-        let ahead = self.ahead();
-        self.cycle(ahead.calls);
+        let calls = self.open_after();
+        self.cycle(calls);
         self.rig.set_test(level);
     }
 
@@ -189,8 +296,8 @@ impl Replica {
         ensures keeps { Keeps self.old.1 self.new.1 }
     {
         self.show_state_is_valid();
-        let ahead = self.ahead();
-        self.cycle(ahead.calls);
+        let calls = self.open_after();
+        self.cycle(calls);
     }
 
     /// Runs the next cycle, which reads this value. Returns whether it can.
@@ -228,6 +335,15 @@ impl Replica {
         self.cpu.regs().pc.get() == at.get() && self.is_at(layout, key)
     }
 
+    /// Returns whether the property holds. It is looked at if it is not known to hold but for mistakes, or the next cycle
+    /// makes one.
+    fn keeps_on(&self, nevers: &[Never], is_known: bool, changed: bool, errs: bool) -> bool
+        requires { is_known ≡ true → changed ≡ false → errs ≡ false → keeps_to nevers.now self.now ≡ true }
+        ensures { result ≡ true → keeps_to nevers.now self.now ≡ true }
+    {
+        is_known && !changed && !errs || keeps_to(self, nevers)
+    }
+
     /// Runs to where the next cycle reads of the outside, to where the machine is that of a key again, whose counter is at this
     /// address, or for `most` cycles. Returns whether the property holds all the way.
     pub fn go_to_station(
@@ -242,11 +358,18 @@ impl Replica {
         ensures reaches { IsTrue result → Reaches (keeps_to nevers.now) self.old self.new }
         ensures keeps { Keeps self.old.1 self.new.1 }
     {
+        let scope = scope_of(nevers);
+        let has_each = scope.has_each(nevers);
+        let mut changed = true;
+        let mut left = most;
         for _ in 0..most {
-            if !keeps_to(self, nevers) {
+            if left == 0 {
+                return keeps_to(self, nevers);
+            }
+            let ahead = self.ahead(&scope);
+            if !self.keeps_on(nevers, has_each, changed, ahead.errs) {
                 return false;
             }
-            let ahead = self.ahead();
             if ahead.may_read {
                 return true;
             }
@@ -254,7 +377,10 @@ impl Replica {
             if self.is_again(layout, key, at) {
                 return true;
             }
-            self.cycle(ahead.calls);
+            let is_sought = self.counter().get() == at.get();
+            let may = may_spin(left, is_sought, has_each, &ahead);
+            left = left.saturating_sub(self.go_on(&ahead, may));
+            changed = ahead.changes;
         }
         keeps_to(self, nevers)
     }

@@ -17,7 +17,7 @@ pub use spelling::Words;
 mod rows;
 mod spelling;
 
-/// The instruction that two words spell, or none where the first is outside the table.
+/// Returns the instruction that two words spell, or `None` if the first is outside the table.
 #[inline(always)]
 #[tactic(auto, unfolding(mcs_model::specs::Table::instruction_of, mcs_model::specs::Table::row_of))]
 pub fn decode(first: u8, second: u8) -> Option<Op>
@@ -26,7 +26,7 @@ pub fn decode(first: u8, second: u8) -> Option<Op>
     instructions!(decode_rows!(first, second))
 }
 
-/// The words of an instruction.
+/// Returns the words of an instruction.
 #[tactic(auto, unfolding(mcs_model::specs::Table::instruction_of, mcs_model::specs::Table::row_of))]
 pub fn encode(op: Op) -> Words
     ensures decodes { instruction_of result.first (unwrap_or result.second 0) ≡ Some op }
@@ -35,7 +35,7 @@ pub fn encode(op: Op) -> Words
     instructions!(encode_rows!(op))
 }
 
-/// How many words an instruction with that first word has, 1 or 2; 1 for a code outside the table.
+/// Returns the number of words of an instruction with that first word, 1 or 2. Returns 1 for a code outside the table.
 #[tactic(auto, unfolding(mcs_model::specs::Table::instruction_of, mcs_model::specs::Table::row_of))]
 pub fn words(code: u8) -> u8
     ensures { result ≡ option_map_or word_count_of (instruction_of code 0) 1 }
@@ -43,14 +43,14 @@ pub fn words(code: u8) -> u8
     instructions!(words_rows!(code))
 }
 
-/// How many words an instruction has, 1 or 2.
+/// Returns the number of words of an instruction, 1 or 2.
 pub fn word_count(op: Op) -> u8
     ensures { result ≡ word_count_of op }
 {
     instructions!(word_count_rows!(op))
 }
 
-/// How many instruction cycles an instruction takes, 1 or 2.
+/// Returns the number of instruction cycles that an instruction takes, 1 or 2.
 pub fn cycles(op: Op) -> u8
     ensures { result ≡ cycles_of op }
 {

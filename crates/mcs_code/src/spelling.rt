@@ -6,6 +6,6 @@ pub struct Words {
     /// The code.
     pub first: u8,
 
-    /// The word after it, of an instruction of two words.
+    /// The second word, if the instruction has two.
     pub second: Option<u8>,
 }

@@ -105,12 +105,12 @@ fields_in_order b p breakpoints rest =
 pub state_codec : IsCodec (λ (p : Version × BenchState). bytes_by p.0 p.1) (λ p. HasWidths p.0 p.1) state_at
 unfolding state_at
 state_codec = giving_codec state_from (λ p. bytes_by p.0 p.1) (λ p. HasWidths p.0 p.1)
-    (next _ long_codec (λ _ _. next _ versioned_board_codec (λ told _.
+    (next _ long_codec (λ _ _. next _ versioned_board_codec (λ versioned _.
     next _ (bytes_codec 4096) (λ _ _. next _ (bytes_codec 2048) (λ _ _. next _ (bytes_codec 512) (λ _ _. next _ (bytes_codec 32) (λ _ _. next _ (bytes_codec 16) (λ _ _.
     next _ any_codec (λ _ _. next _ any_codec (λ _ _. next _ (bytes_codec 16) (λ _ _. next _ word_codec (λ _ _. next _ (many_codec 3 word_codec) (λ _ _.
     next _ any_codec (λ _ _. next _ any_codec (λ _ _. next _ (bytes_codec 8) (λ _ _. next _ any_codec (λ _ _.
-    next _ (chains_codec told.1.chains.items) (λ _ _. next _ (bytes_codec (key_count told.1)) (λ _ _. next _ any_codec (λ _ _. next _ (counted_codec 32 (omega arith) word_codec) (λ _ _.
-    last _ (watches_codec told.0))))))))))))))))))))))
+    next _ (chains_codec versioned.1.chains.items) (λ _ _. next _ (bytes_codec (key_count versioned.1)) (λ _ _. next _ any_codec (λ _ _. next _ (counted_codec 32 (omega arith) word_codec) (λ _ _.
+    last _ (watches_codec versioned.0))))))))))))))))))))))
     (λ p h. let v = (state_from p).0 in let s = (state_from p).1 in (ap (λ l. to_be_bytes w32 s.seq ++ (versioned_board_bytes v s.bus.board ++ l)) (fields_in_order s.bus s.processor s.breakpoints (watches_bytes v s.watches)), h)) (λ p h. (fields_of p, refl, h))
 
 -- ---- a valid state has these widths
@@ -229,19 +229,19 @@ spelled_valid Two bytes s h = h.valid
 spelled_valid One bytes s h = subst IsValid (sym h.lifted) (lift-valid h.version_1 h.spells.valid)
 
 -- the version that the fifth byte tells is that of the state which the bytes spell
-pub state_told : (version : Version) (bytes : List ℕ) (s : BenchState) → SpellsStateBy version bytes s → version_of bytes ≡ Some version
-state_told Two bytes s h = ap version_of h.is
-state_told One bytes s h = ap version_of h.spells.is ∙ (board-begins h.version_1.bus.board _ (valid-now h.version_1.bus.board h.spells.valid.bus.board)).0
+pub state_version : (version : Version) (bytes : List ℕ) (s : BenchState) → SpellsStateBy version bytes s → version_of bytes ≡ Some version
+state_version Two bytes s h = ap version_of h.is
+state_version One bytes s h = ap version_of h.spells.is ∙ (board-begins h.version_1.bus.board _ (valid-now h.version_1.bus.board h.spells.valid.bus.board)).0
 
 pub state_none : (bytes : List ℕ) → None ≡ whole state_at bytes → (version : Version) (s : BenchState) → SpellsStateBy version bytes s → ⊥
 state_none bytes e version s h =
-    let told : Version × BenchState = (version, s) in
-    let back : Some told ≡ None = sym (state_again version bytes s h) ∙ sym e in cc
+    let versioned : Version × BenchState = (version, s) in
+    let back : Some versioned ≡ None = sym (state_again version bytes s h) ∙ sym e in cc
 
-pub state_invalid : (bytes : List ℕ) (told : Version) (t : BenchState) → Some (told, t) ≡ whole state_at bytes → (IsValid t → ⊥) → (version : Version) (s : BenchState) → SpellsStateBy version bytes s → ⊥
-state_invalid bytes told t e wrong version s h =
-    let one : Some (told, t) ≡ Some (version, s) = e ∙ state_again version bytes s h in
-    let same : (version, s) ≡ (told, t) = cc in
+pub state_invalid : (bytes : List ℕ) (versioned : Version) (t : BenchState) → Some (versioned, t) ≡ whole state_at bytes → (IsValid t → ⊥) → (version : Version) (s : BenchState) → SpellsStateBy version bytes s → ⊥
+state_invalid bytes versioned t e wrong version s h =
+    let one : Some (versioned, t) ≡ Some (version, s) = e ∙ state_again version bytes s h in
+    let same : (version, s) ≡ (versioned, t) = cc in
     wrong (subst IsValid (ap (λ (p : Version × BenchState). p.1) same) (spelled_valid version bytes s h))
 
 pub same_state : (bytes : List ℕ) (v w : Version) (s t : BenchState) → SpellsStateBy v bytes s → SpellsStateBy w bytes t → (v ≡ w) × (s ≡ t)

@@ -12,7 +12,7 @@ use Rattle.mcs_codec.specs.BoardBytes.{rom_bytes, board_bytes, counted_bytes}
 use Rattle.mcs_codec.specs.CommandBytes.{address_bytes}
 use Rattle.mcs_codec.specs.Reading.{and_then, giving}
 use Rattle.mcs_codec.specs.StateReading.{version_at, board_by, versioned_board_at, watches_at}
-use Rattle.mcs_codec.specs.Codec.{version_number, version_of, version_told}
+use Rattle.mcs_codec.specs.Codec.{version_number, version_of, version_read}
 use Rattle.mcs_codec.specs.declared.versions.Version.{Version}
 use Rattle.mcs_codec.specs.declared.versions.Version.TheVariants.{One, Two}
 use Rattle.mcs_codec.proofs.Codecs.{IsBytes, IsBytes-after, IsCodec, counted_codec, only_codec, then_some, word_codec}
@@ -22,7 +22,7 @@ use Rattle.mcs_codec.proofs.BoardCodec.{board_codec}
 
 -- the bytes tell version 1, and are left as they are
 abbrev BeginsBoard : List ℕ → Type 0
-BeginsBoard bytes = (version_told bytes ≡ Some One) × (version_at bytes ≡ Some (One, bytes))
+BeginsBoard bytes = (version_read bytes ≡ Some One) × (version_at bytes ≡ Some (One, bytes))
 
 line-begins : (line : LineMask) (rest : List ℕ) → BeginsBoard (mask_character line ∷ rest)
 unfolding version_at
@@ -62,24 +62,24 @@ version-read (b ∷ bytes) x e = version-judged b bytes _ (eqb b 2) x (eqb-true 
 abbrev pub and_rest : List ℕ → Version → Version × List ℕ
 and_rest rest v = (v, rest)
 
-told_judged : (b : ℕ) (bytes rest : List ℕ) (character two : Bool) (told : Option Version)
-    → option_map (and_rest rest) told ≡ cond character (Some (One, b ∷ bytes)) (cond two (Some (Two, bytes)) None) → told ≡ cond character (Some One) (cond two (Some Two) None)
-told_judged b bytes rest true two None e = absurd cc
-told_judged b bytes rest true two (Some v) e = let same : (v, rest) ≡ (One, b ∷ bytes) = cc in ap (λ (p : Version × List ℕ). Some p.0) same
-told_judged b bytes rest false true None e = absurd cc
-told_judged b bytes rest false true (Some v) e = let same : (v, rest) ≡ (Two, bytes) = cc in ap (λ (p : Version × List ℕ). Some p.0) same
-told_judged b bytes rest false false None e = refl
-told_judged b bytes rest false false (Some v) e = absurd cc
+judged_version : (b : ℕ) (bytes rest : List ℕ) (character two : Bool) (versioned : Option Version)
+    → option_map (and_rest rest) versioned ≡ cond character (Some (One, b ∷ bytes)) (cond two (Some (Two, bytes)) None) → versioned ≡ cond character (Some One) (cond two (Some Two) None)
+judged_version b bytes rest true two None e = absurd cc
+judged_version b bytes rest true two (Some v) e = let same : (v, rest) ≡ (One, b ∷ bytes) = cc in ap (λ (p : Version × List ℕ). Some p.0) same
+judged_version b bytes rest false true None e = absurd cc
+judged_version b bytes rest false true (Some v) e = let same : (v, rest) ≡ (Two, bytes) = cc in ap (λ (p : Version × List ℕ). Some p.0) same
+judged_version b bytes rest false false None e = refl
+judged_version b bytes rest false false (Some v) e = absurd cc
 
-pub told_read : (bytes rest : List ℕ) (told : Option Version) → option_map (and_rest rest) told ≡ version_at bytes → told ≡ version_told bytes
+pub version_is_read : (bytes rest : List ℕ) (versioned : Option Version) → option_map (and_rest rest) versioned ≡ version_at bytes → versioned ≡ version_read bytes
 unfolding version_at
-told_read [] rest None e = refl
-told_read [] rest (Some v) e = absurd cc
-told_read (b ∷ bytes) rest told e = told_judged b bytes rest _ _ told e
+version_is_read [] rest None e = refl
+version_is_read [] rest (Some v) e = absurd cc
+version_is_read (b ∷ bytes) rest versioned e = judged_version b bytes rest _ _ versioned e
 
-pub told_number : (bytes rest at : List ℕ) (told : Option Version) → at ≡ drop 4 bytes → option_map (and_rest rest) told ≡ version_at at
-    → option_map version_number told ≡ option_map version_number (version_of bytes)
-told_number bytes rest at told is e = ap (option_map version_number) (told_read (drop 4 bytes) rest told (e ∙ ap version_at is))
+pub version_number_read : (bytes rest at : List ℕ) (versioned : Option Version) → at ≡ drop 4 bytes → option_map (and_rest rest) versioned ≡ version_at at
+    → option_map version_number versioned ≡ option_map version_number (version_of bytes)
+version_number_read bytes rest at versioned is e = ap (option_map version_number) (version_is_read (drop 4 bytes) rest versioned (e ∙ ap version_at is))
 
 -- ---- the board
 

@@ -9,7 +9,7 @@ use Rattle.mcs_model.specs.declared.board.KeyMatrix.{KeyMatrix}
 use Rattle.mcs_model.specs.declared.board.Line.{Line}
 use Rattle.mcs_model.specs.declared.board.Line.TheVariants.{Rom, Ram, Chain}
 
--- the four port lines of a ROM, lines 3, 2, 1, 0 in this order, or `----` where it is absent
+-- the four port lines of a ROM, lines 3, 2, 1, 0 in this order, or `----` if it is absent
 abbrev pub rom_bytes : Option (List LineMask) → List ℕ
 rom_bytes (Some mask) =
     mask_character (mask_at mask 3)
@@ -28,7 +28,7 @@ board_line_bytes (Chain n i) = 2 ∷ n ∷ i ∷ 0 ∷ []
 abbrev pub chain_bytes : ChainPart → List ℕ
 chain_bytes c = board_line_bytes c.clock ++ (board_line_bytes c.data_in ++ c.chips ∷ [])
 
--- how many there are, and each of them
+-- the number of items, and each of them
 abbrev pub counted_bytes : {A : Type 0} → (A → List ℕ) → List A → List ℕ
 counted_bytes text items = length items ∷ flat_map text items
 

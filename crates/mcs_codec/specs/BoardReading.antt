@@ -20,7 +20,7 @@ masks_of a b c d = do
   line_0 ← giving_some (mask_of d)
   giving (line_0 ∷ line_1 ∷ line_2 ∷ line_3 ∷ [])
 
--- what four characters stand for: an absent ROM is `----`
+-- the ROM that four characters stand for; `----` is an absent one
 abbrev pub rom_of : ℕ → ℕ → ℕ → ℕ → Reading (Option (List LineMask))
 rom_of a b c d =
     if a == 45 && b == 45 && c == 45 && d == 45 then giving None
@@ -34,7 +34,7 @@ rom_at = do
   d ← byte_at
   rom_of a b c d
 
--- the line of a kind with these numbers
+-- the line of this kind and with these numbers, if there is one
 abbrev pub board_line_of : ℕ → ℕ → ℕ → ℕ → Reading Line
 board_line_of kind a b c =
     if kind == 0 && c == 0 then giving (Rom a b)
@@ -80,7 +80,7 @@ keys_at = do
   tag ← byte_at
   keys_after_tag tag
 
--- the parts, whether or not they make a board
+-- the parts, whether or not they make a valid board
 unfoldable pub parts_at : Reading BoardParts
 parts_at = do
   roms ← many ROMS rom_at
@@ -96,6 +96,6 @@ parts_at = do
     lamps = record { items = lamps };
   })
 
--- the parts with which nothing is wrong
+-- the parts of a valid board
 unfoldable pub board_at : Reading BoardParts
 board_at = only (λ b. is_none (board_fault_of b)) parts_at

@@ -1,5 +1,5 @@
--- Which bytes spell a command, and which spell a state, in version 2 and in version 1. (Our own
--- choice.)
+-- The bytes that spell a command, and those that spell a state, in version 2 and in version 1. (Our
+-- own choice.)
 use Rattle.std.specs.Prelude.{◌≡◌, ◌⊎◌, ℕ, Bool, true, ◌==◌, ◌||◌, List, [], ◌∷◌, take, drop, Option, Some, None, if◌then◌else◌}
 use Rattle.mcs_model.specs.BenchState.{BenchState}
 use Rattle.mcs_model.specs.Validity.{IsValid}
@@ -13,46 +13,46 @@ use Rattle.mcs_codec.specs.StateBytes.{state_bytes, state_bytes_1}
 use Rattle.mcs_codec.specs.declared.versions.Version.{Version}
 use Rattle.mcs_codec.specs.declared.versions.Version.TheVariants.{One, Two}
 
--- these bytes spell this command
+-- holds if these bytes spell this command
 pub record Spells (bytes : List ℕ) (c : Command) : Type 0 where
   pub is : bytes ≡ command_bytes c
   pub in_range : IsCommand c
 
--- whether a version has a command
+-- true if a version has a command
 abbrev pub has_command : Version → Command → Bool
 has_command One c = in_version_1 c
 has_command Two c = true
 
--- these bytes spell this command in a session of this version
+-- holds if these bytes spell this command in a session of this version
 abbrev pub SpellsBy : Version → List ℕ → Command → Type 0
 SpellsBy version bytes c = Spells bytes c × (has_command version c ≡ true)
 
--- these bytes begin as those of a load do
+-- holds if these bytes begin as those of a load do
 abbrev pub BeginsAsLoad : List ℕ → Type 0
 BeginsAsLoad bytes = take 1 bytes ≡ 2 ∷ []
 
--- these bytes spell this state
+-- holds if these bytes spell this state
 pub record SpellsState (bytes : List ℕ) (s : BenchState) : Type 0 where
   pub is : bytes ≡ state_bytes s
   pub valid : IsValid s
 
--- these bytes spell this state of version 1
+-- holds if these bytes spell this state of version 1
 pub record SpellsState1 (bytes : List ℕ) (s : BenchState1) : Type 0 where
   pub is : bytes ≡ state_bytes_1 s
   pub valid : IsValid1 s
 
--- these bytes spell a state of version 1 that is carried over as this state
+-- holds if these bytes spell a state of version 1 that is carried over to this state
 pub record SpellsLifted (bytes : List ℕ) (s : BenchState) : Type 0 where
   pub version_1 : BenchState1
   pub spells : SpellsState1 bytes version_1
   pub lifted : s ≡ lift version_1
 
--- these bytes spell this state in this version: in version 1 as carried over
+-- holds if these bytes spell this state in this version; in version 1, the state is carried over
 abbrev pub SpellsStateBy : Version → List ℕ → BenchState → Type 0
 SpellsStateBy One bytes s = SpellsLifted bytes s
 SpellsStateBy Two bytes s = SpellsState bytes s
 
--- these bytes spell this state in one of the versions
+-- holds if these bytes spell this state in one of the versions
 abbrev pub SpellsInSomeVersion : List ℕ → BenchState → Type 0
 SpellsInSomeVersion bytes s = SpellsState bytes s ⊎ SpellsLifted bytes s
 
@@ -61,14 +61,14 @@ abbrev pub version_number : Version → ℕ
 version_number One = 1
 version_number Two = 2
 
--- the version that the byte after the count of commands tells: a port character (`i`, `0`, `1` or
--- `-`) stands there in version 1, and 02 in version 2
-abbrev pub version_told : List ℕ → Option Version
-version_told [] = None
-version_told (b ∷ bytes) =
+-- The version that the byte after the count of commands names. In version 1 it is a port character
+-- (`i`, `0`, `1` or `-`), and in version 2 it is 02.
+abbrev pub version_read : List ℕ → Option Version
+version_read [] = None
+version_read (b ∷ bytes) =
     if b == 105 || b == 48 || b == 49 || b == 45 then Some One
     else if b == 2 then Some Two
     else None
 
 abbrev pub version_of : List ℕ → Option Version
-version_of bytes = version_told (drop 4 bytes)
+version_of bytes = version_read (drop 4 bytes)

@@ -9,7 +9,7 @@ use Rattle.mcs_model.specs.declared.command.Command.TheVariants.{Wire, Load, Pre
 use Rattle.mcs_codec.specs.Reading.{◌>>=◌, Reading, giving, refusing, byte_at, wide_number_at, address_at, bytes_at, small_at}
 use Rattle.mcs_codec.specs.BoardReading.{board_at}
 
--- a RAM character, and its value
+-- a RAM nibble, and its value
 abbrev pub character_at : Reading Place
 character_at = do
   bank ← small_at 8
@@ -17,7 +17,7 @@ character_at = do
   n ← small_at 16
   giving (Ram bank src n)
 
--- a status character, and its value
+-- a status nibble, and its value
 abbrev pub status_character_at : Reading Place
 status_character_at = do
   bank ← small_at 8
@@ -47,7 +47,7 @@ place_at = do
 unfoldable pub mark_bit : List ℕ → ℕ → ℕ
 mark_bit marks at = bit_of (slice_index marks (at / 8)) (at % 8)
 
--- the bytes of the addresses that are marked, that many addresses from one on
+-- the bytes of the marked addresses among the next n addresses, from one on
 unfoldable pub addressed_at : List ℕ → ℕ → ℕ → Reading (List (ℕ × ℕ))
 addressed_at marks zero at = giving []
 addressed_at marks (suc n) at =
@@ -60,7 +60,8 @@ image_at = do
   marks ← bytes_at 512
   addressed_at marks 4096 0
 
--- after a tag, where reading takes no memory: any command but a load of an image
+-- the rest of a command after a tag, if reading it needs no memory: any command but a load of an
+-- image
 abbrev pub command_without_image : ℕ → Reading Command
 command_without_image tag =
     if tag == 1 then (do board ← board_at; giving (Wire board)) else
@@ -77,7 +78,7 @@ command_without_image tag =
     if tag == 13 then (do bank ← small_at 8; src ← byte_at; giving (Unwatch bank src)) else
     refusing
 
--- after any tag
+-- the rest of a command after any tag
 unfoldable pub command_after_tag : ℕ → Reading Command
 command_after_tag tag =
     if tag == 2 then (do image ← image_at; giving (Load image)) else command_without_image tag

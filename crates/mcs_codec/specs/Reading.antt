@@ -1,7 +1,7 @@
--- Nothing to believe: what is put together from these steps is proved to invert the bytes of
--- `BoardBytes`, `CommandBytes` and `StateBytes`. A reading goes from left to right: it gives a
--- value, and the bytes after it, or nothing where the bytes spell no such value. In a `do` block
--- each step reads on where the one before it stopped.
+-- Nothing to believe: the readings built from these steps are proved to invert the bytes of
+-- `BoardBytes`, `CommandBytes` and `StateBytes`. A reading goes from left to right. It gives a
+-- value and the bytes after it, or nothing if the bytes spell no such value. In a `do` block each
+-- step starts at the point at which the step before it stopped.
 use Rattle.std.specs.Prelude.{ℕ, zero, suc, Bool, List, [], ◌∷◌, length, take, drop, Option, Some, None, nat_lt, nat_le, if◌then◌else◌}
 use Rattle.std.specs.Int.{Width, w16, byte_len, from_be_bytes}
 
@@ -51,7 +51,7 @@ wide_number_at w bytes =
     if nat_lt (length bytes) (byte_len w) then None
     else Some (from_be_bytes w (take (byte_len w) bytes), drop (byte_len w) bytes)
 
--- that many bytes
+-- `count` bytes
 unfoldable pub bytes_at : ℕ → Reading (List ℕ)
 bytes_at count bytes =
     if nat_lt (length bytes) count then None else Some (take count bytes, drop count bytes)
@@ -72,7 +72,7 @@ small_at limit = only (λ n. nat_lt n limit) byte_at
 abbrev pub address_at : Reading ℕ
 address_at = only (λ n. nat_lt n 4096) (wide_number_at w16)
 
--- that many values
+-- n values
 unfoldable pub many : {A : Type 0} → ℕ → Reading A → Reading (List A)
 many zero read = giving []
 many (suc n) read = do
@@ -80,7 +80,7 @@ many (suc n) read = do
   others ← many n read
   giving (first ∷ others)
 
--- a count up to a limit, and that many values
+-- a count up to a limit, and as many values
 unfoldable pub counted_at : {A : Type 0} → ℕ → Reading A → Reading (List A)
 counted_at limit read = do
   count ← only (λ n. nat_le n limit) byte_at

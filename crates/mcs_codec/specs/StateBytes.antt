@@ -1,5 +1,5 @@
--- The bytes that spell a state, by groups, in two versions. An address and a watch take two bytes,
--- the count of commands four, each other number one. (Our own choice.)
+-- The bytes that spell a state, by groups, in two versions. An address and a watch have two bytes,
+-- the count of commands four, and each other number one. (Our own choice.)
 use Rattle.std.specs.Prelude.{ℕ, List, [], ◌∷◌, ◌++◌}
 use Rattle.std.specs.List.{flat_map}
 use Rattle.std.specs.Int.{w32, to_be_bytes}
@@ -10,8 +10,8 @@ use Rattle.mcs_codec.specs.BoardBytes.{board_bytes, counted_bytes}
 use Rattle.mcs_codec.specs.CommandBytes.{address_bytes}
 use Rattle.mcs_version1.specs.BenchState.{BenchState1}
 
--- the bytes of the ROMs, the characters and the status characters of the RAM chips, the port
--- latches of both
+-- the bytes of the ROMs, the main nibbles and the status nibbles of the RAM chips, the port latches
+-- of both
 abbrev pub memory_bytes : BusState → List ℕ
 memory_bytes b = b.rom ++ (b.ram ++ (b.status ++ (b.ram_ports ++ b.rom_ports)))
 
@@ -19,7 +19,7 @@ memory_bytes b = b.rom ++ (b.ram ++ (b.status ++ (b.ram_ports ++ b.rom_ports)))
 abbrev pub registers_bytes : Regs → List ℕ
 registers_bytes p = p.acc ∷ p.cy ∷ (p.r ++ (address_bytes p.pc ++ flat_map address_bytes p.ret))
 
--- the command register, the SRC byte of the ROMs, that of each bank, the owed cycle
+-- the command register, the SRC byte of the ROMs, that of each bank, the pending cycle
 abbrev pub src_bytes : Regs → BusState → List ℕ
 src_bytes p b = p.dcl ∷ b.rom_src ∷ (b.ram_src ++ p.owed ∷ [])
 
@@ -28,7 +28,7 @@ abbrev pub wiring_bytes : BusState → List ℕ → List ℕ
 wiring_bytes b breakpoints =
     flat_map (λ bits. bits) b.chains ++ (b.keys ++ (b.test ∷ counted_bytes address_bytes breakpoints))
 
--- the groups after the board, and what comes after the breakpoints
+-- the groups after the board, and then `rest`
 abbrev pub groups_bytes : Regs → BusState → List ℕ → List ℕ → List ℕ
 groups_bytes p b breakpoints rest =
     memory_bytes b
@@ -37,7 +37,7 @@ groups_bytes p b breakpoints rest =
     ++ (wiring_bytes b breakpoints
     ++ rest)))
 
--- what comes after the board in version 2: the groups, the watches (each an index, bank * 256 + SRC
+-- the bytes after the board in version 2: the groups, the watches (each an index, bank * 256 + SRC
 -- byte, in two bytes)
 abbrev pub after_board : BenchState → List ℕ
 after_board s = groups_bytes s.processor s.bus s.breakpoints (counted_bytes address_bytes s.watches)

@@ -13,7 +13,7 @@ list_in_state IndexRegisters s = s.processor.r
 list_in_state (ChainBits n) s = slice_index_or s.bus.chains n []
 list_in_state Keys s = s.bus.keys
 
--- how many items a list has
+-- the number of items of a list
 abbrev pub state_list_length : StateList → BenchState → ℕ
 state_list_length (Chips list) s = count_of list
 state_list_length RomPorts s = 16

@@ -1,6 +1,6 @@
 -- Nothing to believe: this reading is proved to invert the bytes of `StateBytes` in both versions.
--- It reads the version and the fields of a state in their order; whether they make a valid state is
--- asked of all of them afterwards.
+-- It reads the version and the fields of a state in their order. A later test of all fields decides
+-- whether they make a valid state.
 use Rattle.std.specs.Prelude.{◌≡◌, ℕ, ◌*◌, ◌==◌, ◌||◌, List, [], ◌∷◌, Some, None, length, if◌then◌else◌}
 use Rattle.std.specs.Int.{w16, w32}
 use Rattle.mcs_model.specs.declared.board.BoardParts.{BoardParts}
@@ -15,7 +15,7 @@ use Rattle.mcs_codec.specs.BoardReading.{board_at}
 use Rattle.mcs_codec.specs.declared.versions.Version.{Version}
 use Rattle.mcs_codec.specs.declared.versions.Version.TheVariants.{One, Two}
 
--- the version, by the byte that comes next: a port character is the first of the board, and stays
+-- the version, by the next byte: a port character is the first of the board, and is left
 unfoldable pub version_at : Reading Version
 version_at [] = None
 version_at (b ∷ bytes) =
@@ -23,7 +23,7 @@ version_at (b ∷ bytes) =
     else if b == 2 then Some (Two, bytes)
     else None
 
--- the board: in version 1 a small one
+-- the board; in version 1 it must be a small one
 unfoldable pub board_by : Version → Reading BoardParts
 board_by One = only is_small board_at
 board_by Two = board_at
@@ -50,7 +50,7 @@ watches_at Two = counted_at WATCHES (wide_number_at w16)
 unfoldable pub state_at : Reading (Version × BenchState)
 state_at = do
   seq ← wide_number_at w32
-  told ← versioned_board_at
+  versioned ← versioned_board_at
   rom ← bytes_at 4096
   ram ← bytes_at 2048
   status ← bytes_at 512
@@ -65,17 +65,17 @@ state_at = do
   rom_src ← byte_at
   ram_src ← bytes_at BANKS
   owed ← byte_at
-  chains ← chains_at told.1.chains.items
-  keys ← bytes_at (key_count told.1)
+  chains ← chains_at versioned.1.chains.items
+  keys ← bytes_at (key_count versioned.1)
   test ← byte_at
   breakpoints ← counted_at BREAKPOINTS (wide_number_at w16)
-  watches ← watches_at told.0
+  watches ← watches_at versioned.0
   giving (
-    told.0,
+    versioned.0,
     record {
       processor = record { acc = acc; cy = cy; r = r; pc = pc; ret = ret; dcl = dcl; owed = owed };
       bus = record {
-        board = told.1;
+        board = versioned.1;
         rom = rom;
         ram = ram;
         status = status;
@@ -93,7 +93,7 @@ state_at = do
     },
   )
 
--- the lists that have one length in every state have it, as those of a new bench do
+-- holds if the lists that have one length in every state have it, as those of a new bench do
 pub record HasCells (b : BusState) : Type 0 where
   pub rom : length b.rom ≡ 4096
   pub ram : length b.ram ≡ 2048

@@ -9,7 +9,7 @@ use mcs_model::board::{Board, BoardParts, ChainPart, KeyMatrix, Line};
 use mcs_model::limits::{BANKS, ROMS};
 use mcs_nibble::LineMask;
 
-/// The bytes of the port lines of a ROM.
+/// Returns the bytes of the port lines of a ROM.
 fn masks_bytes(mask: [LineMask; 4]) -> [u8; 4]
     ensures { result ≡ rom_bytes (Some mask) }
 {
@@ -120,7 +120,7 @@ impl Decode for ChainPart {
     }
 }
 
-/// Reads a key matrix.
+/// Reads a key matrix, or returns none if the bytes spell none.
 #[tactic(auto, unfolding(crate::specs::BoardReading::matrix_at))]
 fn read_matrix(reader: &mut Reader<'_>) -> Option<KeyMatrix>
     ensures { option_map (λ x. (x, reader.new)) result ≡ matrix_at reader.old }
@@ -137,7 +137,8 @@ fn read_matrix(reader: &mut Reader<'_>) -> Option<KeyMatrix>
     })
 }
 
-/// Reads the keys: whether there are any, and their matrix.
+/// Reads the keys: a byte for whether there are any, and their matrix. It returns none if the bytes
+/// spell no keys.
 #[tactic(auto, unfolding(crate::specs::BoardReading::keys_at))]
 fn read_keys(reader: &mut Reader<'_>) -> Option<Option<KeyMatrix>>
     ensures { option_map (λ x. (x, reader.new)) result ≡ keys_at reader.old }
@@ -152,7 +153,8 @@ fn read_keys(reader: &mut Reader<'_>) -> Option<Option<KeyMatrix>>
     }
 }
 
-/// Puts the keys: whether there are any, and their matrix.
+/// Writes the keys at an offset of the buffer and returns the offset after them: a byte for whether
+/// there are any, and their matrix.
 fn put_keys(keys: &Option<KeyMatrix>, out: &mut [u8], at: usize) -> usize
     requires { at + length (keys_bytes keys.now) ≤ length out.old }
     ensures end { result ≡ at + length (keys_bytes keys.now) }
@@ -167,7 +169,8 @@ fn put_keys(keys: &Option<KeyMatrix>, out: &mut [u8], at: usize) -> usize
     }
 }
 
-/// Reads the parts of a board, whatever is wrong with them.
+/// Reads the parts of a board, whatever is wrong with them. It returns none if the bytes spell no
+/// parts.
 #[tactic(auto, unfolding(crate::specs::BoardReading::parts_at))]
 fn read_parts(reader: &mut Reader<'_>) -> Option<BoardParts>
     ensures { option_map (λ x. (x, reader.new)) result ≡ parts_at reader.old }
@@ -188,7 +191,7 @@ fn read_parts(reader: &mut Reader<'_>) -> Option<BoardParts>
     })
 }
 
-/// Reads a board at the front of some bytes.
+/// Reads a board at the front of some bytes, or returns none if they spell none.
 #[tactic(auto, unfolding(crate::specs::BoardReading::board_at))]
 pub fn read_board(reader: &mut Reader<'_>) -> Option<Board>
     ensures { option_map (λ x. (x, reader.new)) result ≡ board_at reader.old }
@@ -200,7 +203,7 @@ pub fn read_board(reader: &mut Reader<'_>) -> Option<Board>
     }
 }
 
-/// Puts the parts of a board at a place of the buffer, and answers the place after them.
+/// Writes the parts of a board at an offset of the buffer and returns the offset after them.
 pub fn put_board(parts: &BoardParts, out: &mut [u8], at: usize) -> usize
     requires { at + length (board_bytes parts.now) ≤ length out.old }
     ensures end { result ≡ at + length (board_bytes parts.now) }

@@ -16,13 +16,14 @@ use mcs_model::limits::RECORD_BYTES;
 use mcs_nibble::{Addr, BankNo, Bit};
 use std::alloc::{AllocError, Global};
 
-/// The error of a call that was refused memory.
+/// The error of a call that found no memory.
 pub type NoMemory = AllocError;
 
-/// Bytes that are lent to write a command into: those of the longest record. No command takes more.
+/// The size of a buffer that a command is written into: the length of the longest record. No
+/// command is longer.
 pub const COMMAND_BYTES: usize = RECORD_BYTES;
 
-/// A law: each part of a command is in its range, and its tag takes a byte.
+/// Shows that each part of a command is in its range, and that its tag is one byte at least.
 fn command_is_in_range(command: &Command)
     ensures range { IsCommand command.now }
     ensures tag { 1 ≤ length (command_bytes command.now) }
@@ -54,7 +55,7 @@ fn command_is_in_range(command: &Command)
     }
 }
 
-/// Puts a command at a place of the buffer, and answers the place after it.
+/// Writes a command at an offset of the buffer and returns the offset after it.
 fn put_command(command: &Command, out: &mut [u8], at: usize) -> usize
     requires { at + length (command_bytes command.now) ≤ length out.old }
     ensures end { result ≡ at + length (command_bytes command.now) }
@@ -95,8 +96,8 @@ fn put_command(command: &Command, out: &mut [u8], at: usize) -> usize
     }
 }
 
-/// Puts a command at the front of these bytes, and answers how many it took: 1 to 4,609. Nothing
-/// is said of those after.
+/// Writes a command at the front of these bytes and returns its length: 1 to 4,609. It promises
+/// nothing about the bytes after it.
 pub fn command_bytes(command: &Command, into: &mut [u8]) -> usize
     requires lent { COMMAND_BYTES ≤ length into.old }
     ensures spells { Spells (take result into.new) command.now }
@@ -108,7 +109,8 @@ pub fn command_bytes(command: &Command, into: &mut [u8]) -> usize
     put_command(command, into, 0)
 }
 
-/// Reads what stands after a tag, where reading it takes no memory: any command but a load.
+/// Reads what follows a tag if that needs no memory: any command but a load. It returns none if the
+/// bytes spell no such command.
 fn read_without_image(tag: u8, reader: &mut Reader<'_>) -> Option<Command>
     ensures { option_map (λ x. (x, reader.new)) result ≡ command_without_image tag reader.old }
 {
@@ -141,7 +143,8 @@ fn read_without_image(tag: u8, reader: &mut Reader<'_>) -> Option<Command>
     }
 }
 
-/// Reads what stands after a tag.
+/// Reads what follows a tag, or returns none if the bytes spell no command. It fails if memory runs
+/// out.
 #[tactic(auto, unfolding(crate::specs::CommandReading::command_after_tag))]
 fn read_after_tag(
     alloc: Global,
@@ -162,7 +165,7 @@ fn read_after_tag(
     }
 }
 
-/// The command that all of these bytes are read as, or none.
+/// Returns the command that all of these bytes are read as, or none. It fails if memory runs out.
 #[tactic(auto, unfolding(crate::specs::CommandReading::command_at))]
 fn read_command(alloc: Global, bytes: &[u8]) -> Result<Option<Command>, NoMemory>
     ensures read { IfOk result (λ found. found ≡ whole command_at bytes.now) }
@@ -184,11 +187,11 @@ fn read_command(alloc: Global, bytes: &[u8]) -> Result<Option<Command>, NoMemory
     }
 }
 
-/// The command that these bytes spell, or none where they spell no command.
+/// Returns the command that these bytes spell, or none if they spell no command.
 ///
 /// # Errors
 ///
-/// Where memory is refused. A load alone takes memory.
+/// If memory runs out. Only a load needs memory.
 pub fn command_of(alloc: Global, bytes: &[u8]) -> Result<Option<Command>, NoMemory>
     ensures some { IfOk result (λ found. IfSome found (λ c. Spells bytes.now c)) }
     ensures none { IfOk result (λ found. IfNone found ((c : Command) → Spells bytes.now c → ⊥)) }
@@ -197,8 +200,8 @@ pub fn command_of(alloc: Global, bytes: &[u8]) -> Result<Option<Command>, NoMemo
     read_command(alloc, bytes)
 }
 
-/// A law: no bytes spell two commands. (And each command has one spelling: the definition gives
-/// one.)
+/// Shows that no bytes spell two commands. (Each command has one spelling, because the definition
+/// gives one.)
 pub fn one_command()
     ensures { (bytes : List ℕ) (c d : Command) → Spells bytes c → Spells bytes d → c ≡ d }
 {}

@@ -1,4 +1,4 @@
-//! Values that are written and read one after another.
+//! Values that are written and read one after the other.
 ghost use Rattle.std.specs.Prelude.{◌≡◌, ℕ, ◌+◌, ◌≤◌, ◌<◌, ◌∷◌, ◌++◌, List, [], length, take, option_map, Option, Some, None, if◌then◌else◌};
 ghost use Rattle.std.specs.List.{flat_map};
 ghost use Rattle.mcs_codec.specs.Reading.{small_at, many, counted_at};
@@ -13,7 +13,7 @@ pub trait Encode {
     /// Its spelling.
     ghost spelling: { Self → List ℕ };
 
-    /// Puts it at an offset of the buffer, and answers the offset after it.
+    /// Writes the value at an offset of the buffer and returns the offset after it.
     fn put(&self, out: &mut [u8], at: usize) -> usize
         requires { at + length (spelling self.now) ≤ length out.old }
         ensures end { result ≡ at + length (spelling self.now) }
@@ -29,7 +29,7 @@ pub trait Decode: Sized + Drop {
         ensures { option_map (λ x. (x, reader.new)) result ≡ reading reader.old };
 }
 
-/// Puts bytes at an offset of the buffer, and answers the offset after them.
+/// Writes bytes at an offset of the buffer and returns the offset after them.
 pub fn put(out: &mut [u8], at: usize, bytes: &[u8]) -> usize
     requires { at + length bytes.now ≤ length out.old }
     ensures end { result ≡ at + length bytes.now }
@@ -40,7 +40,7 @@ pub fn put(out: &mut [u8], at: usize, bytes: &[u8]) -> usize
     end
 }
 
-/// Puts one value after the other.
+/// Writes one value after the other at an offset of the buffer and returns the offset after them.
 pub fn put_all<T: Encode>(items: &[T], out: &mut [u8], at: usize) -> usize
     requires { at + length (flat_map T.spelling items.now) ≤ length out.old }
     ensures end { result ≡ at + length (flat_map T.spelling items.now) }
@@ -53,7 +53,7 @@ pub fn put_all<T: Encode>(items: &[T], out: &mut [u8], at: usize) -> usize
     end
 }
 
-/// Reads a value into each item.
+/// Reads a value into each item, or returns none if the bytes do not spell them.
 pub fn read_into<T: Decode>(reader: &mut Reader<'_>, items: &mut [T]) -> Option<()>
     ensures { option_map (λ _. (items.new, reader.new)) result
         ≡ many (length items.old) T.reading reader.old }
@@ -64,7 +64,7 @@ pub fn read_into<T: Decode>(reader: &mut Reader<'_>, items: &mut [T]) -> Option<
     Some(())
 }
 
-/// Reads that many values.
+/// Reads `count` values, or returns none if the bytes do not spell them.
 pub fn read_list<T: Decode + Default, const CAP: usize>(
     reader: &mut Reader<'_>,
     count: usize,
@@ -118,7 +118,7 @@ impl Decode for Addr {
     }
 }
 
-/// Reads a count, and that many values.
+/// Reads a count and as many values, or returns none if the bytes do not spell them.
 #[tactic(auto, unfolding(crate::specs::Reading::counted_at))]
 pub fn read_counted<T: Decode + Default, const CAP: usize>(
     reader: &mut Reader<'_>,
@@ -133,7 +133,7 @@ pub fn read_counted<T: Decode + Default, const CAP: usize>(
     }
 }
 
-/// Puts a count, and each value.
+/// Writes a count and each value at an offset of the buffer and returns the offset after them.
 pub fn put_counted<T: Encode>(items: &[T], out: &mut [u8], at: usize) -> usize
     requires few { length items.now < 256 }
     requires room { at + length (counted_text T.spelling items.now) ≤ length out.old }

@@ -10,16 +10,16 @@ use mcs_model::image::Image;
 use mcs_nibble::{Addr, Bit};
 use std::alloc::{AllocError, Global};
 
-/// Addresses of the ROMs.
+/// The number of addresses of the ROMs.
 const ADDRESSES: usize = 4096;
 
-/// Bytes of the marks, a bit for each address.
+/// The number of bytes of the marks, a bit for each address.
 const MARK_BYTES: usize = 512;
 
 /// A byte of an image, after its address.
 type AddressedByte = (Addr, u8);
 
-/// For each address, 1 where an image has a byte at it.
+/// Returns 1 for each address at which an image has a byte, and 0 for the others.
 fn marks_of(image: &[AddressedByte]) -> [Bit; ADDRESSES]
     ensures { (at : ℕ) → at < 4096 → slice_index result at ≡ mark image.now at }
 {
@@ -30,7 +30,7 @@ fn marks_of(image: &[AddressedByte]) -> [Bit; ADDRESSES]
     marks
 }
 
-/// The byte of the marks of eight addresses from one on, the first the lowest bit.
+/// Returns the byte of the marks of eight addresses from one on, the first in the lowest bit.
 fn mark_byte(marks: &[Bit], at: usize) -> u8
     requires { at + 8 ≤ length marks.now }
     ensures { result ≡ byte_of (λ k. slice_index marks.now (at + k)) }
@@ -41,7 +41,7 @@ fn mark_byte(marks: &[Bit], at: usize) -> u8
     low + middle + high
 }
 
-/// The marks of the addresses of an image, eight in a byte.
+/// Returns the marks of the addresses of an image, eight in a byte.
 fn marks_packed(image: &[AddressedByte]) -> [u8; MARK_BYTES]
     ensures { result ≡ mark_bytes image.now }
 {
@@ -61,7 +61,7 @@ impl Encode for AddressedByte {
     }
 }
 
-/// Puts the bytes by rising address.
+/// Writes the bytes by rising address and returns the offset after them.
 fn put_values(image: &[AddressedByte], out: &mut [u8], at: usize) -> usize
     requires { at + length (values image.now) ≤ length out.old }
     ensures end { result ≡ at + length (values image.now) }
@@ -70,7 +70,7 @@ fn put_values(image: &[AddressedByte], out: &mut [u8], at: usize) -> usize
     put_all(image, out, at)
 }
 
-/// Puts an image at a place of the buffer, and answers the place after it.
+/// Writes an image at an offset of the buffer and returns the offset after it.
 pub fn put_image(image: &Image, out: &mut [u8], at: usize) -> usize
     requires { at + length (image_bytes image.now) ≤ length out.old }
     ensures end { result ≡ at + length (image_bytes image.now) }
@@ -81,7 +81,7 @@ pub fn put_image(image: &Image, out: &mut [u8], at: usize) -> usize
     put_values(addressed, out, at)
 }
 
-/// The bit of an address among marks.
+/// Returns the bit of an address among marks.
 #[tactic(auto, unfolding(crate::specs::CommandReading::mark_bit))]
 fn mark_bit(marks: &[u8], at: u16) -> u8
     requires marks { length marks.now ≡ 512 }
@@ -91,7 +91,8 @@ fn mark_bit(marks: &[u8], at: u16) -> u8
     marks[usize::from(at / 8)] >> (at % 8) & 1
 }
 
-/// Reads the bytes of the addresses that are marked, by rising address.
+/// Reads the bytes of the addresses that are marked, by rising address. It returns none if there
+/// are too few bytes, and fails if memory runs out.
 fn read_addressed(
     alloc: Global,
     reader: &mut Reader<'_>,
@@ -114,7 +115,8 @@ fn read_addressed(
     Ok(Some(image))
 }
 
-/// Reads an image: the marks of its addresses, and its bytes.
+/// Reads an image: the marks of its addresses, and its bytes. It returns none if there are too few
+/// bytes, and fails if memory runs out.
 #[tactic(auto, unfolding(crate::specs::CommandReading::image_at))]
 pub fn read_image(alloc: Global, reader: &mut Reader<'_>) -> Result<Option<Image>, AllocError>
     ensures { IfOk result (λ found. option_map (λ x. (x, reader.new)) found ≡ image_at reader.old) }

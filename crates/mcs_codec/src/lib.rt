@@ -1,12 +1,13 @@
 //! The bytes of commands and of whole states, as a session file has them.
 //!
 //! Every command and every state has exactly one spelling, and no bytes spell two of them. States
-//! of version 1, whose bytes begin otherwise, are read too, and carried over; nothing is written in
-//! version 1. A value out of its range, a board with which something is wrong, bytes that are left
-//! over and bytes that are missing spell nothing.
+//! of version 1, whose bytes begin differently, are read too, and carried over; nothing is written
+//! in version 1. A value out of its range, an invalid board, extra bytes and missing bytes spell
+//! nothing.
 //!
-//! `put` and `put_..` write a value at an offset of a buffer, `read` and `read_..` read one from a
-//! `Reader`. Definitions ending in `_bytes` are what is written, those ending in `_at` what is read.
+//! `put` and `put_..` write a value at an offset of a buffer; `read` and `read_..` read one from a
+//! `Reader`. Definitions that end in `_bytes` are the bytes written; those that end in `_at` are
+//! readings.
 #![tactic(auto)]
 
 mod boards;

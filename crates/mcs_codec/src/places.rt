@@ -105,7 +105,7 @@ impl Encode for Place {
     }
 }
 
-/// A law: each number of a place is in its range.
+/// Shows that each number of a place is in its range.
 pub fn place_is_in_range(place: Place)
     ensures { IsPlace place }
 {

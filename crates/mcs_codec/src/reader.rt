@@ -7,7 +7,7 @@ ghost use Rattle.mcs_codec.specs.StateReading.{version_at};
 use crate::versions::Version;
 use std::marker::Model;
 
-/// What is left of the bytes. After a `None` nothing is said of it.
+/// The rest of the bytes. After a `None` it can be anything.
 #[derive(Drop)]
 pub struct Reader<'a> {
     rest: &'a [u8],
@@ -22,21 +22,21 @@ impl<'a> Model for Reader<'a> {
 }
 
 impl<'a> Reader<'a> {
-    /// All of these bytes are left.
+    /// Makes a reader of all these bytes.
     pub fn new(rest: &'a [u8]) -> Reader<'a>
         ensures { result ≡ rest.now }
     {
         Reader { rest }
     }
 
-    /// Whether none is left.
+    /// Returns true if no byte is left.
     pub fn is_empty(&self) -> bool
         ensures { result ≡ (length self.now == 0) }
     {
         self.rest.is_empty()
     }
 
-    /// One byte.
+    /// Reads one byte, or returns none if none is left.
     pub fn byte(&mut self) -> Option<u8>
         ensures { option_map (λ x. (x, self.new)) result ≡ byte_at self.old }
     {
@@ -45,7 +45,8 @@ impl<'a> Reader<'a> {
         Some(*first)
     }
 
-    /// The version that the next byte tells. A port character, as version 1 has it there, is left.
+    /// Reads the version from the next byte. A port character, which version 1 has there, is left.
+    /// It returns none if no byte is left or it names no version.
     #[tactic(auto, unfolding(crate::specs::StateReading::version_at))]
     pub fn version(&mut self) -> Option<Version>
         ensures { option_map (λ x. (x, self.new)) result ≡ version_at self.old }
@@ -61,7 +62,7 @@ impl<'a> Reader<'a> {
         }
     }
 
-    /// A number of two bytes, the high one first.
+    /// Reads a number of two bytes, the high one first, or returns none if fewer are left.
     pub fn number(&mut self) -> Option<u16>
         ensures { option_map (λ x. (x, self.new)) result ≡ wide_number_at w16 self.old }
     {
@@ -73,7 +74,7 @@ impl<'a> Reader<'a> {
         Some(u16::from_be_bytes([front[0], front[1]]))
     }
 
-    /// A number of four bytes, the highest first.
+    /// Reads a number of four bytes, the highest first, or returns none if fewer are left.
     pub fn long_number(&mut self) -> Option<u32>
         ensures { option_map (λ x. (x, self.new)) result ≡ wide_number_at w32 self.old }
     {
@@ -85,7 +86,7 @@ impl<'a> Reader<'a> {
         Some(u32::from_be_bytes([front[0], front[1], front[2], front[3]]))
     }
 
-    /// That many bytes.
+    /// Reads `count` bytes, or returns none if fewer are left.
     #[tactic(auto, unfolding(crate::specs::Reading::bytes_at))]
     pub fn bytes(&mut self, count: usize) -> Option<&'a [u8]>
         ensures read { option_map (λ x. (x.now, self.new)) result ≡ bytes_at count self.old }
@@ -99,7 +100,7 @@ impl<'a> Reader<'a> {
         Some(front)
     }
 
-    /// That many bytes as there are cells, into the cells.
+    /// Reads a byte into each cell, or returns none if fewer are left.
     #[tactic(auto, unfolding(crate::specs::Reading::bytes_at))]
     pub fn fill(&mut self, cells: &mut [u8]) -> Option<()>
         ensures { option_map (λ _. (cells.new, self.new)) result

@@ -17,7 +17,7 @@ use mcs_model::board::{Board, ChainPart};
 use mcs_model::limits::{CHAIN_CHIPS, CHAIN_SOCKETS, CHAINS, WATCHES};
 use std::alloc::Global;
 
-/// Bytes of the count of commands.
+/// The number of bytes of the count of commands.
 const COUNT_BYTES: usize = 4;
 
 /// The bits of a chain, bit 0 first.
@@ -34,7 +34,8 @@ impl Decode for u16 {
     }
 }
 
-/// Reads a board of a version: of version 1 a small one.
+/// Reads a board of a version: in version 1 a small one. It returns none if the bytes spell no such
+/// board.
 #[tactic(auto, unfolding(crate::specs::StateReading::board_by))]
 fn read_board_by(version: Version, reader: &mut Reader<'_>) -> Option<Board>
     ensures { option_map (λ x. (x, reader.new)) result ≡ board_by version reader.old }
@@ -46,7 +47,8 @@ fn read_board_by(version: Version, reader: &mut Reader<'_>) -> Option<Board>
     }
 }
 
-/// Reads the version and the board: the one place that judges the version.
+/// Reads the version and the board: the only function that judges the version. It returns none if
+/// the bytes do not spell them.
 #[tactic(auto, unfolding(crate::specs::StateReading::versioned_board_at))]
 fn read_versioned_board(reader: &mut Reader<'_>) -> Option<(Version, Board)>
     ensures { option_map (λ x. (x, reader.new)) result ≡ versioned_board_at reader.old }
@@ -56,7 +58,7 @@ fn read_versioned_board(reader: &mut Reader<'_>) -> Option<(Version, Board)>
     Some((version, board))
 }
 
-/// Reads a byte into each cell.
+/// Reads a byte into each cell, or returns none if fewer are left.
 fn read_cells(reader: &mut Reader<'_>, cells: &mut Cells) -> Option<()>
     ensures { option_map (λ _. (cells.new, reader.new)) result
         ≡ bytes_at (length cells.old) reader.old }
@@ -68,7 +70,7 @@ fn read_cells(reader: &mut Reader<'_>, cells: &mut Cells) -> Option<()>
     Some(())
 }
 
-/// Reads that many bytes.
+/// Reads `count` bytes, or returns none if fewer are left.
 fn read_bytes<const CAP: usize>(reader: &mut Reader<'_>, count: usize) -> Option<ArrayVec<u8, CAP>>
     requires { count ≤ CAP }
     ensures { option_map (λ v. (v.items, reader.new)) result ≡ bytes_at count reader.old }
@@ -81,7 +83,7 @@ fn read_bytes<const CAP: usize>(reader: &mut Reader<'_>, count: usize) -> Option
     Some(items)
 }
 
-/// Reads the bits of each chain.
+/// Reads the bits of each chain, or returns none if too few bytes are left.
 fn read_chains(reader: &mut Reader<'_>, chains: &[ChainPart]) -> Option<ArrayVec<ChainBits, CHAINS>>
     requires few { length chains.now ≤ CHAINS }
     requires short { All (λ c. c.chips ≤ CHAIN_CHIPS) chains.now }
@@ -95,7 +97,7 @@ fn read_chains(reader: &mut Reader<'_>, chains: &[ChainPart]) -> Option<ArrayVec
     Some(read)
 }
 
-/// Reads the watches; version 1 has none.
+/// Reads the watches, or returns none if the bytes spell none. Version 1 has no watches.
 #[tactic(auto, unfolding(crate::specs::StateReading::watches_at))]
 fn read_watches(version: Version, reader: &mut Reader<'_>) -> Option<ArrayVec<u16, WATCHES>>
     ensures { option_map (λ x. (x.items, reader.new)) result ≡ watches_at version reader.old }
@@ -106,7 +108,8 @@ fn read_watches(version: Version, reader: &mut Reader<'_>) -> Option<ArrayVec<u1
     }
 }
 
-/// Reads the fields of a state into these, and answers its version.
+/// Reads the fields of a state into `flat` and returns its version, or none if the bytes do not
+/// spell them.
 #[tactic(auto, unfolding(crate::specs::StateReading::state_at))]
 fn read_state(reader: &mut Reader<'_>, flat: &mut Flat) -> Option<Version>
     requires { HasCells (state_of flat.old).bus }
@@ -138,7 +141,8 @@ fn read_state(reader: &mut Reader<'_>, flat: &mut Flat) -> Option<Version>
     Some(version)
 }
 
-/// Reads all of these bytes as the fields of a state, and answers its version.
+/// Reads all of these bytes as the fields of a state and returns its version, or none if they do
+/// not spell them.
 fn read_whole(bytes: &[u8], flat: &mut Flat) -> Option<Version>
     requires { HasCells (state_of flat.old).bus }
     ensures { option_map (λ version. (version, state_of flat.new)) result
@@ -154,7 +158,7 @@ fn read_whole(bytes: &[u8], flat: &mut Flat) -> Option<Version>
 }
 
 /// Returns the number of the version that the byte after the count of commands names, or `None` if
-/// that byte names no version. Bytes that spell a state spell it in this version.
+/// that byte names no version. If the bytes spell a state, they spell it in this version.
 pub fn version_of(bytes: &[u8]) -> Option<u8>
     ensures { result ≡ option_map version_number (version_of bytes.now) }
 {
@@ -171,7 +175,7 @@ pub fn version_of(bytes: &[u8]) -> Option<u8>
 ///
 /// # Errors
 ///
-/// If memory is refused.
+/// If memory runs out.
 pub fn versioned_bench_of(alloc: Global, bytes: &[u8]) -> Result<Option<(Version, Bench)>, NoMemory>
     ensures some { IfOk result (λ found.
         IfSome found (λ x. SpellsStateBy x.0 bytes.now x.1)) }
@@ -194,7 +198,7 @@ pub fn versioned_bench_of(alloc: Global, bytes: &[u8]) -> Result<Option<(Version
 ///
 /// # Errors
 ///
-/// If memory is refused.
+/// If memory runs out.
 pub fn bench_of(alloc: Global, bytes: &[u8]) -> Result<Option<Bench>, NoMemory>
     ensures some { IfOk result (λ found. IfSome found (λ s. SpellsInSomeVersion bytes.now s)) }
     ensures none { IfOk result (λ found.

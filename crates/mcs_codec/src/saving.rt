@@ -13,10 +13,11 @@ use crate::versions::Version;
 use mcs_bench::{Bench, ChipList};
 use mcs_model::limits::SNAPSHOT_BYTES;
 
-/// Bytes that are lent to write a state into: those of the longest snapshot. No state takes more.
+/// The size of a buffer that a state is written into: the length of the longest snapshot. No state
+/// is longer.
 pub const STATE_BYTES: usize = SNAPSHOT_BYTES;
 
-/// The lists of a bench that are written place by place.
+/// The lists of a bench that are written item by item.
 #[derive(Clone, Copy)]
 pub enum StateList {
     /// A list that the chips hold.
@@ -31,7 +32,7 @@ pub enum StateList {
     Keys,
 }
 
-/// The key at a place, row by row.
+/// Returns the level of the key at an index, counted row by row.
 fn key_at(bench: &Bench, i: usize) -> u8
     requires { i < key_count bench.now.bus.board }
     ensures { result ≡ slice_index bench.now.bus.keys i }
@@ -46,7 +47,7 @@ fn key_at(bench: &Bench, i: usize) -> u8
 }
 
 impl StateList {
-    /// How many places the list has.
+    /// Returns the number of items of the list.
     fn count(self, bench: &Bench) -> usize
         ensures { result ≡ state_list_length self bench.now }
     {
@@ -64,7 +65,7 @@ impl StateList {
         }
     }
 
-    /// The byte at a place of the list.
+    /// Returns the byte at an index of the list.
     fn byte(self, bench: &Bench, i: usize) -> u8
         requires valid { IsValid bench.now }
         requires place { i < state_list_length self bench.now }
@@ -79,7 +80,7 @@ impl StateList {
         }
     }
 
-    /// Puts the list at a place of the buffer, and answers the place after it.
+    /// Writes the list at an offset of the buffer and returns the offset after it.
     fn put(self, bench: &Bench, out: &mut [u8], at: usize) -> usize
         requires valid { IsValid bench.now }
         requires room { at + length (list_in_state self bench.now) ≤ length out.old }
@@ -94,7 +95,7 @@ impl StateList {
     }
 }
 
-/// Puts what the ROMs and the RAM chips hold, and their ports.
+/// Writes what the ROMs and the RAM chips hold, and their ports, and returns the offset after them.
 fn put_memory(bench: &Bench, out: &mut [u8], at: usize) -> usize
     requires valid { IsValid bench.now }
     requires room { at + length (memory_bytes bench.now.bus) ≤ length out.old }
@@ -108,7 +109,8 @@ fn put_memory(bench: &Bench, out: &mut [u8], at: usize) -> usize
     StateList::RomPorts.put(bench, out, at)
 }
 
-/// Puts the accumulator, the carry, the index registers, the counter and the return addresses.
+/// Writes the accumulator, the carry, the index registers, the counter and the return addresses,
+/// and returns the offset after them.
 fn put_registers(bench: &Bench, out: &mut [u8], at: usize) -> usize
     requires valid { IsValid bench.now }
     requires room { at + length (registers_bytes bench.now.processor) ≤ length out.old }
@@ -122,7 +124,8 @@ fn put_registers(bench: &Bench, out: &mut [u8], at: usize) -> usize
     put_all(&registers.ret, out, at)
 }
 
-/// Puts the command register, the SRC bytes of the ROMs and of the banks, and the owed cycles.
+/// Writes the command register, the SRC bytes of the ROMs and of the banks, and the pending cycle,
+/// and returns the offset after them.
 fn put_src_bytes(bench: &Bench, out: &mut [u8], at: usize) -> usize
     requires valid { IsValid bench.now }
     requires room { at + length (src_bytes bench.now.processor bench.now.bus) ≤ length out.old }
@@ -136,7 +139,7 @@ fn put_src_bytes(bench: &Bench, out: &mut [u8], at: usize) -> usize
     put(out, at, &[registers.owed])
 }
 
-/// Puts the bits of each chain.
+/// Writes the bits of each chain and returns the offset after them.
 fn put_chains(bench: &Bench, out: &mut [u8], at: usize) -> usize
     requires valid { IsValid bench.now }
     requires room { at + length (flat_map (λ bits. bits) bench.now.bus.chains) ≤ length out.old }
@@ -151,7 +154,8 @@ fn put_chains(bench: &Bench, out: &mut [u8], at: usize) -> usize
     end
 }
 
-/// Puts what the chains and the keys hold, TEST, and the breakpoints.
+/// Writes what the chains and the keys hold, TEST, and the breakpoints, and returns the offset
+/// after them.
 fn put_wiring(bench: &Bench, out: &mut [u8], at: usize) -> usize
     requires valid { IsValid bench.now }
     requires room { at + length (wiring_bytes bench.now.bus bench.now.breakpoints)
@@ -166,7 +170,7 @@ fn put_wiring(bench: &Bench, out: &mut [u8], at: usize) -> usize
     put_counted(bench.breaks(), out, at)
 }
 
-/// Puts the groups after the board, and the watches.
+/// Writes the groups after the board, and the watches, and returns the offset after them.
 fn put_groups(bench: &Bench, out: &mut [u8], at: usize) -> usize
     requires valid { IsValid bench.now }
     requires room { at + length (after_board bench.now) ≤ length out.old }
@@ -180,7 +184,7 @@ fn put_groups(bench: &Bench, out: &mut [u8], at: usize) -> usize
     put_counted(bench.watches(), out, at)
 }
 
-/// Puts the state of a bench at the front of these bytes.
+/// Writes the state of a bench at the front of these bytes and returns its length.
 fn put_state(bench: &Bench, into: &mut [u8]) -> usize
     requires valid { IsValid bench.now }
     requires room { length (state_bytes bench.now) ≤ length into.old }
@@ -193,8 +197,8 @@ fn put_state(bench: &Bench, into: &mut [u8]) -> usize
     put_groups(bench, into, at)
 }
 
-/// Puts the state of a bench at the front of these bytes, and answers how many it took: at most
-/// 7,632. Nothing is said of those after.
+/// Writes the state of a bench at the front of these bytes and returns its length: at most 7,632.
+/// It promises nothing about the bytes after it.
 pub fn state_bytes(bench: &Bench, into: &mut [u8]) -> usize
     requires lent { STATE_BYTES ≤ length into.old }
     ensures spells { SpellsState (take result into.new) bench.now }

@@ -9,13 +9,13 @@ ghost use Rattle.mcs_codec.specs.Codec.{SpellsStateBy, has_command, version_numb
 use mcs_model::board::Board;
 use mcs_model::command::{Command, Place};
 
-/// Chains of a board of version 1.
+/// The most chains of a board of version 1.
 const VERSION_1_CHAINS: usize = 2;
 
-/// Chips of a chain of version 1.
+/// The most chips of a chain of version 1.
 const VERSION_1_CHAIN_CHIPS: u8 = 4;
 
-/// Whether a board has a chain that is too long for version 1.
+/// Returns true if a board has a chain that is too long for version 1.
 fn has_long_chain(board: &Board) -> bool
     ensures { result
         ≡ list_any (λ chain. nat_lt VERSION_1_CHAIN_CHIPS chain.chips) board.now.chains.items }
@@ -27,7 +27,7 @@ fn has_long_chain(board: &Board) -> bool
         .any(|chain| chain.chips > VERSION_1_CHAIN_CHIPS)
 }
 
-/// Whether a board is one of version 1: at most two chains of at most four chips.
+/// Returns true if a board is one of version 1: at most two chains of at most four chips.
 pub(crate) fn is_small(board: &Board) -> bool
     ensures { result ≡ is_small board.now }
 {
@@ -37,7 +37,8 @@ pub(crate) fn is_small(board: &Board) -> bool
     !has_long_chain(board)
 }
 
-/// Whether version 1 has a place. Each is named, so that it does not get a new one unseen.
+/// Returns true if version 1 has a place. Each place is named here, so that version 1 does not get
+/// a new one unnoticed.
 fn is_place_1(place: &Place) -> bool
     ensures { result ≡ is_place_1 place.now }
 {
@@ -53,7 +54,7 @@ fn is_place_1(place: &Place) -> bool
     }
 }
 
-/// Returns whether version 1 has a command: it watches nothing, and has shorter and fewer chains.
+/// Returns true if version 1 has a command. It watches nothing, and has fewer and shorter chains.
 pub fn in_version_1(command: &Command) -> bool
     ensures { result ≡ in_version_1 command.now }
 {
@@ -76,9 +77,9 @@ pub fn in_version_1(command: &Command) -> bool
 /// A version of a session's bytes.
 #[derive(Clone, Copy, Debug, PartialEq, Eq)]
 pub enum Version {
-    /// What is read, carried over, and never written.
+    /// The version that is read and carried over, and never written.
     One,
-    /// What is written.
+    /// The version that is written.
     Two,
 }
 
@@ -93,7 +94,7 @@ impl Version {
         }
     }
 
-    /// Whether the version has a command.
+    /// Returns true if the version has a command.
     pub fn has(self, command: &Command) -> bool
         ensures { result ≡ has_command self command.now }
     {
@@ -104,14 +105,14 @@ impl Version {
     }
 }
 
-/// A law: no bytes spell two states, nor states of both versions, and the fifth byte tells the
-/// version of the state that they spell. (And each state has one spelling in each version that has
-/// it: the definitions give one.)
+/// Shows that no bytes spell two states, nor states of both versions. The fifth byte names the
+/// version of the state that the bytes spell. (Each state has one spelling in each version that has
+/// it, because the definitions give one.)
 pub fn one_state()
     ensures states { (bytes : List ℕ) (v w : Version) (s t : BenchState)
         → SpellsStateBy v bytes s → SpellsStateBy w bytes t → s ≡ t }
     ensures versions { (bytes : List ℕ) (v w : Version) (s t : BenchState)
         → SpellsStateBy v bytes s → SpellsStateBy w bytes t → v ≡ w }
-    ensures told { (bytes : List ℕ) (version : Version) (s : BenchState)
+    ensures versioned { (bytes : List ℕ) (version : Version) (s : BenchState)
         → SpellsStateBy version bytes s → version_of bytes ≡ Some version }
 {}

@@ -1,9 +1,8 @@
--- What a processor did of one instruction.
+-- The work of a processor on one instruction.
 use Rattle.std.specs.Prelude.{◌≡◌, ℕ, ◌<◌, ◌≤◌, true, false}
 use Rattle.mcs_model.specs.Running.{Machine, after_cycles, is_outside}
 
--- the cycles of one instruction, k of them from s to t, of at most that many as are left: none
--- where no cycle can follow
+-- the cycles of one instruction, k of them from s to t, at most `left`: none if no cycle can follow
 pub record InstructionRan (left : ℕ) (s t : Machine) (k : ℕ) : Type 0 where
   pub within : k ≤ left
   pub machine : t ≡ after_cycles k s

@@ -1,26 +1,25 @@
-//! What the processor reaches outside itself.
+//! The processor's interface to everything outside it.
 ghost use Rattle.std.specs.Prelude.{◌≡◌, ℕ, ◌<◌};
 ghost use Rattle.mcs_model.specs.Bus.{BusState, fetch_of, after_src, ram_of, after_ram, status_of, after_status};
 ghost use Rattle.mcs_model.specs.Levels.{after_ram_port, after_rom_port, port_of};
 
 use mcs_nibble::{Addr, Bit, Nibble};
 
-/// The chips that the processor drives, and the TEST pin. Its meaning is a flat state, before and
-/// after each call. A bank is named by the value of the command register, 0 to 7, which is
-/// this project's own choice.
+/// The chips that the processor drives, and the TEST pin. The meaning of a bus is a flat state, before and after each
+/// call. The value of the command register, 0 to 7, names a bank; this is this project's own choice.
 pub trait Bus {
     ghost flat: { Self → BusState };
 
-    /// The ROM byte at an address.
+    /// Returns the ROM byte at an address.
     fn fetch(&self, at: Addr) -> u8
         ensures { result ≡ fetch_of (flat self.now) at };
 
-    /// Sends a byte out, as SRC does: the ROMs keep it, and the bank.
+    /// Sends a byte out, as SRC does. The ROMs keep it, and so does the bank.
     fn src(&mut self, bank: u8, byte: u8)
         requires { bank < 8 }
         ensures { flat self.new ≡ after_src (flat self.old) bank byte };
 
-    /// The selected RAM character of a bank.
+    /// Returns the selected RAM character of a bank.
     fn ram_read(&self, bank: u8) -> Nibble
         requires { bank < 8 }
         ensures { result ≡ ram_of (flat self.now) bank };
@@ -30,7 +29,7 @@ pub trait Bus {
         requires { bank < 8 }
         ensures { flat self.new ≡ after_ram (flat self.old) bank n };
 
-    /// Status character `k` of the selected register of a bank.
+    /// Returns status character `k` of the selected register of a bank.
     fn status_read(&self, bank: u8, k: u8) -> Nibble
         requires bank { bank < 8 }
         requires k { k < 4 }
@@ -55,7 +54,7 @@ pub trait Bus {
     fn port_read(&self) -> Nibble
         ensures { result ≡ port_of (flat self.now) };
 
-    /// The level of the TEST pin.
+    /// Returns the level of the TEST pin.
     fn test(&self) -> Bit
         ensures { result ≡ (flat self.now).test };
 }

@@ -10,7 +10,7 @@ use mcs_code::{Op, instructions, taken};
 use mcs_model::regs::Regs;
 use mcs_nibble::{Addr, Bit, Nibble, PairNo, RegNo};
 
-/// The address of a word on the page of another address.
+/// Returns the address of a word on the page of another address.
 #[inline(always)]
 fn word_beside(at: Addr, word: u8) -> Addr
     ensures { result ≡ address_beside at word }
@@ -18,7 +18,7 @@ fn word_beside(at: Addr, word: u8) -> Addr
     Addr::on_page(at.page(), word)
 }
 
-/// Whether JCN jumps, at that level of TEST.
+/// Returns whether JCN jumps at that level of TEST.
 #[inline(always)]
 fn takes_jump(condition: Nibble, regs: &Regs, test: Bit) -> bool
     ensures { result ≡ is_taken condition regs.now test }
@@ -30,7 +30,8 @@ fn takes_jump(condition: Nibble, regs: &Regs, test: Bit) -> bool
     if c / 8 % 2 == 1 { !holds } else { holds }
 }
 
-/// Where JCN goes on, at that level of TEST; `next` is the address after its words.
+/// Returns the address where the processor continues after JCN, at that level of TEST. `next` is the address after its
+/// words.
 #[inline(always)]
 fn after_condition(regs: &Regs, condition: Nibble, word: u8, test: Bit, next: Addr) -> Addr
     ensures { record regs.now { pc = result }
@@ -43,7 +44,7 @@ fn after_condition(regs: &Regs, condition: Nibble, word: u8, test: Bit, next: Ad
     }
 }
 
-/// FIN; `next` is the address after its word.
+/// Does FIN. `next` is the address after its word.
 #[inline(always)]
 fn fetch_indirect<B: Bus>(regs: &mut Regs, bus: &B, pair: PairNo, next: Addr)
     ensures { regs.new ≡ with_pair regs.old pair
@@ -53,7 +54,7 @@ fn fetch_indirect<B: Bus>(regs: &mut Regs, bus: &B, pair: PairNo, next: Addr)
     regs.set_pair(pair, bus.fetch(from));
 }
 
-/// The list of return addresses after JMS; `next` is the address after its words.
+/// Updates the list of return addresses as JMS does. `next` is the address after its words.
 #[inline(always)]
 fn push(regs: &mut Regs, next: Addr)
     ensures { regs.new ≡ record regs.old
@@ -63,7 +64,7 @@ fn push(regs: &mut Regs, next: Addr)
     regs.ret = ret;
 }
 
-/// The list of return addresses after BBL; `next` is the address after its word.
+/// Updates the list of return addresses as BBL does. `next` is the address after its word.
 #[inline(always)]
 fn pop(regs: &mut Regs, next: Addr)
     ensures { regs.new ≡ record regs.old
@@ -73,7 +74,7 @@ fn pop(regs: &mut Regs, next: Addr)
     regs.ret = ret;
 }
 
-/// INC.
+/// Does INC.
 #[inline(always)]
 fn count_up(regs: &mut Regs, r: RegNo)
     ensures { regs.new ≡ with_register regs.old r ((register_of regs.old r + 1) % 16) }
@@ -82,9 +83,9 @@ fn count_up(regs: &mut Regs, r: RegNo)
     regs.set_register(r, sum);
 }
 
-/// The address itself. It is called where ISZ goes on without its jump, which is rare, so that the jump is a branch that
-/// the machine can foresee, and waits for no register. No registers are passed: the compiler assumes that a call which has
-/// them may change each. It does not see that the sum changes nothing, so the call stays.
+/// Returns the address itself. It is called if ISZ continues without its jump, which is rare. The jump is then a branch
+/// that the machine can predict, and it waits for no register. No registers are passed: the compiler assumes that a
+/// call which has them can change each. It does not see that the sum changes nothing, so the call stays.
 #[cold]
 #[inline(never)]
 fn without_jump(next: Addr) -> Addr
@@ -93,7 +94,8 @@ fn without_jump(next: Addr) -> Addr
     Addr::ZERO.plus(next.get())
 }
 
-/// ISZ, except for the counter: where the processor goes on; `next` is the address after its words.
+/// Does ISZ, except for the counter, and returns the address where the processor continues. `next` is the address after
+/// its words.
 #[inline(always)]
 fn count_to_zero(regs: &mut Regs, r: RegNo, word: u8, next: Addr) -> Addr
     ensures counted { record regs.new { pc = result }
@@ -108,7 +110,7 @@ fn count_to_zero(regs: &mut Regs, r: RegNo, word: u8, next: Addr) -> Addr
     word_beside(next, word)
 }
 
-/// ADD and ADM of a nibble.
+/// Adds a nibble, as ADD and ADM do.
 #[inline(always)]
 fn add(regs: &mut Regs, n: Nibble)
     ensures { regs.new ≡ with_sum regs.old (regs.old.acc + n + regs.old.cy) }
@@ -116,7 +118,7 @@ fn add(regs: &mut Regs, n: Nibble)
     (regs.acc, regs.cy) = regs.acc.add(n, regs.cy);
 }
 
-/// SUB and SBM of a nibble.
+/// Subtracts a nibble, as SUB and SBM do.
 #[inline(always)]
 fn subtract(regs: &mut Regs, n: Nibble)
     ensures { regs.new ≡ with_sum regs.old (regs.old.acc + (15 - n) + (1 - regs.old.cy)) }
@@ -124,7 +126,7 @@ fn subtract(regs: &mut Regs, n: Nibble)
     (regs.acc, regs.cy) = regs.acc.sub_borrow(n, regs.cy);
 }
 
-/// RAR.
+/// Does RAR.
 #[inline(always)]
 fn rotate_right(regs: &mut Regs)
     ensures { regs.new ≡ after_rar regs.old }
@@ -134,7 +136,7 @@ fn rotate_right(regs: &mut Regs)
     regs.cy = Bit::low_of(acc);
 }
 
-/// TCS.
+/// Does TCS.
 #[inline(always)]
 fn transfer_carry_subtract(regs: &mut Regs)
     ensures { regs.new ≡ record regs.old { acc = 9 + regs.old.cy; cy = 0 } }
@@ -143,7 +145,7 @@ fn transfer_carry_subtract(regs: &mut Regs)
     regs.cy = Bit::ZERO;
 }
 
-/// DCL.
+/// Does DCL.
 #[inline(always)]
 fn designate(regs: &mut Regs)
     ensures bank { regs.new ≡ record regs.old { dcl = regs.old.acc % 8 } }
@@ -152,7 +154,7 @@ fn designate(regs: &mut Regs)
     regs.dcl = regs.acc.get() % 8;
 }
 
-/// KBP: the number of the only line that is 1, counted from 1; 0 for none, 15 for several.
+/// Returns the number of the only line that is 1, counted from 1, as KBP does. Returns 0 for none, and 15 for several.
 #[inline(always)]
 fn line_number(lines: Nibble) -> Nibble
     ensures { result ≡ key_of lines }
@@ -167,8 +169,8 @@ fn line_number(lines: Nibble) -> Nibble
     })
 }
 
-/// DAA. The carry is 1 after it wherever six was added: it was 1 before, or the sum is above 15. Nothing branches, since
-/// digits are what no machine can foresee.
+/// Does DAA. The carry is 1 after it whenever six was added: it was 1 before, or the sum is above 15. Nothing branches,
+/// because no machine can predict digits.
 #[inline(always)]
 fn adjust(regs: &mut Regs)
     ensures { regs.new ≡ after_daa regs.old }
@@ -179,9 +181,9 @@ fn adjust(regs: &mut Regs)
     regs.cy = Bit::when(adds);
 }
 
-/// Where the processor goes on after an instruction, by the name of its row: at `$next`, after its words, except for the
-/// jumps. It is told before the effect; ISZ counts here, since what it counts to tells where it goes on. The operands are
-/// `$a` and `$b`.
+/// Expands to the address where the processor continues after an instruction, by the name of its row: `$next`, after
+/// its words, except for the jumps. It is evaluated before the effect. ISZ counts here, because its count decides where
+/// it continues. The operands are `$a` and `$b`.
 macro_rules! goes_on {
     (Jcn $regs:ident $bus:ident $next:ident $a:ident $b:ident) => {
         after_condition($regs, $a, $b, $bus.test(), $next)
@@ -206,8 +208,8 @@ macro_rules! goes_on {
     };
 }
 
-/// What an instruction does to the bus and to the registers except for the counter, by the name of its row; its operands
-/// are `$a` and `$b`, and `$next` is the address after its words.
+/// Expands to what an instruction does to the bus and to the registers except for the counter, by the name of its row.
+/// Its operands are `$a` and `$b`, and `$next` is the address after its words.
 macro_rules! effect {
     (Nop $regs:ident $bus:ident $next:ident $a:ident $b:ident) => {
         ()
@@ -359,7 +361,7 @@ macro_rules! effect {
     };
 }
 
-/// The instruction's whole work, by its row.
+/// Expands to the instruction's whole work, by its row.
 macro_rules! work_rows {
     (($regs:ident, $bus:ident, $op:ident, $at:ident) $($codes:pat, $name:ident $kind:ident $words:literal $cycles:literal $group:ident $text:literal;)*) => {
         match $op {
@@ -373,9 +375,9 @@ macro_rules! work_rows {
     };
 }
 
-/// Does the instruction at an address, except for the counter and the cycles owed: the address where the processor goes on,
-/// and how many cycles it takes. Each row does all of its work, and the counter passes by value, so that a processor
-/// that has decoded a code takes one jump to it.
+/// Does the instruction at an address, except for the counter and the pending cycles. Returns the address where the
+/// processor continues, and the number of cycles that the instruction takes. Each row does all of its work, and the
+/// counter passes by value. A processor that has decoded a code therefore takes one jump to it.
 #[inline(always)]
 pub fn execute<B: Bus>(regs: &mut Regs, bus: &mut B, op: Op, at: Addr) -> (Addr, u8)
     requires { regs.old.dcl < 8 }

@@ -12,12 +12,12 @@ use mcs_model::regs::Regs;
 use mcs_nibble::{Addr, Bit, Nibble, RegNo};
 use std::marker::Model;
 
-/// What an instruction cycle did.
+/// The result of an instruction cycle.
 #[derive(Clone, Copy, Debug, PartialEq, Eq)]
 pub enum Cycle {
-    /// It did an instruction.
+    /// The cycle did an instruction.
     Done,
-    /// It was the second cycle of an instruction, in which nothing else happens.
+    /// The cycle was the second one of an instruction, in which nothing else happens.
     Idle,
     /// The code at the counter is outside the table: nothing changed.
     Outside,
@@ -43,14 +43,14 @@ impl Model for Cpu {
 }
 
 impl Cpu {
-    /// After power-on: all registers are 0.
+    /// Returns a processor after power-on: all registers are 0.
     pub fn new() -> Cpu
         ensures { result ≡ new_regs }
     {
         Cpu { regs: Regs::new() }
     }
 
-    /// The first cycle of the instruction at the counter, where none is owed.
+    /// Does the first cycle of the instruction at the counter. No cycle is pending before it.
     #[inline(always)]
     #[tactic(auto, unfolding(mcs_model::specs::Effect::cycle_of))]
     fn begin<B: Bus>(&mut self, bus: &mut B) -> Cycle
@@ -72,7 +72,7 @@ impl Cpu {
         }
     }
 
-    /// One instruction cycle on a bus.
+    /// Does one instruction cycle on a bus.
     #[inline(always)]
     #[tactic(auto, unfolding(mcs_model::specs::Effect::cycle_of))]
     pub fn cycle<B: Bus>(&mut self, bus: &mut B) -> Cycle
@@ -88,7 +88,7 @@ impl Cpu {
         self.begin(bus)
     }
 
-    /// The instruction at an address, if its code is in the table.
+    /// Returns the instruction at an address, if its code is in the table.
     #[inline(always)]
     pub fn instruction<B: Bus>(&self, bus: &B, at: Addr) -> Option<Op>
         ensures { result ≡ instruction_at (record self.now { pc = at }) (B.flat bus.now) }
@@ -97,9 +97,9 @@ impl Cpu {
         mcs_code::decode(bus.fetch(at), bus.fetch(second))
     }
 
-    /// The cycles of the instruction that is at an address, at most `left` of them, where none is owed: the address where
-    /// the processor goes on, and how many cycles it did. The counter itself stays as it is: a run keeps it at hand, and
-    /// sets it at its end.
+    /// Does the cycles of the instruction at an address, at most `left` of them. No cycle is pending before it. Returns
+    /// the address where the processor continues, and the number of cycles done. The counter itself stays as it is: a
+    /// run keeps it in a variable, and sets it at its end.
     #[inline(always)]
     #[tactic(auto, unfolding(mcs_model::specs::Effect::cycle_of))]
     pub fn run_instruction<B: Bus>(
@@ -127,7 +127,7 @@ impl Cpu {
         (next, whole)
     }
 
-    /// Whether the next cycle on a bus would be `Outside`.
+    /// Returns whether the next cycle on a bus would be `Outside`.
     #[tactic(auto, unfolding(mcs_model::specs::Effect::cycle_of))]
     pub fn is_outside<B: Bus>(&self, bus: &B) -> bool
         ensures { IsTrue result ↔ IsNone (cycle_of self.now (B.flat bus.now)) }
@@ -135,7 +135,7 @@ impl Cpu {
         self.regs.owed != 1 && self.instruction(bus, self.regs.pc).is_none()
     }
 
-    /// All registers.
+    /// Returns all registers.
     pub fn regs(&self) -> Regs
         ensures same { result ≡ self.now }
         ensures dcl { result.dcl < 8 }
@@ -194,7 +194,7 @@ impl Cpu {
         self.regs.dcl = dcl;
     }
 
-    /// Sets how many idle cycles are owed.
+    /// Sets the number of pending idle cycles.
     pub fn set_owed(&mut self, owed: u8)
         requires { owed < 2 }
         ensures { self.new ≡ record self.old { owed = owed } }

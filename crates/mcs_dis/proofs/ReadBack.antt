@@ -10,7 +10,7 @@ use Rattle.mcs_model.specs.declared.op.Op.TheVariants.{Nop, Jcn, Fim, Src, Fin, 
 use Rattle.mcs_source.specs.Lexical.{Token, Word, Comma, tokens, is_word_byte}
 use Rattle.mcs_source.proofs.Tokens.{byte_by_byte, tokens_after, word_then}
 use Rattle.mcs_model.specs.Numerals.{capped_number, number_written}
-use Rattle.mcs_source.specs.Mnemonics.{mnemonic_of, on_addresses, on_registers, on_ports, on_memory, on_accumulator, on_carry}
+use Rattle.mcs_source.specs.Mnemonics.{mnemonic_of, in_group1, in_group2, in_group3, in_group4, in_group5, in_group6}
 use Rattle.mcs_source.specs.Lines as asm
 use Rattle.mcs_source.specs.Text.{address, byte_text, instruction_text}
 use Rattle.mcs_source.specs.SourceText.{origin_text}
@@ -150,7 +150,7 @@ hex_end b lt =
     rw (glyph_word (b / 16) high, glyph_word (b % 16) last) refl
 
 read_after : (at : ℕ) (o : Op) → IsOp o → asm.line_of (tokens_after [] (instruction_text at o)) ≡ Some (asm.Code None (Some (statement at o)))
-unfolding tokens_after asm.statement_of asm.operands_of mnemonic_of on_addresses on_registers on_ports on_memory on_accumulator on_carry
+unfolding tokens_after asm.statement_of asm.operands_of mnemonic_of in_group1 in_group2 in_group3 in_group4 in_group5 in_group6
 read_after at Nop h = refl
 read_after at Wrm h = refl
 read_after at Wmp h = refl
@@ -267,7 +267,7 @@ spells at (Fin r) names h = refl
 spells at (Jin r) names h = refl
 
 byte_after : (b : ℕ) → b < 256 → asm.line_of (tokens_after [] (byte_text b)) ≡ Some (asm.Code None (Some (asm.Data (asm.Number b ∷ []))))
-unfolding tokens_after asm.statement_of asm.operands_of mnemonic_of on_addresses
+unfolding tokens_after asm.statement_of asm.operands_of mnemonic_of in_group1
 byte_after b lt = rw (hex_end b lt, hex_2_again b lt) refl
 
 pub byte_back : (b : ℕ) → b < 256 → asm.line_of (tokens (byte_text b)) ≡ Some (asm.Code None (Some (asm.Data (asm.Number b ∷ []))))
@@ -415,7 +415,7 @@ fine_is at (Jms r b) = refl
 fine_is at (Isz r b) = refl
 
 origin_after : (from : ℕ) → from < 4096 → asm.line_of (tokens_after [] (origin_text from)) ≡ Some (asm.Code None (Some (asm.Origin from)))
-unfolding tokens_after asm.statement_of mnemonic_of on_addresses
+unfolding tokens_after asm.statement_of mnemonic_of in_group1
 origin_after from lt =
     let p : from / 256 < 16 = omega arith in
     let b : from % 256 < 256 = omega arith in

@@ -1,4 +1,4 @@
--- The statement that the text of an instruction is, and the pairs of a range of a ROM.
+-- The statement of an instruction's text, and the pairs of a range of a ROM.
 use Rattle.std.specs.Prelude.{◌≡◌, ℕ, ◌+◌, ◌*◌, ◌<◌, ◌≤◌, ◌↔◌, List, Some, None, slice_index}
 use Rattle.std.specs.List.{Contains}
 use Rattle.mcs_model.specs.Images.{from_address}
@@ -14,7 +14,7 @@ use Rattle.mcs_source.specs.SourceText.{range}
 abbrev pub near : ℕ → ℕ → asm.Operand
 near at b = asm.Number (near_page at * 256 + b)
 
--- the statement that the text of an instruction at an address is to be read as
+-- the statement that the text of an instruction at an address must read as
 abbrev pub statement : ℕ → Op → asm.Statement
 statement at (Jcn c b) = asm.Jcn (asm.Number c) (near at b)
 statement at (Isz r b) = asm.Isz r (near at b)
@@ -29,8 +29,8 @@ statement at o = asm.Whole o
 abbrev pub ReadsAs : ℕ → Op → Type 0
 ReadsAs at o = asm.line_of (tokens (instruction_text at o)) ≡ Some (asm.Code None (Some (statement at o)))
 
--- the pairs of a range are exactly the pairs of an address `from` to below `to` and the byte of the
--- ROM there
+-- the pairs of a range are exactly the pairs of an address from `from` to below `to` and the byte
+-- of the ROM there
 abbrev pub AreItsPairs : List ℕ → ℕ → ℕ → Type 0
 AreItsPairs rom from to =
     (p : ℕ × ℕ) → Contains (from_address from (range rom from to)) p

@@ -1,4 +1,4 @@
-//! What stands in front of some bytes: an instruction, or a byte that is none.
+//! The piece at the front of some bytes: an instruction, or a byte that is none.
 ghost use Rattle.std.specs.Prelude.{◌≡◌, ◌<◌, ◌≤◌, [], length, drop};
 ghost use Rattle.std.specs.Option.{option_to_list};
 ghost use Rattle.mcs_source.specs.Text.{op_at, piece_size, second_of};
@@ -6,7 +6,7 @@ ghost use Rattle.mcs_dis.specs.Front.{op_in_front};
 
 use mcs_code::{Op, decode, word_count, words};
 
-/// The instruction of one word that a code spells.
+/// Returns the instruction of one word that a code spells.
 #[tactic(auto, using(crate::proofs::Loops::one_is, crate::proofs::Loops::two_is), unfolding(mcs_source::specs::Text::op_at))]
 fn one_word_op(code: u8) -> Option<Op>
     ensures { result ≡ op_at code [] }
@@ -18,8 +18,8 @@ fn one_word_op(code: u8) -> Option<Op>
     }
 }
 
-/// The instruction of a first word and a second; None where it is outside the table, or lacks its
-/// second word.
+/// Returns the instruction of a first word and a second. Returns `None` if it is outside the table, or lacks its second
+/// word.
 #[tactic(auto, using(crate::proofs::Loops::both_is), unfolding(mcs_source::specs::Text::op_at))]
 pub fn op_of(first: u8, second: Option<u8>) -> Option<Op>
     ensures { result ≡ op_at first (option_to_list second) }
@@ -30,7 +30,7 @@ pub fn op_of(first: u8, second: Option<u8>) -> Option<Op>
     }
 }
 
-/// The instruction that stands in front of some bytes and lies in them whole.
+/// Returns the instruction at the front of some bytes, if it is complete in them.
 #[tactic(auto, using(crate::proofs::Loops::two_front, crate::proofs::Loops::one_front))]
 pub fn op_in_front(bytes: &[u8]) -> Option<Op>
     requires { 0 < length bytes.now }
@@ -43,7 +43,7 @@ pub fn op_in_front(bytes: &[u8]) -> Option<Op>
     }
 }
 
-/// How many bytes a piece has.
+/// Returns the number of bytes of a piece.
 pub fn piece_size(piece: &Option<Op>) -> usize
     ensures { result ≡ piece_size piece.now }
 {
@@ -53,7 +53,7 @@ pub fn piece_size(piece: &Option<Op>) -> usize
     }
 }
 
-/// The second word of the piece in front of some bytes, if it has one.
+/// Returns the second word of the piece in front of some bytes, if it has one.
 pub fn second(bytes: &[u8], piece: &Option<Op>) -> Option<u8>
     requires { piece_size piece.now ≤ length bytes.now }
     ensures { result ≡ second_of piece.now (drop 1 bytes.now) }

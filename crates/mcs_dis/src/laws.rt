@@ -6,13 +6,13 @@ ghost use Rattle.mcs_source.specs.Spelled.{IsOp};
 ghost use Rattle.mcs_source.specs.SourceText.{SpellsItself};
 ghost use Rattle.mcs_model.specs.declared.op.Op.{Op};
 
-/// The text of an instruction reads as the statement that spells it.
+/// Proves that the text of an instruction reads as the statement that spells it.
 pub fn reads_back()
     ensures { (at : ℕ) (o : Op) → IsOp o → ReadsAs at o }
 {}
 
-/// The source of a range of a ROM assembles, without a fault, to exactly the bytes of the range,
-/// each at its address.
+/// Proves that the source of a range of a ROM assembles, without an error, to exactly the bytes of the range, each at
+/// its address.
 pub fn source_law()
     ensures spelled { (rom : List ℕ) (from to : ℕ) → length rom ≡ 4096
         → AllByRecursion (λ b. b < 256) rom → from < to → to ≤ 4096 → SpellsItself rom from to }

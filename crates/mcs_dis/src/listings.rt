@@ -10,9 +10,8 @@ use crate::texts::{push_columns, push_origin, push_piece};
 use mcs_nibble::Addr;
 use std::alloc::{AllocError, Global};
 
-/// The text of the instruction that stands at an address, by its words. A code outside the table,
-/// and a first word whose second word is past the end (None), is `DB 0xHH`. A second word after an
-/// instruction of one word counts for nothing.
+/// Returns the text of the instruction at an address, by its words. A code outside the table, and a first word whose
+/// second word is past the end (`None`), is `DB 0xHH`. A second word after an instruction of one word is ignored.
 pub fn line_of(alloc: Global, at: Addr, first: u8, second: Option<u8>) -> Result<String, AllocError>
     ensures { IfOk result (λ s. string_bytes s ≡ line_text at first second) }
 {
@@ -21,7 +20,7 @@ pub fn line_of(alloc: Global, at: Addr, first: u8, second: Option<u8>) -> Result
     Ok(out)
 }
 
-/// Writes the line of the piece in front, and tells how many bytes it has.
+/// Writes the line of the piece at the front, and returns its number of bytes.
 #[tactic(auto, using(crate::proofs::Loops::front_fits, crate::proofs::Loops::front_some))]
 fn push_source_line(out: &mut String, at: Addr, bytes: &[u8]) -> Result<usize, AllocError>
     requires { 0 < length bytes.now }
@@ -37,7 +36,7 @@ fn push_source_line(out: &mut String, at: Addr, bytes: &[u8]) -> Result<usize, A
     Ok(size)
 }
 
-/// Writes the line of a listing of the piece in front, and tells how many bytes it has.
+/// Writes the listing line of the piece at the front, and returns its number of bytes.
 #[tactic(auto, using(crate::proofs::Loops::front_fits, crate::proofs::Loops::front_some))]
 fn push_listing_line(out: &mut String, at: Addr, bytes: &[u8]) -> Result<usize, AllocError>
     requires { 0 < length bytes.now }
@@ -55,9 +54,8 @@ fn push_listing_line(out: &mut String, at: Addr, bytes: &[u8]) -> Result<usize, 
     Ok(size)
 }
 
-/// The listing of a ROM from an address on: that many lines `AAA BB BB TEXT`, each ended by LF, or
-/// fewer where the last address comes first. An instruction of one word has two spaces in place of
-/// the second word.
+/// Returns the listing of a ROM from an address on: `lines` lines `AAA BB BB TEXT`, each ended by LF, or fewer if the
+/// last address comes first. An instruction of one word has two spaces in place of the second word.
 pub fn listing(alloc: Global, rom: &[u8], from: Addr, lines: usize) -> Result<String, AllocError>
     requires { length rom.now ≡ 4096 }
     ensures { IfOk result (λ s. string_bytes s ≡ listing_text rom.now from lines) }
@@ -76,7 +74,7 @@ pub fn listing(alloc: Global, rom: &[u8], from: Addr, lines: usize) -> Result<St
     Ok(out)
 }
 
-/// The source of the addresses `from` to below `to`: the line `ORG 0xHHH`, and a line for each
+/// Returns the source of the addresses from `from` to below `to`: the line `ORG 0xHHH`, and a line for each
 /// instruction, each ended by LF. It assembles to exactly the bytes of these addresses.
 pub fn source(alloc: Global, rom: &[u8], from: Addr, to: u16) -> Result<String, AllocError>
     requires rom { length rom.now ≡ 4096 }

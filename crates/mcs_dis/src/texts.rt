@@ -12,7 +12,7 @@ use mcs_code::{Op, instructions, taken};
 use mcs_nibble::{Addr, Nibble};
 use std::alloc::AllocError;
 
-/// The name, by the row of the instruction.
+/// Expands to a match that gives the name, by the row of the instruction.
 macro_rules! name_rows {
     (($op:ident) $($codes:pat, $name:ident $kind:ident $words:literal $cycles:literal $group:ident $text:literal;)*) => {
         match *$op {
@@ -21,7 +21,7 @@ macro_rules! name_rows {
     };
 }
 
-/// The name of an instruction.
+/// Returns the name of an instruction.
 fn name(op: &Op) -> &'static str
     ensures { result.now ≡ name op.now }
 {
@@ -64,8 +64,8 @@ fn push_near(out: &mut String, front: &str, n: u8, at: Addr, word: u8) -> Result
     push_address(out, ", ", at.plus(2).page(), word)
 }
 
-/// Writes the operands of a row's instruction, which are `$a` and `$b`, by their kind. Of one
-/// kind are JUN and JMS, whose nibble is a page, and JCN, whose nibble is a condition.
+/// Expands to code that writes the operands of a row's instruction, `$a` and `$b`, by their kind. JUN, JMS and JCN have
+/// one kind: the nibble of JUN and JMS is a page, and that of JCN a condition.
 macro_rules! pushed {
     (($out:ident $at:ident) $a:ident $b:ident $name:ident none) => {
         Ok(())
@@ -93,7 +93,7 @@ macro_rules! pushed {
     };
 }
 
-/// The operands, by the row of the instruction.
+/// Expands to a match that writes the operands, by the row of the instruction.
 macro_rules! operand_rows {
     (($out:ident, $at:ident, $op:ident) $($codes:pat, $name:ident $kind:ident $words:literal $cycles:literal $group:ident $text:literal;)*) => {
         match $op {
@@ -109,7 +109,7 @@ fn push_operands(out: &mut String, at: Addr, op: Op) -> Result<(), AllocError>
     instructions!(operand_rows!(out, at, op))
 }
 
-/// Writes the text of an instruction that stands at an address.
+/// Writes the text of an instruction at an address.
 fn push_op(out: &mut String, at: Addr, op: Op) -> Result<(), AllocError>
     ensures { OnOk result (string_bytes out.new ≡ string_bytes out.old ++ instruction_text at op) }
 {
@@ -117,8 +117,7 @@ fn push_op(out: &mut String, at: Addr, op: Op) -> Result<(), AllocError>
     push_operands(out, at, op)
 }
 
-/// Writes the text of a piece that stands at an address: an instruction, or its first word as a
-/// byte.
+/// Writes the text of a piece at an address: an instruction, or its first word as a byte.
 #[tactic(auto, using(std::proofs::lemmas::Fmt::hex_byte))]
 pub fn push_piece(
     out: &mut String,
@@ -135,7 +134,7 @@ pub fn push_piece(
     }
 }
 
-/// Writes the line that says where the bytes after it stand.
+/// Writes the line that gives the address of the bytes after it.
 pub fn push_origin(out: &mut String, at: Addr) -> Result<(), AllocError>
     ensures { OnOk result (string_bytes out.new
         ≡ string_bytes out.old ++ as_line (origin_text at)) }
@@ -156,7 +155,7 @@ fn push_digits(out: &mut String, at: Addr) -> Result<(), AllocError>
     write!(out, "{page:X}{word:02X}")
 }
 
-/// Writes the words that stand before a listed text, after the address.
+/// Writes the words in front of a listed text, after the address.
 #[tactic(auto, using(std::proofs::lemmas::Fmt::hex_byte))]
 fn push_words(out: &mut String, first: u8, second: Option<u8>) -> Result<(), AllocError>
     ensures { OnOk result (string_bytes out.new
@@ -168,7 +167,7 @@ fn push_words(out: &mut String, first: u8, second: Option<u8>) -> Result<(), All
     }
 }
 
-/// Writes the address and the words that stand before a listed text.
+/// Writes the address and the words in front of a listed text.
 pub fn push_columns(
     out: &mut String,
     at: Addr,

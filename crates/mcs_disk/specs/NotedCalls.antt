@@ -1,10 +1,11 @@
--- What a call of the code is among the calls on a disk.
+-- The calls of the code, as calls on a disk.
 use Rattle.std.specs.Prelude.{ℕ, List, [], ◌∷◌}
 use Rattle.mcs_disk.specs.Calls.{DiskCall, WasRead, Wrote, Failed, Synced}
 use Rattle.mcs_disk.specs.declared.call_record.Call.{Call}
 use Rattle.mcs_disk.specs.declared.call_record.Call.TheVariants.{Read, Write, FailedWrite, Sync}
 
--- a call with the bytes that it wrote, if it wrote; where a write failed, a read gives what it gave
+-- a call with the bytes that it wrote, if it wrote; after a failed write, a read gives what it gave
+-- before
 abbrev pub call_of : Call → List ℕ → DiskCall
 call_of Read bytes = WasRead
 call_of (Write at) bytes = Wrote at bytes

@@ -1,11 +1,11 @@
--- What contracts see of the disks of this crate.
+-- The disks of this crate, as contracts see them.
 use Rattle.std.specs.Prelude.{◌≡◌, ℕ, List, []}
 use Rattle.mcs_disk.specs.Disk.{DiskState}
 use Rattle.mcs_disk.specs.NotedCalls.{calls_in}
 use Rattle.mcs_disk.specs.declared.fuse.FuseDisk.{FuseDisk}
 use Rattle.mcs_disk.specs.declared.memory.MemDisk.{MemDisk}
 
--- what they see of a disk in memory: no premise, no fault, and these calls since it held its first
+-- a disk in memory as contracts see it: no premise, no fault, and the calls since it held its first
 -- bytes
 abbrev pub mem_disk_state : MemDisk → DiskState
 mem_disk_state disk = record {
@@ -15,7 +15,7 @@ mem_disk_state disk = record {
   calls = calls_in disk.history.notes;
 }
 
--- what they see of a disk with a fuse: the calls of the disk in it, and faults of its own
+-- a disk with a fuse as contracts see it: the calls of the disk in it, and faults of its own
 abbrev pub fuse_disk_state : FuseDisk → DiskState
 fuse_disk_state disk = record (mem_disk_state disk.disk) { faults = disk.faults }
 

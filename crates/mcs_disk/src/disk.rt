@@ -6,22 +6,21 @@ ghost use Rattle.mcs_disk.specs.Calls.{WasRead, Wrote, Synced};
 
 use thiserror::Error;
 
-/// The device refused a call.
+/// A device fault: a call on the disk failed.
 #[derive(Clone, Copy, Debug, PartialEq, Eq, Error)]
 #[error("the device failed")]
 pub struct DiskFault;
 
 /// A device of bytes that can be read and written in ranges, and synced.
 ///
-/// Every disk owes its size, the count of faults and the list of the calls on it. An honest disk owes
-/// besides that a read gives what the list says. What the list says of a power cut is what may be
-/// found after it: between two syncs any bytes in a written range, and after a good sync the current
-/// bytes.
+/// Every disk has its size, a count of its faults and a list of the calls on it. On an honest disk,
+/// a read gives what the list implies. The list also implies what may be found after a power cut:
+/// between two syncs any bytes in a written range, and after a good sync the current bytes.
 pub trait Disk {
-    /// What contracts see.
+    /// The disk as contracts see it.
     ghost state: { Self → DiskState };
 
-    /// The number of bytes, which no call changes.
+    /// Returns the number of bytes, which no call changes.
     fn size(&self) -> usize
         ensures { result ≡ size_of (state self.now) };
 
@@ -41,7 +40,7 @@ pub trait Disk {
         ensures noted { Makes (Wrote at from.now ∷ []) (state self.old).calls
             (state self.new).calls result };
 
-    /// Makes what was written stable: after an Ok, a power cut leaves what a read gives.
+    /// Makes stable what was written: after Ok, a power cut leaves the bytes that a read gives.
     fn sync(&mut self) -> Result<(), DiskFault>
         ensures call { CountsFault (state self.old) (state self.new) (IsErr result) }
         ensures noted { Makes (Synced ∷ []) (state self.old).calls (state self.new).calls result };

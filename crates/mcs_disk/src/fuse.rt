@@ -6,21 +6,21 @@ ghost use Rattle.mcs_disk.specs.Calls.{WasRead, Wrote, Synced};
 
 use crate::{Disk, DiskFault, MemDisk};
 
-/// Which of the calls to come fail.
+/// The calls to come that fail.
 #[derive(Clone, Copy)]
 enum Fuse {
     /// None.
     Whole,
-    /// All but that many that come first.
+    /// All calls after this many.
     AllAfter(usize),
-    /// The one after that many.
+    /// Only the call after this many.
     OneAfter(usize),
 }
 
 impl Fuse {
     ghost use Rattle.mcs_disk.specs.Fuse.{Fails};
 
-    // The next call fails.
+    // Returns true if the next call fails, and counts this call.
     fn blows(&mut self) -> bool
         ensures now { IsTrue result ↔ Fails self.old 0 }
         ensures later { (n : ℕ) → Fails self.new n ↔ Fails self.old (n + 1) }
@@ -59,7 +59,7 @@ impl FuseDisk {
     ghost use Rattle.mcs_disk.specs.Fuse.{FailsAfter, inner_disk};
     ghost use Rattle.mcs_disk.specs.States.{fuse_disk_state, mem_disk_state};
 
-    /// The first `calls` calls go through; each later one fails.
+    /// Makes a disk that passes on the first `calls` calls and fails each later one.
     pub fn after(disk: MemDisk, calls: usize) -> FuseDisk
         ensures counts { CountsFault (mem_disk_state disk) (fuse_disk_state result) ⊥ }
         ensures calls { (fuse_disk_state result).calls ≡ (mem_disk_state disk).calls }
@@ -73,7 +73,7 @@ impl FuseDisk {
         }
     }
 
-    /// The call after the first `calls` fails; all others go through.
+    /// Makes a disk that fails only the call after the first `calls` calls.
     pub fn once(disk: MemDisk, calls: usize) -> FuseDisk
         ensures counts { CountsFault (mem_disk_state disk) (fuse_disk_state result) ⊥ }
         ensures calls { (fuse_disk_state result).calls ≡ (mem_disk_state disk).calls }
@@ -87,7 +87,7 @@ impl FuseDisk {
         }
     }
 
-    /// Ends the failing: every later call goes through.
+    /// Ends the failing: every later call is passed on.
     pub fn mend(&mut self)
         ensures counts { CountsFault (fuse_disk_state self.old) (fuse_disk_state self.new) ⊥ }
         ensures calls { (fuse_disk_state self.new).calls ≡ (fuse_disk_state self.old).calls }
@@ -97,7 +97,7 @@ impl FuseDisk {
         self.fuse = Fuse::Whole;
     }
 
-    // Counts a fault and does nothing else.
+    // Counts a fault, returns it, and does nothing else.
     fn fail(&mut self) -> DiskFault
         ensures inner { self.new.disk ≡ self.old.disk }
         ensures fuse { self.new.fuse ≡ self.old.fuse }

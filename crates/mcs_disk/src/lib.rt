@@ -1,8 +1,9 @@
-//! Disks as the journal sees them: a fixed number of bytes, faults, and what a power cut may leave.
+//! Disks as the journal sees them: a fixed number of bytes, device faults, and the bytes that a
+//! power cut may leave.
 //!
 //! [`Disk`] is the trait that the journal is written over. [`MemDisk`] is an honest disk in memory,
-//! and [`FuseDisk`] one that fails chosen calls, for tests. [`Record`] is what contracts know of
-//! the calls on a disk.
+//! and [`FuseDisk`] one that fails chosen calls, for tests. [`Record`] lists the calls on a disk,
+//! for contracts only.
 #![tactic(auto)]
 
 mod call_record;

@@ -9,10 +9,10 @@ use crate::call_record::{Call, CallRecord};
 use crate::{Disk, DiskFault, overwrite};
 use std::alloc::{AllocError, Global};
 
-/// An honest disk in memory: each call on it is answered Ok, and takes no memory.
+/// An honest disk in memory. It answers each call with Ok, and no call takes memory.
 ///
-/// What a power cut would have left at each moment is read from the calls on it, which contracts
-/// alone know.
+/// The bytes that a power cut would have left at each moment follow from the calls on it, which
+/// only contracts see.
 #[derive(Drop)]
 pub struct MemDisk {
     pub(crate) bytes: Vec<u8>,
@@ -24,14 +24,14 @@ pub struct MemDisk {
 impl MemDisk {
     ghost use Rattle.mcs_disk.specs.States.{IsFresh, mem_disk_state};
 
-    /// A disk of `size` bytes of 0.
+    /// Makes a disk of `size` bytes of 0. It fails if memory runs out.
     pub fn new(alloc: Global, size: usize) -> Result<MemDisk, AllocError>
         ensures { IfOk result (λ disk. IsFresh (replicate size 0) (mem_disk_state disk)) }
     {
         Ok(MemDisk::with_bytes(vec![in alloc; 0u8; size]?))
     }
 
-    /// A disk that holds these bytes, before any call.
+    /// Makes a disk that holds these bytes, before any call.
     pub fn with_bytes(bytes: Vec<u8>) -> MemDisk
         ensures { IsFresh bytes.items (mem_disk_state result) }
     {
@@ -39,7 +39,7 @@ impl MemDisk {
         MemDisk { bytes, history }
     }
 
-    /// The bytes that it holds.
+    /// Returns the bytes that it holds.
     pub fn bytes(&self) -> &[u8]
         ensures { result.now ≡ bytes_of (mem_disk_state self.now) }
     {

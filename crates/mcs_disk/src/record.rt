@@ -1,16 +1,16 @@
-//! What has been asked of a disk or of a file of the host: a list that no memory holds.
+//! A list of the calls on a disk or on a file of the host, which no memory holds.
 ghost use Rattle.std.specs.Prelude.{◌≡◌, ℕ, List, [], ◌∷◌};
 ghost use Rattle.std.specs.Borrow.{ftrue};
 ghost use Rattle.std.specs.Coded.{coded_list, coded_ℕ, coded×};
 
 use std::marker::{Model, PhantomData};
 
-/// Bytes that a list of calls starts from, and the calls since, each with its own bytes, for
-/// contracts alone: no memory holds them.
+/// The bytes that a list of calls starts from, and the calls since, each with its own bytes. Only
+/// contracts see them; no memory holds them.
 #[derive(Drop)]
 pub struct Record<C> {
     marker: PhantomData<C>,
-    /// The bytes that it starts from, as those that a disk holds before any call.
+    /// The bytes that it starts from, such as those that a disk holds before any call.
     pub ghost start: { List ℕ },
     /// The calls so far, the newest first, each with the bytes that go with it.
     pub ghost notes: { List (C × List ℕ) } by { coded_list (coded× C.code (coded_list coded_ℕ)) },

@@ -1,4 +1,4 @@
--- When a machine reads its inputs, and what it can read.
+-- The readings of a machine's inputs, and the values that it can read.
 use Rattle.std.specs.Prelude.{◌≡◌, ◌<◌, ◌+◌, ◌%◌, ◌/◌, ℕ, [], Bool, true, false, not, ◌&&◌, ◌==◌, Option, Some, None, length, slice_index, slice_index_or, if◌then◌else◌}
 use Rattle.std.specs.List.{list_any, range_with_len}
 use Rattle.mcs_nibble.specs.Bits.{bit_of}
@@ -15,17 +15,17 @@ use Rattle.mcs_drive.specs.Driven.{Levels, under, cycled}
 
 -- ---- when a machine asks
 
--- whether an instruction reads an input: RDR, and JCN with bit 0 of its condition, which tests TEST
+-- true if an instruction reads an input: RDR, and JCN with bit 0 of its condition, which tests TEST
 abbrev pub asks : Option Op → Bool
 asks (Some Rdr) = true
 asks (Some (Jcn c w)) = c % 2 == 1
 asks _ = false
 
--- whether the next cycle of a machine does
+-- true if the next cycle of a machine does
 abbrev pub is_asking : Machine → Bool
 is_asking s = not (s.0.owed == 1) && asks (instruction_at s.0 s.1)
 
--- a cycle that reads no input is the same at all levels, and leaves them
+-- a cycle that reads no input is the same at all levels, and leaves them unchanged
 abbrev pub LevelsRest : Type 0
 LevelsRest =
     (l : Levels) (s : Machine) → board_fault_of s.1.board ≡ None → is_asking s ≡ false →
@@ -33,13 +33,13 @@ LevelsRest =
 
 -- ---- what the levels answer
 
--- what an instruction reads at these levels: the port, or TEST; 0 where it reads no input
+-- the value that an instruction reads at these levels: the port, or TEST; 0 if it reads no input
 abbrev pub answer_to : Option Op → Levels → BusState → ℕ
 answer_to (Some Rdr) l m = port_of (record m { keys = l.keys; test = l.test })
 answer_to (Some (Jcn c w)) l m = if c % 2 == 1 then l.test else 0
 answer_to _ l m = 0
 
--- what the next instruction of a machine does
+-- the value that the next instruction of a machine reads
 abbrev pub answer : Levels → Machine → ℕ
 answer l s = answer_to (instruction_at s.0 s.1) l s.1
 
@@ -47,7 +47,7 @@ answer l s = answer_to (instruction_at s.0 s.1) l s.1
 abbrev pub plain : Machine → Machine
 plain s = under (record { keys = []; test = 0 }) s
 
--- of the levels, a cycle depends on what is read alone
+-- of the levels, a cycle depends only on the value that it reads
 abbrev pub AnswersDecide : Type 0
 AnswersDecide =
     (l l' : Levels) (s : Machine) → board_fault_of s.1.board ≡ None → answer l s ≡ answer l' s →
@@ -55,7 +55,7 @@ AnswersDecide =
 
 -- ---- which answers there are
 
--- whether a driven row can pull line k of a ROM's port, with the right key down
+-- true if a driven row can pull line k of a ROM's port, with the right key down
 abbrev pub may_be_pulled : BusState → ℕ → ℕ → Bool
 may_be_pulled s chip k =
     elim s.board.keys [
@@ -72,7 +72,7 @@ PulledAtMost =
     (l : Levels) (s : Machine) (chip k : ℕ) → is_pulled (under l s).1 chip k ≡ true →
     may_be_pulled s.1 chip k ≡ true
 
--- what is read at a ROM's port if, of the lines that can be pulled, the bits of c are
+-- the value read at a ROM's port if, of the lines that can be pulled, the bits of c are
 abbrev pub port_choice : BusState → ℕ → ℕ → ℕ
 port_choice s chip c =
     elim (masks_on s.board chip) [

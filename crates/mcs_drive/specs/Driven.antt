@@ -1,6 +1,6 @@
--- What all inputs can do. Before each cycle the environment puts the keys and the TEST pin at any
--- levels; then the machine does one cycle, by the instruction table. This file, Tracked and what they
--- use of mcs_model are all that a reader has to believe. (Our own choice.)
+-- Everything that inputs can do. Before each cycle the environment sets the keys and the TEST pin
+-- to any levels; then the machine does one cycle, by the instruction table. This file, Tracked and
+-- what they use of mcs_model are everything that a reader must believe. (Our own choice.)
 use Rattle.std.specs.Prelude.{◌<◌, ℕ, zero, suc, List, unwrap_or}
 use Rattle.mcs_model.specs.declared.board.BoardParts.{BoardParts}
 use Rattle.mcs_model.specs.Boards.{key_count}

@@ -4,7 +4,7 @@ use Rattle.mcs_model.specs.Boards.{board_fault_of}
 use Rattle.mcs_drive.specs.Driven.{Levels}
 use Rattle.mcs_drive.specs.Tracked.{Tracked, under, plain, after_cycles, is_asking, answer}
 
--- a property that does not look at the inputs
+-- a property that does not depend on the inputs
 abbrev pub Ignores : (Tracked → Bool) → Type 0
 Ignores p = (s : Tracked) → p s ≡ p (plain s)
 
@@ -16,7 +16,7 @@ pub record LeadsTo (p : Tracked → Bool) (a b : Tracked) (l : Levels) : Type 0 
   pub well : (i : ℕ) → i ≤ more → p (after_cycles (suc i) (under l a)) ≡ true
   pub same : plain (after_cycles (suc more) (under l a)) ≡ plain b
 
--- one run shows it for all levels at which the same is read
+-- one run shows the result for all levels at which the same is read
 abbrev pub AnswersLead : Type 0
 AnswersLead =
     (p : Tracked → Bool) (a b : Tracked) (l m : Levels) → Ignores p → board_fault_of a.1.board ≡ None →

@@ -1,6 +1,6 @@
--- A machine with the calls that are open in it, and what it means that a property of both holds for all
--- inputs. The processor keeps three return addresses and not how many of them are in use, so this
--- count is no part of a machine. (Our own choice.)
+-- A machine with the calls that are open in it, and the meaning of a property of both that holds
+-- for all inputs. The processor keeps three return addresses and not how many of them are in use,
+-- so this count is not part of a machine. (Our own choice.)
 use Rattle.std.specs.Prelude.{◌≡◌, ◌+◌, ◌-◌, ℕ, zero, suc, Bool, true, Option, Some, None, unwrap_or, nat_lt, if◌then◌else◌, ◌==◌, not, ◌&&◌, []}
 use Rattle.mcs_model.specs.declared.op.Op.{Op}
 use Rattle.mcs_model.specs.declared.op.Op.TheVariants.{Jms, Bbl}
@@ -11,7 +11,7 @@ use Rattle.mcs_model.specs.Running.{Machine}
 use Rattle.mcs_drive.specs.Driven.{Levels, FitBoard, driven as driven_machine}
 use Rattle.mcs_drive.specs.Asking.{asks, answer_to}
 
--- a machine, and how many calls are open in it
+-- a machine, and the number of calls that are open in it
 abbrev pub Tracked : Type 0
 Tracked = Regs × BusState × ℕ
 
@@ -23,8 +23,8 @@ machine_in s = (s.0, s.1)
 abbrev pub without_calls : Machine → Tracked
 without_calls s = (s.0, s.1, 0)
 
--- how many calls are open after an instruction, if n are before: JMS opens one, and BBL closes one.
--- At most three are: a fourth one takes the return address of the first.
+-- the number of open calls after an instruction, if n are open before: JMS opens one, and BBL
+-- closes one. At most three are open: a fourth takes the return address of the first.
 abbrev pub calls_after : Option Op → ℕ → ℕ
 calls_after (Some (Jms h b)) n = if nat_lt n 3 then n + 1 else n
 calls_after (Some (Bbl d)) n = n - 1
@@ -35,7 +35,7 @@ calls_after _ n = n
 abbrev pub next_op : Regs → BusState → Option Op
 next_op s m = if s.owed == 1 then None else instruction_at s m
 
--- how many are open after the next cycle
+-- the number of calls that are open after the next cycle
 abbrev pub open_after : Regs → BusState → ℕ → ℕ
 open_after s m n = calls_after (next_op s m) n
 
@@ -60,11 +60,11 @@ abbrev pub after_cycles : ℕ → Tracked → Tracked
 after_cycles zero s = s
 after_cycles (suc k) s = cycled (after_cycles k s)
 
--- whether the next cycle reads an input
+-- true if the next cycle reads an input
 abbrev pub is_asking : Tracked → Bool
 is_asking s = not (s.0.owed == 1) && asks (instruction_at s.0 s.1)
 
--- what the next instruction reads at these levels
+-- the value that the next instruction reads at these levels
 abbrev pub answer : Levels → Tracked → ℕ
 answer l s = answer_to (instruction_at s.0 s.1) l s.1
 

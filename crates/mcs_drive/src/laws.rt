@@ -3,32 +3,32 @@ ghost use Rattle.mcs_drive.specs.Asking.{AnswersDecide, ChoicesCover, LevelsRest
 ghost use Rattle.mcs_drive.specs.Leading.{AnswersLead};
 ghost use Rattle.mcs_drive.specs.Tracked.{TracksMachine};
 
-/// A cycle that reads no input is the same at all levels, and leaves them.
+/// Proves that a cycle that reads no input is the same at all levels, and leaves them unchanged.
 pub fn levels_rest()
     ensures { LevelsRest }
 {}
 
-/// Of the levels, a cycle depends on what is read alone.
+/// Proves that, of the levels, a cycle depends only on the value that it reads.
 pub fn answers_decide()
     ensures { AnswersDecide }
 {}
 
-/// A line of a port is pulled only where a driven row can pull it.
+/// Proves that a line of a port is pulled only if a driven row can pull it.
 pub fn pulled_at_most()
     ensures { PulledAtMost }
 {}
 
-/// At any levels, what is read at a port is one of 16 values.
+/// Proves that, at any levels, the value read at a port is one of 16.
 pub fn choices_cover()
     ensures { ChoicesCover }
 {}
 
-/// A run at some levels shows where all levels lead at which the same is read.
+/// Proves that a run at some levels shows the result for all levels at which the same is read.
 pub fn answers_lead()
     ensures { AnswersLead }
 {}
 
-/// The machine of a run is the same with and without a count of its open calls.
+/// Proves that the machine of a run is the same with and without a count of its open calls.
 pub fn tracks_machine()
     ensures { TracksMachine }
 {}

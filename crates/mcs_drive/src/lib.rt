@@ -1,4 +1,4 @@
-//! What all inputs can do to a machine: definitions and laws.
+//! Everything that inputs can do to a machine: definitions and laws.
 #![tactic(auto)]
 
 mod laws;

@@ -30,7 +30,7 @@ const COLUMNS: [Line; KEY_COLUMNS] = [
     Line::Rom(2, 3),
 ];
 
-/// These lines, as far as there is room for them.
+/// Returns these lines, as far as there is room for them.
 pub fn lines<const CAP: usize>(of: &[Line]) -> ArrayVec<Line, CAP> {
     let mut list = ArrayVec::new();
     for line in of {
@@ -39,7 +39,8 @@ pub fn lines<const CAP: usize>(of: &[Line]) -> ArrayVec<Line, CAP> {
     list
 }
 
-/// That many chains of that many chips, as far as a board has room for them, each clocked by the first line and taking in the second.
+/// Returns `count` chains of `chips` chips, as far as a board has room for them. The first line clocks each, and the
+/// second is its data.
 pub fn chains(count: u8, chips: u8, (clock, data_in): (Line, Line)) -> ArrayVec<ChainPart, CHAINS> {
     let mut list = ArrayVec::new();
     for _ in 0..count {
@@ -52,10 +53,10 @@ pub fn chains(count: u8, chips: u8, (clock, data_in): (Line, Line)) -> ArrayVec<
     list
 }
 
-/// The lines of ROM 0 that clock the worked boards' chain, and that it takes in.
+/// The lines of ROM 0 that are the clock and the data of the worked boards' chain.
 pub const CLOCK_AND_DATA: (Line, Line) = (Line::Rom(0, 0), Line::Rom(0, 1));
 
-/// A board whose one ROM, 0, has this port, with these banks, chains and lamps, and no keys.
+/// Returns a board with one ROM, 0, which has this port, with these banks, chains and lamps, and no keys.
 pub fn on_one_rom(
     port: [LineMask; 4],
     banks: [u8; BANKS],
@@ -73,7 +74,8 @@ pub fn on_one_rom(
     })
 }
 
-/// The worked board: three ROMs, a RAM chip in each of banks 0 and 1, a chain of ten bits, ten rows of eight keys, and three lamps.
+/// Returns the worked board: three ROMs, a RAM chip in each of banks 0 and 1, a chain of ten bits, ten rows of eight
+/// keys, and three lamps.
 pub fn worked() -> Result<Board, BoardFault> {
     let mut roms = [None; ROMS];
     roms[0] = Some(OUTPUTS);

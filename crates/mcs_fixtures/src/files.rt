@@ -1,9 +1,9 @@
 //! Bytes of session files of version 1.
 
-/// A stretch of a file: its place, and its bytes.
+/// A stretch of a file: its offset, and its bytes.
 pub type Stretch = (usize, &'static [u8]);
 
-/// All bytes but 0 of the file of a new bench: the name, and 6,822 bytes of state, whose ROMs are not there and whose TEST is 1.
+/// The bytes other than 0 of the file of a new bench: the name, and 6,822 bytes of state, with no ROMs and TEST at 1.
 pub const NEW_BENCH: [Stretch; 4] = [
     (0, b"MCS4BEN1"),
     (18, &[0x1A, 0xA6]),
@@ -11,5 +11,5 @@ pub const NEW_BENCH: [Stretch; 4] = [
     (6_840, &[1]),
 ];
 
-/// The record of `poke r5 9` at the begin of the first log.
+/// The record of `poke r5 9` at the start of the first log.
 pub const POKE: Stretch = (16_400, &[1, 0, 4, 7, 3, 5, 9]);

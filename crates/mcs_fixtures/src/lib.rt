@@ -1,6 +1,6 @@
-//! What the tests of several crates share: boards, part by part and as text, files, readers that fail or do not end, writers
-//! that fail, and a generator of numbers. The program uses none of it. Its functions owe their safety only: no contract says
-//! what they answer.
+//! Fixtures that the tests of several crates share: boards, part by part and as text, files, readers that fail or do
+//! not end, writers that fail, and a generator of numbers. The program uses none of them. Its functions are proved safe
+//! only: no contract says what they return.
 #![tactic(auto)]
 
 pub mod boards;

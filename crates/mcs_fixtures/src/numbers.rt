@@ -8,7 +8,7 @@ pub struct Numbers {
 }
 
 impl Numbers {
-    /// The generator that begins with this seed.
+    /// Returns the generator that begins with this seed.
     pub fn new(seed: u64) -> Numbers {
         Numbers { state: seed }
     }
@@ -21,7 +21,7 @@ impl Numbers {
         self.state >> 33
     }
 
-    /// A number below `n`.
+    /// Returns a number below `n`.
     pub fn below(&mut self, n: u8) -> u8
         requires { 0 < n }
         ensures { result < n }

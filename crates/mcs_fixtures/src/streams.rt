@@ -1,10 +1,10 @@
-//! Readers and writers that stop, fail or do not end, and bytes in a row.
+//! Readers and writers that stop, fail or do not end, and concatenated bytes.
 ghost use Rattle.std.specs.Prelude.{None, Some};
 
 use std::alloc::{AllocError, Global};
 use std::io::{self, Read, Write};
 
-/// Gives some bytes, except for that many reads that fail once the first `left` of them are read.
+/// A reader of some bytes. After the first `left` bytes, `failures` reads fail.
 #[derive(Drop)]
 pub struct CutReader<'a> {
     bytes: &'a [u8],
@@ -13,7 +13,7 @@ pub struct CutReader<'a> {
 }
 
 impl<'a> CutReader<'a> {
-    /// `failures` reads fail once the first `left` of the bytes are read.
+    /// Returns a reader of which `failures` reads fail after the first `left` of the bytes.
     pub fn new(bytes: &'a [u8], left: usize, failures: usize) -> CutReader<'a> {
         CutReader {
             bytes,
@@ -42,7 +42,7 @@ impl Read for CutReader<'_> {
     }
 }
 
-/// Gives one byte again and again, without an end, and counts what it gave.
+/// A reader that gives one byte again and again, without an end, and counts the bytes.
 #[derive(Drop)]
 pub struct EndlessReader {
     byte: u8,
@@ -50,12 +50,12 @@ pub struct EndlessReader {
 }
 
 impl EndlessReader {
-    /// Each byte that it gives is this one.
+    /// Returns a reader that gives this byte.
     pub fn new(byte: u8) -> EndlessReader {
         EndlessReader { byte, given: 0 }
     }
 
-    /// How many bytes it has given.
+    /// Returns the number of bytes given.
     pub fn given(&self) -> u64 {
         self.given
     }
@@ -71,7 +71,7 @@ impl Read for EndlessReader {
     }
 }
 
-/// Takes bytes, except for that many writes that fail once the first `left` of them are taken.
+/// A writer that accepts bytes. After the first `left` bytes, `failures` writes fail.
 #[derive(Drop)]
 pub struct CutWriter {
     held: Vec<u8>,
@@ -80,7 +80,7 @@ pub struct CutWriter {
 }
 
 impl CutWriter {
-    /// `failures` writes fail once `left` bytes are taken.
+    /// Returns a writer of which `failures` writes fail after `left` bytes are accepted.
     pub fn new(alloc: Global, left: usize, failures: usize) -> CutWriter {
         CutWriter {
             held: Vec::new(alloc),
@@ -89,7 +89,7 @@ impl CutWriter {
         }
     }
 
-    /// The bytes that were taken.
+    /// Returns the accepted bytes.
     pub fn held(&self) -> &[u8] {
         self.held.as_slice()
     }
@@ -118,7 +118,7 @@ impl Write for CutWriter {
     }
 }
 
-/// The pieces, one after the other.
+/// Returns the pieces, one after the other.
 pub fn joined(alloc: Global, pieces: &[&[u8]]) -> Result<Vec<u8>, AllocError> {
     let mut bytes = Vec::new(alloc);
     for piece in pieces {

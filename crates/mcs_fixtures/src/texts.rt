@@ -1,7 +1,7 @@
 //! Boards as text.
 
-/// The command that puts in the worked board: three ROMs, a RAM chip in each of banks 0 and 1, a chain of ten bits, ten rows of
-/// eight keys, and three lamps.
+/// The command that wires the worked board: three ROMs, a RAM chip in each of banks 0 and 1, a chain of ten bits, ten
+/// rows of eight keys, and three lamps.
 pub const WIRE_WORKED: &[u8] = b"wire
 [[rom]]
 chip = 0
@@ -36,7 +36,7 @@ line = \"ram0.0.3\"
 .
 ";
 
-/// The text of the board in such a command: what stands between `wire` and the dot.
+/// Returns the text of the board in such a command: the part between `wire` and the dot.
 pub fn board_in(command: &[u8]) -> &[u8] {
     let text = command
         .strip_prefix(b"wire\n".as_slice())

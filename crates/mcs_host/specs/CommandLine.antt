@@ -1,12 +1,12 @@
--- The command line of the program, and what its arguments mean by clap's definition of the matches.
--- (Our own choice.)
+-- The command line of the program, and the meaning of its arguments by clap's definition of the
+-- matches. (Our own choice.)
 use Rattle.std.specs.Prelude.{List, Bool, true, codes, Option, None, ◌||◌, if◌then◌else◌, option_map, option_and_then}
 use Rattle.std.specs.Str.{bytes_eq}
 use Rattle.clap.specs.Words.{App, Row, Rule, Text, first_of, new_app, new_rule, subcommand_of, takes, with_rule, with_subcommand}
 use Rattle.mcs_host.specs.declared.arguments.Choice.{Choice}
 use Rattle.mcs_host.specs.declared.arguments.Choice.TheVariants.{New, Open}
 
--- the argument FILE, which has to be given
+-- the argument FILE, which is required
 abbrev pub file_rule : Rule
 file_rule = record (new_rule (codes "FILE")) { required = true }
 
@@ -20,7 +20,7 @@ program =
     with_subcommand (with_subcommand (new_app (codes "mcs4")) (over_file (codes "new")).top)
     (over_file (codes "open")).top
 
--- clap's definition takes these arguments, the program's name first
+-- true if clap's definition accepts these arguments, the program's name first
 unfoldable pub takes_arguments : List Text → Bool
 takes_arguments arguments = takes program arguments
 

@@ -1,4 +1,4 @@
--- What a call of the code is among the calls on a file of the host.
+-- The calls of the code, as calls on a file of the host.
 use Rattle.std.specs.Prelude.{ℕ, List, [], ◌∷◌}
 use Rattle.mcs_host.specs.HostCalls as calls
 use Rattle.mcs_host.specs.HostCalls.{HostCall}

@@ -1,4 +1,4 @@
--- What contracts see of an open file of the system.
+-- An open file of the system, as contracts see it.
 use Rattle.std.specs.Fd.{file_raw_fd}
 use Rattle.mcs_host.specs.HostCalls.{HostState}
 use Rattle.mcs_host.specs.NotedHostCalls.{host_calls_in}

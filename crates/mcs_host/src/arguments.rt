@@ -1,4 +1,4 @@
-//! What the arguments of the command line choose.
+//! The choice that the arguments of the command line make.
 ghost use Rattle.std.specs.Prelude.{◌≡◌, ℕ, List, string_bytes};
 ghost use Rattle.mcs_host.specs.declared.arguments.WordsFault.TheVariants.{NoMemory};
 
@@ -25,7 +25,7 @@ impl FileName {
         FileName { name }
     }
 
-    /// The name, to open the file by.
+    /// Returns the name, to open the file by.
     pub fn as_str(&self) -> &str
         ensures { result.now ≡ self.now }
     {
@@ -33,19 +33,19 @@ impl FileName {
     }
 }
 
-/// What the program is to do.
+/// The task of the program.
 #[derive(Drop)]
 pub enum Choice {
     /// Begin a new session in this file.
     New(FileName),
-    /// Go on with the session in this file.
+    /// Continue the session in this file.
     Open(FileName),
 }
 
-/// Why arguments choose nothing.
+/// A reason why arguments choose nothing.
 #[derive(Clone, Copy, Debug, Error)]
 pub enum WordsFault {
-    /// The arguments are none of the program's: the usage is shown.
+    /// The program does not accept the arguments; it shows its usage.
     #[error("the arguments are none of the program's")]
     Usage,
     /// There was no memory.

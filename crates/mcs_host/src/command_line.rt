@@ -10,7 +10,7 @@ use std::alloc::Global;
 use std::convert::AsStr;
 
 impl Choice {
-    /// The name of its file.
+    /// Returns the name of its file.
     pub fn file(&self) -> &str
         ensures { result.now ≡ (arguments_of_choice self.now).1 }
     {
@@ -20,7 +20,7 @@ impl Choice {
     }
 }
 
-// The matches of the arguments by clap's definition.
+// Returns the matches of the arguments by clap's definition.
 fn matches<'a, S: AsStr>(alloc: Global, arguments: &'a [S]) -> Result<ArgMatches<'a>, Error>
     ensures ok { IfOk result (λ m. subcommand_rows_of m
         ≡ subcommand_of program (map S.text arguments.entry.now)) }
@@ -37,10 +37,10 @@ fn matches<'a, S: AsStr>(alloc: Global, arguments: &'a [S]) -> Result<ArgMatches
     with_both.try_get_matches_from(arguments)
 }
 
-/// What the arguments choose, of which the first is the program's name: the subcommand and the FILE
-/// that clap's definition of the matches gives. `Usage` comes only where that definition does not
-/// take the arguments, or gives none, as for a request for help. `NoMemory` comes where a growth
-/// was refused.
+/// Returns what the arguments choose; the first one is the program's name. The choice is the
+/// subcommand and the FILE that clap's definition of the matches gives. It fails with `Usage` only
+/// if that definition does not accept the arguments or gives no choice, as for a request for help.
+/// It fails with `NoMemory` if memory runs out.
 pub fn choice<S: AsStr>(alloc: Global, arguments: &[S]) -> Result<Choice, WordsFault>
     ensures given { IfOk result (λ c.
         choice_in (map S.text arguments.entry.now) ≡ Some (arguments_of_choice c)) }

@@ -13,9 +13,10 @@ use std::alloc::Global;
 use std::fs::File;
 use std::rt::Files;
 
-/// A session file of the host, as a disk: a [`HostDisk`] over a file of the system, which stays open.
+/// A session file of the host, as a disk: a [`HostDisk`] over a file of the system, which stays
+/// open.
 ///
-/// Of a file of more than [`FILE_SIZE`] bytes only one byte more than these is seen. No session
+/// Of a file of more than [`FILE_SIZE`] bytes it sees only one byte more than these. No session
 /// file has that size.
 #[derive(Drop)]
 pub struct FileDisk {
@@ -27,14 +28,15 @@ impl FileDisk {
     ghost use Rattle.mcs_host.specs.FileDisk.{IsUncalled};
     ghost use Rattle.mcs_host.specs.Opening.{IsNamedSession, IsOpening};
 
-    /// Opens a file for reading and writing. Where `make` is true, the file is made where it is not
-    /// there, and filled with [`FILE_SIZE`] zero bytes where it is empty. What it holds is on the
-    /// device by then, and so is its name (but see `is_name_stable`).
+    /// Opens a file for reading and writing. If `make` is true, it makes the file if it is not
+    /// there, and fills it with [`FILE_SIZE`] zero bytes if it is empty. When it returns, what the
+    /// file holds is on the device, and so is its name (but see `is_name_stable`).
     ///
-    /// `NoMemory` comes where there is no memory for its bytes, or for the name that a link leads
-    /// to; `Stream` where standard streams are the file, and `StreamsUnknown` where the host does not
-    /// say: nothing was asked of it then; `FolderUnsynced` where `make` is true and the file is new,
-    /// and its folder cannot be synced; the other faults where the host refuses it.
+    /// It fails with `NoMemory` if there is no memory for the bytes, or for the name that a link
+    /// leads to. It fails with `Stream` if standard streams are the file, and with `StreamsUnknown`
+    /// if the host does not say; then it has asked nothing of the file. It fails with
+    /// `FolderUnsynced` if `make` is true, the file is new and its folder cannot be synced. It
+    /// fails with the other errors if the host rejects the file.
     pub fn open_at<R: Files<File = File>>(
         rt: &R,
         alloc: Global,
@@ -51,22 +53,24 @@ impl FileDisk {
         Ok(FileDisk { on })
     }
 
-    /// The file's name stays after a power cut too: its folder was synced. That is not so where the
-    /// folder of a file that was there may not be read, or the host syncs no folder.
+    /// Returns true if the file's name stays after a power cut too, because its folder was synced.
+    /// It returns false if the folder of an existing file may not be read, or if the host syncs no
+    /// folder.
     pub fn is_name_stable(&self) -> bool
         ensures { result ≡ self.now.on.is_name_stable }
     {
         self.on.is_name_stable()
     }
 
-    /// The last call that failed was refused for lack of space on the device.
+    /// Returns true if the last call that failed did so for lack of space on the device.
     pub fn is_full(&self) -> bool
         ensures { result ≡ self.now.on.is_full }
     {
         self.on.is_full()
     }
 
-    /// The file has the size and the name of a session file: `open` may go on with it.
+    /// Returns true if the file has the size and the name of a session file, so that `open` may
+    /// continue with it.
     pub fn is_named_session(&self) -> bool
         ensures { IsTrue result ↔ IsNamedSession (bytes_of (as_disk self.now)) }
     {
@@ -105,7 +109,7 @@ impl Disk for FileDisk {
         ensures call { CountsFault (as_disk self.old) (as_disk self.new) (IsErr result) }
         ensures noted { Makes (Wrote at from.now ∷ []) (as_disk self.old).calls
             (as_disk self.new).calls result }
-        // Also where the write failed: it may have reached any part of the range.
+        // Also if the write failed: it may have reached any part of the range.
         ensures torn { (before image : List ℕ) → images_of (as_disk self.old) before
             → Torn at (length from.now) before image → images_of (as_disk self.new) image }
         ensures asked { as_host_file self.new

@@ -1,4 +1,4 @@
-//! Why a file was not opened.
+//! The reasons why a file was not opened.
 ghost use Rattle.std.specs.Prelude.{◌≡◌, ◌≢◌, ◌⊎◌, ◌↔◌, IsTrue, MatchResult, false};
 ghost use Rattle.std.specs.IoError.{error_kind};
 ghost use Rattle.std.specs.declared.fs.locks.TryLockError.TheVariants.{WouldBlock};
@@ -11,20 +11,20 @@ use std::fs::TryLockError;
 use std::io::{self, ErrorKind};
 use thiserror::Error;
 
-/// The program has as many files open as it may (POSIX's EMFILE).
+/// The error number for a program that has as many files open as it may (POSIX's EMFILE).
 const PROGRAM_FILES: i32 = 24;
 
-/// The host has as many files open as it may (POSIX's ENFILE).
+/// The error number for a host that has as many files open as it may (POSIX's ENFILE).
 const HOST_FILES: i32 = 23;
 
-/// Why a file was not opened. All but `NoMemory` are refusals of the host; those that somebody can
-/// do something about have a name.
+/// A reason why a file was not opened. All but `NoMemory` are errors of the host. Those that
+/// somebody can do something about have a name.
 #[derive(Clone, Copy, Debug, PartialEq, Eq, Error)]
 pub enum FileFault {
     /// Another program has the file in use: it holds the lock.
     #[error("in use")]
     InUse,
-    /// The host knows no lock for this file, as on some network file systems.
+    /// The host has no lock for this file, as on some network file systems.
     #[error("no lock")]
     NoLock,
     /// There is no file of this name, or no folder for it.
@@ -45,7 +45,7 @@ pub enum FileFault {
     /// There is no space for it on the device.
     #[error("no space")]
     NoSpace,
-    /// It was to be made, and its folder cannot be synced: a power cut could lose its name.
+    /// It was to be made, but its folder cannot be synced: a power cut could lose its name.
     #[error("folder not synced")]
     FolderUnsynced,
     /// Too many files are open.
@@ -54,10 +54,10 @@ pub enum FileFault {
     /// These standard streams of the program are this very file.
     #[error("a standard stream")]
     Stream(Streams),
-    /// The host does not answer whether a standard stream is this file.
+    /// The host does not say whether a standard stream is this file.
     #[error("standard streams unknown")]
     StreamsUnknown,
-    /// The host refused it for another reason.
+    /// The host rejected it for another reason.
     #[error("refused")]
     Device,
     /// There was no memory for the bytes of the file.
@@ -76,7 +76,7 @@ impl From<io::Error> for FileFault {
     }
 }
 
-// The fault of an error that std has a name for, if somebody can do something about it.
+// Returns the reason for an error that std has a name for, if somebody can do something about it.
 fn named_fault(kind: ErrorKind) -> Option<FileFault>
     ensures { result ≡ fault_of_kind kind }
 {
@@ -93,7 +93,7 @@ fn named_fault(kind: ErrorKind) -> Option<FileFault>
     }
 }
 
-// The fault of an error that std has no name for, by its number.
+// Returns the reason for an error that std has no name for, by its number.
 fn unnamed_fault(number: Option<i32>) -> FileFault
     ensures { IsFaultOfNumber number result }
 {
@@ -103,7 +103,7 @@ fn unnamed_fault(number: Option<i32>) -> FileFault
     }
 }
 
-/// The device has no space for what was to be written.
+/// Returns true if the device has no space for what was to be written.
 pub(crate) fn is_for_space(answer: &io::Result<()>) -> bool
     ensures { MatchResult answer.now (λ _. result ≡ false) (λ error. IsTrue result
         ↔ (error_kind error ≡ ErrorKind.StorageFull) ⊎ (error_kind error ≡ ErrorKind.QuotaExceeded)) }

@@ -18,10 +18,10 @@ use std::alloc::{AllocError, Global};
 
 /// An open file of the host, as a disk.
 ///
-/// Its bytes are read once, as it is opened, and kept in step with each write from then on. So a
-/// read that gives other bytes than those is found out, and is a device fault. What no call can find
-/// out is the premise, `honest`: that what is found in the file after a power cut is one of the
-/// images of a disk with these calls.
+/// Its bytes are read once, when it is opened, and kept in step with each write from then on. So a
+/// read that gives other bytes is detected, and is a device fault. The premise, `honest`, is what
+/// no call can detect: what is found in the file after a power cut is one of the images of a disk
+/// with these calls.
 #[derive(Drop)]
 pub struct HostDisk<H: HostFile> {
     file: H,
@@ -54,7 +54,7 @@ impl<H: HostFile> HostDisk<H> {
         ensures asked { IfOk result (λ disk. IsOpening make file.now (bytes_of (host_disk disk))
             disk.is_name_stable (H.HostFile.state disk.file)) }
     {
-        // First, so that where there is no memory the host is asked for nothing.
+        // First, so that without memory the host is asked for nothing.
         let mut bytes = zeros(alloc, MOST_BYTES)?;
         let (opened, is_name_stable) = open_and_read(host, alloc, file, make, &mut bytes)?;
         let history = CallRecord::new(&bytes);
@@ -70,28 +70,28 @@ impl<H: HostFile> HostDisk<H> {
         })
     }
 
-    /// The file's name stays after a power cut too: its folder was synced.
+    /// Returns true if the file's name stays after a power cut too, because its folder was synced.
     pub fn is_name_stable(&self) -> bool
         ensures { result ≡ self.now.is_name_stable }
     {
         self.is_name_stable
     }
 
-    /// The last call that failed was refused for lack of space on the device.
+    /// Returns true if the last call that failed did so for lack of space on the device.
     pub fn is_full(&self) -> bool
         ensures { result ≡ self.now.is_full }
     {
         self.is_full
     }
 
-    /// The file has the size and the name of a session file.
+    /// Returns true if the file has the size and the name of a session file.
     pub fn is_named_session(&self) -> bool
         ensures { IsTrue result ↔ IsNamedSession (bytes_of (host_disk self.now)) }
     {
         self.bytes.len() == FILE_SIZE && is_session_name(&self.bytes[0..8])
     }
 
-    // The file holds these bytes from `at` on, as far as what was written to it tells.
+    // Returns true if the file holds these bytes from `at` on, as far as the writes to it show.
     fn holds(&self, at: usize, given: &[u8]) -> bool
         requires { at + length given.now ≤ length self.now.bytes.items }
         ensures { IsTrue result ↔ (given.now ≡ part at (length given.now) self.now.bytes.items) }
@@ -99,7 +99,8 @@ impl<H: HostFile> HostDisk<H> {
         given == &self.bytes[at..at + given.len()]
     }
 
-    // Counts a fault, which lack of space may be the reason of, and does nothing else.
+    // Counts a fault, returns it, and does nothing else. `is_full` is true if its reason is lack of
+    // space.
     fn fail(&mut self, is_full: bool) -> DiskFault
         ensures file { self.new.file ≡ self.old.file }
         ensures bytes { self.new.bytes ≡ self.old.bytes }
@@ -113,7 +114,7 @@ impl<H: HostFile> HostDisk<H> {
     }
 }
 
-// That many zero bytes.
+// Returns this many zero bytes. It fails if memory runs out.
 #[tactic(auto, using(crate::proofs::ZeroBytes::zeros_of))]
 fn zeros(alloc: Global, size: usize) -> Result<Vec<u8>, AllocError>
     ensures len { IfOk result (λ bytes. vec_len bytes ≡ size) }
@@ -158,7 +159,7 @@ impl<H: HostFile> Disk for HostDisk<H> {
         ensures call { CountsFault (host_disk self.old) (host_disk self.new) (IsErr result) }
         ensures noted { Makes (Wrote at from.now ∷ []) (host_disk self.old).calls
             (host_disk self.new).calls result }
-        // Also where the write failed: it may have reached any part of the range.
+        // Also if the write failed: it may have reached any part of the range.
         ensures torn { (before image : List ℕ) → images_of (host_disk self.old) before
             → Torn at (length from.now) before image → images_of (host_disk self.new) image }
         ensures asked { H.HostFile.state self.new.file
@@ -174,7 +175,7 @@ impl<H: HostFile> Disk for HostDisk<H> {
         Ok(())
     }
 
-    // The size of the file never changes here, so its data are all that has to be synced.
+    // The size of the file never changes here, so a sync of its data is enough.
     fn sync(&mut self) -> Result<(), DiskFault>
         ensures call { CountsFault (host_disk self.old) (host_disk self.new) (IsErr result) }
         ensures noted { Makes (Synced ∷ []) (host_disk self.old).calls (host_disk self.new).calls

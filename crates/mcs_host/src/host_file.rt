@@ -1,5 +1,5 @@
-//! The calls that a session file asks of the host, as a trait: what is proved over it makes these
-//! calls, in this order, and no other.
+//! The calls that a session file makes on the host, as a trait. The code over this trait is proved
+//! to make these calls, in this order, and no others.
 ghost use Rattle.std.specs.Prelude.{◌≡◌, [], ◌∷◌, IfOk, MatchResult, false, is_ok, true};
 ghost use Rattle.std.specs.Path.{path_buf_bytes};
 ghost use Rattle.mcs_host.specs.HostCalls.{HostState, HasCalls, IsLink, Length, Lock, LookUp, Made, ReadAt, RealName, SetLength, SyncAll, SyncData, SyncFolder, WriteAt, asked, is_yes};
@@ -11,13 +11,13 @@ use std::fs::TryLockError;
 use std::io;
 use std::path::PathBuf;
 
-/// An open file of the host. Each method asks for one thing; contracts see the calls so far, with
-/// their answers.
+/// An open file of the host. Each method makes one call; contracts see the calls so far, with their
+/// answers.
 pub trait HostFile {
-    /// What contracts see.
+    /// The file as contracts see it.
     ghost state: { Self → HostState };
 
-    /// The host's number of it.
+    /// Returns the host's number for it.
     fn number(&self) -> i32
         ensures { result ≡ (state self.now).number };
 
@@ -25,7 +25,7 @@ pub trait HostFile {
     fn try_lock(&mut self) -> Result<(), TryLockError>
         ensures { state self.new ≡ asked (Lock (is_ok result)) (state self.old) };
 
-    /// Its length.
+    /// Returns its length.
     fn length(&mut self) -> io::Result<u64>
         ensures { MatchResult result
             (λ n. state self.new ≡ asked (Length n true) (state self.old))
@@ -52,38 +52,38 @@ pub trait HostFile {
         ensures { state self.new ≡ asked (SyncAll (is_ok result)) (state self.old) };
 }
 
-/// The host, as it is asked for files by their names.
+/// The host, which opens files by their names.
 pub trait Host {
     /// An open file of it.
     type File: HostFile + Drop;
 
-    /// The standard streams that are the file of this name, which is regular or not there yet. An
-    /// `Err` comes for any other file, and if the host does not answer which files the streams are.
+    /// Returns the standard streams that are the file of this name, which is regular or not there
+    /// yet. It fails for any other file, and if the host does not say which files the streams are.
     fn streams_that_are(&self, name: &str) -> Result<Streams, FileFault>;
 
-    /// A file that is made by this name can be removed again: if it is the name of a link, the
-    /// folder that the link leads to has a name without links. It takes memory.
+    /// Checks that a file made by this name can be removed again. If it is the name of a link, the
+    /// folder that the link leads to must have a name without links. It needs memory.
     fn can_be_removed(&self, alloc: Global, name: &str) -> io::Result<()>;
 
     /// Opens the file of this name for reading and writing.
     fn open(&self, name: &str) -> io::Result<Self::File>
         ensures { IfOk result (λ file. HasCalls name.now [] (Self.File.state file)) };
 
-    /// The same; it makes the file where it is not there.
+    /// Does the same, and makes the file if it is not there.
     fn open_or_make(&self, name: &str) -> io::Result<Self::File>
         ensures { IfOk result (λ file. HasCalls name.now (Made ∷ []) (Self.File.state file)) };
 
-    /// This name still stands for the file.
+    /// Returns true if this name still stands for the file.
     fn is_named(&self, file: &mut Self::File, name: &str) -> io::Result<bool>
         ensures { Self.File.state file.new
             ≡ asked (LookUp name.now (is_yes result)) (Self.File.state file.old) };
 
-    /// This name of the file is that of a link.
+    /// Returns true if this name of the file is that of a link.
     fn is_link(&self, file: &mut Self::File, name: &str) -> io::Result<bool>
         ensures { Self.File.state file.new
             ≡ asked (IsLink name.now (is_yes result)) (Self.File.state file.old) };
 
-    /// The name without links of the file that this name leads to. It takes memory.
+    /// Returns the name without links of the file that this name leads to. It needs memory.
     fn real_name(
         &self,
         alloc: Global,

@@ -1,33 +1,33 @@
-//! What has been asked of a file of the host.
+//! The record of the calls on a file of the host.
 use mcs_disk::Record;
 
-/// A call on a file of the host that has just been answered, and whether it was answered Ok,
+/// A call on a file of the host that has just been answered, and true if it was answered Ok. It is
 /// without the bytes or the name that go with it.
 #[derive(Clone, Copy)]
 pub(crate) enum Asked {
-    /// For its lock.
+    /// A request for its lock.
     Lock(bool),
-    /// Whether a name stands for it.
+    /// The question whether a name stands for it.
     LookUp(bool),
-    /// For its length.
+    /// A request for its length.
     Length(u64, bool),
-    /// To set its length.
+    /// A request to set its length.
     SetLength(u64, bool),
-    /// To read from this offset on.
+    /// A request to read from this offset on.
     ReadAt(usize, bool),
-    /// To write from this offset on.
+    /// A request to write from this offset on.
     WriteAt(usize, bool),
-    /// To sync its bytes.
+    /// A request to sync its bytes.
     SyncData(bool),
-    /// To sync its bytes and its length.
+    /// A request to sync its bytes and its length.
     SyncAll(bool),
-    /// To sync a folder.
+    /// A request to sync a folder.
     SyncFolder(bool),
-    /// Whether a name is that of a link.
+    /// The question whether a name is that of a link.
     IsLink(bool),
-    /// For its name without links.
+    /// A request for its name without links.
     RealName(bool),
-    /// To be made, if need be, as it was opened.
+    /// A request to make it, if need be, when it was opened.
     Made,
 }
 

@@ -1,9 +1,9 @@
-//! The host's side of the program: what the arguments of its command line choose, and a session
-//! file as a disk.
+//! The host's side of the program: the choice that the command line makes, and a session file as a
+//! disk.
 //!
-//! [`choice`] reads the command line, [`StandIns`] take the place of standard streams that are
-//! closed. [`FileDisk`] is a file of the host after the trait `Disk` of mcs_disk; that it keeps what
-//! it was given over a power cut is a premise on the host and no theorem.
+//! [`choice`] reads the command line. [`StandIns`] replace standard streams that are closed.
+//! [`FileDisk`] is a file of the host with the trait `Disk` of mcs_disk. That it keeps what it was
+//! given over a power cut is a premise on the host, not a theorem.
 #![tactic(auto)]
 
 mod arguments;

@@ -1,4 +1,4 @@
-//! A file of the host, opened and locked, and made and filled where that is asked for.
+//! A file of the host, opened and locked, and made and filled on request.
 ghost use Rattle.std.specs.Prelude.{◌≡◌, ◌==◌, ◌↔◌, ◌<◌, ◌≤◌, [], ◌∷◌, IfOk, OnOk, IsTrue, is_ok, true, vec_len};
 ghost use Rattle.std.specs.List.{list_all};
 ghost use Rattle.mcs_host.specs.FileDisk.{IsApart};
@@ -13,18 +13,18 @@ use std::alloc::Global;
 use std::io::{self, ErrorKind};
 use std::path::Path;
 
-/// So much is seen of a longer file: one byte more than a session file has, so that its size tells
-/// that it is none.
+/// The most bytes that are read of a longer file. It is one byte more than a session file has, so
+/// that the size shows that it is none.
 pub(crate) const MOST_BYTES: usize = FILE_SIZE + 1;
 
 /// The number of standard error, the greatest one of a standard stream.
 const STANDARD_ERROR: i32 = 2;
 
-/// Opens a file for reading and writing, takes its lock, and reads it into `bytes`, which are
-/// zeros; and whether its name stays after a power cut. Where `make` is true, the file is made where
-/// it is not there, and filled with [`FILE_SIZE`] zero bytes where it is empty; a file that cannot
-/// be filled is empty again, and one that was made for nothing is removed. A file that a standard
-/// stream is too is not opened, nor is one of which the host does not say whether one is.
+/// Opens a file for reading and writing, locks it, and reads it into `bytes`, which are zeros. It
+/// returns the file, and true if its name stays after a power cut. If `make` is true, it makes the
+/// file if it is not there, and fills it with [`FILE_SIZE`] zero bytes if it is empty. A file that
+/// cannot be filled is empty again, and one that was made for nothing is removed. It does not open
+/// a file that is also a standard stream, nor any file if the host does not say whether it is one.
 pub(crate) fn open_and_read<N: Host>(
     host: &N,
     alloc: Global,
@@ -49,7 +49,7 @@ pub(crate) fn open_and_read<N: Host>(
         Ok(is_name_stable) => Ok((opened, is_name_stable)),
         Err(fault) => {
             if is_made && fault != FileFault::InUse {
-                // what was refused is told, and not that an empty file could not be removed
+                // the answer is the first error, and not that an empty file could not be removed
                 let _ = remove_empty(host, alloc, &mut opened, file);
             }
             Err(fault)
@@ -57,7 +57,7 @@ pub(crate) fn open_and_read<N: Host>(
     }
 }
 
-// Opens a file, and tells whether it was made.
+// Opens a file, and returns it and true if it was made.
 fn open_or_make<N: Host>(
     host: &N,
     alloc: Global,
@@ -77,8 +77,8 @@ fn open_or_make<N: Host>(
     }
 }
 
-// Locks a file before anything else is asked of it, fills it where it is to be filled, and reads
-// it. What it holds is on the device by then, and so is its name, where that is answered.
+// Locks a file before anything else is asked of it, fills it if it is to be filled, and reads it.
+// What it holds is on the device by then. It returns true if its name is there too.
 fn lock_and_read<N: Host>(
     host: &N,
     alloc: Global,
@@ -107,15 +107,15 @@ fn lock_and_read<N: Host>(
     bytes.truncate(found.min(MOST_BYTES as u64) as usize);
     let is_name_stable = sync_and_read(host, alloc, opened, file, bytes)?;
     if make && is_blank(bytes) {
-        // It may have holes, as where an earlier fill was cut off.
+        // It may have holes, for example after an earlier fill that was cut off.
         write_whole(host, alloc, opened, file, bytes)?;
     }
     Ok(is_name_stable)
 }
 
-// Takes the lock of a file whose name still stands for it: another program may have removed the file
-// before the lock was had. A file with the number of a standard stream would get what the program
-// writes to that: it is refused.
+// Locks a file whose name still stands for it: another program may have removed the file before the
+// lock was granted. It rejects a file that has the number of a standard stream, because such a file
+// would get what the program writes to the stream.
 fn lock<N: Host>(host: &N, opened: &mut N::File, file: &str) -> Result<(), FileFault>
     ensures apart { OnOk result (IsApart (N.File.state opened.new).number) }
     ensures same { OnOk result (IsSame (N.File.state opened.old) (N.File.state opened.new)) }
@@ -150,8 +150,8 @@ fn fill_and_read<N: Host>(
     Ok(())
 }
 
-// Makes a file that was there stable, and then reads as many of its bytes; and whether its name is
-// stable too.
+// Makes an existing file stable, and then reads as many of its bytes as `bytes` has. It returns
+// true if its name is stable too.
 fn sync_and_read<N: Host>(
     host: &N,
     alloc: Global,
@@ -170,7 +170,7 @@ fn sync_and_read<N: Host>(
     Ok(is_name_stable)
 }
 
-// The bytes are those of a blank file.
+// Returns true if the bytes are those of a blank file.
 fn is_blank(bytes: &[u8]) -> bool
     ensures { IsTrue result ↔ IsAllZeros bytes.now }
 {
@@ -183,7 +183,7 @@ fn are_zeros(bytes: &[u8]) -> bool
     bytes.iter().all(|byte| *byte == 0)
 }
 
-// Why a name was not made stable. The name that a link leads to takes memory.
+// Returns the reason why a name was not made stable. The name that a link leads to needs memory.
 fn name_fault(error: io::Error) -> FileFault
     ensures { IsNameFault error result }
 {
@@ -193,8 +193,8 @@ fn name_fault(error: io::Error) -> FileFault
     }
 }
 
-// Why no file is made where a link leads: if that has no name that is a text, its folder could not
-// be synced.
+// Returns the reason why no file is made where a link leads. If the name there is not text, its
+// folder could not be synced.
 fn link_fault(error: io::Error) -> FileFault
     ensures { IsLinkFault error result }
 {
@@ -204,7 +204,7 @@ fn link_fault(error: io::Error) -> FileFault
     }
 }
 
-// Writes these bytes, which are zeros, to an empty file. Where that fails, it is empty again.
+// Writes these bytes, which are zeros, to an empty file. If that fails, the file is empty again.
 fn fill<N: Host>(
     host: &N,
     alloc: Global,
@@ -218,16 +218,16 @@ fn fill<N: Host>(
 {
     let filled = write_whole(host, alloc, opened, file, zeros);
     if filled.is_err() {
-        // what was refused is told
+        // the answer is the first error
         let _ = opened.set_length(0);
     }
     filled
 }
 
-// Writes all of a file, so that each byte has room on the device, and makes it and its name
-// stable. It has its size at once, so that a stop half way leaves a file that a new session can
-// still be begun in. A folder that cannot be synced is a fault here: what is answered `ok` would go
-// with the name of a file that is new.
+// Writes all of a file, so that each byte has room on the device, and makes it and its name stable.
+// The file gets its size at once, so that a stop half way leaves a file in which a new session can
+// still begin. A folder that cannot be synced is an error here: a command answered `ok` would be
+// lost with the name of a new file.
 fn write_whole<N: Host>(
     host: &N,
     alloc: Global,
@@ -261,7 +261,7 @@ fn sync_folder<N: Host>(host: &N, alloc: Global, opened: &mut N::File, file: &st
     host.sync_folder(opened, folder_of(real_path.as_str()))
 }
 
-/// The folder of the file of this name.
+/// Returns the folder of the file of this name.
 pub(crate) fn folder_of(name: &str) -> &str
     ensures { result.now ≡ folder_of name.now }
 {
@@ -271,8 +271,9 @@ pub(crate) fn folder_of(name: &str) -> &str
     }
 }
 
-// Makes the name of a file stay: whether it was done. It is not if the folder may not be read, if the
-// host syncs no folder, and if a link leads to a folder whose name is not a text.
+// Makes the name of a file stay, and returns true if that was done. It returns false if the folder
+// may not be read, if the host syncs no folder, or if a link leads to a folder whose name is not
+// text.
 fn sync_folder_if_it_may_be<N: Host>(
     host: &N,
     alloc: Global,

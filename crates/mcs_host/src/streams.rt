@@ -1,6 +1,6 @@
-//! The standard streams of the program: each is open before a file is opened, and none of them goes
-//! into a session file. std asks no descriptor which file is open under it, so the host is asked by
-//! the names below /proc/self/fd. If it does not answer, nothing is begun.
+//! The standard streams of the program. Each is open before a file is opened, and none of them goes
+//! into a session file. std does not say which file is open under a descriptor, so the host is
+//! asked by the names below /proc/self/fd. If it does not answer, the program does not begin.
 ghost use Rattle.std.specs.Prelude.{◌≡◌, ◌≢◌, ◌⊎◌, ◌↔◌, IfErr, IfOk, IsErr, IsErrAnd, IsErrOf, IsNone, IsOk, IsTrue, Err, None, Ok, Some, false};
 ghost use Rattle.std.specs.Fs.{file_type, metadata_len, IsDir, IsFile};
 ghost use Rattle.mcs_host.specs.declared.file_fault.FileFault.TheVariants.{Folder, NotAFile};
@@ -26,16 +26,16 @@ const ERRORS: &str = "/proc/self/fd/2";
 /// Some of the standard streams.
 #[derive(Clone, Copy, Debug, PartialEq, Eq)]
 pub struct Streams {
-    /// Standard input is one of them.
+    /// True if standard input is one of them.
     pub input: bool,
-    /// Standard output is.
+    /// True if standard output is.
     pub output: bool,
-    /// Standard error is.
+    /// True if standard error is.
     pub errors: bool,
 }
 
 impl Streams {
-    /// None of them.
+    /// Returns the empty set.
     pub fn none() -> Streams
         ensures { result ≡ none_of_them }
     {
@@ -46,7 +46,7 @@ impl Streams {
         }
     }
 
-    /// There is one.
+    /// Returns true if there is one.
     pub fn any(self) -> bool
         ensures { result ≡ false ↔ self ≡ none_of_them }
     {
@@ -54,13 +54,13 @@ impl Streams {
     }
 }
 
-/// Why the program cannot begin with its standard streams.
+/// A reason why the program cannot begin with its standard streams.
 #[derive(Clone, Copy, Debug, PartialEq, Eq, Error)]
 pub enum StreamsFault {
     /// Standard output or standard error goes into a session file.
     #[error("standard output or standard error is a session file")]
     IntoSession,
-    /// The host does not answer which file a stream is, as where /proc is not mounted.
+    /// The host does not say which file a stream is, for example if /proc is not mounted.
     #[error("the files of the standard streams are unknown")]
     Unknown,
     /// A stream is closed, and /dev/null cannot be opened in its place.
@@ -68,18 +68,18 @@ pub enum StreamsFault {
     NoStandIn,
 }
 
-/// The standard streams were refused.
+/// The error for standard streams that the program cannot begin with.
 #[derive(Clone, Copy, Debug)]
 pub struct RefusedStreams {
-    /// Why.
+    /// The reason.
     pub fault: StreamsFault,
     /// The streams that may be session files: the program writes nothing to them.
     pub unusable: Streams,
 }
 
-/// Files in the place of the standard streams that were closed as the program began. While they are
-/// there, no file that is opened gets the number of a stream; a stand-in is at its end for one who
-/// reads, and takes nothing.
+/// Files in the place of the standard streams that were closed when the program began. While they
+/// exist, no file that is opened gets the number of a stream. A stand-in is at its end for a
+/// reader, and accepts no write.
 #[derive(Drop)]
 pub struct StandIns {
     input: Option<File>,
@@ -88,8 +88,8 @@ pub struct StandIns {
 }
 
 impl StandIns {
-    /// Opens a stand-in for each standard stream that is closed, and looks at all three. An `Err`
-    /// comes if one may go into a session file: see [`StreamsFault`].
+    /// Opens a stand-in for each standard stream that is closed, and examines all three. It fails
+    /// if one may go into a session file: see [`StreamsFault`].
     pub fn open(rt: &HostRuntime) -> Result<StandIns, RefusedStreams> {
         let opened = StandIns::in_place(rt);
         let input = what_is_found(answers(rt, INPUT), rt.stdin().is_terminal());
@@ -106,7 +106,8 @@ impl StandIns {
         Err(RefusedStreams { fault, unusable })
     }
 
-    // In this order each gets the number of its stream, the lowest one that is free.
+    // Opens the stand-ins in this order, so that each gets the number of its stream, the lowest one
+    // that is free.
     fn in_place(rt: &HostRuntime) -> io::Result<StandIns> {
         Ok(StandIns {
             input: stand_in(rt, &rt.stdin())?,
@@ -116,7 +117,8 @@ impl StandIns {
     }
 }
 
-// A file in the place of a stream that is closed: one that can be asked for nothing is.
+// Returns a file in the place of a stream if the stream is closed: if its descriptor cannot be
+// duplicated.
 fn stand_in<S: AsFd>(rt: &HostRuntime, stream: &S) -> io::Result<Option<File>> {
     match stream.as_fd().try_clone_to_owned() {
         Ok(_open) => Ok(None),
@@ -124,18 +126,18 @@ fn stand_in<S: AsFd>(rt: &HostRuntime, stream: &S) -> io::Result<Option<File>> {
     }
 }
 
-/// What the host says of a standard stream.
+/// The host's answer about a standard stream.
 #[derive(Clone, Copy, Debug, PartialEq, Eq)]
 enum Found {
-    /// It is a session file, or one of its size that may not be read.
+    /// It is a session file, or a file of that size that may not be read.
     Session,
     /// It is something else.
     Other,
-    /// It does not say.
+    /// The host does not say.
     Unknown,
 }
 
-// What a stream is by the answer whether it is a session file; a terminal is none.
+// Returns what a stream is, by the answer whether it is a session file. A terminal is none.
 fn what_is_found(answer: io::Result<bool>, is_terminal: bool) -> Found
     ensures session { IfOk answer (λ yes. IsTrue yes → result ≡ Found.Session) }
     ensures other { IfOk answer (λ yes. yes ≡ false → result ≡ Found.Other) }
@@ -149,7 +151,7 @@ fn what_is_found(answer: io::Result<bool>, is_terminal: bool) -> Found
     }
 }
 
-// Why nothing is begun with these streams; none where it is.
+// Returns the reason why the program does not begin with these streams, or none if it does.
 fn refused(input: Found, output: Found, errors: Found) -> Option<StreamsFault>
     ensures input { IsNone result → input ≢ Found.Unknown }
     ensures output { IsNone result → output ≡ Found.Other }
@@ -169,7 +171,7 @@ fn refused(input: Found, output: Found, errors: Found) -> Option<StreamsFault>
     }
 }
 
-// The streams that get nothing.
+// Returns the streams that the program writes nothing to.
 fn unusable(output: Found, errors: Found) -> Streams
     ensures output { result.output ≡ false ↔ output ≡ Found.Other }
     ensures errors { result.errors ≡ false ↔ errors ≡ Found.Other }
@@ -190,13 +192,14 @@ fn may_be_session(stream: Found) -> bool
     }
 }
 
-// The host says which file a stream is. (That it is a session file is no matter of input.)
+// Checks that the host says which file a stream is, and returns false. (For input it does not
+// matter whether that is a session file.)
 fn answers<R: Files>(rt: &R, stream: &str) -> io::Result<bool> {
     fs::metadata(rt, stream)?;
     Ok(false)
 }
 
-// A stream is a session file, whichever it is, or one of its size that may not be read.
+// Returns true if a stream is any session file, or a file of that size that may not be read.
 fn is_session<R: Files<File = File>>(rt: &R, stream: &str) -> io::Result<bool> {
     if !has_session_size(&fs::metadata(rt, stream)?) {
         return Ok(false);
@@ -204,7 +207,7 @@ fn is_session<R: Files<File = File>>(rt: &R, stream: &str) -> io::Result<bool> {
     Ok(has_session_name(rt, stream).unwrap_or(true))
 }
 
-// It is a regular file of a session's size.
+// Returns true if it is a regular file of a session's size.
 fn has_session_size(file: &Metadata) -> bool
     ensures file { IsTrue result → IsFile (file_type file.now) }
     ensures size { IsTrue result → metadata_len file.now ≡ FILE_SIZE }
@@ -219,14 +222,14 @@ fn has_session_name<R: Files<File = File>>(rt: &R, stream: &str) -> io::Result<b
     Ok(is_session_name(&found))
 }
 
-/// These are the bytes that a session file begins with.
+/// Returns true if these are the bytes that a session file begins with.
 pub(crate) fn is_session_name(found: &[u8]) -> bool
     ensures { IsTrue result ↔ (found.now ≡ NAME) }
 {
     found == b"MCS4BEN1".as_slice()
 }
 
-/// The standard streams that are the file of this name, which is regular or not there yet.
+/// Returns the standard streams that are the file of this name, which is regular or not there yet.
 pub(crate) fn streams_that_are<R: Files>(rt: &R, file: &str) -> Result<Streams, FileFault> {
     match regular_file(fs::metadata(rt, file))? {
         Some(named) => streams_on(rt, &named),
@@ -234,7 +237,8 @@ pub(crate) fn streams_that_are<R: Files>(rt: &R, file: &str) -> Result<Streams, 
     }
 }
 
-// The regular file of a name, by what the host answers of the name; none if no file has it.
+// Returns the regular file of a name, by the host's answer for the name, or none if no file has it.
+// It fails for a folder or another kind of file, and for any other answer.
 fn regular_file(answer: io::Result<Metadata>) -> Result<Option<Metadata>, FileFault>
     ensures file { IfOk answer (λ named. IsFile (file_type named) → result ≡ Ok (Some named)) }
     ensures folder { IfOk answer (λ named. IsDir (file_type named) → result ≡ Err Folder) }
@@ -261,7 +265,8 @@ fn streams_on<R: Files>(rt: &R, named: &Metadata) -> Result<Streams, FileFault> 
     })
 }
 
-// The stream that the host answered this of is that file; no answer is no "no".
+// Returns true if the stream that the host gave this answer for is that file. No answer is an
+// error, not false.
 fn is_stream(answer: io::Result<Metadata>, named: &Metadata) -> Result<bool, FileFault>
     ensures answered { IsOk answer → IsOk result }
     ensures unanswered { IsErr answer → IsErrOf result FileFault.StreamsUnknown }
@@ -272,7 +277,7 @@ fn is_stream(answer: io::Result<Metadata>, named: &Metadata) -> Result<bool, Fil
     }
 }
 
-/// Both are of one file.
+/// Returns true if both are of one file.
 pub(crate) fn is_same_file(one: &Metadata, other: &Metadata) -> bool {
     one.dev() == other.dev() && one.ino() == other.ino()
 }

@@ -51,10 +51,10 @@ area_err snap calls old mid new e f same makes =
 -- the header was read
 pub header_read : (old new : List DiskCall) {T : Type 0} (x : T) (A : Type 0) → Makes {T = T} {E = StoreFault} (WasRead ∷ []) old new (Ok x) ⊎ (IsErrOf {T = T} {E = StoreFault} (Ok x) store_fault.NotBlank × A) → new ≡ WasRead ∷ old
 header_read old new x A (inl made) = made.all
-header_read old new x A (inr other) = absurd (told other.0)
+header_read old new x A (inr other) = absurd (erred other.0)
   where
-    told : IsErrOf (Ok x) store_fault.NotBlank → ⊥
-    told none = cc
+    erred : IsErrOf (Ok x) store_fault.NotBlank → ⊥
+    erred none = cc
 
 not_both : {T : Type 0} (read : Result T StoreFault) → read ≡ Err store_fault.Device → read ≡ Err store_fault.NotBlank → ⊥
 not_both read device not_blank = cc

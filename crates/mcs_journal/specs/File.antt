@@ -1,17 +1,17 @@
--- What a session file holds: a snapshot and the records after it. (Our own choice; the layout is
--- told in docs/FORMAT.md, its sizes are the constants of src/format.rt.)
+-- The contents of a session file: a snapshot and the records after it. (Our own choice;
+-- docs/FORMAT.md describes the layout, and src/format.rt has its sizes as constants.)
 use Rattle.std.specs.Prelude.{◌≡◌, ◌≢◌, ◌⊎◌, ◌==◌, Bool, nat_le, ℕ, ◌+◌, ◌/◌, ◌%◌, ◌≤◌, List, [], ◌∷◌, ◌++◌, length, slice_index, if◌then◌else◌}
 use Rattle.mcs_disk.specs.Disk.{DiskState, bytes_of, part, size_of}
 use Rattle.mcs_journal.specs.declared.format.TheConstants.{AREA_SIZE, FILE_SIZE, FIRST_SLOT, LOG_SIZE, MOST_RECORD, MOST_SNAPSHOT, NAME, SECOND_SLOT, ZEROS}
 use Rattle.mcs_journal.specs.declared.slot.Slot.{Slot}
 use Rattle.mcs_journal.specs.declared.slot.Slot.TheVariants.{A, B}
 
--- where each slot starts
+-- the offset of each slot
 abbrev pub start_of : Slot → ℕ
 start_of A = FIRST_SLOT
 start_of B = SECOND_SLOT
 
--- an even selector names the first slot, an odd one the second
+-- the slot that a selector names: the first if it is even, the second if it is odd
 abbrev pub slot_named : ℕ → Slot
 slot_named selector = if selector % 2 == 0 then A else B
 
@@ -19,12 +19,12 @@ slot_named selector = if selector % 2 == 0 then A else B
 abbrev pub slot_of : List ℕ → Slot
 slot_of file = slot_named (slice_index file 8)
 
--- where that slot starts
+-- the offset of that slot
 abbrev pub slot_at : List ℕ → ℕ
 slot_at file = start_of (slot_of file)
 
--- a number in two bytes and in four, the highest first: as `to_be_bytes` of std gives it, where the
--- number is below 2^16 and 2^32
+-- A number in two bytes and in four, the highest first. If it is below 2^16 or 2^32, these are the
+-- bytes of `to_be_bytes` of std.
 abbrev pub be16 : ℕ → List ℕ
 be16 n = n / 256 ∷ n % 256 ∷ []
 
@@ -47,7 +47,8 @@ abbrev pub AreRecords : List (List ℕ) → Type 0
 AreRecords [] = Unit {0}
 AreRecords (r ∷ rs) = IsRecord r × AreRecords rs
 
--- a log holds these records: it spells them, then comes a commit byte that is not 1, then anything
+-- holds if a log holds these records: it spells them, then has a commit byte that is not 1, and
+-- then anything
 pub record IsLog (records : List (List ℕ)) (log : List ℕ) : Type 0 where
   pub commit_byte : ℕ
   pub rest : List ℕ
@@ -55,8 +56,9 @@ pub record IsLog (records : List (List ℕ)) (log : List ℕ) : Type 0 where
   pub closed : commit_byte ≢ 1
   pub records_ok : AreRecords records
 
--- a file holds a snapshot and records: the name, the selector, seven zeros, and in the slot that
--- the selector names the snapshot after its length, and the log of the records
+-- Holds if a file holds a snapshot and records: it begins with the name, the selector and seven
+-- zeros. In the slot that the selector names it has the snapshot after its length, and the log of
+-- the records.
 pub record Holds (file : List ℕ) (snap : List ℕ) (records : List (List ℕ)) : Type 0 where
   pub size : length file ≡ FILE_SIZE
   pub name : part 0 8 file ≡ NAME
@@ -66,29 +68,29 @@ pub record Holds (file : List ℕ) (snap : List ℕ) (records : List (List ℕ))
   pub snap_bytes : part (slot_at file + 4) (length snap) file ≡ snap
   pub log : IsLog records (part (slot_at file + AREA_SIZE) LOG_SIZE file)
 
--- a file holds at most one snapshot and list of records
+-- holds if a file holds at most one snapshot and list of records
 abbrev pub ContentsAreUnique : Type 0
 ContentsAreUnique =
     (file snap other : List ℕ) (records more : List (List ℕ))
     → Holds file snap records → Holds file other more → (snap ≡ other) × (records ≡ more)
 
--- after `used` bytes of frames a record of this size has room: its commit byte, its length, its
--- bytes, and one more commit byte after it
+-- Holds if a record of this size has room after `used` bytes of frames: its commit byte, its
+-- length, its bytes, and one more commit byte after it.
 abbrev pub HasRoom : ℕ → ℕ → Type 0
 HasRoom used size = used + 3 + size + 1 ≤ LOG_SIZE
 
--- whether it has
+-- true if it has
 abbrev pub has_room : ℕ → ℕ → Bool
 has_room used size = nat_le (used + 3 + size + 1) LOG_SIZE
 
--- not a session file: its size or its name is another
+-- holds if a disk is not a session file: its size or its name differs
 abbrev pub IsNoSession : DiskState → Type 0
 IsNoSession disk = (size_of disk ≢ FILE_SIZE) ⊎ (part 0 8 (bytes_of disk) ≢ NAME)
 
 abbrev pub sixteen_zeros : List ℕ
 sixteen_zeros = 0 ∷ 0 ∷ 0 ∷ 0 ∷ 0 ∷ 0 ∷ 0 ∷ 0 ∷ 0 ∷ 0 ∷ 0 ∷ 0 ∷ 0 ∷ 0 ∷ 0 ∷ 0 ∷ []
 
--- a disk that a session may be made on: it has the size of a session file, and its first 16 bytes
--- are 0
+-- Holds if a session may be made on the disk: it has the size of a session file, and its first 16
+-- bytes are 0.
 abbrev pub IsBlank : DiskState → Type 0
 IsBlank disk = (size_of disk ≡ FILE_SIZE) × (part 0 16 (bytes_of disk) ≡ sixteen_zeros)

@@ -1,4 +1,4 @@
--- What contracts see of a store, and what its fields keep. (Our own choice.)
+-- A store as contracts see it, and the invariant of its fields. (Our own choice.)
 use Rattle.std.specs.Prelude.{◌≡◌, ℕ, ◌+◌, ◌≤◌, Bool, List, length, IsTrue}
 use Rattle.mcs_disk.specs.CallList.{unsynced}
 use Rattle.mcs_disk.specs.Disk.{DiskState, bytes_of, size_of}
@@ -13,11 +13,11 @@ pub record StoreView (D : Type 0) : Type 0 where
   pub live : Bool
   -- the slot that holds its snapshot and its log
   pub slot : Slot
-  -- how many bytes the frames of its records take in its log
+  -- the number of bytes that the frames of its records occupy in its log
   pub used : ℕ
 
--- what holds of an open store on an honest disk: whatever a power cut leaves has its contents, in
--- this slot, and `used` is how many bytes their frames take in the log
+-- The invariant of an open store on an honest disk. Whatever a power cut leaves has its contents,
+-- in this slot, and `used` is the number of bytes that their frames occupy in the log.
 pub record IsIntactStore (disk : DiskState) (slot : Slot) (used : ℕ) : Type 0 where
   pub durable : IsDurable disk
   pub active : slot_of (bytes_of disk) ≡ slot
@@ -26,9 +26,9 @@ pub record IsIntactStore (disk : DiskState) (slot : Slot) (used : ℕ) : Type 0 
   pub holds : Holds (bytes_of disk) snap records
   pub count : used ≡ length (frames_of records)
 
--- the invariant of a store: its disk has the size of a session file, the log has room for one more
--- commit byte, the buffer takes a snapshot area and a commit byte, an open store has synced each
--- write on its disk, and on an honest disk it is intact
+-- The invariant of a store. Its disk has the size of a session file, and the log has room for one
+-- more commit byte. The buffer has room for a snapshot area and a commit byte. An open store has
+-- synced each write on its disk, and on an honest disk it is intact.
 pub record IsStore (disk : DiskState) (live : Bool) (slot : Slot) (used : ℕ) (buffer : List ℕ)
     : Type 0 where
   pub disk_size : size_of disk ≡ FILE_SIZE

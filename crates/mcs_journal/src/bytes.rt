@@ -1,4 +1,4 @@
-//! What [`open`](crate::Store::open) hands out: the snapshot, and the records.
+//! The snapshot and the records, as [`open`](crate::Store::open) returns them.
 ghost use Rattle.std.specs.Prelude.{◌≡◌, ◌<◌, ◌↔◌, [], length, slice_get, Some, IsTrue};
 
 use std::marker::Model;
@@ -18,7 +18,7 @@ impl Model for Bytes {
 }
 
 impl Bytes {
-    /// All of them, in order.
+    /// Returns all of them, in order.
     pub fn bytes(&self) -> &[u8]
         ensures { result.now ≡ self.now }
     {
@@ -41,21 +41,21 @@ impl Model for Records {
 }
 
 impl Records {
-    /// The number of records.
+    /// Returns the number of records.
     pub fn len(&self) -> usize
         ensures { result ≡ length self.now }
     {
         self.records.len()
     }
 
-    /// There is no record.
+    /// Returns true if there is no record.
     pub fn is_empty(&self) -> bool
         ensures { IsTrue result ↔ (self.now ≡ []) }
     {
         self.records.is_empty()
     }
 
-    /// The bytes of a record, counted from 0.
+    /// Returns the bytes of a record, counted from 0.
     pub fn get(&self, i: usize) -> &[u8]
         requires { i < length self.now }
         ensures { slice_get self.now i ≡ Some result.now }

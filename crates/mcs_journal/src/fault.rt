@@ -1,19 +1,19 @@
-//! Why a store cannot be made or opened.
+//! The reasons why a store cannot be made or opened.
 ghost use Rattle.std.specs.Prelude.{◌≡◌};
 
 use mcs_disk::DiskFault;
 use std::alloc::{AllocError, AllocFailed};
 use thiserror::Error;
 
-/// Why [`create`](crate::Store::create) or [`open`](crate::Store::open) refuses a disk. Clauses of
-/// both say which of these each answers (`IsCreateFault`, `IsOpenFault`).
+/// A reason why [`create`](crate::Store::create) or [`open`](crate::Store::open) rejects a disk.
+/// Clauses of both state which of these each can return (`IsCreateFault`, `IsOpenFault`).
 #[derive(Clone, Copy, Debug, PartialEq, Eq, Error)]
 pub enum StoreFault {
     /// Of `open`: the size or the name is not that of a session file (50).
     #[error("not a session file")]
     NotASession,
-    /// Of `open`: size and name are right, and the bytes hold no contents: no snapshot with its
-    /// records (51).
+    /// Of `open`: size and name are right, but the bytes hold no contents, that is no snapshot with
+    /// its records (51).
     #[error("damaged")]
     Damaged,
     /// Of both: a call on the disk failed (53).
@@ -23,7 +23,7 @@ pub enum StoreFault {
     /// (55).
     #[error("not blank")]
     NotBlank,
-    /// Of both: a buffer, the snapshot or a record found no memory (90).
+    /// Of both: there was no memory for a buffer, the snapshot or a record (90).
     #[error("out of memory")]
     NoMemory,
 }

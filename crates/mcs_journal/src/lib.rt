@@ -1,7 +1,7 @@
 //! The journal of a session: a file of two slots, each a snapshot and a log of records after it.
 //!
-//! A [`Store`] keeps a snapshot and its records on a disk, so that a power cut at any moment
-//! leaves those of before a call or those of after it.
+//! A [`Store`] keeps a snapshot and its records on a disk. A power cut at any moment leaves the
+//! contents before a call or those after it.
 #![tactic(auto)]
 
 mod bytes;

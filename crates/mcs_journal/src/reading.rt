@@ -1,4 +1,4 @@
-//! Reads the contents of a disk: its snapshot and records. Nothing here writes.
+//! Functions that read the contents of a disk: its snapshot and records. Nothing here writes.
 ghost use Rattle.std.specs.Prelude.{◌≡◌, ◌≢◌, ◌≤◌, ◌<◌, ◌+◌, ◌*◌, ◌^◌, List, [], ◌∷◌, ◌++◌, ℕ, length, slice_index, IfOk, IfSome, IfNone, OnOk, OnErr, IsErr, IsErrOf};
 ghost use Rattle.mcs_disk.specs.Disk.{part, bytes_of, size_of, time_of};
 ghost use Rattle.mcs_disk.specs.Changes.{ReadsOnly};
@@ -20,7 +20,7 @@ use crate::slot::Slot;
 use mcs_disk::{Disk, DiskFault};
 use std::alloc::Global;
 
-/// Reads the bytes from `at` on; a disk at rest stays so.
+/// Reads the bytes from `at` on. It adds no image to the disk.
 pub fn read_at<D: Disk>(disk: &mut D, at: usize, into: &mut [u8]) -> Result<(), DiskFault>
     requires { at + length into.old ≤ size_of (D.state disk.old) }
     ensures reads { ReadsOnly (D.state disk.old) (D.state disk.new) (IsErr result) }
@@ -33,8 +33,9 @@ pub fn read_at<D: Disk>(disk: &mut D, at: usize, into: &mut [u8]) -> Result<(), 
     disk.read(at, into)
 }
 
-/// Reads the record at `at`, of which `room` bytes of the log are left. None: its commit byte is
-/// not 1.
+/// Reads the record at `at`, with `room` bytes of the log left. It returns none if the commit byte
+/// is not 1. It fails if no record with room follows a commit byte of 1, if the device fails, or if
+/// memory runs out.
 pub fn read_record<D: Disk>(
     alloc: Global,
     disk: &mut D,
@@ -81,14 +82,15 @@ pub fn read_record<D: Disk>(
     Ok(Some(Bytes { bytes }))
 }
 
-/// The records of a log, and how many bytes they take.
+/// The records of a log, and how many bytes they occupy.
 #[derive(Drop)]
 pub struct Log {
     pub records: Vec<Bytes>,
     pub used: usize,
 }
 
-/// Reads the log at `at`, up to the first commit byte that is not 1.
+/// Reads the log at `at`, up to the first commit byte that is not 1. It fails if the log is
+/// damaged, if the device fails, or if memory runs out.
 pub fn read_log<D: Disk>(alloc: Global, disk: &mut D, at: usize) -> Result<Log, StoreFault>
     requires inside { at + LOG_SIZE ≤ size_of (D.state disk.old) }
     requires fits { size_of (D.state disk.old) < 2 ^ 64 }
@@ -117,7 +119,8 @@ pub fn read_log<D: Disk>(alloc: Global, disk: &mut D, at: usize) -> Result<Log, 
     Ok(Log { records, used })
 }
 
-/// Reads the header: the slot that its selector names.
+/// Reads the header and returns the slot that its selector names. It fails if the name or the zeros
+/// are wrong, or if the device fails.
 pub fn read_header<D: Disk>(disk: &mut D) -> Result<Slot, StoreFault>
     requires size { size_of (D.state disk.old) ≡ FILE_SIZE }
     ensures reads { ReadsOnly (D.state disk.old) (D.state disk.new)
@@ -145,7 +148,8 @@ pub fn read_header<D: Disk>(disk: &mut D) -> Result<Slot, StoreFault>
     Ok(Slot::named(header[SELECTOR_OFFSET]))
 }
 
-/// Reads the snapshot of the slot that starts there.
+/// Reads the snapshot of the slot that starts at `start`. It fails if its length is not one of a
+/// snapshot, if the device fails, or if memory runs out.
 pub fn read_snapshot<D: Disk>(
     alloc: Global,
     disk: &mut D,
@@ -176,7 +180,7 @@ pub fn read_snapshot<D: Disk>(
     Ok(Bytes { bytes })
 }
 
-/// What a disk was found to hold.
+/// The contents that a disk was found to hold.
 #[derive(Drop)]
 pub struct Found {
     pub slot: Slot,
@@ -186,7 +190,7 @@ pub struct Found {
 
 /// Syncs, and reads the contents that the disk holds.
 ///
-/// Without the sync, what is read may be lost by a power cut that comes after the answer.
+/// Without the sync, a power cut after the answer could lose what was read.
 pub fn read_contents<D: Disk>(alloc: Global, disk: &mut D) -> Result<Found, StoreFault>
     requires size { size_of (D.state disk.old) ≡ FILE_SIZE }
     ensures reads { ReadsOnly (D.state disk.old) (D.state disk.new)

@@ -16,14 +16,14 @@ impl Slot {
     ghost use Rattle.mcs_journal.specs.File.{slot_named, start_of};
     ghost use Rattle.mcs_journal.specs.Writing.{other_slot, selector_of};
 
-    /// The slot that a selector names: the first by an even selector, the second by an odd one.
+    /// Returns the slot that a selector names: the first if it is even, the second if it is odd.
     pub fn named(selector: u8) -> Slot
         ensures { result ≡ slot_named selector }
     {
         if selector % 2 == 0 { Slot::A } else { Slot::B }
     }
 
-    /// Where it starts in the file.
+    /// Returns the offset of the slot in the file.
     pub fn start(self) -> usize
         ensures { result ≡ start_of self }
     {
@@ -33,7 +33,7 @@ impl Slot {
         }
     }
 
-    /// The selector that is written to name it.
+    /// Returns the selector that is written to name the slot.
     pub fn selector(self) -> u8
         ensures { result ≡ selector_of self }
     {
@@ -43,7 +43,7 @@ impl Slot {
         }
     }
 
-    /// The other of the two.
+    /// Returns the other slot.
     pub fn other(self) -> Slot
         ensures { result ≡ other_slot self }
     {

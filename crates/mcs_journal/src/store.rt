@@ -23,8 +23,8 @@ use std::marker::Model;
 
 /// A snapshot and the records after it, on a disk.
 ///
-/// Once a call on it has answered a device fault, it is closed: what the disk then holds are
-/// the contents of before that call or of after it, and opening it again tells which.
+/// Once a call on it has answered a device fault, it is closed. The disk then holds the contents
+/// before that call or those after it; opening it again shows which.
 #[derive(Drop)]
 pub struct Store<D: Disk + Drop> {
     disk: D,
@@ -44,7 +44,7 @@ impl<D: Disk + Drop> Model for Store<D> {
     ghost invariant = { λ s. IsStore (D.state s.disk) s.live s.slot s.used s.buffer.items };
 }
 
-/// What a disk holds, and the store that goes on from there.
+/// The contents that a disk holds, and the store that continues from there.
 #[derive(Drop)]
 pub struct Opened<D: Disk + Drop> {
     pub store: Store<D>,
@@ -58,8 +58,8 @@ impl<D: Disk + Drop> Store<D> {
     /// Makes a store of `snap` and no records, on a disk of [`FILE_SIZE`](crate::FILE_SIZE) bytes
     /// whose first 16 are 0.
     ///
-    /// A refusal hands the disk back, and `NotBlank` has written nothing. A power cut inside the
-    /// call may leave anything.
+    /// An error returns the disk; with `NotBlank` nothing was written. A power cut during the call
+    /// may leave anything.
     pub fn create(alloc: Global, disk: D, snap: &[u8]) -> Result<Store<D>, (StoreFault, D)>
         requires short { length snap.now ≤ MOST_SNAPSHOT }
 
@@ -117,7 +117,7 @@ impl<D: Disk + Drop> Store<D> {
         }
     }
 
-    /// Opens the contents that the disk holds. It writes nothing, and a refusal hands the disk back.
+    /// Opens the contents that the disk holds. It writes nothing, and an error returns the disk.
     pub fn open(alloc: Global, disk: D) -> Result<Opened<D>, (StoreFault, D)>
         // on any disk
         ensures live { IfOk result (λ opened. IsTrue opened.store.live) }
@@ -178,7 +178,7 @@ impl<D: Disk + Drop> Store<D> {
         }
     }
 
-    /// No call on it has answered a device fault.
+    /// Returns true if no call on it has answered a device fault.
     pub fn is_open(&self) -> bool
         ensures is { result ≡ self.now.live }
         ensures synced { IsTrue self.now.live → unsynced (D.state self.now.disk).calls ≡ 0 }
@@ -188,7 +188,7 @@ impl<D: Disk + Drop> Store<D> {
         self.live
     }
 
-    /// A record of `len` bytes fits after the records of its log.
+    /// Returns true if a record of `len` bytes fits after the records of its log.
     pub fn has_room(&self, len: usize) -> bool
         requires { len ≤ MOST_RECORD }
         ensures room { IsTrue result ↔ HasRoom self.now.used len }
@@ -200,7 +200,7 @@ impl<D: Disk + Drop> Store<D> {
         self.used + FRAME_HEAD + len + 1 <= LOG_SIZE
     }
 
-    /// Adds a record of 1 to 8,192 bytes after the others. At a device fault the store is closed.
+    /// Adds a record of 1 to 8,192 bytes after the others. A device fault closes the store.
     pub fn append(&mut self, payload: &[u8]) -> Result<(), DiskFault>
         requires live { IsTrue self.old.live }
         requires good { IsRecord payload.now }
@@ -236,8 +236,8 @@ impl<D: Disk + Drop> Store<D> {
         }
     }
 
-    /// Puts a snapshot of at most 16,380 bytes and no records in the place of what it holds. At a
-    /// device fault the store is closed.
+    /// Replaces all that it holds with a snapshot of at most 16,380 bytes and no records. A device
+    /// fault closes the store.
     pub fn replace(&mut self, snap: &[u8]) -> Result<(), DiskFault>
         requires live { IsTrue self.old.live }
         requires short { length snap.now ≤ MOST_SNAPSHOT }
@@ -273,14 +273,14 @@ impl<D: Disk + Drop> Store<D> {
         }
     }
 
-    /// The disk, as the last call left it.
+    /// Returns the disk, as the last call left it.
     pub fn disk(&self) -> &D
         ensures { result.now ≡ self.now.disk }
     {
         &self.disk
     }
 
-    /// The disk, with what it holds.
+    /// Returns the disk, with what it holds, and ends the store.
     pub fn into_disk(self) -> D
         ensures { result ≡ self.disk }
     {

@@ -1,6 +1,6 @@
-//! The writes of a store. Each change has two parts: bytes that nothing reads yet, and the byte that
-//! makes them count. Each part is a write and a sync, so that the second byte never reaches the
-//! disk before the bytes that it speaks of.
+//! The writes of a store. Each change has two parts: bytes that nothing reads yet, and the byte
+//! that puts them in force. Each part is a write and a sync, so the byte never reaches the disk
+//! before the bytes that it puts in force.
 ghost use Rattle.std.specs.Prelude.{◌≡◌, ◌⊎◌, ◌≤◌, ◌+◌, List, [], ◌∷◌, ◌++◌, ℕ, length, take, slice_index, OnOk, IfErr, IsErr, IsErrOf};
 ghost use Rattle.mcs_disk.specs.Disk.{CountsFault, bytes_of, size_of, time_of, IsLater};
 ghost use Rattle.mcs_disk.specs.Changes.{Changes, ReadsOnly};
@@ -21,7 +21,7 @@ use crate::reading::read_at;
 use crate::slot::Slot;
 use mcs_disk::{Disk, DiskFault};
 
-/// Writes, and syncs.
+/// Writes bytes from `at` on, and syncs. It fails if the device fails.
 pub fn commit<D: Disk>(disk: &mut D, at: usize, from: &[u8]) -> Result<(), DiskFault>
     requires { at + length from.now ≤ size_of (D.state disk.old) }
     ensures call { CountsFault (D.state disk.old) (D.state disk.new) (IsErr result) }
@@ -34,7 +34,7 @@ pub fn commit<D: Disk>(disk: &mut D, at: usize, from: &[u8]) -> Result<(), DiskF
     disk.sync()
 }
 
-/// Encodes what stands after a record's commit byte: its length, its bytes, and a commit byte of 0.
+/// Encodes what follows a record's commit byte: its length, its bytes, and a commit byte of 0.
 pub fn encode_record(buffer: &mut [u8], payload: &[u8])
     requires room { length payload.now + 3 ≤ length buffer.old }
     requires short { length payload.now ≤ MOST_RECORD }
@@ -48,7 +48,7 @@ pub fn encode_record(buffer: &mut [u8], payload: &[u8])
     buffer[2 + n] = NOT_COMMITTED;
 }
 
-/// Writes a record after the commit byte at `commit_at`, and then sets that to 1.
+/// Writes a record after the commit byte at `commit_at`, and then sets this byte to 1.
 pub fn add_record<D: Disk>(
     disk: &mut D,
     buffer: &mut [u8],
@@ -76,7 +76,7 @@ pub fn add_record<D: Disk>(
     commit(disk, commit_at, &[COMMITTED])
 }
 
-/// Encodes a snapshot area and a commit byte of 0 after it.
+/// Encodes a snapshot area, and a commit byte of 0 after it.
 pub fn encode_snapshot(buffer: &mut [u8], snap: &[u8])
     requires room { length buffer.old ≡ BUFFER_SIZE }
     requires short { length snap.now ≤ MOST_SNAPSHOT }
@@ -91,7 +91,8 @@ pub fn encode_snapshot(buffer: &mut [u8], snap: &[u8])
     buffer[AREA_SIZE] = NOT_COMMITTED;
 }
 
-/// Writes a snapshot and no records into the slot that is not named, and then names it.
+/// Writes a snapshot and no records into the slot that the selector does not name, and then names
+/// this slot.
 pub fn replace_contents<D: Disk>(
     disk: &mut D,
     buffer: &mut [u8],
@@ -118,7 +119,8 @@ pub fn replace_contents<D: Disk>(
     commit(disk, SELECTOR_OFFSET, &[other.selector()])
 }
 
-/// The disk has the size of a session file, and its first 16 bytes are 0.
+/// Checks that the first 16 bytes of a disk are 0. It fails with `NotBlank` if they are not, or if
+/// the device fails.
 pub fn check_blank<D: Disk>(disk: &mut D) -> Result<(), StoreFault>
     requires size { size_of (D.state disk.old) ≡ FILE_SIZE }
     ensures reads { ReadsOnly (D.state disk.old) (D.state disk.new)

@@ -15,8 +15,8 @@ use mcs_nibble::{Bit, Nibble};
 use mcs_shift4003::Chain;
 use std::marker::Model;
 
-/// A board and its keys. The matrix of the keys is the board's, and stands there alone. Contracts see the board, and for
-/// each key, row by row, 1 if it is down.
+/// A board and its keys. The matrix of the keys is stored in the board alone. Contracts see the board and, for each
+/// key, row by row, 1 if it is down.
 #[derive(Drop)]
 pub struct KeyPad {
     board: Board,
@@ -34,7 +34,7 @@ impl Model for KeyPad {
 }
 
 impl KeyPad {
-    /// A board with all its keys up.
+    /// Returns a board with all its keys up.
     pub fn of(board: Board) -> KeyPad
         ensures { result ≡ record { board = board; down = replicate (key_count board) 0 } }
     {
@@ -45,7 +45,7 @@ impl KeyPad {
         KeyPad { board, keys }
     }
 
-    /// An equal board with equal keys.
+    /// Returns an equal board with equal keys.
     pub fn copy(&self) -> KeyPad
         ensures { result ≡ self.now }
     {
@@ -55,7 +55,7 @@ impl KeyPad {
         }
     }
 
-    /// The board.
+    /// Returns the board.
     #[inline]
     pub fn board(&self) -> &Board
         ensures { result.now ≡ self.now.board }
@@ -63,7 +63,7 @@ impl KeyPad {
         &self.board
     }
 
-    /// The key at a place, row by row: 1 if it is down.
+    /// Returns the key at an index, row by row: 1 if it is down.
     pub fn key(&self, at: usize) -> Bit
         requires { at < length self.now.down }
         ensures { result ≡ slice_index self.now.down at }
@@ -71,7 +71,7 @@ impl KeyPad {
         self.keys.key(at)
     }
 
-    /// Puts the key at a place, row by row, down by 1, or up by 0.
+    /// Sets the key at an index, row by row: 1 is down, 0 is up.
     pub fn set_key(&mut self, at: usize, bit: Bit)
         requires { at < length self.old.down }
         ensures { self.new ≡ record self.old { down = slice_set self.old.down at bit } }
@@ -82,7 +82,7 @@ impl KeyPad {
         }
     }
 
-    /// The levels that the keys pull the four lines of a ROM to, if a chain of these bits drives the rows.
+    /// Returns the levels that the keys pull the four lines of a ROM to, if a chain of these bits drives the rows.
     #[inline]
     pub fn pulls<const MAX: usize>(&self, bits: &Chain<MAX>, chip: Nibble) -> Nibble
         requires { (matrix_on self.now.board).first + (matrix_on self.now.board).rows
@@ -96,7 +96,7 @@ impl KeyPad {
         }
     }
 
-    /// A law: each key is 0 or 1.
+    /// Proves that each key is 0 or 1.
     pub fn show_state_is_valid(&self)
         ensures { All (λ key. key < 2) self.now.down }
     {

@@ -1,8 +1,8 @@
 //! Keys with bytes from which a port is read.
 //!
-//! Bit j of a byte stands for column j: for each row there is the byte of its keys that are down, and for each line of each ROM the byte
-//! of the columns at it. A port is then read by some ten ors (of the rows that are driven) and four ands (with its lines), however many
-//! keys there are.
+//! Bit j of a byte stands for column j. Each row has the byte of its keys that are down, and each line of each ROM has
+//! the byte of the columns at it. Reading a port then takes about ten ORs (of the driven rows) and four ANDs (with its
+//! lines), however many keys there are.
 
 ghost use Rattle.std.specs.Prelude.{◌≡◌, ℕ, ◌+◌, ◌*◌, ◌/◌, ◌%◌, ◌<◌, ◌≤◌, Bool, ◌&&◌, All, length, replicate, slice_index, slice_index_or, slice_set};
 ghost use Rattle.std.specs.List.{list_any, range_with_len};
@@ -42,7 +42,7 @@ impl Model for ScannedKeys {
     ghost view = { λ k. record { down = k.down.items; row_bytes = k.rows; line_bytes = k.lines } };
 }
 
-/// Whether a column is line `k` of a ROM.
+/// Returns whether a column is line `k` of a ROM.
 fn is_named(column: Line, chip: u8, k: u8) -> bool
     ensures { result ≡ is_rom_line chip k column }
 {
@@ -52,7 +52,7 @@ fn is_named(column: Line, chip: u8, k: u8) -> bool
     }
 }
 
-/// Whether the key at a place, row by row, is down.
+/// Returns whether the key at an index, row by row, is down.
 fn is_down(down: &[Bit], at: usize) -> bool
     ensures { result ≡ is_down down.now at }
 {
@@ -62,7 +62,7 @@ fn is_down(down: &[Bit], at: usize) -> bool
     }
 }
 
-/// The byte of the keys that are down, of as many columns from a place on.
+/// Returns the byte of the keys that are down, for `columns` keys from an index on.
 fn row_byte(down: &[Bit], from: usize, columns: usize) -> u8
     requires columns { columns ≤ KEY_COLUMNS }
     requires from { from ≤ KEYS }
@@ -77,7 +77,7 @@ fn row_byte(down: &[Bit], from: usize, columns: usize) -> u8
     byte
 }
 
-/// The byte of the columns at line `k` of a ROM.
+/// Returns the byte of the columns at line `k` of a ROM.
 fn line_byte(columns: &[Line], chip: u8, k: u8) -> u8
     requires { length columns.now ≤ KEY_COLUMNS }
     ensures { IsByteOf result (length columns.now)
@@ -92,7 +92,7 @@ fn line_byte(columns: &[Line], chip: u8, k: u8) -> u8
     byte
 }
 
-/// The byte of the keys that are down, of each row.
+/// Returns, for each row, the byte of the keys that are down.
 fn row_bytes(down: &[Bit], rows: u8, columns: usize) -> [u8; ROW_BYTES]
     requires rows { rows ≤ KEY_ROWS }
     requires columns { columns ≤ KEY_COLUMNS }
@@ -106,7 +106,7 @@ fn row_bytes(down: &[Bit], rows: u8, columns: usize) -> [u8; ROW_BYTES]
     bytes
 }
 
-/// The byte of the columns at each line of each ROM, four lines a ROM.
+/// Returns the byte of the columns at each line of each ROM, four lines a ROM.
 fn line_bytes(columns: &[Line]) -> [u8; ROM_LINE_BYTES]
     requires { length columns.now ≤ KEY_COLUMNS }
     ensures { (i : ℕ) → i < ROM_LINE_BYTES →
@@ -120,7 +120,7 @@ fn line_bytes(columns: &[Line]) -> [u8; ROM_LINE_BYTES]
     bytes
 }
 
-/// 1 where the two bytes have a bit in common.
+/// Returns 1 if the two bytes have a bit in common.
 fn meets(line: u8, driven: u8) -> Bit
     ensures { (n : ℕ) (p q : ℕ → Bool) → IsByteOf line n p → IsByteOf driven n q →
         result ≡ bit_when (list_any (λ j. p j && q j) (range_with_len 0 n)) }
@@ -132,7 +132,7 @@ fn meets(line: u8, driven: u8) -> Bit
     }
 }
 
-/// Keys that are all up.
+/// Returns keys that are all up.
 fn up(rows: u8, columns: usize) -> ArrayVec<Bit, KEYS>
     requires rows { rows ≤ KEY_ROWS }
     requires columns { columns ≤ KEY_COLUMNS }
@@ -145,7 +145,7 @@ fn up(rows: u8, columns: usize) -> ArrayVec<Bit, KEYS>
     down
 }
 
-/// The same keys.
+/// Returns the same keys.
 fn copied(down: &ArrayVec<Bit, KEYS>) -> ArrayVec<Bit, KEYS>
     ensures { result.items ≡ down.now.items }
 {
@@ -157,7 +157,7 @@ fn copied(down: &ArrayVec<Bit, KEYS>) -> ArrayVec<Bit, KEYS>
 }
 
 impl ScannedKeys {
-    /// No keys.
+    /// Returns no keys.
     pub(crate) fn none() -> ScannedKeys
         ensures up { result.down ≡ replicate 0 0 }
         ensures scanned { IsScanned no_matrix result }
@@ -170,7 +170,7 @@ impl ScannedKeys {
         })
     }
 
-    /// The keys of a matrix, all up.
+    /// Returns the keys of a matrix, all up.
     pub(crate) fn of(matrix: &KeyMatrix) -> ScannedKeys
         requires { matrix.now.rows ≤ KEY_ROWS }
         ensures up { result.down ≡ replicate (matrix.now.rows * length matrix.now.columns.items) 0 }
@@ -183,7 +183,7 @@ impl ScannedKeys {
         ScannedKeys { down, rows, lines }
     }
 
-    /// Equal keys.
+    /// Returns equal keys.
     pub(crate) fn copy(&self) -> ScannedKeys
         ensures { result ≡ self.now }
     {
@@ -194,7 +194,7 @@ impl ScannedKeys {
         }
     }
 
-    /// The key at a place, row by row: 1 where it is down.
+    /// Returns the key at an index, row by row: 1 if it is down.
     pub(crate) fn key(&self, at: usize) -> Bit
         requires { at < length self.now.down }
         ensures { result ≡ slice_index self.now.down at }
@@ -202,7 +202,7 @@ impl ScannedKeys {
         self.down[at]
     }
 
-    /// Puts the key of the matrix at a place, row by row, down by 1, or up by 0.
+    /// Sets the key of the matrix at an index, row by row: 1 is down, 0 is up.
     pub(crate) fn set_key(&mut self, matrix: &KeyMatrix, at: usize, bit: Bit)
         requires at { at < length self.old.down }
         requires scanned { IsScanned matrix.now self.old }
@@ -213,7 +213,7 @@ impl ScannedKeys {
         self.rows = row_bytes(self.down.as_slice(), matrix.rows, matrix.columns.len());
     }
 
-    /// The byte of the columns of the matrix that some row drives, if a chain of these bits drives the rows.
+    /// Returns the byte of the columns of the matrix that some row drives, if a chain of these bits drives the rows.
     fn driven<const MAX: usize>(&self, matrix: &KeyMatrix, bits: &Chain<MAX>) -> u8
         requires scanned { IsScanned matrix.now self.now }
         requires rows { matrix.now.first + matrix.now.rows ≤ length bits.now }
@@ -237,7 +237,8 @@ impl ScannedKeys {
         driven
     }
 
-    /// The levels that keys of the matrix pull the four lines of a ROM to, if a chain of these bits drives the rows.
+    /// Returns the levels that keys of the matrix pull the four lines of a ROM to, if a chain of these bits drives the
+    /// rows.
     pub(crate) fn pulls<const MAX: usize>(
         &self,
         matrix: &KeyMatrix,
@@ -259,7 +260,7 @@ impl ScannedKeys {
         )
     }
 
-    /// A law: each key is 0 or 1.
+    /// Proves that each key is 0 or 1.
     pub(crate) fn show_state_is_valid(&self)
         ensures { All (λ key. key < 2) self.now.down }
     {

@@ -1,6 +1,6 @@
 -- The places that are read one after the other.
 use Rattle.std.proofs.Common.{◌≡◌, ℕ, zero, suc, ◌+◌, ◌≤◌, Bool, true, false, List, [], ◌∷◌, ◌++◌, length, Result, Ok, Err, refl, sym, ap, ◌∙◌, append_assoc, length-append, arith}
-use Rattle.mcs_ahead.specs.declared.probe.Probe.{Probe}
+use Rattle.mcs_probe.specs.declared.probe.Probe.{Probe}
 use Rattle.mcs_lines.specs.declared.requests.LineFault.{LineFault}
 use Rattle.mcs_lines.specs.declared.requests.LineFault.TheVariants.{NotACommand, BadNumber, LineTooLong, NotAscii}
 use Rattle.mcs_lines.specs.ProbeWords.{is_bad_number, probe_of, probes_within, with_probe}

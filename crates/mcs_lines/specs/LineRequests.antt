@@ -1,10 +1,10 @@
--- What a line asks for.
+-- The request of a line.
 use Rattle.std.specs.Prelude.{ℕ, List, [], ◌∷◌, codes, length, nat_lt, Option, Some, None, Result, Ok, Err, if◌then◌else◌}
 use Rattle.std.specs.List.{list_all}
 use Rattle.std.specs.Str.{bytes_eq}
 use Rattle.mcs_model.specs.declared.limits.TheConstants.{LINE_BYTES}
-use Rattle.mcs_ahead.specs.declared.probe.Probe.{Probe}
-use Rattle.mcs_ahead.specs.declared.probe.TheConstants.{PROBES}
+use Rattle.mcs_probe.specs.declared.probe.Probe.{Probe}
+use Rattle.mcs_probe.specs.declared.probe.TheConstants.{PROBES}
 use Rattle.mcs_lines.specs.declared.requests.Request.{Request}
 use Rattle.mcs_lines.specs.declared.requests.Request.TheVariants.{Nothing, Refused, Trace}
 use Rattle.mcs_lines.specs.declared.requests.LineFault.{LineFault}
@@ -20,19 +20,19 @@ trace_of n (Err fault) = Refused fault
 trace_of None (Ok probes) = Refused BadNumber
 trace_of (Some n) (Ok probes) = Trace n (record { items = probes })
 
--- `trace`, by the words after it
+-- the request of `trace`, by the words after it
 abbrev pub trace_request : List (List ℕ) → Request
 trace_request [] = Refused NotACommand
 trace_request (n ∷ places) = trace_of (cycles_asked n) (probes_within PROBES places)
 
--- by the words of the line
+-- the request of a line, by its words
 abbrev pub request_of_words : List (List ℕ) → Request
 request_of_words [] = Nothing
 request_of_words (word ∷ words) =
     if bytes_eq word (codes "trace") then trace_request words else request_of_word word words
 
--- What a line asks for. Too long (12) is judged first, then a byte that no line may have (14); only
--- then is it read.
+-- The request of a line. Too long (12) is judged first, then a byte that no line may have (14).
+-- Only then is the line read.
 unfoldable pub request_of : List ℕ → Request
 request_of line =
     if nat_lt LINE_BYTES (length line) then Refused LineTooLong

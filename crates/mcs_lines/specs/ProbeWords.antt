@@ -6,8 +6,8 @@ use Rattle.mcs_model.specs.declared.command.Command.TheVariants.{Poke}
 use Rattle.mcs_model.specs.declared.command.Place.{Place}
 use Rattle.mcs_model.specs.declared.command.Place.TheVariants as place
 use Rattle.mcs_model.specs.declared.board.Line.TheVariants as line
-use Rattle.mcs_ahead.specs.declared.probe.Probe.{Probe}
-use Rattle.mcs_ahead.specs.declared.probe.Probe.TheVariants.{Acc, Cy, Pc, Register, Dcl, Rom, Ram, Status, Level, RomPort, RamPort, Chain, Src, Lamps, Returns}
+use Rattle.mcs_probe.specs.declared.probe.Probe.{Probe}
+use Rattle.mcs_probe.specs.declared.probe.Probe.TheVariants.{Acc, Cy, Pc, Register, Dcl, Rom, Ram, Status, Level, RomPort, RamPort, Chain, Src, Lamps, Returns}
 use Rattle.mcs_lines.specs.declared.requests.Request.{Request}
 use Rattle.mcs_lines.specs.declared.requests.Request.TheVariants.{Change, Refused}
 use Rattle.mcs_lines.specs.declared.requests.LineFault.{LineFault}
@@ -15,7 +15,7 @@ use Rattle.mcs_lines.specs.declared.requests.LineFault.TheVariants.{NotACommand,
 use Rattle.mcs_lines.specs.Requests.{asked, is_number, poke_of}
 use Rattle.mcs_lines.specs.Words.{parts_of_word}
 
--- the place alone
+-- the probe of a place, without the value of the place
 abbrev pub probe_at : Place → Probe
 probe_at (place.Acc n) = Acc
 probe_at (place.Cy bit) = Cy
@@ -26,7 +26,7 @@ probe_at (place.Rom at byte) = Rom at
 probe_at (place.Ram bank src n) = Ram bank src
 probe_at (place.Status bank high k n) = Status bank high k
 
--- the place that a `poke` fills, or why it is refused
+-- the place that a `poke` fills, or the reason why it is refused
 abbrev pub probe_of_command : Command → Result Probe LineFault
 probe_of_command (Poke place) = Ok (probe_at place)
 probe_of_command _ = Err NotACommand
@@ -36,11 +36,11 @@ probe_of_request (Change command) = probe_of_command command
 probe_of_request (Refused fault) = Err fault
 probe_of_request _ = Err NotACommand
 
--- a place of `poke`, as `poke` with the value 0 names it: 0 can stand in each of them
+-- a place of `poke`, as `poke` with the value 0 names it: 0 can be in each of them
 abbrev pub probe_of_poke : List ℕ → Result Probe LineFault
 probe_of_poke word = probe_of_request (poke_of word (codes "0"))
 
--- what was read, or the refusal of a number that is out of its range
+-- the probe that was read, or the refusal of a number that is out of its range
 abbrev pub or_bad_probe : Option Probe → Result Probe LineFault
 or_bad_probe None = Err BadNumber
 or_bad_probe (Some p) = Ok p
@@ -90,7 +90,7 @@ chain_probe n = elim (number_up_to 3 n) [ None ↦ None | Some n ↦ Some (Chain
 
 -- ---- the parts of a word
 
--- what follows the beginning of a word, if the word begins so
+-- the bytes after the beginning of a word, if the word begins so
 abbrev pub after_word : List ℕ → List ℕ → Option (List ℕ)
 after_word [] bytes = Some bytes
 after_word (p ∷ ps) [] = None
@@ -103,7 +103,7 @@ number_after start name = elim (after_word start name) [
   | Some n ↦ if is_number n then Some n else None
 ]
 
--- the same, where k, another part of the word, is a number too
+-- that number, if k, another part of the word, is a number too
 abbrev pub number_before : List ℕ → List ℕ → List ℕ → Option (List ℕ)
 number_before start name k = if is_number k then number_after start name else None
 
@@ -123,7 +123,7 @@ probe_named word = elim (number_after (codes "rom") word) [
 abbrev pub probe_names : List (List ℕ × Probe)
 probe_names = (codes "lamps", Lamps) ∷ (codes "ret", Returns) ∷ (codes "src", Src) ∷ []
 
--- of one part, or of more than three
+-- the probe of a word of one part, or of more than three
 abbrev pub probe_whole : List ℕ → Result Probe LineFault
 probe_whole word = elim (asked word probe_names) [ None ↦ probe_named word | Some p ↦ Ok p ]
 
@@ -134,7 +134,7 @@ probe_in_bank word name c = elim (number_before (codes "ram") name c) [
   | None ↦ probe_of_poke word
 ]
 
--- of two parts
+-- the probe of a word of two parts
 abbrev pub probe_two : List ℕ → List ℕ → List ℕ → Result Probe LineFault
 probe_two word name k = elim (number_before (codes "rom") name k) [
   | Some c ↦ or_bad_probe (rom_line_probe c k)
@@ -144,7 +144,7 @@ probe_two word name k = elim (number_before (codes "rom") name k) [
   ]
 ]
 
--- of three parts
+-- the probe of a word of three parts
 abbrev pub probe_three : List ℕ → List ℕ → List ℕ → List ℕ → Result Probe LineFault
 probe_three word name c k = elim (number_before (codes "ram") name k) [
   | Some b ↦ if is_number c then or_bad_probe (ram_line_probe b c k) else probe_of_poke word
@@ -156,7 +156,7 @@ probe_parts word (name ∷ k ∷ []) = probe_two word name k
 probe_parts word (name ∷ c ∷ k ∷ []) = probe_three word name c k
 probe_parts word parts = probe_whole word
 
--- what is looked at by a word
+-- the probe that a word names
 abbrev pub probe_of : List ℕ → Result Probe LineFault
 probe_of word = probe_parts word (parts_of_word word)
 
@@ -166,7 +166,7 @@ abbrev pub is_bad_number : LineFault → Bool
 is_bad_number BadNumber = true
 is_bad_number fault = false
 
--- of two words that are refused: a bad number gives way to the other
+-- the refusal of two words that are refused: a bad number gives way to the other
 abbrev pub first_fault : LineFault → LineFault → LineFault
 first_fault fault other = if is_bad_number fault then other else fault
 
@@ -177,8 +177,8 @@ with_probe (Ok p) (Err fault) = Err fault
 with_probe (Err fault) (Ok ps) = Err fault
 with_probe (Err fault) (Err other) = Err (first_fault fault other)
 
--- The places that words name, at most so many. Words that name none, or are too many, are refused
--- before bad numbers.
+-- The places that words name, at most `room` places. Words that name none, or are too many, are
+-- refused before bad numbers.
 abbrev pub probes_within : ℕ → List (List ℕ) → Result (List Probe) LineFault
 probes_within room [] = Ok []
 probes_within zero (word ∷ words) = Err NotACommand

@@ -1,4 +1,4 @@
--- What a line asks for: the table of lines. (Our own choice.)
+-- The request of a line: the table of lines. (Our own choice.)
 use Rattle.std.specs.Prelude.{◌==◌, ◌&&◌, Bool, ℕ, List, [], ◌∷◌, codes, nat_lt, is_some, if◌then◌else◌, Option, Some, None}
 use Rattle.std.specs.Str.{bytes_eq}
 use Rattle.mcs_model.specs.WordTables.{beside}
@@ -10,18 +10,18 @@ use Rattle.mcs_model.specs.declared.limits.TheConstants.{LISTING_LINES, RUN_CYCL
 use Rattle.mcs_model.specs.declared.query.Query.TheVariants as query
 use Rattle.mcs_lines.specs.declared.requests.Request.{Request}
 use Rattle.mcs_lines.specs.declared.requests.Request.TheVariants.{Refused, Ask, Listing, Board, Count, Change, Begin}
-use Rattle.mcs_lines.specs.declared.requests.TextKind.TheVariants.{Wire, Asm, Map}
+use Rattle.mcs_lines.specs.declared.requests.TextKind.TheVariants.{Wire, Asm, Map, Wiring, Errors}
 use Rattle.mcs_lines.specs.declared.requests.LineFault.TheVariants.{NotACommand, BadNumber}
 use Rattle.mcs_lines.specs.Words.{parts_of_word}
 
--- what stands beside a word in one of the tables below
+-- the value beside a word in one of the tables below
 abbrev pub asked : {A : Type 0} → List ℕ → List (List ℕ × A) → Option A
 asked word table = beside (bytes_eq word) table
 
 abbrev pub is_number : List ℕ → Bool
 is_number word = is_some (number_written word)
 
--- the request of a word's number; 11 where the word is not a number, or its number is above `most`
+-- the request of a word's number; 11 if the word is not a number, or its number is above `most`
 abbrev pub with_number : ℕ → List ℕ → (ℕ → Request) → Request
 with_number most word ask =
     elim (number_up_to most word) [ None ↦ Refused BadNumber | Some n ↦ ask n ]
@@ -58,7 +58,7 @@ poke_numbered [] value = Refused NotACommand
 poke_numbered (b ∷ k) value =
     if (b == 114) && is_number k then poke_register k value else Refused NotACommand
 
--- what `poke` asks for of the value that is put into a place with a name of its own
+-- the requests of `poke` for the value that is put into a place with a name of its own
 abbrev pub poke_names : List (List ℕ × (List ℕ → Request))
 poke_names =
     (codes "acc", λ value. poke_value 15 value (λ n. Acc n))
@@ -72,7 +72,8 @@ abbrev pub poke_named : List ℕ → List ℕ → Request
 poke_named name value =
     elim (asked name poke_names) [ None ↦ poke_numbered name value | Some poke ↦ poke value ]
 
--- by the number of parts between dots: the form of the place (10) is judged before any range (11)
+-- the request of `poke` by the number of parts between dots: the form of the place (10) is judged
+-- before any range (11)
 abbrev pub poke_parts : List (List ℕ) → List ℕ → Request
 poke_parts (name ∷ []) value = poke_named name value
 poke_parts (name ∷ a ∷ []) value =
@@ -90,7 +91,7 @@ poke_of place value = poke_parts (parts_of_word place) value
 
 -- ---- lines
 
--- what a line of one word asks for
+-- the request of a line of one word
 abbrev pub alone : List (List ℕ × Request)
 alone =
     (codes "step", Change Step)
@@ -105,10 +106,12 @@ alone =
     ∷ (codes "wire", Begin Wire)
     ∷ (codes "asm", Begin Asm)
     ∷ (codes "map", Begin Map)
+    ∷ (codes "wiring", Begin Wiring)
+    ∷ (codes "errors", Begin Errors)
     ∷ []
 
--- the cycles of `count` and `trace`, 1 to RUN_CYCLES; `run` takes any number of 32 bits here, of
--- which the bench refuses what is out of range (44)
+-- The cycles of `count` and `trace`, 1 to RUN_CYCLES. `run` takes any number of 32 bits here. The
+-- bench refuses a number of these that is out of range (44).
 abbrev pub cycles_asked : List ℕ → Option ℕ
 cycles_asked word = elim (number_up_to RUN_CYCLES word) [
   | None ↦ None
@@ -119,7 +122,7 @@ cycles_asked word = elim (number_up_to RUN_CYCLES word) [
 abbrev pub count_request : List ℕ → Request
 count_request n = elim (cycles_asked n) [ None ↦ Refused BadNumber | Some n ↦ Count n ]
 
--- what a word asks for of the one after it
+-- the request of a word and the one after it
 abbrev pub with_one : List (List ℕ × (List ℕ → Request))
 with_one =
     (codes "run", λ a. with_number 4294967295 a (λ n. Change (Run n)))
@@ -138,7 +141,7 @@ listing at lines = if nat_lt 0 lines then Listing at lines else Refused BadNumbe
 abbrev pub with_numbers : ℕ → List ℕ → ℕ → List ℕ → (ℕ → ℕ → Request) → Request
 with_numbers most a most' b ask = with_number most a (λ n. with_number most' b (λ m. ask n m))
 
--- what a word asks for of the two after it (which rows and columns there are, the bench says: 41)
+-- the request of a word and the two after it (the bench says which rows and columns there are: 41)
 abbrev pub with_two : List (List ℕ × (List ℕ → List ℕ → Request))
 with_two =
     (codes "poke", poke_of)
@@ -149,7 +152,7 @@ with_two =
     ∷ (codes "list", λ a b. with_numbers 4095 a LISTING_LINES b listing)
     ∷ []
 
--- a word and those after it, by their number; but for `trace`
+-- the request of a word and the words after it, by their number, except for `trace`
 abbrev pub request_of_word : List ℕ → List (List ℕ) → Request
 request_of_word word [] = elim (asked word alone) [ None ↦ Refused NotACommand | Some r ↦ r ]
 request_of_word word (a ∷ []) =

@@ -9,6 +9,6 @@ is_plain_byte b = (b == 9) || (nat_lt 31 b && nat_lt b 127)
 abbrev pub is_dot : ℕ → Bool
 is_dot b = b == 46
 
--- the parts of a word: what stands before, between and after its dots
+-- the parts of a word: the bytes before, between and after its dots
 unfoldable pub parts_of_word : List ℕ → List (List ℕ)
 parts_of_word word = slice_split is_dot word

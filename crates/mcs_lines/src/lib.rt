@@ -1,4 +1,4 @@
-//! What a command line asks for.
+//! The request of a command line.
 #![tactic(auto)]
 
 pub mod numbers;

@@ -1,4 +1,4 @@
-//! What `poke` with a place and a value asks for.
+//! The request of `poke` with a place and a value.
 ghost use Rattle.std.specs.Prelude.{◌≡◌, ◌∷◌, [], Some};
 ghost use Rattle.mcs_model.specs.declared.command.Command.TheVariants.{Poke};
 ghost use Rattle.mcs_lines.specs.declared.requests.Request.TheVariants.{Change};
@@ -10,45 +10,46 @@ use crate::requests::{LineFault, Request, or_bad_number};
 use crate::words::{equals, next_part};
 use mcs_model::command::{Command, Place};
 
-/// Puts a value into a place.
+/// Returns the request to put a value into a place.
 fn poke(place: Place) -> Option<Request>
     ensures { result ≡ Some (Change (Poke place)) }
 {
     Some(Request::Change(Command::Poke(place)))
 }
 
-/// What `poke rK` with a value asks for; none where one of them is no number, or out of its range.
+/// Returns the request of `poke rK` with a value; `None` if one of them is no number, or out of
+/// its range.
 fn read_register(k: &[u8], value: &[u8]) -> Option<Request>
     ensures { or_bad_number result ≡ poke_register k.now value.now }
 {
     poke(Place::Register(register(k)?, nibble(value)?))
 }
 
-/// What `poke rom.A` with a value asks for; none where one of them is no number, or out of its
-/// range.
+/// Returns the request of `poke rom.A` with a value; `None` if one of them is no number, or out of
+/// its range.
 fn read_rom(a: &[u8], value: &[u8]) -> Option<Request>
     ensures { or_bad_number result ≡ poke_rom a.now value.now }
 {
     poke(Place::Rom(address(a)?, byte(value)?))
 }
 
-/// What `poke ram.B.S` with a value asks for; none where one of them is no number, or out of its
-/// range.
+/// Returns the request of `poke ram.B.S` with a value; `None` if one of them is no number, or out
+/// of its range.
 fn read_ram(b: &[u8], s: &[u8], value: &[u8]) -> Option<Request>
     ensures { or_bad_number result ≡ poke_ram b.now s.now value.now }
 {
     poke(Place::Ram(bank(b)?, byte(s)?, nibble(value)?))
 }
 
-/// What `poke st.B.H.K` with a value asks for; none where one of them is no number, or out of its
-/// range.
+/// Returns the request of `poke st.B.H.K` with a value; `None` if one of them is no number, or out
+/// of its range.
 fn read_status(b: &[u8], h: &[u8], k: &[u8], value: &[u8]) -> Option<Request>
     ensures { or_bad_number result ≡ poke_status b.now h.now k.now value.now }
 {
     poke(Place::Status(bank(b)?, nibble(h)?, status(k)?, nibble(value)?))
 }
 
-/// What `poke` asks for with a place of one part that has no name of its own.
+/// Returns the request of `poke` with a place of one part that has no name of its own.
 fn read_numbered(name: &[u8], value: &[u8]) -> Request
     ensures { result ≡ poke_numbered name.now value.now }
 {
@@ -58,8 +59,8 @@ fn read_numbered(name: &[u8], value: &[u8]) -> Request
     }
 }
 
-/// What `poke` with a place of one part asks for; none where its value is no number, or out of its
-/// range.
+/// Returns the request of `poke` with a place of one part; `None` if its value is no number, or
+/// out of its range.
 fn read_named(name: &[u8], value: &[u8]) -> Option<Request>
     ensures { or_bad_number result ≡ poke_named name.now value.now }
 {
@@ -76,7 +77,7 @@ fn read_named(name: &[u8], value: &[u8]) -> Option<Request>
     }
 }
 
-/// What `poke` with a place of two parts asks for.
+/// Returns the request of `poke` with a place of two parts.
 fn read_two_parts(name: &[u8], a: &[u8], value: &[u8]) -> Request
     ensures { result ≡ poke_parts (name.now ∷ a.now ∷ []) value.now }
 {
@@ -87,7 +88,7 @@ fn read_two_parts(name: &[u8], a: &[u8], value: &[u8]) -> Request
     }
 }
 
-/// What `poke` with a place of three parts asks for.
+/// Returns the request of `poke` with a place of three parts.
 fn read_three_parts(name: &[u8], b: &[u8], s: &[u8], value: &[u8]) -> Request
     ensures { result ≡ poke_parts (name.now ∷ b.now ∷ s.now ∷ []) value.now }
 {
@@ -98,7 +99,7 @@ fn read_three_parts(name: &[u8], b: &[u8], s: &[u8], value: &[u8]) -> Request
     }
 }
 
-/// What `poke` with a place of four parts asks for.
+/// Returns the request of `poke` with a place of four parts.
 fn read_four_parts(name: &[u8], b: &[u8], h: &[u8], k: &[u8], value: &[u8]) -> Request
     ensures { result ≡ poke_parts (name.now ∷ b.now ∷ h.now ∷ k.now ∷ []) value.now }
 {
@@ -109,7 +110,7 @@ fn read_four_parts(name: &[u8], b: &[u8], h: &[u8], k: &[u8], value: &[u8]) -> R
     }
 }
 
-/// What `poke` with a place and a value asks for.
+/// Returns the request of `poke` with a place and a value.
 pub fn read_poke(place: &[u8], value: &[u8]) -> Request
     ensures { result ≡ poke_of place.now value.now }
 {

@@ -8,12 +8,12 @@ use crate::places::read_poke;
 use crate::requests::{LineFault, Request};
 use crate::words::{equals, next_part, next_word};
 use arrayvec::ArrayVec;
-use mcs_ahead::{PROBES, Probe};
 use mcs_model::board::Line;
 use mcs_model::command::{Command, Place};
 use mcs_model::numeral::number_within;
+use mcs_probe::{PROBES, Probe};
 
-/// The place alone.
+/// Returns the probe of a place, without the value of the place.
 fn probe_at(place: Place) -> Probe
     ensures { result ≡ probe_at place }
 {
@@ -29,7 +29,7 @@ fn probe_at(place: Place) -> Probe
     }
 }
 
-/// The place that a `poke` fills.
+/// Returns the place that a `poke` fills.
 fn probe_of_command(command: &Command) -> Result<Probe, LineFault>
     ensures { result ≡ probe_of_command command.now }
 {
@@ -39,7 +39,7 @@ fn probe_of_command(command: &Command) -> Result<Probe, LineFault>
     }
 }
 
-/// A place of `poke`, as `poke` with the value 0 names it.
+/// Reads a place of `poke`, as `poke` with the value 0 names it.
 fn read_place(word: &[u8]) -> Result<Probe, LineFault>
     ensures { result ≡ probe_of_poke word.now }
 {
@@ -50,7 +50,7 @@ fn read_place(word: &[u8]) -> Result<Probe, LineFault>
     }
 }
 
-/// What was read, or the refusal of a number.
+/// Returns the probe that was read, or the refusal of a number.
 fn or_bad_number(probe: Option<Probe>) -> Result<Probe, LineFault>
     ensures { result ≡ or_bad_probe probe }
 {
@@ -60,14 +60,14 @@ fn or_bad_number(probe: Option<Probe>) -> Result<Probe, LineFault>
     }
 }
 
-/// A line of a ROM.
+/// Reads a line of a ROM.
 fn rom_line_probe(c: &[u8], k: &[u8]) -> Option<Probe>
     ensures { result ≡ rom_line_probe c.now k.now }
 {
     Some(Probe::Level(Line::Rom(nibble(c)?.get(), status(k)?.get())))
 }
 
-/// A line of a RAM chip.
+/// Reads a line of a RAM chip.
 fn ram_line_probe(b: &[u8], c: &[u8], k: &[u8]) -> Option<Probe>
     ensures { result ≡ ram_line_probe b.now c.now k.now }
 {
@@ -75,7 +75,7 @@ fn ram_line_probe(b: &[u8], c: &[u8], k: &[u8]) -> Option<Probe>
     Some(Probe::Level(Line::Ram(bank, status(c)?.get(), status(k)?.get())))
 }
 
-/// A bit of a chain.
+/// Reads a bit of a chain.
 fn chain_line_probe(n: &[u8], i: &[u8]) -> Option<Probe>
     ensures { result ≡ chain_line_probe n.now i.now }
 {
@@ -83,28 +83,28 @@ fn chain_line_probe(n: &[u8], i: &[u8]) -> Option<Probe>
     Some(Probe::Level(Line::Chain(n, number_within(i, 79)? as u8)))
 }
 
-/// The port of a ROM.
+/// Reads the port of a ROM.
 fn rom_port_probe(c: &[u8]) -> Option<Probe>
     ensures { result ≡ rom_port_probe c.now }
 {
     Some(Probe::RomPort(nibble(c)?.get()))
 }
 
-/// The port of a RAM chip.
+/// Reads the port of a RAM chip.
 fn ram_port_probe(b: &[u8], c: &[u8]) -> Option<Probe>
     ensures { result ≡ ram_port_probe b.now c.now }
 {
     Some(Probe::RamPort(bank(b)?.get(), status(c)?.get()))
 }
 
-/// The bits of a chain.
+/// Reads the bits of a chain.
 fn chain_probe(n: &[u8]) -> Option<Probe>
     ensures { result ≡ chain_probe n.now }
 {
     Some(Probe::Chain(status(n)?.get()))
 }
 
-/// What follows the beginning of a word, if the word begins so.
+/// Returns the bytes after the beginning of a word, if the word begins so.
 fn after_word<'a>(start: &[u8], name: &'a [u8]) -> Option<&'a [u8]>
     ensures { MatchOption result (after_word start.now name.now ≡ None)
         (λ rest. after_word start.now name.now ≡ Some rest.now) }
@@ -122,7 +122,7 @@ fn after_word<'a>(start: &[u8], name: &'a [u8]) -> Option<&'a [u8]>
     }
 }
 
-/// The number that follows a beginning.
+/// Returns the number after a beginning.
 fn number_after<'a>(start: &[u8], name: &'a [u8]) -> Option<&'a [u8]>
     ensures { MatchOption result (number_after start.now name.now ≡ None)
         (λ n. number_after start.now name.now ≡ Some n.now) }
@@ -131,7 +131,7 @@ fn number_after<'a>(start: &[u8], name: &'a [u8]) -> Option<&'a [u8]>
     if is_number(n) { Some(n) } else { None }
 }
 
-/// The same, where the part after the next dot is a number too.
+/// Returns that number, if the part after the next dot is a number too.
 fn number_before<'a>(start: &[u8], name: &'a [u8], k: &[u8]) -> Option<&'a [u8]>
     ensures { MatchOption result (number_before start.now name.now k.now ≡ None)
         (λ n. number_before start.now name.now k.now ≡ Some n.now) }
@@ -143,7 +143,7 @@ fn number_before<'a>(start: &[u8], name: &'a [u8], k: &[u8]) -> Option<&'a [u8]>
     }
 }
 
-/// A whole port or chain of the board, or a place of `poke`.
+/// Reads a whole port or chain of the board, or a place of `poke`.
 fn read_named(word: &[u8]) -> Result<Probe, LineFault>
     ensures { result ≡ probe_named word.now }
 {
@@ -156,7 +156,7 @@ fn read_named(word: &[u8]) -> Result<Probe, LineFault>
     read_place(word)
 }
 
-/// A place whose word has one part, or more than three.
+/// Reads a place whose word has one part, or more than three.
 fn read_whole(word: &[u8]) -> Result<Probe, LineFault>
     ensures { result ≡ probe_whole word.now }
 {
@@ -171,7 +171,7 @@ fn read_whole(word: &[u8]) -> Result<Probe, LineFault>
     }
 }
 
-/// The port of a RAM chip, or a place of `poke` whose word has two parts.
+/// Reads the port of a RAM chip, or a place of `poke` whose word has two parts.
 fn read_in_bank(word: &[u8], name: &[u8], c: &[u8]) -> Result<Probe, LineFault>
     ensures { result ≡ probe_in_bank word.now name.now c.now }
 {
@@ -181,7 +181,7 @@ fn read_in_bank(word: &[u8], name: &[u8], c: &[u8]) -> Result<Probe, LineFault>
     read_place(word)
 }
 
-/// A place whose word has two parts.
+/// Reads a place whose word has two parts.
 fn read_two(word: &[u8], name: &[u8], k: &[u8]) -> Result<Probe, LineFault>
     ensures { result ≡ probe_two word.now name.now k.now }
 {
@@ -194,7 +194,7 @@ fn read_two(word: &[u8], name: &[u8], k: &[u8]) -> Result<Probe, LineFault>
     read_in_bank(word, name, k)
 }
 
-/// A place whose word has three parts.
+/// Reads a place whose word has three parts.
 fn read_three(word: &[u8], name: &[u8], c: &[u8], k: &[u8]) -> Result<Probe, LineFault>
     ensures { result ≡ probe_three word.now name.now c.now k.now }
 {
@@ -206,7 +206,7 @@ fn read_three(word: &[u8], name: &[u8], c: &[u8], k: &[u8]) -> Result<Probe, Lin
     read_place(word)
 }
 
-/// The place that a word names.
+/// Reads the place that a word names.
 fn read_probe(word: &[u8]) -> Result<Probe, LineFault>
     ensures { result ≡ probe_of word.now }
 {
@@ -225,7 +225,7 @@ fn read_probe(word: &[u8]) -> Result<Probe, LineFault>
     }
 }
 
-/// Whether a refusal gives way to others.
+/// Returns true if a refusal gives way to others.
 fn is_bad_number(fault: LineFault) -> bool
     ensures { result ≡ is_bad_number fault }
 {
@@ -235,8 +235,8 @@ fn is_bad_number(fault: LineFault) -> bool
     }
 }
 
-/// The places that the words of a line name, at most [`PROBES`]. Words that name none, or are too many, are refused before bad
-/// numbers.
+/// Reads the places that the words of a line name, at most [`PROBES`]. Words that name none, or
+/// are too many, are refused before bad numbers.
 pub(crate) fn read_probes(line: &[u8]) -> Result<ArrayVec<Probe, PROBES>, LineFault>
     ensures { MatchResult result
         (λ probes. probes_within PROBES (words_of line.now) ≡ Ok probes.items)

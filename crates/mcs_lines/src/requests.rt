@@ -1,4 +1,4 @@
-//! What a command line asks for.
+//! The request of a command line.
 ghost use Rattle.std.specs.Prelude.{[], ◌∷◌, ◌≡◌};
 ghost use Rattle.std.specs.List.{list_all};
 ghost use Rattle.mcs_lines.specs.RefusalNumbers.{line_fault_number};
@@ -13,16 +13,16 @@ use crate::places::read_poke;
 use crate::probes::read_probes;
 use crate::words::{equals, is_plain_byte, next_word};
 use arrayvec::ArrayVec;
-use mcs_ahead::{PROBES, Probe};
 use mcs_model::command::Command;
 use mcs_model::limits::{LINE_BYTES, LISTING_LINES, RUN_CYCLES};
 use mcs_model::numeral::number_within;
 use mcs_model::query::Query;
 use mcs_model::refusal_numbers;
 use mcs_nibble::Addr;
+use mcs_probe::{PROBES, Probe};
 use thiserror::Error;
 
-/// Why a line is refused.
+/// The reason why a line is refused.
 #[derive(Clone, Copy, Debug, Error)]
 pub enum LineFault {
     /// Its words are no command.
@@ -40,7 +40,7 @@ pub enum LineFault {
 }
 
 impl LineFault {
-    /// The number that the refusal is reported as.
+    /// Returns the number of the refusal.
     pub fn number(self) -> u8
         ensures { result ≡ line_fault_number self }
     {
@@ -53,34 +53,39 @@ impl LineFault {
     }
 }
 
-/// What a text describes.
+/// The kind of a text, by what the text describes.
 #[derive(Clone, Copy, Debug)]
 pub enum TextKind {
     /// A board.
     Wire,
     /// A program, whose bytes are loaded.
     Asm,
-    /// A program, whose lines and names are told.
+    /// A program, whose lines and names are reported.
     Map,
+    /// A board, whose first error is reported with its line.
+    Wiring,
+    /// A program, whose errors are reported.
+    Errors,
 }
 
-/// What a command line asks for.
+/// The request of a command line.
 #[derive(Debug, Drop)]
 pub enum Request {
     /// Nothing: the line has no word.
     Nothing,
     /// Nothing: the line is refused.
     Refused(LineFault),
-    /// What a query tells of the state of the bench. Asking changes nothing.
+    /// A query of the state of the bench. Asking changes nothing.
     Ask(Query),
     /// A listing of the ROM: from an address on, of 1 to [`LISTING_LINES`] lines.
     Listing(Addr, u16),
     /// The wiring of the board.
     Board,
-    /// How often an instruction would be begun at each address in a run of 1 to [`RUN_CYCLES`] cycles. Asking changes nothing.
+    /// The count of instructions that a run of 1 to [`RUN_CYCLES`] cycles would begin at each
+    /// address. Asking changes nothing.
     Count(u32),
-    /// What a run of 1 to [`RUN_CYCLES`] cycles would change at places, of each instruction where there are none. Asking changes
-    /// nothing.
+    /// The changes at places that a run of 1 to [`RUN_CYCLES`] cycles would make, or those of each
+    /// instruction if there are no places. Asking changes nothing.
     Trace(u32, ArrayVec<Probe, PROBES>),
     /// A command on the bench.
     Change(Command),
@@ -88,7 +93,7 @@ pub enum Request {
     Begin(TextKind),
 }
 
-/// What a line of one word asks for.
+/// Returns the request of a line of one word.
 fn read_alone(word: &[u8]) -> Request
     ensures { result ≡ request_of_word word.now [] }
 {
@@ -116,12 +121,16 @@ fn read_alone(word: &[u8]) -> Request
         Request::Begin(TextKind::Asm)
     } else if equals(word, b"map") {
         Request::Begin(TextKind::Map)
+    } else if equals(word, b"wiring") {
+        Request::Begin(TextKind::Wiring)
+    } else if equals(word, b"errors") {
+        Request::Begin(TextKind::Errors)
     } else {
         Request::Refused(LineFault::NotACommand)
     }
 }
 
-/// What was read, or the refusal of a number.
+/// Returns the request that was read, or the refusal of a number.
 pub(crate) fn or_bad_number(request: Option<Request>) -> Request
     ensures { result ≡ or_bad_number request }
 {
@@ -131,7 +140,7 @@ pub(crate) fn or_bad_number(request: Option<Request>) -> Request
     }
 }
 
-/// A number of cycles, 1 to [`RUN_CYCLES`].
+/// Reads a number of cycles, 1 to [`RUN_CYCLES`].
 fn cycles(word: &[u8]) -> Option<u32>
     ensures { result ≡ cycles_asked word.now }
 {
@@ -139,7 +148,7 @@ fn cycles(word: &[u8]) -> Option<u32>
     if n == 0 { None } else { Some(n) }
 }
 
-/// What `trace` with the words after it asks for.
+/// Returns the request of `trace` with the words after it.
 fn read_trace(line: &[u8]) -> Request
     ensures { result ≡ trace_request (words_of line.now) }
 {
@@ -155,7 +164,7 @@ fn read_trace(line: &[u8]) -> Request
     }
 }
 
-/// What a line of two words asks for; none where its number is none, or out of its range.
+/// Returns the request of a line of two words; `None` if its number is none, or out of its range.
 fn read_with_one(word: &[u8], a: &[u8]) -> Option<Request>
     ensures { or_bad_number result ≡ request_of_word word.now (a.now ∷ []) }
 {
@@ -177,8 +186,8 @@ fn read_with_one(word: &[u8], a: &[u8]) -> Option<Request>
     Some(request)
 }
 
-/// What `list` with an address and a number of lines asks for; none where one is no number, or out
-/// of its range.
+/// Returns the request of `list` with an address and a number of lines; `None` if one is no
+/// number, or out of its range.
 fn read_list(a: &[u8], n: &[u8]) -> Option<Request>
     ensures { or_bad_number result ≡ with_numbers 4095 a.now LISTING_LINES n.now listing }
 {
@@ -190,7 +199,7 @@ fn read_list(a: &[u8], n: &[u8]) -> Option<Request>
     Some(Request::Listing(at, lines as u16))
 }
 
-/// What a line of three words asks for; none where a number is none, or out of its range.
+/// Returns the request of a line of three words; `None` if a number is none, or out of its range.
 fn read_with_two(word: &[u8], a: &[u8], b: &[u8]) -> Option<Request>
     ensures { or_bad_number result ≡ request_of_word word.now (a.now ∷ b.now ∷ []) }
 {
@@ -212,7 +221,7 @@ fn read_with_two(word: &[u8], a: &[u8], b: &[u8]) -> Option<Request>
     Some(request)
 }
 
-/// What a word and those after it ask for, but `trace`.
+/// Returns the request of a word and those after it, except for `trace`.
 fn read_word(word: &[u8], rest: &[u8]) -> Request
     ensures { result ≡ request_of_word word.now (words_of rest.now) }
 {
@@ -228,7 +237,7 @@ fn read_word(word: &[u8], rest: &[u8]) -> Request
     }
 }
 
-/// What the words of a line ask for.
+/// Returns the request of the words of a line.
 fn read_words(line: &[u8]) -> Request
     ensures { result ≡ request_of_words (words_of line.now) }
 {
@@ -242,14 +251,14 @@ fn read_words(line: &[u8]) -> Request
     }
 }
 
-/// Whether a line has no byte that a line may not have.
+/// Returns true if a line has no byte that a line may not have.
 fn is_plain(line: &[u8]) -> bool
     ensures { result ≡ list_all is_plain_byte line.now }
 {
     line.iter().all(|b| is_plain_byte(*b))
 }
 
-/// What a line asks for. It is to come without its end.
+/// Returns the request of a line, which is given without its end.
 #[tactic(auto, unfolding(crate::specs::LineRequests::request_of))]
 pub fn read_request(line: &[u8]) -> Request
     ensures { result ≡ request_of line.now }

@@ -1,4 +1,4 @@
--- The flat state of a bench: all that a session keeps, as numbers and lists.
+-- The flat state of a bench: everything that a session keeps, as numbers and lists.
 use Rattle.std.specs.Prelude.{ℕ, List, [], replicate}
 use Rattle.mcs_model.specs.declared.regs.Regs.{Regs}
 use Rattle.mcs_model.specs.Bus.{BusState, zero_bus}
@@ -12,7 +12,7 @@ pub record BenchState : Type 0 where
   pub breakpoints : List ℕ
   -- the watched RAM characters, each by its index (`ram_index`), rising
   pub watches : List ℕ
-  -- how many commands were accepted
+  -- the number of accepted commands
   pub seq : ℕ
 
 -- the registers after power-on: all 0 (4004 data sheet, reset)

@@ -1,4 +1,4 @@
--- What is on a board, and which parts make a board (our own choice, after what the chips have).
+-- The parts of a board, and which parts make a board (our own choice, after what the chips have).
 use Rattle.std.specs.Prelude.{◌≡◌, ℕ, ◌+◌, ◌*◌, ◌≤◌, Bool, false, ◌&&◌, ◌||◌, not, List, [], replicate, Option, Some, None, is_some, slice_index, slice_index_or, length, nat_lt, nat_le, if◌then◌else◌}
 use Rattle.std.specs.List.{list_any}
 use Rattle.mcs_nibble.specs.declared.lines.LineMask.{LineMask}
@@ -12,16 +12,16 @@ use Rattle.mcs_model.specs.declared.board.Line.{Line}
 use Rattle.mcs_model.specs.declared.board.Line.TheVariants.{Rom, Ram, Chain}
 use Rattle.mcs_model.specs.declared.limits.TheConstants.{ROMS, BANKS, BANK_CHIPS, CHAINS, CHAIN_CHIPS, CHAIN_BITS, KEY_COLUMNS, KEY_ROWS, LAMPS}
 
--- what the port lines of a ROM are, if the board has that ROM (input or output by the mask: 4001
--- data sheet)
+-- the masks of the port lines of a ROM, if the board has that ROM (input or output by the mask:
+-- 4001 data sheet)
 abbrev pub masks_on : BoardParts → ℕ → Option (List LineMask)
 masks_on b chip = slice_index_or b.roms chip None
 
--- whether line k, 0 to 3, of a ROM is an input line; false where the board lacks the ROM
+-- true if line k, 0 to 3, of a ROM is an input line; false if the board lacks the ROM
 abbrev pub input_on : BoardParts → ℕ → ℕ → Bool
 input_on b chip k = elim (masks_on b chip) [ Some mask ↦ is_input (mask_at mask k) | None ↦ false ]
 
--- what `chain_part` gives past the last chain: without bits; its two lines mean nothing
+-- the value of `chain_part` past the last chain: without bits; its two lines mean nothing
 abbrev pub no_chain : ChainPart
 no_chain = record { clock = Rom 0 0; data_in = Rom 0 0; chips = 0 }
 
@@ -32,8 +32,8 @@ chain_part b i = slice_index_or b.chains.items i no_chain
 abbrev pub chain_count : BoardParts → ℕ
 chain_count b = length b.chains.items
 
--- how many bits chain i has: ten for each of its chips (4003 data sheet; that the chips are one row
--- is our own choice)
+-- the number of bits in chain i: ten for each of its chips (4003 data sheet; that the chips are one
+-- row is our own choice)
 abbrev pub chain_bits : BoardParts → ℕ → ℕ
 chain_bits b i = 10 * (chain_part b i).chips
 
@@ -47,32 +47,33 @@ empty_parts = record {
   lamps = record { items = [] };
 }
 
--- whether the numbers of a line are in their ranges
+-- true if the numbers of a line are in their ranges
 abbrev pub in_range : Line → Bool
 in_range (Rom chip k) = nat_lt chip ROMS && nat_lt k 4
 in_range (Ram bank chip k) = nat_lt bank BANKS && nat_lt chip BANK_CHIPS && nat_lt k 4
 in_range (Chain n i) = nat_lt n CHAINS && nat_lt i CHAIN_BITS
 
--- whether the board has a line: line k, 0 to 3, of a ROM or RAM chip that it has, or bit i of a
+-- true if the board has a line: line k, 0 to 3, of a ROM or RAM chip that it has, or bit i of a
 -- chain that has more than i bits
 abbrev pub exists_on : BoardParts → Line → Bool
 exists_on b (Rom chip k) = is_some (masks_on b chip) && nat_lt k 4
 exists_on b (Ram bank chip k) = nat_lt chip (slice_index b.banks bank) && nat_lt k 4
 exists_on b (Chain n i) = nat_lt i (chain_bits b n)
 
--- whether a line of the board is an input line: one of a ROM, by its mask
+-- true if a line of the board is an input line: one of a ROM, by its mask
 abbrev pub is_input_line : BoardParts → Line → Bool
 is_input_line b (Rom chip k) = exists_on b (Rom chip k) && input_on b chip k
 is_input_line b (Ram bank chip k) = false
 is_input_line b (Chain n i) = false
 
--- whether a line of the board is an output line: one of a ROM, by its mask, or of a RAM chip
+-- true if a line of the board is an output line: one of a ROM, by its mask, or of a RAM chip
 abbrev pub is_output_line : BoardParts → Line → Bool
 is_output_line b (Rom chip k) = exists_on b (Rom chip k) && not (input_on b chip k)
 is_output_line b (Ram bank chip k) = exists_on b (Ram bank chip k)
 is_output_line b (Chain n i) = false
 
--- whether p holds of the clock or the data line of some chain, of some column, of some lamp
+-- true if p holds of the clock or the data line of some chain; the next two definitions: of some
+-- column, of some lamp
 abbrev pub any_chain_line : (Line → Bool) → BoardParts → Bool
 any_chain_line p b = list_any (λ (c : ChainPart). p c.clock || p c.data_in) b.chains.items
 
@@ -82,15 +83,15 @@ any_column p b = elim b.keys [ Some m ↦ list_any p m.columns.items | None ↦ 
 abbrev pub any_lamp : (Line → Bool) → BoardParts → Bool
 any_lamp p b = list_any p b.lamps.items
 
--- whether p holds of some line that the parts name
+-- true if p holds of some line that the parts name
 abbrev pub any_line : (Line → Bool) → BoardParts → Bool
 any_line p b = any_chain_line p b || any_column p b || any_lamp p b
 
--- whether a chain has 1 to 8 chips
+-- true if a chain has 1 to 8 chips
 abbrev pub is_chain_size : ChainPart → Bool
 is_chain_size c = nat_lt 0 c.chips && nat_le c.chips CHAIN_CHIPS
 
--- whether the numbers of a key matrix are in their ranges: chain 0 to 3, first bit 0 to 79, 1 to 10
+-- true if the numbers of a key matrix are in their ranges: chain 0 to 3, first bit 0 to 79, 1 to 10
 -- rows, at least one column (at most 8 by its type)
 abbrev pub is_matrix_size : KeyMatrix → Bool
 is_matrix_size m =
@@ -100,7 +101,7 @@ is_matrix_size m =
 abbrev pub has_bad_matrix : BoardParts → Bool
 has_bad_matrix b = elim b.keys [ Some m ↦ not (is_matrix_size m) | None ↦ false ]
 
--- a number is out of its range
+-- true if a number is out of its range
 abbrev pub has_bad_value : BoardParts → Bool
 has_bad_value b =
     list_any (λ n. nat_lt BANK_CHIPS n) b.banks
@@ -108,7 +109,7 @@ has_bad_value b =
     || has_bad_matrix b
     || any_line (λ line. not (in_range line)) b
 
--- the chain of a key matrix is not there, or has no bit for some row
+-- true if the chain of a key matrix is absent, or has no bit for some row
 abbrev pub lacks_rows : BoardParts → Bool
 lacks_rows b =
     elim b.keys [
@@ -116,18 +117,19 @@ lacks_rows b =
       | None ↦ false
     ]
 
--- a line is named, or a row wanted, that the board lacks
+-- true if the parts name a line, or need a row, that the board lacks
 abbrev pub lacks_line : BoardParts → Bool
 lacks_line b = any_line (λ line. not (exists_on b line)) b || lacks_rows b
 
--- a clock or data line is no output line, a column no input line, or a lamp is at an input line
+-- true if a clock or data line is not an output line, a column is not an input line, or a lamp is
+-- at an input line
 abbrev pub has_wrong_direction : BoardParts → Bool
 has_wrong_direction b =
     any_chain_line (λ line. not (is_output_line b line)) b
     || any_column (λ line. not (is_input_line b line)) b
     || any_lamp (is_input_line b) b
 
--- the first thing that is wrong with the parts, if any
+-- the first fault of the parts, if any
 abbrev pub board_fault_of : BoardParts → Option BoardFault
 board_fault_of b =
     if has_bad_value b then Some BadValue
@@ -135,7 +137,7 @@ board_fault_of b =
     else if has_wrong_direction b then Some WrongDirection
     else None
 
--- whether the board has the key of a row and a column
+-- true if the board has the key of a row and a column
 abbrev pub has_key : BoardParts → ℕ → ℕ → Bool
 has_key b row column =
     elim b.keys [
@@ -143,7 +145,8 @@ has_key b row column =
       | None ↦ false
     ]
 
--- how many keys it has, and where the key of a row and a column stands among them, row by row
+-- the number of its keys; the next definition: the index of the key of a row and a column among
+-- them, row by row
 abbrev pub key_count : BoardParts → ℕ
 key_count b = elim b.keys [ Some m ↦ m.rows * length m.columns.items | None ↦ 0 ]
 

@@ -1,22 +1,22 @@
--- What the processor reaches outside itself: the board, and what its chips hold.
--- (MCS-4 Users Manual and data sheets, as each definition says. Our own choice: positive logic, so
--- that a level of 1 is the bit 1; a bank is named by its DCL code, 0 to 7; each bank keeps an SRC
--- byte of its own; what is absent holds 0, reads as 0 and loses what is written to it.)
+-- Everything that the processor reaches outside itself: the board, and what its chips hold. (MCS-4
+-- Users Manual and data sheets, as each definition says. Our own choice: positive logic, so that a
+-- level of 1 is the bit 1; the DCL code, 0 to 7, names a bank; each bank keeps its own SRC byte;
+-- absent parts hold 0, read as 0 and lose what is written to them.)
 use Rattle.std.specs.Prelude.{ℕ, ◌+◌, ◌*◌, ◌/◌, List, [], replicate, Bool, slice_index, slice_set, if◌then◌else◌, nat_lt}
 use Rattle.mcs_model.specs.declared.board.BoardParts.{BoardParts}
 use Rattle.mcs_model.specs.Boards.{empty_parts}
 
--- The lengths, and the zeros of what is absent, are told as they are in every valid state
--- (`IsInRange` and `IsAbsentZero` of Validity); reads of what is absent give 0 by them alone.
+-- The comments give the lengths, and the zeros of absent parts, of every valid state (`IsInRange`
+-- and `IsAbsentZero` of Validity). Reads of absent parts give 0 by them alone.
 pub record BusState : Type 0 where
   pub board : BoardParts
   -- the bytes of the ROMs, by address: 4,096, those of absent ROMs 0
   pub rom : List ℕ
-  -- the RAM characters, each where `ram_index` says: 2,048, absent ones 0
+  -- the RAM characters, each at its `ram_index`: 2,048, absent ones 0
   pub ram : List ℕ
-  -- the status characters, each where `status_index` says: 512, absent ones 0
+  -- the status characters, each at its `status_index`: 512, absent ones 0
   pub status : List ℕ
-  -- the port latches of the RAM chips, each where `ram_port_index` says: 32, absent ones 0
+  -- the port latches of the RAM chips, each at its `ram_port_index`: 32, absent ones 0
   pub ram_ports : List ℕ
   -- the port latches of the ROMs: 16, absent ones and the bits of input lines 0
   pub rom_ports : List ℕ
@@ -26,7 +26,7 @@ pub record BusState : Type 0 where
   pub ram_src : List ℕ
   -- the bits of each chain, bit 0 first
   pub chains : List (List ℕ)
-  -- the keys, row by row: 1 where one is down
+  -- the keys, row by row: 1 for a key that is down
   pub keys : List ℕ
   -- the level of the TEST pin, set by a command (our own choice: 1 in a new session)
   pub test : ℕ
@@ -51,7 +51,7 @@ zero_bus = record {
 unfoldable pub fetch_of : BusState → ℕ → ℕ
 fetch_of s at = slice_index s.rom at
 
--- how many chips a bank has; a bank is named by its DCL code (our own choice)
+-- the number of chips in a bank; its DCL code names a bank (our own choice)
 abbrev pub chips_of : BusState → ℕ → ℕ
 chips_of s bank = slice_index s.board.banks bank
 
@@ -60,7 +60,7 @@ chips_of s bank = slice_index s.board.banks bank
 abbrev pub src_of : BusState → ℕ → ℕ
 src_of s bank = slice_index s.ram_src bank
 
--- whether a bank has the chip that an SRC byte selects
+-- true if a bank has the chip that an SRC byte selects
 abbrev pub has_chip : BusState → ℕ → ℕ → Bool
 has_chip s bank src = nat_lt (src / 64) (chips_of s bank)
 
@@ -72,7 +72,7 @@ after_src s bank byte =
     then record s { rom_src = byte; ram_src = slice_set s.ram_src bank byte }
     else record s { rom_src = byte }
 
--- where the character of a bank and an SRC byte stands
+-- the index of the character of a bank and an SRC byte
 abbrev pub ram_index : ℕ → ℕ → ℕ
 ram_index bank src = bank * 256 + src
 
@@ -80,8 +80,8 @@ ram_index bank src = bank * 256 + src
 unfoldable pub ram_of : BusState → ℕ → ℕ
 ram_of s bank = slice_index s.ram (ram_index bank (src_of s bank))
 
--- a RAM character is written, by its bank and its SRC byte (4002 data sheet); lost where the chip
--- is absent (our own choice)
+-- a write to a RAM character, by its bank and its SRC byte (4002 data sheet); it is lost if the
+-- chip is absent (our own choice)
 unfoldable pub with_ram : BusState → ℕ → ℕ → ℕ → BusState
 with_ram s bank src n =
     if has_chip s bank src
@@ -92,7 +92,7 @@ with_ram s bank src n =
 unfoldable pub after_ram : BusState → ℕ → ℕ → BusState
 after_ram s bank n = with_ram s bank (src_of s bank) n
 
--- where status character k of the register with SRC upper nibble `high` of a bank stands
+-- the index of status character k of the register with SRC upper nibble `high` of a bank
 abbrev pub status_index : ℕ → ℕ → ℕ → ℕ
 status_index bank high k = bank * 64 + (high * 4 + k)
 
@@ -101,12 +101,12 @@ status_index bank high k = bank * 64 + (high * 4 + k)
 unfoldable pub status_of : BusState → ℕ → ℕ → ℕ
 status_of s bank k = slice_index s.status (status_index bank (src_of s bank / 16) k)
 
--- where the port latch of a RAM chip stands, by its bank and its number
+-- the index of the port latch of a RAM chip, by its bank and its number
 abbrev pub ram_port_index : ℕ → ℕ → ℕ
 ram_port_index bank chip = bank * 4 + chip
 
--- a status character is written, by its bank, the upper nibble of its SRC byte and k (4002 data
--- sheet); lost where the chip is absent (our own choice)
+-- a write to a status character, by its bank, the upper nibble of its SRC byte and k (4002 data
+-- sheet); it is lost if the chip is absent (our own choice)
 unfoldable pub with_status : BusState → ℕ → ℕ → ℕ → ℕ → BusState
 with_status s bank high k n =
     if nat_lt (high / 4) (chips_of s bank)

@@ -1,7 +1,6 @@
--- What a board's chips hold, changed at one place (`with_`..: the last argument put there), by a
--- reset, and by a new board.
--- (Our own choice: that writes to absent chips are lost, that latch bits of input lines stay 0, and
--- what a reset and a new board clear.)
+-- The contents of a board's chips, changed at one location (`with_`..: the last argument is the new
+-- value), by a reset, and by a new board. (Our own choice: that writes to absent chips are lost,
+-- that latch bits of input lines stay 0, and what a reset and a new board clear.)
 use Rattle.std.specs.Prelude.{ℕ, ◌*◌, ◌/◌, List, [], ◌∷◌, Some, None, is_some, map, replicate, slice_index, slice_index_or, slice_set, if◌then◌else◌, nat_lt}
 use Rattle.mcs_nibble.specs.Tables.{table_of}
 use Rattle.mcs_nibble.specs.Ports.{latch_value}
@@ -11,7 +10,7 @@ use Rattle.mcs_model.specs.Boards.{masks_on, key_count, key_index}
 use Rattle.mcs_model.specs.Bus.{BusState, chips_of, ram_port_index, zero_bus}
 use Rattle.mcs_model.specs.Levels.{with_rom_ports_at, with_ram_ports_at}
 
--- the ROM byte at an address; lost where the ROM is absent
+-- the ROM byte at an address; the write is lost if the ROM is absent
 unfoldable pub with_rom_byte : BusState → ℕ → ℕ → BusState
 with_rom_byte s at byte =
     if is_some (masks_on s.board (at / 256))
@@ -23,15 +22,15 @@ abbrev pub with_rom_bytes : BusState → List (ℕ × ℕ) → BusState
 with_rom_bytes s [] = s
 with_rom_bytes s (p ∷ image) = with_rom_bytes (with_rom_byte s p.0 p.1) image
 
--- the port latch of a RAM chip, nothing being clocked; lost where the chip is absent
+-- the port latch of a RAM chip, without clocking; the write is lost if the chip is absent
 unfoldable pub with_ram_latch : BusState → ℕ → ℕ → ℕ → BusState
 with_ram_latch s bank chip n =
     if nat_lt chip (chips_of s bank)
     then with_ram_ports_at s (ram_port_index bank chip) n
     else s
 
--- the port latch of a ROM, nothing being clocked: n on its output lines, 0 on its input lines; lost
--- where the ROM is absent
+-- the port latch of a ROM, without clocking: n on its output lines, 0 on its input lines; the write
+-- is lost if the ROM is absent
 unfoldable pub with_rom_latch : BusState → ℕ → ℕ → BusState
 with_rom_latch s chip n =
     elim (masks_on s.board chip) [
@@ -39,7 +38,7 @@ with_rom_latch s chip n =
       | None ↦ s
     ]
 
--- the SRC byte that a bank keeps; one without chips stays at 0
+-- the SRC byte that a bank keeps; a bank without chips stays at 0
 unfoldable pub with_ram_src : BusState → ℕ → ℕ → BusState
 with_ram_src s bank byte =
     if nat_lt 0 (chips_of s bank)
@@ -51,7 +50,7 @@ abbrev pub with_chain_bit : BusState → ℕ → ℕ → ℕ → BusState
 with_chain_bit s n i bit =
     record s { chains = slice_set s.chains n (slice_set (slice_index_or s.chains n []) i bit) }
 
--- the key of a row and a column: 1 where it is down
+-- the key of a row and a column: 1 if it is down
 abbrev pub with_key : BusState → ℕ → ℕ → ℕ → BusState
 with_key s row column bit = record s { keys = slice_set s.keys (key_index s.board row column) bit }
 
@@ -59,7 +58,7 @@ with_key s row column bit = record s { keys = slice_set s.keys (key_index s.boar
 abbrev pub blank_chains : BoardParts → List (List ℕ)
 blank_chains b = map (λ (c : ChainPart). replicate (10 * c.chips) 0) b.chains.items
 
--- a power cycle: the board, ROM, keys and TEST stay; all else (RAM, port latches, SRC bytes,
+-- a power cycle: the board, ROM, keys and TEST stay; everything else (RAM, port latches, SRC bytes,
 -- chains) becomes 0, and nothing is shifted
 abbrev pub after_reset : BusState → BusState
 after_reset s = record zero_bus {
@@ -75,8 +74,8 @@ unfoldable pub kept_rom : BoardParts → List ℕ → List ℕ
 kept_rom b rom =
     table_of 4096 (λ at. if is_some (masks_on b (at / 256)) then slice_index rom at else 0)
 
--- another board: all keys are up, all that a reset clears is cleared, the bytes of ROMs that it
--- lacks become 0
+-- another board: all keys are up, everything that a reset clears is cleared, and the bytes of ROMs
+-- that it lacks become 0
 abbrev pub after_wire : BusState → BoardParts → BusState
 after_wire s b = record (after_reset (record s { board = b })) {
   rom = kept_rom b s.rom;

@@ -1,5 +1,5 @@
--- Which commands a bench accepts, what they do, and what they answer.
--- (Our own choice throughout: commands are what a user does at the bench.)
+-- The commands that a bench accepts, their effects and their replies. (Our own choice throughout:
+-- commands are what a user does at the bench.)
 use Rattle.std.specs.Prelude.{ℕ, Bool, ◌+◌, ◌/◌, ◌==◌, ◌&&◌, ◌||◌, length, Option, Some, None, is_none, nat_lt, nat_le, slice_set, if◌then◌else◌}
 use Rattle.std.specs.List.{list_any}
 use Rattle.mcs_model.specs.declared.board.BoardParts.{BoardParts}
@@ -22,11 +22,11 @@ use Rattle.mcs_model.specs.Running.{Machine, Stops, run_length, after_run, run_s
 
 -- ---- which commands are accepted
 
--- whether the board lacks the ROM of an address
+-- true if the board lacks the ROM of an address
 abbrev pub lacks_rom : BoardParts → ℕ → Bool
 lacks_rom b at = is_none (masks_on b (at / 256))
 
--- why a value cannot be put into a place, if it cannot
+-- the reason that a value cannot be put into a place, if any
 abbrev pub place_refusal : BusState → Place → Option BenchFault
 place_refusal s (Rom at byte) = if lacks_rom s.board at then Some NoRom else None
 place_refusal s (Ram bank src n) = if has_chip s bank src then None else Some NoSuchPlace
@@ -36,37 +36,37 @@ place_refusal s (Status bank high k n) =
     else Some NoSuchPlace
 place_refusal s _ = None
 
--- why a state refuses a command for the command's own sake, if it does
-abbrev pub own_refusal : BenchState → Command → Option BenchFault
-own_refusal s (Load image) =
+-- the reason that a state rejects a command because of the command itself, if any
+abbrev pub refusal_of_command : BenchState → Command → Option BenchFault
+refusal_of_command s (Load image) =
     if list_any (λ p. lacks_rom s.bus.board p.0) image
     then Some NoRom
     else None
-own_refusal s (Press row column) = if has_key s.bus.board row column then None else Some NoKey
-own_refusal s (Release row column) = if has_key s.bus.board row column then None else Some NoKey
-own_refusal s (Run n) = if nat_le 1 n && nat_le n RUN_CYCLES then None else Some BadCount
-own_refusal s (Poke place) = place_refusal s.bus place
-own_refusal s (Break at) =
+refusal_of_command s (Press row column) = if has_key s.bus.board row column then None else Some NoKey
+refusal_of_command s (Release row column) = if has_key s.bus.board row column then None else Some NoKey
+refusal_of_command s (Run n) = if nat_le 1 n && nat_le n RUN_CYCLES then None else Some BadCount
+refusal_of_command s (Poke place) = place_refusal s.bus place
+refusal_of_command s (Break at) =
     if is_listed s.breakpoints at || nat_lt (length s.breakpoints) BREAKPOINTS
     then None
     else Some BreaksFull
-own_refusal s (Watch bank src) =
+refusal_of_command s (Watch bank src) =
     if is_listed s.watches (ram_index bank src) || nat_lt (length s.watches) WATCHES
     then None
     else Some WatchesFull
-own_refusal s _ = None
+refusal_of_command s _ = None
 
--- why a state refuses a command, if it does: a worn session, which has accepted all commands that
--- it can count, refuses every one
+-- the reason that a state rejects a command, if any: a worn session, which has accepted all
+-- commands that it can count, rejects every one
 abbrev pub refusal : BenchState → Command → Option BenchFault
-refusal s c = if s.seq == ACCEPTED_COMMANDS then Some Worn else own_refusal s c
+refusal s c = if s.seq == ACCEPTED_COMMANDS then Some Worn else refusal_of_command s c
 
--- ---- what they do
+-- ---- the effects
 
 abbrev pub machine_of : BenchState → Machine
 machine_of s = (s.processor, s.bus)
 
--- what stops a run that begins in this state
+-- the stops of a run that begins in this state
 abbrev pub stops_of : BenchState → Stops
 stops_of s = record { breaks = s.breakpoints; watches = s.watches }
 
@@ -91,7 +91,7 @@ with_place s (Rom at byte) = with_bus s (with_rom_byte s.bus at byte)
 with_place s (Ram bank src n) = with_bus s (with_ram s.bus bank src n)
 with_place s (Status bank high k n) = with_bus s (with_status s.bus bank high k n)
 
--- what a command does, except for the count of commands
+-- the effect of a command, except for the count of commands
 abbrev pub after_change : BenchState → Command → BenchState
 after_change s (Wire board) = with_machine s (new_regs, after_wire s.bus board)
 after_change s (Load image) = with_bus s (with_rom_bytes s.bus image)
@@ -108,14 +108,13 @@ after_change s (Watch bank src) = record s { watches = with_listed s.watches (ra
 after_change s (Unwatch bank src) =
     record s { watches = without_listed s.watches (ram_index bank src) }
 
--- the state after an accepted command: each raises the count by one, also where nothing else
--- changes
+-- the state after an accepted command: each raises the count by one, even if nothing else changes
 abbrev pub after : BenchState → Command → BenchState
 after s c = record (after_change s c) { seq = s.seq + 1 }
 
--- ---- what they answer
+-- ---- the replies
 
--- what an accepted command answers
+-- the reply to an accepted command
 abbrev pub reply : BenchState → Command → Reply
 reply s (Load image) = Loaded (length image)
 reply s (Run n) =

@@ -1,4 +1,4 @@
--- Where pieces and words begin and end. It is cited by clauses of private functions alone.
+-- The beginnings and ends of pieces and words. Only clauses of private functions cite it.
 use Rattle.std.specs.Prelude.{◌≡◌, Bool, true, false, ℕ, List, [], ◌∷◌}
 use Rattle.mcs_model.specs.TextLines.{is_blank}
 

@@ -1,8 +1,8 @@
--- The effect of each instruction, and one instruction cycle.
--- (Intel MCS-4 Users Manual, instruction set: each rule is the description of the instruction that
--- it names, in the manual's three groups. Our own choices are: codes outside the table, one list of
--- return addresses, the bank that the DCL code names, an SRC byte for each bank, and that an
--- instruction of two cycles does all its work in the first.)
+-- The effect of each instruction, and one instruction cycle. (Intel MCS-4 Users Manual, instruction
+-- set: each rule is the description of the instruction that it names, in the manual's three groups.
+-- Our own choices are: codes outside the table, one list of return addresses, and the bank that the
+-- DCL code names; also an SRC byte for each bank, and that an instruction of two cycles does all
+-- its work in the first.)
 use Rattle.std.specs.Prelude.{ℕ, ◌+◌, ◌-◌, ◌*◌, ◌/◌, ◌%◌, Bool, ◌&&◌, ◌||◌, not, [], ◌∷◌, Option, Some, None, slice_index, if◌then◌else◌, nat_lt, ◌==◌}
 use Rattle.mcs_model.specs.declared.regs.Regs.{Regs}
 use Rattle.mcs_model.specs.declared.op.Op.{Op}
@@ -26,12 +26,12 @@ with_sum s x = record s { acc = x % 16; cy = x / 16 }
 abbrev pub address_beside : ℕ → ℕ → ℕ
 address_beside address w = word_on_page (page_of address) w
 
--- the counter set to a word on its own page; it already stands after the instruction's words
+-- the counter set to a word on its own page; it is already after the instruction's words
 abbrev pub with_word : Regs → ℕ → Regs
 with_word s w = record s { pc = address_beside s.pc w }
 
--- JCN: whether the jump is taken. Condition bit 2 asks for an accumulator of 0, bit 1 for a carry
--- of 1, bit 0 for a TEST of 0; one that is so is enough, and bit 3 inverts the answer.
+-- JCN: true if the jump is taken. Condition bit 2 asks for an accumulator of 0, bit 1 for a carry
+-- of 1, bit 0 for a TEST of 0. One that is met is enough, and bit 3 inverts the result.
 abbrev pub is_taken : ℕ → Regs → ℕ → Bool
 is_taken condition s test =
     let holds =
@@ -40,23 +40,24 @@ is_taken condition s test =
     || (condition % 2 == 1 && test == 0) in
     if condition / 8 % 2 == 1 then not holds else holds
 
--- JCN: the counter where the jump is taken
+-- JCN: the counter if the jump is taken
 abbrev pub after_jcn : ℕ → ℕ → Regs → ℕ → Regs
 after_jcn condition w s test = if is_taken condition s test then with_word s w else s
 
--- ISZ: register r counted up, and the counter where it is not 0 then
+-- ISZ: register r incremented, and the counter if the register is then not 0
 abbrev pub after_isz : ℕ → ℕ → Regs → Regs
 after_isz r w s =
     let n = (register_of s r + 1) % 16 in
     if n == 0 then with_register s r n else with_word (with_register s r n) w
 
--- JMS: the counter goes in front of the return addresses, and the last of them is lost (one list:
--- our own choice)
+-- JMS: the counter goes to the front of the return addresses, and the last of them is lost (one
+-- list: our own choice)
 abbrev pub after_jms : ℕ → Regs → Regs
 after_jms target s =
     record s { pc = target; ret = s.pc ∷ slice_index s.ret 0 ∷ slice_index s.ret 1 ∷ [] }
 
--- BBL: on at the first return address; the counter goes after the others (our own choice)
+-- BBL: the processor continues at the first return address; the counter goes after the others (our
+-- own choice)
 abbrev pub after_bbl : Regs → Regs
 after_bbl s =
     record s { pc = slice_index s.ret 0; ret = slice_index s.ret 1 ∷ slice_index s.ret 2 ∷ s.pc ∷ [] }
@@ -65,8 +66,8 @@ after_bbl s =
 abbrev pub after_rar : Regs → Regs
 after_rar s = record s { acc = 8 * s.cy + s.acc / 2; cy = s.acc % 2 }
 
--- DAA: 6 is added where the carry is 1 or the accumulator is above 9; the carry becomes 1 where
--- that passes 15, and is never cleared
+-- DAA: 6 is added if the carry is 1 or the accumulator is above 9; the carry becomes 1 if that
+-- exceeds 15, and is never cleared
 abbrev pub after_daa : Regs → Regs
 after_daa s =
     if s.cy == 1 || nat_lt 9 s.acc
@@ -83,9 +84,9 @@ key_of n =
     else if n == 8 then 4
     else 15
 
--- The registers after an instruction on a bus, where the counter already stands after its words:
--- first the machine instructions (NOP to LDM), then those for RAM and ports (WRM to RD3), then the
--- accumulator group (CLB to DCL). SUB, SBM: a carry of 1 going in is a borrow; coming out, 1 says
+-- The registers after an instruction on a bus; the counter is already after its words. First are
+-- the machine instructions (NOP to LDM), then those for RAM and ports (WRM to RD3), then the
+-- accumulator group (CLB to DCL). SUB, SBM: a carry of 1 going in is a borrow; coming out, 1 means
 -- that nothing was borrowed.
 abbrev pub registers_after : Op → Regs → BusState → Regs
 registers_after Nop s _ = s
@@ -134,8 +135,8 @@ registers_after Daa s _ = after_daa s
 registers_after Kbp s _ = with_acc s (key_of s.acc)
 registers_after Dcl s _ = record s { dcl = s.acc % 8 }
 
--- The bus after an instruction: SRC and those that write RAM, status or a port change it (Manual,
--- SRC and the input, output and RAM instructions).
+-- The bus after an instruction: SRC and the instructions that write RAM, status or a port change it
+-- (Manual, SRC and the input, output and RAM instructions).
 abbrev pub bus_after : Op → Regs → BusState → BusState
 bus_after (Src k) s m = after_src m s.dcl (pair_of s k)
 bus_after Wrm s m = after_ram m s.dcl s.acc
@@ -152,7 +153,7 @@ bus_after _ _ m = m
 abbrev pub after_words : Op → Regs → Regs
 after_words op s = record s { pc = (s.pc + word_count_of op) % 4096; owed = cycles_of op - 1 }
 
--- processor and bus after the first cycle of an instruction, in which it does all its work
+-- processor and bus after the first cycle of an instruction, which does all its work
 abbrev pub effect : Op → Regs → BusState → Regs × BusState
 effect op s m = (registers_after op (after_words op s) m, bus_after op s m)
 
@@ -160,8 +161,8 @@ effect op s m = (registers_after op (after_words op s) m, bus_after op s m)
 abbrev pub instruction_at : Regs → BusState → Option Op
 instruction_at s m = instruction_of (fetch_of m s.pc) (fetch_of m ((s.pc + 1) % 4096))
 
--- One instruction cycle: an idle one where one is owed, else the instruction at the counter. It has
--- no value where that code is outside the table.
+-- One instruction cycle: an idle one if one is pending, else the instruction at the counter. It has
+-- no value if that code is outside the table.
 unfoldable pub cycle_of : Regs → BusState → Option (Regs × BusState)
 cycle_of s m =
     if s.owed == 1

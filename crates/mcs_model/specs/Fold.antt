@@ -4,7 +4,7 @@ use Rattle.mcs_model.specs.declared.command.Command.{Command}
 use Rattle.mcs_model.specs.BenchState.{BenchState}
 use Rattle.mcs_model.specs.Command.{refusal, after}
 
--- the state after these commands, each done as an accepted one (whether it is: `AreAccepted`)
+-- the state after these commands, each done as an accepted one (`AreAccepted` says that each is)
 abbrev pub fold : BenchState → List Command → BenchState
 fold s [] = s
 fold s (c ∷ cs) = fold (after s c) cs

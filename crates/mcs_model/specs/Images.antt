@@ -7,11 +7,11 @@ abbrev pub from_address : ℕ → List ℕ → List (ℕ × ℕ)
 from_address at [] = []
 from_address at (b ∷ bytes) = (at, b) ∷ from_address (at + 1) bytes
 
--- whether one of the addresses from `at` on, that many, has a byte
+-- true if one of the addresses from `at` on, as many as the third argument says, has a byte
 abbrev pub overlaps : List (ℕ × ℕ) → ℕ → ℕ → Bool
 overlaps pairs at count = list_any (λ p. nat_le at p.0 && nat_lt p.0 (at + count)) pairs
 
--- by rising address, so no address comes twice
+-- by rising address, so no address occurs twice
 abbrev pub IsRising : List (ℕ × ℕ) → Type 0
 IsRising image = AllPairs (λ p q. p.0 < q.0) image
 

@@ -1,4 +1,4 @@
--- What the laws of this crate say: of the code table, and of runs one after the other.
+-- The laws of this crate: of the code table, and of consecutive runs.
 use Rattle.std.specs.Prelude.{◌≡◌, ℕ, ◌+◌, ◌/◌, ◌%◌, Bool, List, [], ◌∷◌, is_none, filter, count_by, nat_le}
 use Rattle.std.specs.List.{range_with_len, list_all}
 use Rattle.mcs_model.specs.Running.{Machine, Stops, after_run}
@@ -23,8 +23,8 @@ is_unambiguous table =
 abbrev pub no_stops : Stops
 no_stops = record { breaks = []; watches = [] }
 
--- where no breakpoint is set and nothing is watched, two runs come to where one run of all their
--- cycles does
+-- if no breakpoint is set and nothing is watched, two runs reach the state that one run of all
+-- their cycles reaches
 abbrev pub RunsCompose : Type 0
 RunsCompose =
     (s : Machine) (a b : ℕ) →

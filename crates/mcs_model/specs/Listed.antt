@@ -1,9 +1,9 @@
--- Lists of numbers that rise, none twice: the breakpoints of a bench, and its watches. (Our own
+-- Lists of rising numbers, none twice: the breakpoints of a bench, and its watches. (Our own
 -- choice.)
 use Rattle.std.specs.Prelude.{ℕ, Bool, not, ◌==◌, nat_lt, List, [], ◌∷◌, if◌then◌else◌}
 use Rattle.std.specs.List.{list_any, filter}
 
--- whether a number is listed
+-- true if a number is listed
 abbrev pub is_listed : List ℕ → ℕ → Bool
 is_listed numbers at = list_any (λ a. a == at) numbers
 
@@ -15,13 +15,13 @@ insert_in_order (a ∷ numbers) at =
     then at ∷ a ∷ numbers
     else a ∷ insert_in_order numbers at
 
--- one number more; nothing changes where it was listed
+-- one number more; nothing changes if it was listed
 abbrev pub with_listed : List ℕ → ℕ → List ℕ
 with_listed numbers at =
     if is_listed numbers at
     then numbers
     else insert_in_order numbers at
 
--- one less; nothing changes where it was not listed
+-- one number less; nothing changes if it was not listed
 abbrev pub without_listed : List ℕ → ℕ → List ℕ
 without_listed numbers at = filter (λ a. not (a == at)) numbers

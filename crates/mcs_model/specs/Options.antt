@@ -1,4 +1,4 @@
--- What follows, if there was something before.
+-- The next value, if there was one before.
 use Rattle.std.specs.Prelude.{Option, option_and_then}
 
 infixl 10 ◌>>=◌

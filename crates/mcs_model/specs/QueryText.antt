@@ -1,5 +1,5 @@
--- What a bench tells of its state: one text for each query and state, without the last line feed
--- (our own choice).
+-- The answers of a bench about its state: one text for each query and state, without the last line
+-- feed (our own choice).
 use Rattle.std.specs.Prelude.{ℕ, ◌+◌, ◌*◌, ◌/◌, ◌%◌, ◌==◌, List, [], ◌∷◌, ◌++◌, map, take, drop, length, codes, nat_lt, if◌then◌else◌, slice_index, Some, None}
 use Rattle.std.specs.Fmt.{decimal}
 use Rattle.std.specs.List.{flat_map, join_by, join_with_byte, range_with_len}
@@ -25,16 +25,16 @@ address_text a = hex_digit (a / 256) ∷ hex_digit (a / 16 % 16) ∷ hex_digit (
 abbrev pub digit_text : ℕ → List ℕ
 digit_text n = hex_digit n ∷ []
 
--- a list of nothing is told as a dash
+-- an empty list is printed as a dash
 abbrev pub or_dash : List ℕ → List ℕ
 or_dash [] = codes "-"
 or_dash bytes = bytes
 
--- that many numbers from an index on
+-- numbers from an index on, as many as the third argument says
 abbrev pub stretch : List ℕ → ℕ → ℕ → List ℕ
 stretch items from count = take count (drop from items)
 
--- the registers of the processor but for its return addresses; also the TEST pin (`test`)
+-- the registers of the processor except its return addresses; also the TEST pin (`test`)
 abbrev pub registers_text : Regs → ℕ → List ℕ
 registers_text registers test =
     codes "acc " ++ digit_text registers.acc
@@ -53,7 +53,7 @@ regs_text registers test =
     ++ codes " " ++ address_text (slice_index registers.ret 1)
     ++ codes " " ++ address_text (slice_index registers.ret 2)
 
--- the mark of a lamp: `*` where it is lit
+-- the mark of a lamp: `*` if it is on
 abbrev pub lamp_mark : ℕ → ℕ
 lamp_mark level = if level == 1 then 42 else 46
 
@@ -82,7 +82,7 @@ chip_lines s bank chip =
     map (register_line s bank chip) (range_with_len 0 4)
     ++ ram_port_text (codes " out ") s bank chip ∷ []
 
--- `ram`: how many chips a bank has, and what each of them holds
+-- `ram`: the number of chips in a bank, and what each of them holds
 abbrev pub ram_lines : BusState → ℕ → List (List ℕ)
 ram_lines s bank =
     (codes "ram " ++ digit_text bank ++ codes " chips " ++ digit_text (chips_of s bank))
@@ -104,7 +104,7 @@ watch_text w = digit_text (w / 256) ++ codes "." ++ hex_2 (w % 256)
 abbrev pub watches_text : List ℕ → List ℕ
 watches_text watches = codes "watches " ++ or_dash (join_by watch_text (codes " ") watches)
 
--- ---- what stands outside ROM and RAM, item by item
+-- ---- the state outside ROM and RAM, item by item
 
 -- a bank that has chips: its number, and the SRC byte that it keeps
 abbrev pub bank_items : BusState → ℕ → List (List ℕ)
@@ -113,7 +113,7 @@ bank_items s bank =
     then (digit_text bank ++ codes "." ++ hex_2 (slice_index s.ram_src bank)) ∷ []
     else []
 
--- the port of a ROM that is there: its number, what its latch holds, and what is read there
+-- the port of a ROM that is present: its number, what its latch holds, and what is read there
 abbrev pub rom_items : BusState → ℕ → List (List ℕ)
 rom_items s chip =
     elim (masks_on s.board chip) [
@@ -124,7 +124,7 @@ rom_items s chip =
       | None ↦ []
     ]
 
--- the key of a row and a column, where it is down
+-- the key of a row and a column, if it is down
 abbrev pub key_item : BusState → ℕ → ℕ → List (List ℕ)
 key_item s row column =
     if slice_index s.keys (key_index s.board row column) == 1
@@ -143,13 +143,13 @@ key_items s =
       | None ↦ []
     ]
 
--- `seq`: how many commands were accepted
+-- `seq`: the number of accepted commands
 abbrev pub seq_text : ℕ → List ℕ
 seq_text seq = codes "seq " ++ decimal seq
 
 -- ---- the state in one line
 
--- a list in one word: commas between the items, and a dash where there is none
+-- a list in one word: commas between the items, and a dash if there is none
 abbrev pub one_word : List (List ℕ) → List ℕ
 one_word [] = codes "-"
 one_word items = join_with_byte 44 items
@@ -162,7 +162,8 @@ ram_items s bank = map (ram_port_text (codes ".") s bank) (range_with_len 0 (chi
 abbrev pub chain_item : BusState → ℕ → List ℕ
 chain_item s n = map (λ i. hex_digit (chain_bit s n i)) (range_with_len 0 (chain_bits s.board n))
 
--- `state`: all but the board and the contents of ROM and RAM, each part as its name and one word
+-- `state`: everything but the board and the contents of ROM and RAM, each part as its name and one
+-- word
 abbrev pub state_text : BenchState → List ℕ
 state_text s =
     codes "state " ++ seq_text s.seq
@@ -179,7 +180,7 @@ state_text s =
     ++ codes " breaks " ++ one_word (map address_text s.breakpoints)
     ++ codes " watches " ++ one_word (map watch_text s.watches)
 
--- what a query is answered, without the last line feed
+-- the answer to a query, without the last line feed
 abbrev pub text_of_query : Query → BenchState → List ℕ
 text_of_query query.Lamps s = lamps_text s.bus
 text_of_query query.Regs s = regs_text s.processor s.bus.test

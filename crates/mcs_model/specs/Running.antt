@@ -11,32 +11,32 @@ use Rattle.mcs_model.specs.Effect.{cycle_of}
 abbrev pub Machine : Type 0
 Machine = Regs × BusState
 
--- whether no cycle can follow: none is owed, and the code at the counter is outside the table
+-- true if no cycle can follow: none is pending, and the code at the counter is outside the table
 abbrev pub is_outside : Machine → Bool
 is_outside s = is_none (cycle_of s.0 s.1)
 
--- a machine after k cycles; where no cycle can follow it stays as it is
+-- a machine after k cycles; if no cycle can follow it stays as it is
 abbrev pub after_cycles : ℕ → Machine → Machine
 after_cycles zero s = s
 after_cycles (suc k) s = unwrap_or (cycle_of (after_cycles k s).0 (after_cycles k s).1) (after_cycles k s)
 
--- whether a run is at a breakpoint after k cycles: none at its start counts, and none between the
+-- true if a run is at a breakpoint after k cycles: none at its start counts, and none between the
 -- two cycles of an instruction
 abbrev pub at_break : List ℕ → ℕ → Machine → Bool
 at_break breaks k s = nat_lt 0 k && s.0.owed == 0 && list_any (λ a. a == s.0.pc) breaks
 
--- whether a watched RAM character has another value in the machine t than in s
+-- true if a watched RAM character has another value in the machine t than in s
 abbrev pub has_changed : List ℕ → Machine → Machine → Bool
 has_changed watches s t =
     list_any (λ w. not (slice_index s.1.ram w == slice_index t.1.ram w)) watches
 
--- what stops a run: breakpoints and watched RAM characters
+-- the stops of a run: breakpoints and watched RAM characters
 pub record Stops : Type 0 where
   pub breaks : List ℕ
   pub watches : List ℕ
 
--- whether a run of n cycles stops after k of them, which led to the machine t, the last one from
--- the machine s, and why
+-- the reason that a run of n cycles stops after k of them, if it does; they led to the machine t,
+-- the last one from the machine s
 abbrev pub stop_at : Stops → ℕ → ℕ → Machine → Machine → Option Stop
 stop_at stops n k s t =
     if is_outside t then Some Outside
@@ -45,12 +45,12 @@ stop_at stops n k s t =
     else if k == n then Some Ended
     else None
 
--- whether a run of n cycles from s stops after k of them; at k = 0 no cycle was done, so no
--- character has changed
+-- the reason that a run of n cycles from s stops after k of them, if it does; at k = 0 no cycle was
+-- done, so no character has changed
 abbrev pub stop_after : Stops → ℕ → Machine → ℕ → Option Stop
 stop_after stops n s k = stop_at stops n k (after_cycles (k - 1) s) (after_cycles k s)
 
--- how many cycles a run of n cycles takes: the least k at which it stops
+-- the number of cycles that a run of n cycles takes: the least k at which it stops
 abbrev pub run_length : Stops → ℕ → Machine → ℕ
 run_length stops n s =
     unwrap_or (find (λ k. is_some (stop_after stops n s k)) (range_with_len 0 (n + 1))) n
@@ -59,17 +59,17 @@ run_length stops n s =
 abbrev pub after_run : Stops → ℕ → Machine → Machine
 after_run stops n s = after_cycles (run_length stops n s) s
 
--- why a run of n cycles stops
+-- the reason that a run of n cycles stops
 abbrev pub run_stop : Stops → ℕ → Machine → Stop
 run_stop stops n s = unwrap_or (stop_after stops n s (run_length stops n s)) Ended
 
--- whether a step stops after k cycles, at the machine s, and why: at its start where no cycle can
--- follow, else after the first cycle that leaves none owed
+-- the reason that a step stops after k cycles, at the machine s, if it does: at its start if no
+-- cycle can follow, else after the first cycle that leaves none pending
 abbrev pub step_at : ℕ → Machine → Option Stop
 step_at zero s = if is_outside s then Some Outside else None
 step_at (suc k) s = if s.0.owed == 0 then Some Ended else None
 
--- how many cycles a step takes, at most 2: the least k at which it stops
+-- the number of cycles that a step takes, at most 2: the least k at which it stops
 abbrev pub step_length : Machine → ℕ
 step_length s = unwrap_or (find (λ k. is_some (step_at k (after_cycles k s))) (range_with_len 0 3)) 2
 
@@ -77,6 +77,6 @@ step_length s = unwrap_or (find (λ k. is_some (step_at k (after_cycles k s))) (
 abbrev pub after_step : Machine → Machine
 after_step s = after_cycles (step_length s) s
 
--- why a step stops
+-- the reason that a step stops
 abbrev pub step_stop : Machine → Stop
 step_stop s = unwrap_or (step_at (step_length s) (after_step s)) Ended

@@ -1,12 +1,12 @@
 -- The code table: which codes spell which instruction, and how many words and cycles it takes.
--- (MCS-4 Users Manual, instruction set. The codes 01 to 0F, E3, FE and FF are in no row; that they
+-- (MCS-4 Users Manual, instruction set. The codes 01 to 0F, E3, FE and FF are in no row. That they
 -- are outside the table, and stop a run, is our own choice.)
 use Rattle.std.specs.Prelude.{ℕ, ◌/◌, ◌%◌, Bool, true, ◌&&◌, List, [], ◌∷◌, Option, find, ◌==◌}
 use Rattle.std.specs.Option.{option_map}
 use Rattle.mcs_model.specs.declared.op.Op.{Op}
 use Rattle.mcs_model.specs.declared.op.Op.TheVariants.{Nop, Jcn, Fim, Src, Fin, Jin, Jun, Jms, Inc, Isz, Add, Sub, Ld, Xch, Bbl, Ldm, Wrm, Wmp, Wrr, Wr0, Wr1, Wr2, Wr3, Sbm, Rdm, Rdr, Adm, Rd0, Rd1, Rd2, Rd3, Clb, Clc, Iac, Cmc, Cma, Ral, Rar, Tcc, Dac, Tcs, Stc, Daa, Kbp, Dcl}
 
--- which lower nibbles the codes of a row have
+-- the lower nibbles that the codes of a row have
 pub data Lower : Type 0 where
   Any : Lower
   Even : Lower
@@ -90,7 +90,7 @@ fits Even n = n % 2 == 0
 fits Odd n = n % 2 == 1
 fits (Only k) n = n == k
 
--- whether a code, by its nibbles, is one of a row's
+-- true if a code, by its nibbles, is one of a row's
 abbrev pub covers : ℕ → ℕ → Row → Bool
 covers upper lower r = upper == r.upper && fits r.lower lower
 
@@ -102,7 +102,7 @@ row_of code = find (covers (code / 16) (code % 16)) rows
 unfoldable pub instruction_of : ℕ → ℕ → Option Op
 instruction_of first second = option_map (λ (r : Row). r.op first second) (row_of first)
 
--- how many words an instruction has: its code, and the word after it where `rows` uses that
+-- the number of words of an instruction: its code, and the word after it if `rows` uses that
 abbrev pub word_count_of : Op → ℕ
 word_count_of (Jcn _ _) = 2
 word_count_of (Fim _ _) = 2
@@ -111,7 +111,7 @@ word_count_of (Jms _ _) = 2
 word_count_of (Isz _ _) = 2
 word_count_of _ = 1
 
--- how many instruction cycles it takes: one for each word, but two for FIN
+-- the number of instruction cycles that it takes: one for each word, but two for FIN
 abbrev pub cycles_of : Op → ℕ
 cycles_of (Fin _) = 2
 cycles_of op = word_count_of op

@@ -19,8 +19,8 @@ as_line bytes = bytes ++ line_feed ∷ []
 abbrev pub text_of : List (List ℕ) → List ℕ
 text_of lines = flat_map as_line lines
 
--- what follows the last line feed: a line where the text ends there (`whole`) and it has bytes;
--- else none
+-- the part after the last line feed: a line if the text ends there (`whole`) and it has bytes; else
+-- none
 abbrev pub last_line : Bool → List ℕ → List (List ℕ)
 last_line false line = []
 last_line true [] = []
@@ -32,8 +32,8 @@ lines_in whole [] = []
 lines_in whole (last ∷ []) = last_line whole last
 lines_in whole (line ∷ next ∷ pieces) = strip_carriage_return line ∷ lines_in whole (next ∷ pieces)
 
--- The lines of a text, each without its line feed and without one CR that ends it; `whole` says
--- that the text ends there, else it was cut.
+-- The lines of a text, each without its line feed and without one CR that ends it. `whole` means
+-- that the text ends there; otherwise it was cut.
 unfoldable pub lines : List ℕ → Bool → List (List ℕ)
 lines text whole = lines_in whole (slice_split is_line_feed text)
 
@@ -45,6 +45,6 @@ lines_of text = lines text true
 abbrev pub is_blank : ℕ → Bool
 is_blank b = b == 32 || b == 9
 
--- the words of a line: what stands between spaces and tabs
+-- the words of a line: the parts between spaces and tabs
 unfoldable pub words_of : List ℕ → List (List ℕ)
 words_of line = filter (λ w. nat_lt 0 (length w)) (slice_split is_blank line)

@@ -1,5 +1,5 @@
--- Which flat states are valid: the states that a bench can be in. (Our own choice, after what the
--- chips keep.)
+-- Valid flat states: the states that a bench can be in. (Our own choice, after what the chips
+-- keep.)
 use Rattle.std.specs.Prelude.{◌≡◌, ◌<◌, ◌≤◌, ◌/◌, ℕ, List, [], All, MatchOption, length, slice_index, slice_index_or, None}
 use Rattle.std.specs.List.Sorted.{IsStrictlyIncreasing}
 use Rattle.mcs_nibble.specs.Ports.{latch_value}
@@ -10,22 +10,22 @@ use Rattle.mcs_model.specs.Boards.{IsSized, board_fault_of, masks_on, chain_bits
 use Rattle.mcs_model.specs.Bus.{BusState, ram_index, ram_port_index, status_index, chips_of}
 use Rattle.mcs_model.specs.BenchState.{BenchState}
 
--- that many numbers, each below a limit
+-- `count` numbers, each below a limit
 pub record AreBelow (count limit : ℕ) (items : List ℕ) : Type 0 where
   pub count_is : length items ≡ count
   pub below : All (λ n. n < limit) items
 
 -- ---- the board
 
--- parts with which nothing is wrong, of the lengths that their types give
+-- parts without a fault, of the lengths that their types give
 pub record IsValidBoard (b : BoardParts) : Type 0 where
   pub sized : IsSized b
   pub valid : board_fault_of b ≡ None
 
 -- ---- what the chips hold
 
--- each number is of its kind; of chains, their bits and keys there are as many as the board has, of
--- all else as many as a board can have
+-- each number is of its kind; there are as many chains, chain bits and keys as the board has, and
+-- as many of everything else as a board can have
 pub record IsInRange (s : BusState) : Type 0 where
   pub rom : AreBelow 4096 256 s.rom
   pub ram : AreBelow 2048 16 s.ram
@@ -40,8 +40,8 @@ pub record IsInRange (s : BusState) : Type 0 where
   pub keys : AreBelow (key_count s.board) 2 s.keys
   pub test : s.test < 2
 
--- what is absent holds 0: ROMs, RAM chips, the SRC byte of a bank without chips, and the latch bits
--- of input lines
+-- absent parts hold 0: ROMs, RAM chips, the SRC byte of a bank without chips, and the latch bits of
+-- input lines
 pub record IsAbsentZero (s : BusState) : Type 0 where
   pub rom : (at : ℕ) → masks_on s.board (at / 256) ≡ None → slice_index s.rom at ≡ 0
   pub ram : (bank src : ℕ) → src < 256 → chips_of s bank ≤ src / 64 →

@@ -1,4 +1,4 @@
-//! What is on a board.
+//! The parts of a board.
 
 ghost use Rattle.std.specs.Prelude.{◌≤◌, ◌≡◌, ◌<◌, ◌*◌, ◌||◌, ℕ, List, not, MatchOption, Ok, Err, Some, None, nat_lt, nat_le, length, slice_get, slice_index};
 ghost use Rattle.std.specs.List.{list_any};
@@ -15,7 +15,7 @@ use mcs_nibble::LineMask;
 use std::marker::Model;
 use thiserror::Error;
 
-/// A line of a board. Its numbers may be any: whether a board has such a line is asked of the board.
+/// A line of a board. Its numbers can be any: the board says whether it has such a line.
 #[derive(Clone, Copy, Debug, PartialEq, Eq)]
 pub enum Line {
     /// A port line of a ROM: the chip 0 to 15, and the line 0 to 3.
@@ -35,16 +35,16 @@ impl Default for Line {
 /// A chain of 4003 shift registers, each of ten bits.
 #[derive(Clone, Copy, Debug, Default, PartialEq, Eq)]
 pub struct ChainPart {
-    /// The output line that clocks it.
+    /// The output line that clocks the chain.
     pub clock: Line,
-    /// The output line whose level it takes in.
+    /// The output line whose level the chain shifts in.
     pub data_in: Line,
-    /// How many chips it has.
+    /// The number of chips.
     pub chips: u8,
 }
 
 impl ChainPart {
-    /// How many bits it has: ten for each of its chips.
+    /// Returns the number of bits: ten for each chip.
     pub fn bits(self) -> u16
         ensures { result ≡ 10 * self.chips }
     {
@@ -57,16 +57,16 @@ impl ChainPart {
 pub struct KeyMatrix {
     /// The chain that drives the rows.
     pub chain: u8,
-    /// The bit of the chain that drives row 0; row r is driven by bit `first + r`.
+    /// The bit of the chain that drives row 0. Bit `first + r` drives row r.
     pub first: u8,
-    /// How many rows it has.
+    /// The number of rows.
     pub rows: u8,
     /// The line that each column pulls.
     pub columns: ArrayVec<Line, KEY_COLUMNS>,
 }
 
 impl KeyMatrix {
-    /// An equal matrix.
+    /// Returns an equal matrix.
     pub fn copy(&self) -> KeyMatrix
         ensures { result ≡ self.now }
     {
@@ -79,22 +79,22 @@ impl KeyMatrix {
     }
 }
 
-/// The parts of a board. They may be any: whether they make a board is asked of them.
+/// The parts of a board. They can be any parts: `Board::of` decides whether they make a board.
 #[derive(Debug, Drop)]
 pub struct BoardParts {
-    /// The ROMs by their number, with what each port line is; line 0 first.
+    /// The ROMs by their number, with the mask of each port line, line 0 first.
     pub roms: [Option<[LineMask; 4]>; ROMS],
-    /// How many 4002 chips each bank has.
+    /// The number of 4002 chips of each bank.
     pub banks: [u8; BANKS],
     /// The chains of shift registers.
     pub chains: ArrayVec<ChainPart, CHAINS>,
-    /// The keys, if there are any.
+    /// The keys, if any.
     pub keys: Option<KeyMatrix>,
     /// The lines that the lamps show.
     pub lamps: ArrayVec<Line, LAMPS>,
 }
 
-/// Why parts make no board: the first of these that is so.
+/// The reason that parts make no board: the first of these that applies.
 #[derive(Clone, Copy, Debug, PartialEq, Eq, Error)]
 pub enum BoardFault {
     /// A number is out of its range, or a key matrix has no column (no 23).
@@ -103,13 +103,13 @@ pub enum BoardFault {
     /// A line, a chain or a row's bit is not on the board (no 25).
     #[error("a line, a chain or a row's bit is not on the board")]
     NoSuchLine,
-    /// An input line where an output line is wanted, or the other way round (no 26).
+    /// An input line in a place that needs an output line, or the other way round (no 26).
     #[error("an input line is used as an output line, or an output line as an input line")]
     WrongDirection,
 }
 
 impl BoardFault {
-    /// The number that the refusal is reported as.
+    /// Returns the number that the refusal is reported as.
     pub fn number(self) -> u8
         ensures { result ≡ board_fault_number self }
     {
@@ -121,7 +121,7 @@ impl BoardFault {
     }
 }
 
-/// Whether the numbers of a line are in their ranges.
+/// Returns whether the numbers of a line are in their ranges.
 fn is_in_range(line: Line) -> bool
     ensures { result ≡ in_range line }
 {
@@ -132,28 +132,28 @@ fn is_in_range(line: Line) -> bool
     }
 }
 
-/// Whether some line has a number out of its range.
+/// Returns whether some line has a number out of its range.
 fn has_line_out_of_range(lines: &[Line]) -> bool
     ensures { result ≡ list_any (λ line. not (in_range line)) lines.now }
 {
     lines.iter().any(|line| !is_in_range(*line))
 }
 
-/// Whether the clock or the data line of a chain has a number out of its range.
+/// Returns whether the clock or the data line of a chain has a number out of its range.
 fn has_bad_line(chain: ChainPart) -> bool
     ensures { result ≡ (not (in_range chain.clock) || not (in_range chain.data_in)) }
 {
     !is_in_range(chain.clock) || !is_in_range(chain.data_in)
 }
 
-/// Whether a chain has a number of chips that a chain can have.
+/// Returns whether a chain has a valid number of chips.
 fn is_sized(chain: ChainPart) -> bool
     ensures { result ≡ is_chain_size chain }
 {
     0 < chain.chips && chain.chips <= CHAIN_CHIPS
 }
 
-/// Four masks are four: an array that is passed as a value has its length.
+/// Proves that four masks are four. An array that is passed as a value has its length.
 fn is_four(mask: [LineMask; 4])
     ensures { length mask ≡ 4 }
 {
@@ -169,7 +169,7 @@ fn are_four(masks: Option<[LineMask; 4]>)
 }
 
 impl KeyMatrix {
-    /// Whether its numbers are in their ranges.
+    /// Returns whether the numbers of the matrix are in their ranges.
     fn is_sized(&self) -> bool
         ensures { result ≡ is_matrix_size self.now }
     {
@@ -184,7 +184,7 @@ impl KeyMatrix {
 }
 
 impl BoardParts {
-    /// The masks of a ROM, if it is there.
+    /// Returns the masks of a ROM, if the board has that ROM.
     fn mask(&self, chip: u8) -> Option<[LineMask; 4]>
         ensures { result ≡ masks_on self.now chip }
     {
@@ -192,7 +192,7 @@ impl BoardParts {
         if at < ROMS { self.roms[at] } else { None }
     }
 
-    /// How many chips a bank has; 0 of a bank that no board has.
+    /// Returns the number of chips in a bank, or 0 for a bank that no board has.
     fn bank_chips(&self, bank: u8) -> u8
         ensures { result ≡ slice_index self.now.banks bank }
     {
@@ -200,7 +200,7 @@ impl BoardParts {
         if at < BANKS { self.banks[at] } else { 0 }
     }
 
-    /// How many bits a chain has; 0 where there is no such chain.
+    /// Returns the number of bits in a chain, or 0 if there is no such chain.
     fn chain_bits(&self, n: u8) -> u16
         ensures { result ≡ chain_bits self.now n }
     {
@@ -287,7 +287,7 @@ impl BoardParts {
         has_line_out_of_range(self.lamps.as_slice())
     }
 
-    /// Whether a number is out of its range.
+    /// Returns whether a number is out of its range.
     fn has_bad_value(&self) -> bool
         ensures { result ≡ has_bad_value self.now }
     {
@@ -309,7 +309,7 @@ impl BoardParts {
         self.has_bad_lamp()
     }
 
-    /// Whether some line is not on the board.
+    /// Returns whether some line is not on the board.
     fn lacks_one_of(&self, lines: &[Line]) -> bool
         ensures { result ≡ list_any (λ line. not (exists_on self.now line)) lines.now }
     {
@@ -358,7 +358,7 @@ impl BoardParts {
         }
     }
 
-    /// Whether a line is named, or a row wanted, that the board lacks.
+    /// Returns whether the parts name a line, or need a row, that the board lacks.
     fn lacks_line(&self) -> bool
         ensures { result ≡ lacks_line self.now }
     {
@@ -374,7 +374,7 @@ impl BoardParts {
         self.lacks_rows()
     }
 
-    /// Whether some line is no input line.
+    /// Returns whether some line is not an input line.
     fn has_other_than_input(&self, lines: &[Line]) -> bool
         ensures { result ≡ list_any (λ line. not (is_input_line self.now line)) lines.now }
     {
@@ -411,7 +411,7 @@ impl BoardParts {
         self.lamps.iter().any(|line| self.has_input_line(*line))
     }
 
-    /// Whether a line has the wrong direction for its use.
+    /// Returns whether a line has the wrong direction for its use.
     fn has_wrong_direction(&self) -> bool
         ensures { result ≡ has_wrong_direction self.now }
     {
@@ -424,7 +424,7 @@ impl BoardParts {
         self.has_input_lamp()
     }
 
-    /// Each ROM has four masks: its type says so, and proofs learn it here.
+    /// Proves that each ROM has four masks. Its type says so, and proofs learn it here.
     fn have_four_masks(&self)
         ensures { (chip : ℕ) (mask : List LineMask) → masks_on self.now chip ≡ Some mask →
             length mask ≡ 4 }
@@ -434,7 +434,7 @@ impl BoardParts {
         }
     }
 
-    /// The lists have the lengths that their types say, and proofs learn it here.
+    /// Proves that the lists have the lengths that their types say. Proofs learn it here.
     fn are_sized(&self)
         ensures { IsSized self.now }
     {
@@ -447,7 +447,7 @@ impl BoardParts {
         self.have_four_masks();
     }
 
-    /// What is wrong with the parts, if anything is.
+    /// Returns what is wrong with the parts, or `None` if nothing is.
     fn fault(&self) -> Option<BoardFault>
         ensures { result ≡ board_fault_of self.now }
     {
@@ -463,7 +463,7 @@ impl BoardParts {
         None
     }
 
-    /// Equal parts.
+    /// Returns equal parts.
     fn copy(&self) -> BoardParts
         ensures { result ≡ self.now }
     {
@@ -481,7 +481,7 @@ impl BoardParts {
     }
 }
 
-/// The same elements.
+/// Returns the same elements.
 fn copied<T: Copy + Default + Drop, const CAP: usize>(items: &ArrayVec<T, CAP>) -> ArrayVec<T, CAP>
     ensures { result.items ≡ items.now.items }
 {
@@ -492,7 +492,7 @@ fn copied<T: Copy + Default + Drop, const CAP: usize>(items: &ArrayVec<T, CAP>) 
     copy
 }
 
-/// A board: parts with which nothing is wrong. Contracts see it as its parts.
+/// A board: parts that have no fault. Contracts see it as its parts.
 #[derive(Debug, Drop)]
 pub struct Board {
     parts: BoardParts,
@@ -512,7 +512,7 @@ impl Model for Board {
 }
 
 impl Board {
-    /// The board with nothing on it.
+    /// Returns the board with nothing on it.
     pub fn empty() -> Board
         ensures { result ≡ empty_parts }
     {
@@ -527,7 +527,7 @@ impl Board {
         }
     }
 
-    /// The board of these parts, or what is wrong with them.
+    /// Returns the board of these parts, or the fault in them.
     pub fn of(parts: BoardParts) -> Result<Board, BoardFault>
         ensures { MatchOption (board_fault_of parts) (result ≡ Ok parts)
             (λ fault. result ≡ Err fault) }
@@ -539,7 +539,7 @@ impl Board {
         }
     }
 
-    /// The parts. Nothing is wrong with them.
+    /// Returns the parts. They have no fault.
     pub fn parts(&self) -> &BoardParts
         ensures same { result.now ≡ self.now }
         ensures valid { board_fault_of self.now ≡ None }
@@ -548,7 +548,7 @@ impl Board {
         &self.parts
     }
 
-    /// An equal board.
+    /// Returns an equal board.
     pub fn copy(&self) -> Board
         ensures { result ≡ self.now }
     {
@@ -557,21 +557,21 @@ impl Board {
         }
     }
 
-    /// The masks of the four port lines of a ROM, line 0 first, if the board has that ROM.
+    /// Returns the masks of the four port lines of a ROM, line 0 first, if the board has that ROM.
     pub fn mask(&self, chip: u8) -> Option<[LineMask; 4]>
         ensures { result ≡ masks_on self.now chip }
     {
         self.parts.mask(chip)
     }
 
-    /// How many chains the board has.
+    /// Returns the number of chains on the board.
     pub fn chain_count(&self) -> usize
         ensures { result ≡ chain_count self.now }
     {
         self.parts.chains.len()
     }
 
-    /// How many keys the board has: at most `KEYS`.
+    /// Returns the number of keys on the board: at most `KEYS`.
     pub fn key_count(&self) -> usize
         ensures count { result ≡ key_count self.now }
         ensures few { result ≤ KEYS }
@@ -582,7 +582,7 @@ impl Board {
         }
     }
 
-    /// Chain `n`, counted from 0.
+    /// Returns chain `n`, counted from 0.
     pub fn chain(&self, n: usize) -> ChainPart
         requires { n < chain_count self.now }
         ensures { result ≡ chain_part self.now n }
@@ -590,21 +590,21 @@ impl Board {
         self.parts.chains[n]
     }
 
-    /// The line of lamp `i`, counted from 0, or none where there is no such lamp.
+    /// Returns the line of lamp `i`, counted from 0, or `None` if there is no such lamp.
     pub fn lamp_line(&self, i: usize) -> Option<Line>
         ensures { result ≡ slice_get self.now.lamps.items i }
     {
         self.parts.lamps.get(i).copied()
     }
 
-    /// How many chips a bank has.
+    /// Returns the number of chips in a bank.
     pub fn bank_chips(&self, bank: u8) -> u8
         ensures { result ≡ slice_index self.now.banks bank }
     {
         self.parts.bank_chips(bank)
     }
 
-    /// Whether line `k`, 0 to 3, of a ROM is an input line of the board.
+    /// Returns whether line `k`, 0 to 3, of a ROM is an input line of the board.
     pub fn is_input(&self, chip: u8, k: u8) -> bool
         requires { k < 4 }
         ensures { result ≡ input_on self.now chip k }
@@ -615,14 +615,14 @@ impl Board {
         }
     }
 
-    /// Whether the board has a line.
+    /// Returns whether the board has a line.
     pub fn has_line(&self, line: Line) -> bool
         ensures { result ≡ exists_on self.now line }
     {
         self.parts.has_line(line)
     }
 
-    /// Whether the board has the key of a row and a column.
+    /// Returns whether the board has the key of a row and a column.
     pub fn has_key(&self, row: u8, column: u8) -> bool
         ensures { result ≡ has_key self.now row column }
     {

@@ -1,11 +1,11 @@
-//! Commands on a bench, and what they answer.
+//! Commands on a bench, and their replies.
 
 use crate::board::Board;
 use crate::image::Image;
 use crate::stop::Stop;
 use mcs_nibble::{Addr, BankNo, Bit, Nibble, RegNo, StatusNo};
 
-/// A place of the machine, with the value that it is to hold.
+/// A place of the machine, with its new value.
 #[derive(Clone, Copy, Debug)]
 pub enum Place {
     /// The accumulator.
@@ -29,8 +29,8 @@ pub enum Place {
 /// A command on a bench.
 #[derive(Debug, Drop)]
 pub enum Command {
-    /// Puts another board in the place of the one that is there: all keys are up, all that a reset
-    /// clears is cleared, the bytes of ROMs that the new board lacks become 0.
+    /// Replaces the board. All keys are up, everything that a reset clears is cleared, and the bytes of ROMs that the
+    /// new board lacks become 0.
     Wire(Board),
     /// Puts the bytes of an image into ROM.
     Load(Image),
@@ -38,9 +38,9 @@ pub enum Command {
     Press(u8, u8),
     /// Releases the key of a row and a column.
     Release(u8, u8),
-    /// Runs for that many instruction cycles, 1 to 100,000, or up to an earlier reason to stop.
+    /// Runs for the given number of instruction cycles, 1 to 100,000, or up to an earlier reason to stop.
     Run(u32),
-    /// Does one instruction, or the idle cycle that is owed.
+    /// Does one instruction, or the pending idle cycle.
     Step,
     /// Puts a value into a place. Nothing else changes, and no chain shifts.
     Poke(Place),
@@ -51,21 +51,21 @@ pub enum Command {
     Reset,
     /// Makes an address a breakpoint.
     Break(Addr),
-    /// Makes an address none.
+    /// Removes an address from the breakpoints.
     Unbreak(Addr),
-    /// Watches the RAM character that an SRC byte selects in a bank, so that a run stops where its value changes.
+    /// Watches the RAM character that an SRC byte selects in a bank. A run stops when its value changes.
     Watch(BankNo, u8),
-    /// Watches that character no longer.
+    /// Stops watching that character.
     Unwatch(BankNo, u8),
 }
 
-/// What an accepted command answers.
+/// The reply to an accepted command.
 #[derive(Clone, Copy, Debug, PartialEq, Eq)]
 pub enum Reply {
-    /// It is done, and there is nothing to tell.
+    /// The command is done, and there is nothing to report.
     Done,
-    /// That many bytes were loaded, 0 to 4,096.
+    /// The number of bytes that were loaded, 0 to 4,096.
     Loaded(u16),
-    /// A run or a step did that many instruction cycles, and stopped for a reason.
+    /// The number of instruction cycles that a run or a step did, and the reason that it stopped.
     Ran { cycles: u32, stop: Stop },
 }

@@ -6,7 +6,7 @@ use mcs_nibble::Addr;
 use std::alloc::{AllocError, Global};
 use std::marker::Model;
 
-/// Bytes with their addresses, by rising address and no address twice.
+/// Bytes with their addresses, by rising address. No address occurs twice.
 #[derive(Debug, Drop)]
 pub struct Image {
     pairs: Vec<(Addr, u8)>,
@@ -24,8 +24,7 @@ impl Model for Image {
 }
 
 impl Image {
-    /// An image without bytes, with room for a page of them. It fails where that memory is
-    /// refused.
+    /// Returns an image without bytes, with room for a page of them. Fails if that memory is refused.
     pub fn new(alloc: Global) -> Result<Image, AllocError>
         ensures { IfOk result (λ i. i ≡ []) }
     {
@@ -34,8 +33,7 @@ impl Image {
         })
     }
 
-    /// Adds a byte at an address above all others. Where the memory is refused the image is as it
-    /// was.
+    /// Adds a byte at an address above all others. If memory is refused, the image stays as it was.
     pub fn push(&mut self, at: Addr, byte: u8) -> Result<(), AllocError>
         requires { All (λ p. p.0 < at) self.old }
         ensures added { OnOk result (self.new ≡ self.old ++ (at, byte) ∷ []) }
@@ -45,7 +43,7 @@ impl Image {
         Ok(())
     }
 
-    /// The bytes with their addresses, by rising address.
+    /// Returns the bytes with their addresses, by rising address.
     pub fn pairs(&self) -> &[(Addr, u8)]
         ensures pairs { result.now ≡ self.now }
         ensures image { IsImage result.now }

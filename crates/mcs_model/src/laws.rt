@@ -5,21 +5,21 @@ ghost use Rattle.mcs_model.specs.declared.refusal_numbers.TheConstants.{BAD_COUN
 ghost use Rattle.mcs_model.specs.Laws.{LeavesOut, RunsCompose, is_unambiguous, outside_codes};
 ghost use Rattle.mcs_model.specs.Table.{rows};
 
-/// The code table leaves out 18 codes, and has every other code in one row.
+/// Proves that the code table leaves out 18 codes, and has every other code in one row.
 #[tactic(none)]
 pub fn codes_are_in_one_row()
     ensures outside { LeavesOut outside_codes }
     ensures at_most_one { is_unambiguous rows ≡ true }
 {}
 
-/// Where no breakpoint and no watch is set, two runs one after the other come to the state that one
-/// run of all their instruction cycles comes to.
+/// Proves that, if no breakpoint and no watch is set, two consecutive runs reach the state that one run of all their
+/// instruction cycles reaches.
 pub fn runs_compose()
     ensures { RunsCompose }
 {}
 
-/// The numbers that refusals are reported as: of lines and texts, of boards, of programs, of
-/// commands, and of sessions and memory.
+/// Proves the numbers that refusals are reported as: of lines and texts, of boards, of programs, of commands, and of
+/// sessions and memory.
 pub fn refusal_numbers_are()
     ensures lines { NOT_A_COMMAND ∷ BAD_NUMBER ∷ LINE_TOO_LONG ∷ TEXT_TOO_LONG ∷ NOT_ASCII
         ∷ NO_END ∷ []
@@ -37,7 +37,7 @@ pub fn refusal_numbers_are()
         ≡ 50 ∷ 51 ∷ 53 ∷ 54 ∷ 55 ∷ 90 ∷ [] }
 {}
 
-/// The limits of a board, of debugging, of runs, of a session, and of texts.
+/// Proves the limits of a board, of debugging, of runs, of a session, and of texts.
 pub fn limits_are()
     ensures boards { ROMS ∷ BANKS ∷ BANK_CHIPS ∷ CHAINS ∷ CHAIN_CHIPS ∷ CHAIN_BITS ∷ CHAIN_SOCKETS
         ∷ KEY_ROWS ∷ KEY_COLUMNS ∷ KEYS ∷ LAMPS ∷ []

@@ -1,5 +1,5 @@
-//! What a bench is about: its limits, its commands and their refusals, and the definitions in
-//! `specs/` that every crate above is proved against.
+//! The subject of a bench: its limits, its commands and their refusals, and the definitions in `specs/` that every
+//! crate above is proved against.
 #![tactic(auto)]
 
 pub mod board;

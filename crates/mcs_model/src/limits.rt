@@ -18,7 +18,7 @@ pub const CHAIN_CHIPS: u8 = 8;
 /// Bits of a chain: ten of each chip.
 pub const CHAIN_BITS: u8 = 10 * CHAIN_CHIPS;
 
-/// Places for the bits of a chain.
+/// Sockets for the bits of a chain.
 pub const CHAIN_SOCKETS: usize = CHAIN_BITS as usize;
 
 /// Rows of a key matrix.
@@ -42,7 +42,7 @@ pub const WATCHES: usize = 8;
 /// Instruction cycles of one run.
 pub const RUN_CYCLES: u32 = 100_000;
 
-/// Instruction cycles that a session's log may take to be done again.
+/// Instruction cycles that replaying a session's log can take.
 pub const REPLAY_CYCLES: u32 = 4_000_000;
 
 /// Accepted commands of one session.
@@ -51,7 +51,7 @@ pub const ACCEPTED_COMMANDS: u32 = 4_294_967_295;
 /// Bytes of a line, without its end.
 pub const LINE_BYTES: usize = 255;
 
-/// Bytes of a text, its line feeds among them.
+/// Bytes of a text, including its line feeds.
 pub const TEXT_BYTES: usize = 16_384;
 
 /// Lines of one listing.

@@ -1,8 +1,8 @@
-//! Numbers as they are written, in command lines and in source texts.
+//! Numbers as command lines and source texts write them.
 ghost use Rattle.std.specs.Prelude.{◌≡◌, ◌⊎◌, min, option_map};
 ghost use Rattle.mcs_model.specs.Numerals.{digits_in, number_written, number_up_to};
 
-/// The least number that `number` does not tell from larger ones.
+/// The least number that `number` does not distinguish from larger ones.
 pub const LARGE: u64 = 4_294_967_296;
 
 fn digits(ds: &[u8], base: u32) -> Option<u64>
@@ -20,10 +20,10 @@ fn digits(ds: &[u8], base: u32) -> Option<u64>
     Some(value)
 }
 
-/// The number that a word writes: decimal digits, or `0x` and hexadecimal digits of either case.
+/// Returns the number that a word writes: decimal digits, or `0x` and hexadecimal digits of either case.
 ///
-/// It may have any length; every number from 4,294,967,296 on is answered as 4,294,967,296. None
-/// where the word is no number.
+/// The word can have any length. For every number from 4,294,967,296 on it returns 4,294,967,296. It returns `None` if
+/// the word is not a number.
 pub fn number(word: &[u8]) -> Option<u64>
     ensures { result ≡ option_map (λ n. min n LARGE) (number_written word.now) }
 {
@@ -33,8 +33,8 @@ pub fn number(word: &[u8]) -> Option<u64>
     }
 }
 
-/// The number that a word writes, where it is at most `most`. None where the word is no number,
-/// and where its number is greater.
+/// Returns the number that a word writes, if it is at most `most`. Returns `None` if the word is not a number, or if
+/// its number is greater.
 pub fn number_within(word: &[u8], most: u32) -> Option<u32>
     ensures { result ≡ number_up_to most word.now }
 {

@@ -25,8 +25,8 @@ pub enum Op {
     Jms(Nibble, u8),
     /// Increment a register.
     Inc(RegNo),
-    /// Increment a register, and jump where it is not 0: the register, and the word to jump to on
-    /// the page of the next address.
+    /// Increment a register, and jump if it is not 0: the register, and the word to jump to on the page of the next
+    /// address.
     Isz(RegNo, u8),
     /// Add a register to the accumulator with carry.
     Add(RegNo),

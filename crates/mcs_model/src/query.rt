@@ -1,8 +1,8 @@
-//! Questions about a bench.
+//! Queries of a bench.
 
 use mcs_nibble::BankNo;
 
-/// What a bench is asked of its state. Asking changes nothing.
+/// A query of the state of a bench. It changes nothing.
 #[derive(Clone, Copy, Debug, PartialEq, Eq)]
 pub enum Query {
     /// The lamps of the board, in order.
@@ -15,8 +15,8 @@ pub enum Query {
     Breaks,
     /// The watched RAM characters.
     Watches,
-    /// How many commands were accepted.
+    /// The number of accepted commands.
     Seq,
-    /// All but the board and the contents of ROM and RAM, in one line.
+    /// Everything but the board and the contents of ROM and RAM, in one line.
     State,
 }

@@ -1,9 +1,9 @@
-//! The numbers that refusals are reported as, each in this one place.
+//! The numbers that refusals are reported as. Each is in this one place.
 
 /// An unknown first word, a wrong number of words, or a place word of no known form.
 pub const NOT_A_COMMAND: u8 = 10;
 
-/// A word that must be a number is none, or its number is out of its range.
+/// A word that must be a number and is not, or a number that is out of its range.
 pub const BAD_NUMBER: u8 = 11;
 
 /// A line of more than 255 bytes.
@@ -15,7 +15,7 @@ pub const TEXT_TOO_LONG: u8 = 13;
 /// A byte in a line that is neither a tab nor a printing character of ASCII.
 pub const NOT_ASCII: u8 = 14;
 
-/// Input ended inside a text.
+/// Input that ends inside a text.
 pub const NO_END: u8 = 15;
 
 /// A board text that is not TOML.
@@ -81,7 +81,7 @@ pub const BAD_COUNT: u8 = 44;
 /// All breakpoints are set.
 pub const BREAKS_FULL: u8 = 45;
 
-/// The session has accepted all the commands that it can count.
+/// A session that has accepted all the commands that it can count.
 pub const WORN: u8 = 46;
 
 /// All watches are set.
@@ -90,7 +90,7 @@ pub const WATCHES_FULL: u8 = 47;
 /// A file whose size or name is not that of a session.
 pub const NOT_A_SESSION: u8 = 50;
 
-/// A session file that stands for no state.
+/// A session file that represents no state.
 pub const DAMAGED: u8 = 51;
 
 /// A call of the device failed.
@@ -99,7 +99,7 @@ pub const DEVICE: u8 = 53;
 /// An earlier call of the device failed, and the session is closed.
 pub const CLOSED: u8 = 54;
 
-/// A disk that is not blank, where a session is to be made.
+/// A disk that is not blank, in place of one for a new session.
 pub const NOT_BLANK: u8 = 55;
 
 /// Memory was refused.

@@ -5,22 +5,22 @@ ghost use Rattle.mcs_model.specs.RefusalNumbers.{bench_fault_number};
 use crate::refusal_numbers;
 use thiserror::Error;
 
-/// Why a bench refuses a command. Nothing has changed then.
+/// The reason that a bench rejects a command. Nothing has changed then.
 #[derive(Clone, Copy, Debug, PartialEq, Eq, Error)]
 pub enum BenchFault {
     /// The board has no such key.
     #[error("the board has no such key")]
     NoKey,
-    /// The address lies in a ROM that the board lacks.
+    /// The address is in a ROM that the board lacks.
     #[error("the address is in a ROM that the board lacks")]
     NoRom,
-    /// The place lies in a RAM chip that the board lacks.
+    /// The place is in a RAM chip that the board lacks.
     #[error("the place is in a RAM chip that the board lacks")]
     NoSuchPlace,
     /// A run of no cycle, or of too many.
     #[error("a run has 1 to 100,000 cycles")]
     BadCount,
-    /// All breakpoints are taken.
+    /// All breakpoints are set.
     #[error("all breakpoints are set")]
     BreaksFull,
     /// The session has accepted all the commands that it can count.
@@ -32,7 +32,7 @@ pub enum BenchFault {
 }
 
 impl BenchFault {
-    /// The number that the refusal is reported as.
+    /// Returns the number that the refusal is reported as.
     pub fn number(self) -> u8
         ensures { result ≡ bench_fault_number self }
     {

@@ -5,7 +5,7 @@ ghost use Rattle.mcs_model.specs.Registers.{register_of, pair_of, with_register,
 
 use mcs_nibble::{Addr, Bit, Nibble, PairNo, RegNo};
 
-/// What a 4004 keeps between two instruction cycles.
+/// The state that a 4004 keeps between two instruction cycles.
 #[derive(Clone, Copy, Debug, PartialEq, Eq)]
 pub struct Regs {
     /// The accumulator.
@@ -21,12 +21,12 @@ pub struct Regs {
     pub ret: [Addr; 3],
     /// The command register, 0 to 7. That its value names the RAM bank is this project's own choice.
     pub dcl: u8,
-    /// How many idle instruction cycles the last instruction still takes: 0 or 1.
+    /// The number of idle instruction cycles that the last instruction still takes: 0 or 1.
     pub owed: u8,
 }
 
 impl Regs {
-    /// After power-on: all are 0.
+    /// Returns the registers after power-on: all are 0.
     pub fn new() -> Regs
         ensures { result ≡ new_regs }
     {
@@ -41,7 +41,7 @@ impl Regs {
         }
     }
 
-    /// The value of a register.
+    /// Returns the value of a register.
     pub fn register(&self, r: RegNo) -> Nibble
         ensures { result ≡ register_of self.now r }
     {
@@ -55,7 +55,7 @@ impl Regs {
         self.r[usize::from(r.get())] = n;
     }
 
-    /// The value of a pair, whose even register is the upper nibble.
+    /// Returns the value of a pair. The even register is the upper nibble.
     pub fn pair(&self, p: PairNo) -> u8
         ensures { result ≡ pair_of self.now p }
     {

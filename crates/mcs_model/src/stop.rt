@@ -1,6 +1,6 @@
-//! Why a run stops.
+//! The reasons that a run stops.
 
-/// Why a run or a step stopped.
+/// The reason that a run or a step stopped.
 #[derive(Clone, Copy, Debug, PartialEq, Eq)]
 pub enum Stop {
     /// The code at the counter is outside the table.

@@ -1,13 +1,13 @@
--- The port of a 4001: what its latch holds and what the processor reads, line by line.
--- (4001 data sheet: by its mask a line is an input or an output; WRR writes the latch, RDR reads
--- the input lines. Our own choice: positive logic, a latch bit of 0 at each input line, and that an
--- output line reads the constant of its mask.)
+-- The port of a 4001, line by line: what its latch holds and what the processor reads. (4001 data
+-- sheet: the mask makes a line an input or an output; WRR writes the latch, RDR reads the input
+-- lines. Our own choice: positive logic, a latch bit of 0 at each input line, and that an output
+-- line reads the constant of its mask.)
 use Rattle.std.specs.Prelude.{ℕ, Bool, true, false, ◌==◌, List, Option, Some, None, slice_index_or, if◌then◌else◌}
 use Rattle.mcs_nibble.specs.Bits.{bit_of, nibble_of}
 use Rattle.mcs_nibble.specs.declared.lines.LineMask.{LineMask}
 use Rattle.mcs_nibble.specs.declared.lines.LineMask.TheVariants.{Input, Zero, One}
 
--- whether a mask makes its line an input
+-- true if a mask makes its line an input
 abbrev pub is_input : LineMask → Bool
 is_input Input = true
 is_input Zero = false
@@ -33,18 +33,18 @@ mask_of c =
 abbrev pub mask_at : List LineMask → ℕ → LineMask
 mask_at mask k = slice_index_or mask k Input
 
--- bit k of what the latch holds once n is written: that of n on an output line, 0 on an input line
+-- bit k of the latch after n is written: bit k of n on an output line, 0 on an input line
 abbrev pub latch_bit : List LineMask → ℕ → ℕ → ℕ
 latch_bit mask n k = if is_input (mask_at mask k) then 0 else bit_of n k
 
--- what the latch holds once n is written
+-- the latch after n is written
 unfoldable pub latch_value : List LineMask → ℕ → ℕ
 latch_value mask n = nibble_of (latch_bit mask n)
 
--- bit k of what is read, where `inputs` gives the level of each input line
+-- bit k of the value that is read; `inputs` gives the level of each input line
 abbrev pub read_bit : (ℕ → ℕ) → List LineMask → ℕ → ℕ
 read_bit inputs mask k = elim (mask_at mask k) [ Input ↦ inputs k | Zero ↦ 0 | One ↦ 1 ]
 
--- what is read at the port
+-- the value that is read at the port
 unfoldable pub read_lines : (ℕ → ℕ) → List LineMask → ℕ
 read_lines inputs mask = nibble_of (read_bit inputs mask)

@@ -28,7 +28,7 @@ impl Addr {
     /// The last address, 4095.
     pub const MAX: Addr = Addr { value: 4095 };
 
-    /// The address of a number, or none where it is above 4095.
+    /// Returns the address of a number, or `None` if it is above 4095.
     pub fn of(value: u16) -> Option<Addr>
         ensures in_range { IsSome result ↔ (value < 4096) }
         ensures value { IfSome result (λ a. a ≡ value) }
@@ -40,7 +40,7 @@ impl Addr {
         }
     }
 
-    /// The address of word `low` on a page.
+    /// Returns the address of word `low` on a page.
     pub fn on_page(page: Nibble, low: u8) -> Addr
         ensures { result ≡ 256 * page + low }
     {
@@ -49,7 +49,7 @@ impl Addr {
         }
     }
 
-    /// The number, 0 to 4095.
+    /// Returns the number, 0 to 4095.
     pub fn get(self) -> u16
         ensures value { result ≡ self }
         ensures in_range { result < 4096 }
@@ -57,7 +57,7 @@ impl Addr {
         self.value
     }
 
-    /// The page, which is the number of the ROM that the address selects.
+    /// Returns the page, which is the number of the ROM that the address selects.
     pub fn page(self) -> Nibble
         ensures page { result ≡ self / 256 }
         ensures in_range { self / 256 < 16 }
@@ -65,14 +65,14 @@ impl Addr {
         Nibble::low_of((self.value / 256) as u8)
     }
 
-    /// The word on the page.
+    /// Returns the word on the page.
     pub fn low(self) -> u8
         ensures { result ≡ self % 256 }
     {
         (self.value % 256) as u8
     }
 
-    /// The address `n` words on; after the last address comes the first.
+    /// Returns the address `n` words later. The first address follows the last one.
     pub fn plus(self, n: u16) -> Addr
         ensures { result ≡ (self + n) % 4096 }
     {

@@ -23,7 +23,7 @@ impl BankNo {
     /// Bank 0.
     pub const ZERO: BankNo = BankNo { value: 0 };
 
-    /// The bank of a number, or none where it is above 7.
+    /// Returns the bank of a number, or `None` if it is above 7.
     pub fn of(value: u8) -> Option<BankNo>
         ensures in_range { IsSome result ↔ (value < 8) }
         ensures value { IfSome result (λ n. n ≡ value) }
@@ -35,7 +35,7 @@ impl BankNo {
         }
     }
 
-    /// The number, 0 to 7.
+    /// Returns the number, 0 to 7.
     pub fn get(self) -> u8
         ensures value { result ≡ self }
         ensures in_range { result < 8 }
@@ -64,7 +64,7 @@ impl StatusNo {
     /// Status character 0.
     pub const ZERO: StatusNo = StatusNo { value: 0 };
 
-    /// The status character of a number, or none where it is above 3.
+    /// Returns the status character of a number, or `None` if it is above 3.
     pub fn of(value: u8) -> Option<StatusNo>
         ensures in_range { IsSome result ↔ (value < 4) }
         ensures value { IfSome result (λ n. n ≡ value) }
@@ -76,7 +76,7 @@ impl StatusNo {
         }
     }
 
-    /// The number, 0 to 3.
+    /// Returns the number, 0 to 3.
     pub fn get(self) -> u8
         ensures value { result ≡ self }
         ensures in_range { result < 4 }

@@ -26,7 +26,7 @@ impl Bit {
     /// The bit 1.
     pub const ONE: Bit = Bit { value: 1 };
 
-    /// The bit of a number, or none where it is above 1.
+    /// Returns the bit of a number, or `None` if it is above 1.
     pub fn of(value: u8) -> Option<Bit>
         ensures in_range { IsSome result ↔ (value < 2) }
         ensures value { IfSome result (λ b. b ≡ value) }
@@ -34,7 +34,7 @@ impl Bit {
         if value < 2 { Some(Bit { value }) } else { None }
     }
 
-    /// 1 where the fact holds, else 0.
+    /// Returns 1 if the fact holds, and 0 otherwise.
     pub fn when(holds: bool) -> Bit
         ensures { result ≡ (if holds then 1 else 0) }
     {
@@ -43,14 +43,14 @@ impl Bit {
         }
     }
 
-    /// The lowest bit of a byte.
+    /// Returns the lowest bit of a byte.
     pub fn low_of(byte: u8) -> Bit
         ensures { result ≡ byte % 2 }
     {
         Bit { value: byte % 2 }
     }
 
-    /// The number, 0 or 1.
+    /// Returns the number, 0 or 1.
     pub fn get(self) -> u8
         ensures value { result ≡ self }
         ensures in_range { result < 2 }
@@ -58,7 +58,7 @@ impl Bit {
         self.value
     }
 
-    /// The other bit.
+    /// Returns the other bit.
     pub fn complement(self) -> Bit
         ensures { result ≡ 1 - self }
     {

@@ -5,7 +5,7 @@ ghost use Rattle.mcs_nibble.specs.Bits.{bit_of};
 use crate::bits::Bit;
 use std::marker::Model;
 
-/// Four bits, 0 to 15: what the accumulator, a register, a RAM character or a port holds.
+/// Four bits, 0 to 15: the contents of the accumulator, a register, a RAM character or a port.
 #[derive(Clone, Copy, Debug, Default, PartialEq, Eq)]
 pub struct Nibble {
     value: u8,
@@ -31,7 +31,7 @@ impl Nibble {
     /// The greatest nibble, 15.
     pub const MAX: Nibble = Nibble { value: 15 };
 
-    /// The nibble of a number, or none where it is above 15.
+    /// Returns the nibble of a number, or `None` if it is above 15.
     pub fn of(value: u8) -> Option<Nibble>
         ensures in_range { IsSome result ↔ (value < 16) }
         ensures value { IfSome result (λ n. n ≡ value) }
@@ -43,21 +43,21 @@ impl Nibble {
         }
     }
 
-    /// The lower four bits of a byte.
+    /// Returns the lower four bits of a byte.
     pub fn low_of(byte: u8) -> Nibble
         ensures { result ≡ byte % 16 }
     {
         Nibble { value: byte % 16 }
     }
 
-    /// The upper four bits of a byte.
+    /// Returns the upper four bits of a byte.
     pub fn high_of(byte: u8) -> Nibble
         ensures { result ≡ byte / 16 }
     {
         Nibble { value: byte / 16 }
     }
 
-    /// The nibble of four bits, bit 0 first.
+    /// Returns the nibble of four bits, bit 0 first.
     pub fn of_bits(b0: Bit, b1: Bit, b2: Bit, b3: Bit) -> Nibble
         ensures value { result ≡ b0 + 2 * b1 + 4 * b2 + 8 * b3 }
         ensures bit_0 { bit_of result 0 ≡ b0 }
@@ -70,7 +70,7 @@ impl Nibble {
         }
     }
 
-    /// The number, 0 to 15.
+    /// Returns the number, 0 to 15.
     pub fn get(self) -> u8
         ensures value { result ≡ self }
         ensures in_range { result < 16 }
@@ -78,8 +78,8 @@ impl Nibble {
         self.value
     }
 
-    /// The sum with `n` and a carry: the nibble modulo 16, and the carry out of it.
-    /// Source: Intel MCS-4 Users Manual, ADD.
+    /// Returns the sum with `n` and a carry: the nibble modulo 16, and the carry out of it. Source: Intel MCS-4 Users
+    /// Manual, ADD.
     pub fn add(self, n: Nibble, cy: Bit) -> (Nibble, Bit)
         ensures sum { result.0 ≡ (self + n + cy) % 16 }
         ensures carry { result.1 ≡ (self + n + cy) / 16 }
@@ -88,9 +88,8 @@ impl Nibble {
         (Nibble::low_of(sum), Bit::low_of(sum / 16))
     }
 
-    /// The difference to `n` with a borrow, as the 4004 makes it: the sum with the complements of
-    /// `n` and of the carry. A carry of 1 out of it says that nothing was borrowed.
-    /// Source: Intel MCS-4 Users Manual, SUB.
+    /// Returns the difference to `n` with a borrow, as the 4004 computes it: the sum with the complements of `n` and of
+    /// the carry. A carry of 1 out of it means that nothing was borrowed. Source: Intel MCS-4 Users Manual, SUB.
     pub fn sub_borrow(self, n: Nibble, cy: Bit) -> (Nibble, Bit)
         ensures sum { result.0 ≡ (self + (15 - n) + (1 - cy)) % 16 }
         ensures carry { result.1 ≡ (self + (15 - n) + (1 - cy)) / 16 }
@@ -99,7 +98,7 @@ impl Nibble {
         (Nibble::low_of(sum), Bit::low_of(sum / 16))
     }
 
-    /// The nibble with each bit turned over.
+    /// Returns the nibble with each bit inverted.
     pub fn complement(self) -> Nibble
         ensures { result ≡ 15 - self }
     {
@@ -108,7 +107,7 @@ impl Nibble {
         }
     }
 
-    /// Bit `k`, where bit 0 is the lowest.
+    /// Returns bit `k`. Bit 0 is the lowest.
     pub fn bit(self, k: u8) -> Bit
         requires { k < 4 }
         ensures { result ≡ bit_of self k }

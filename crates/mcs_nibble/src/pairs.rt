@@ -23,7 +23,7 @@ impl PairNo {
     /// Pair 0.
     pub const ZERO: PairNo = PairNo { value: 0 };
 
-    /// The pair of a number, or none where it is above 7.
+    /// Returns the pair of a number, or `None` if it is above 7.
     pub fn of(value: u8) -> Option<PairNo>
         ensures in_range { IsSome result ↔ (value < 8) }
         ensures value { IfSome result (λ n. n ≡ value) }
@@ -35,7 +35,7 @@ impl PairNo {
         }
     }
 
-    /// The pair that bits 1 to 3 of an instruction code name.
+    /// Returns the pair that bits 1 to 3 of an instruction code name.
     pub fn of_code(byte: u8) -> PairNo
         ensures { result ≡ byte % 16 / 2 }
     {
@@ -44,7 +44,7 @@ impl PairNo {
         }
     }
 
-    /// The number, 0 to 7.
+    /// Returns the number, 0 to 7.
     pub fn get(self) -> u8
         ensures value { result ≡ self }
         ensures in_range { result < 8 }

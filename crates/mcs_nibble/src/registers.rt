@@ -23,7 +23,7 @@ impl RegNo {
     /// Register 0.
     pub const ZERO: RegNo = RegNo { value: 0 };
 
-    /// The register of a number, or none where it is above 15.
+    /// Returns the register of a number, or `None` if it is above 15.
     pub fn of(value: u8) -> Option<RegNo>
         ensures in_range { IsSome result ↔ (value < 16) }
         ensures value { IfSome result (λ n. n ≡ value) }
@@ -35,14 +35,14 @@ impl RegNo {
         }
     }
 
-    /// The register that the lower four bits of an instruction code name.
+    /// Returns the register that the lower four bits of an instruction code name.
     pub fn of_code(byte: u8) -> RegNo
         ensures { result ≡ byte % 16 }
     {
         RegNo { value: byte % 16 }
     }
 
-    /// The number, 0 to 15.
+    /// Returns the number, 0 to 15.
     pub fn get(self) -> u8
         ensures value { result ≡ self }
         ensures in_range { result < 16 }

@@ -2,8 +2,9 @@
 use Rattle.std.specs.Prelude.{◌≡◌, ℕ, List, Bool, Ok, None}
 use Rattle.mcs_model.specs.declared.board.BoardParts.{BoardParts}
 use Rattle.mcs_model.specs.declared.command.Command.TheVariants.{Wire, Load, Reset}
-use Rattle.mcs_model.specs.BenchState.{BenchState, new_bench_state}
-use Rattle.mcs_model.specs.Command.{after, machine_of, own_refusal}
+use Rattle.mcs_model.specs.Bus.{BusState}
+use Rattle.mcs_model.specs.BenchState.{BenchState, new_bench_state, new_regs}
+use Rattle.mcs_model.specs.Command.{after, machine_of, refusal_of_command}
 use Rattle.mcs_model.specs.Images.{by_address}
 use Rattle.mcs_source.specs.Assembly.{assembly_of_text}
 use Rattle.mcs_wiring.specs.Wiring.{board_of_text}
@@ -26,7 +27,14 @@ pub record AreAccepted (board program : List ℕ) (b : BoardParts) (image : List
   pub pairs : List (ℕ × ℕ)
   pub spells : assembly_of_text program ≡ Ok pairs
   pub loads : image ≡ by_address pairs
-  pub fits : own_refusal (wired b) (Load image) ≡ None
+  pub fits : refusal_of_command (wired b) (Load image) ≡ None
+
+-- a rig with a new processor, in which no call is open, is the machine of two texts
+pub record IsGiven (board program : List ℕ) (rig : BusState) : Type 0 where
+  pub parts : BoardParts
+  pub loaded : List (ℕ × ℕ)
+  pub accepted : AreAccepted board program parts loaded
+  pub given : (new_regs, rig, 0) ≡ machine_given parts loaded
 
 -- what an outcome promises of the machine of two texts
 pub record IsProvedOf (board program : List ℕ) (p : Tracked → Bool) (outcome : Outcome) : Type 0 where

@@ -1,13 +1,21 @@
 //! The answer to a question, a line.
+ghost use Rattle.std.specs.Prelude.{◌≡◌, ◌++◌, string_bytes, IfOk, OnOk};
+ghost use Rattle.std.specs.List.{flat_map};
+ghost use Rattle.mcs_prove.specs.Answers.{IsAnswered, line_of_answer, outcome_line, refusal_line, refusal_status, spaced, status_of_answer};
+ghost use Rattle.mcs_prove.specs.Questions.{IsAnswerTo};
+
 use crate::fault::Refusal;
-use crate::proving::prove;
+use crate::proving::{prove, prove_by_sets};
 use crate::question::{Question, question_of};
 use mcs_check::Outcome;
 use mcs_model::refusal_numbers;
 use mcs_search::MOST;
 use std::alloc::{AllocError, Global};
 
-/// The exit status where the machine was searched.
+/// The bytes of a MB.
+const MB: usize = 1_048_576;
+
+/// The exit status where there is an outcome.
 const ANSWERED: u8 = 0;
 
 /// The exit status where a line of the question is none.
@@ -23,79 +31,124 @@ pub struct Answer {
     pub status: u8,
 }
 
-/// Returns the line of values that were read.
-fn way_text(alloc: Global, values: &[u8]) -> Result<String, AllocError> {
-    let mut text = String::from_str(alloc, "may fail")?;
+/// Writes values that were read.
+fn push_values(out: &mut String, values: &[u8]) -> Result<(), AllocError>
+    ensures { OnOk result (string_bytes out.new ≡ string_bytes out.old ++ flat_map spaced values.now) }
+{
     for value in values {
-        text.push_str(format!(in alloc; " {value}")?.as_str())?;
+        write!(out, " {value}")?;
     }
-    Ok(text)
+    Ok(())
 }
 
-/// Returns the line of an outcome.
-fn outcome_text(alloc: Global, outcome: &Outcome) -> Result<String, AllocError> {
+/// Writes the line of an outcome.
+fn push_outcome(out: &mut String, outcome: &Outcome) -> Result<(), AllocError>
+    ensures { OnOk result (string_bytes out.new ≡ string_bytes out.old ++ outcome_line outcome.now) }
+{
     match outcome {
-        Outcome::Holds(states) => format!(in alloc; "holds {states}"),
-        Outcome::MayFail(values) => way_text(alloc, values),
-        Outcome::TooMany => String::from_str(alloc, "too many"),
-        Outcome::GaveUp => String::from_str(alloc, "gave up"),
+        Outcome::Holds(states) => write!(out, "holds {states}"),
+        Outcome::MayFail(values) => {
+            out.push_str("may fail")?;
+            push_values(out, values)
+        }
+        Outcome::TooMany => out.push_str("too many"),
+        Outcome::NoMemory(states) => write!(out, "no room {states}"),
+        Outcome::GaveUp => out.push_str("gave up"),
+    }
+}
+
+/// Writes the line of a refusal.
+fn push_refusal(out: &mut String, refusal: Refusal) -> Result<(), AllocError>
+    ensures { OnOk result (string_bytes out.new ≡ string_bytes out.old ++ refusal_line refusal) }
+{
+    match refusal {
+        Refusal::NoMemory => write!(out, "no {}", refusal_numbers::NO_MEMORY),
+        Refusal::Wiring(fault) => write!(out, "no {}", fault.number()),
+        Refusal::Program(line, fault) => write!(out, "no {} {line}", fault.number()),
+        Refusal::NoRom => write!(out, "no {}", refusal_numbers::NO_ROM),
+        Refusal::Line(line) => write!(out, "wrong line {line}"),
+        Refusal::NotWhole => out.push_str("no question"),
+    }
+}
+
+/// Writes the line of an answer.
+fn push_answer(out: &mut String, found: &Result<Outcome, Refusal>) -> Result<(), AllocError>
+    ensures { OnOk result (string_bytes out.new ≡ string_bytes out.old ++ line_of_answer found.now) }
+{
+    match found {
+        Ok(outcome) => push_outcome(out, outcome),
+        Err(refusal) => push_refusal(out, *refusal),
     }
 }
 
 /// Returns the exit status of a refusal.
-fn status_of(refusal: Refusal) -> u8 {
+fn refusal_status(refusal: Refusal) -> u8
+    ensures { result ≡ refusal_status refusal }
+{
     match refusal {
         Refusal::Line(_) | Refusal::NotWhole => WRONG_QUESTION,
         _ => REFUSED,
     }
 }
 
-/// Returns the answer of a refusal.
-fn refused(alloc: Global, refusal: Refusal) -> Result<Answer, AllocError> {
-    let text = match refusal {
-        Refusal::NoMemory => return Err(AllocError),
-        Refusal::Wiring(fault) => format!(in alloc; "no {}", fault.number())?,
-        Refusal::Program(line, fault) => format!(in alloc; "no {} {line}", fault.number())?,
-        Refusal::NoRom => format!(in alloc; "no {}", refusal_numbers::NO_ROM)?,
-        Refusal::Line(line) => format!(in alloc; "wrong line {line}")?,
-        Refusal::NotWhole => String::from_str(alloc, "no question")?,
-    };
-    Ok(Answer {
-        text,
-        status: status_of(refusal),
-    })
+/// Returns the exit status of an answer.
+fn status_of(found: &Result<Outcome, Refusal>) -> u8
+    ensures { result ≡ status_of_answer found.now }
+{
+    match found {
+        Ok(_) => ANSWERED,
+        Err(refusal) => refusal_status(*refusal),
+    }
 }
 
 /// Returns the outcome of a question.
-fn outcome_of(alloc: Global, text: &str) -> Result<Outcome, Refusal> {
+fn outcome_of(alloc: Global, text: &str) -> Result<Outcome, Refusal>
+    ensures { IfOk result (IsAnswerTo text.now) }
+{
     let Question {
         board,
         program,
         nevers,
         most,
+        sets,
+        memory,
         pause,
         is_whole,
+        ..
     } = question_of(alloc, text)?;
     let (Some(board), Some(program), true) = (board, program, is_whole) else {
         return Err(Refusal::NotWhole);
     };
+    if sets > 0 {
+        return prove_by_sets(
+            alloc,
+            board.as_str(),
+            program.as_str(),
+            &nevers,
+            sets as usize,
+            memory as usize * MB,
+        );
+    }
     prove(
         alloc,
         board.as_str(),
         program.as_str(),
         nevers,
-        most.min(MOST),
+        (most as usize).min(MOST),
+        memory as usize * MB,
         pause,
     )
 }
 
 /// Answers a question.
-pub fn answer_to(alloc: Global, text: &str) -> Result<Answer, AllocError> {
-    match outcome_of(alloc, text) {
-        Ok(outcome) => Ok(Answer {
-            text: outcome_text(alloc, &outcome)?,
-            status: ANSWERED,
-        }),
-        Err(refusal) => refused(alloc, refusal),
-    }
+pub fn answer_to(alloc: Global, text: &str) -> Result<Answer, AllocError>
+    ensures { IfOk result (λ answer. IsAnswered text.now (string_bytes answer.text) answer.status) }
+{
+    let found = outcome_of(alloc, text);
+    let mut line = String::new(alloc);
+    push_answer(&mut line, &found)?;
+    Ok(Answer {
+        text: line,
+        status: status_of(&found),
+    })
 }

@@ -6,11 +6,11 @@
 
 mod answer;
 mod fault;
+mod lines;
 mod machine;
 mod proving;
 mod question;
-mod words;
 
 pub use answer::{Answer, answer_to};
 pub use fault::Refusal;
-pub use proving::prove;
+pub use proving::{prove, prove_by_sets};

@@ -2,13 +2,12 @@
 ghost use Rattle.std.specs.Prelude.{◌≡◌, None, IfOk, IfSome};
 ghost use Rattle.std.specs.List.{list_any};
 ghost use Rattle.mcs_model.specs.ChipWrites.{with_rom_bytes};
-ghost use Rattle.mcs_model.specs.Command.{lacks_rom, own_refusal};
+ghost use Rattle.mcs_model.specs.Command.{lacks_rom, refusal_of_command};
 ghost use Rattle.mcs_model.specs.declared.command.Command.TheVariants.{Load};
+ghost use Rattle.mcs_model.specs.BenchState.{new_regs};
 ghost use Rattle.mcs_prove.specs.Given.{machine_given, wired};
 
 use mcs_board::{BenchRig, every_board_fits_the_bench};
-use mcs_check::Replica;
-use mcs_cpu4004::Cpu;
 use mcs_model::board::Board;
 use mcs_model::image::Image;
 use std::alloc::{AllocError, Global};
@@ -32,16 +31,17 @@ fn load(rig: &mut BenchRig, image: &Image)
     }
 }
 
-/// Returns the machine of a bench after `wire`, `asm` and `reset`; none if the board lacks a ROM of the image.
-pub(crate) fn machine_given(
+/// Returns the rig of a bench after `wire`, `asm` and `reset`, whose processor is then a new one; none if the board lacks a
+/// ROM of the image.
+pub(crate) fn rig_given(
     alloc: Global,
     board: &Board,
     image: &Image,
-) -> Result<Option<Replica>, AllocError>
-    ensures accepted { IfOk result (λ made. IfSome made (λ machine.
-        own_refusal (wired board.now) (Load image.now) ≡ None)) }
-    ensures given { IfOk result (λ made. IfSome made (λ machine.
-        machine ≡ machine_given board.now image.now)) }
+) -> Result<Option<BenchRig>, AllocError>
+    ensures accepted { IfOk result (λ made. IfSome made (λ rig.
+        refusal_of_command (wired board.now) (Load image.now) ≡ None)) }
+    ensures given { IfOk result (λ made. IfSome made (λ rig.
+        (new_regs, rig, 0) ≡ machine_given board.now image.now)) }
 {
     if lacks_a_rom(board, image) {
         return Ok(None);
@@ -51,5 +51,5 @@ pub(crate) fn machine_given(
     rig.wire(board);
     load(&mut rig, image);
     rig.reset();
-    Ok(Some(Replica::of(Cpu::new(), rig)))
+    Ok(Some(rig))
 }

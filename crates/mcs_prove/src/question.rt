@@ -1,184 +1,237 @@
-//! The lines of a question:
-//!
-//!     most 1000000
-//!     pause 1000000
-//!     wire                        the board's text, up to a line of a dot
-//!     asm                         the program's text, up to a line of a dot
-//!     never                       the conditions that follow are never met all at once
-//!     in ramport 0 line1 1 1
-//!     mistake code call           and the next cycle makes one of these mistakes
-//!     prove                       ends it: what is cut off before is no question
+//! What a text asks, by its lines.
+ghost use Rattle.std.specs.Prelude.{◌≡◌, Some, map, option_map, string_bytes, IfOk, OnOk};
+ghost use Rattle.std.specs.Str.Lines.{lines};
+ghost use Rattle.mcs_model.specs.TextLines.{words_of};
+ghost use Rattle.mcs_prove.specs.declared.question.Section.TheVariants.{Board, Program};
+ghost use Rattle.mcs_prove.specs.Questions.{Asked, after_line, after_line_in, after_said, after_words, asked_by, begin_board, begin_program, ended, nothing_asked, when, with_condition, with_line};
+
 use crate::fault::Refusal;
-use crate::words::{condition_of, is_mistake};
-use mcs_check::{Condition, Never};
-use mcs_model::numeral::number_within;
-use mcs_search::MOST;
+use crate::lines::{MOST_MEMORY, QuestionLine, line_of};
+use mcs_check::Condition;
 use std::alloc::{AllocError, Global};
+use std::marker::Model;
 use std::mem;
 
-/// The longest pause without reads that a question may ask for.
-const LONGEST_PAUSE: u32 = 1_000_000_000;
-
-/// The pause if nothing is said.
+/// The longest pause without reads, in cycles, if nothing is said.
 const PAUSE: u32 = 1_000_000;
 
-/// What is asked.
+/// Where the next line belongs.
+#[derive(Clone, Copy, Debug)]
+pub(crate) enum Section {
+    /// Outside of texts.
+    Lines,
+    /// To the board's text.
+    Board,
+    /// To the program's text.
+    Program,
+}
+
+/// What was asked so far. Contracts see what its fields say.
 #[derive(Drop)]
 pub(crate) struct Question {
     pub(crate) board: Option<String>,
     pub(crate) program: Option<String>,
-    pub(crate) nevers: Vec<Never>,
-    pub(crate) most: usize,
+    pub(crate) nevers: Vec<Vec<Condition>>,
+    pub(crate) most: u32,
+    pub(crate) sets: u32,
+    pub(crate) memory: u32,
     pub(crate) pause: u32,
     pub(crate) is_whole: bool,
-}
-
-/// Where the next line belongs.
-#[derive(Clone, Copy)]
-enum Section {
-    Lines,
-    Board,
-    Program,
-}
-
-/// A question, as far as it was read.
-#[derive(Drop)]
-struct Reader {
-    question: Question,
-    section: Section,
     conditions: Option<Vec<Condition>>,
+    section: Section,
+}
+
+impl Model for Question {
+    ghost use Rattle.std.specs.Prelude.{map, option_map, string_bytes};
+    ghost use Rattle.mcs_prove.specs.Questions.{Asked};
+
+    ghost Value = { Asked };
+
+    ghost view = { λ q. record {
+      board = option_map string_bytes q.board;
+      program = option_map string_bytes q.program;
+      nevers = map (λ n. n.items) q.nevers.items;
+      conditions = option_map (λ cs. cs.items) q.conditions;
+      most = q.most;
+      sets = q.sets;
+      memory = q.memory;
+      pause = q.pause;
+      section = q.section;
+      is_whole = q.is_whole;
+    } };
 }
 
 /// Adds a line to a text.
-fn add_line(text: &mut String, line: &str) -> Result<(), AllocError> {
-    text.push_str(line)?;
-    text.push('\n')?;
+fn add_line(text: &mut Option<String>, line: &str) -> Result<(), AllocError>
+    ensures { OnOk result (option_map string_bytes text.new
+        ≡ with_line (option_map string_bytes text.old) line.now) }
+{
+    if let Some(text) = text {
+        text.push_str(line)?;
+        text.push('\n')?;
+    }
     Ok(())
 }
 
-impl Reader {
+impl Question {
     /// Returns a question of which no line was read.
-    fn new(alloc: Global) -> Reader {
-        Reader {
-            question: Question {
-                board: None,
-                program: None,
-                nevers: Vec::new(alloc),
-                most: 0,
-                pause: PAUSE,
-                is_whole: false,
-            },
-            section: Section::Lines,
+    fn new(alloc: Global) -> Question
+        ensures { result ≡ nothing_asked }
+    {
+        Question {
+            board: None,
+            program: None,
+            nevers: Vec::new(alloc),
+            most: 0,
+            sets: 0,
+            memory: MOST_MEMORY,
+            pause: PAUSE,
+            is_whole: false,
             conditions: None,
+            section: Section::Lines,
         }
     }
 
     /// Ends the conditions that are never met all at once.
-    fn end_never(&mut self) -> Result<(), AllocError> {
+    fn end_never(&mut self) -> Result<(), AllocError>
+        ensures { OnOk result (self.new ≡ ended self.old) }
+    {
         if let Some(conditions) = mem::replace(&mut self.conditions, None) {
-            self.question.nevers.push(Never::of(conditions))?;
+            self.nevers.push(conditions)?;
         }
         Ok(())
     }
 
-    /// Adds a condition. Returns whether these words are one, behind a line `never`.
-    fn add_condition(&mut self, words: &[&str]) -> Result<bool, AllocError> {
-        match (condition_of(words), &mut self.conditions) {
-            (Some(condition), Some(conditions)) => {
+    /// Adds a condition. Returns whether it stands behind a line `never`.
+    fn add_condition(&mut self, condition: Condition) -> Result<bool, AllocError>
+        ensures { IfOk result (λ known. when known self.new
+            ≡ with_condition self.old condition self.old.conditions) }
+    {
+        match &mut self.conditions {
+            None => Ok(false),
+            Some(conditions) => {
                 conditions.push(condition)?;
                 Ok(true)
             }
-            _ => Ok(false),
         }
-    }
-
-    /// Sets a number. Returns whether the word is one.
-    fn set_number(&mut self, name: &str, word: &str) -> bool {
-        match name {
-            "most" => match number_within(word.as_bytes(), MOST as u32) {
-                Some(most) => self.question.most = most as usize,
-                None => return false,
-            },
-            "pause" => match number_within(word.as_bytes(), LONGEST_PAUSE) {
-                Some(pause) if pause > 0 => self.question.pause = pause,
-                _ => return false,
-            },
-            _ => return false,
-        }
-        true
     }
 
     /// Begins the board's text. Returns whether it is the first one.
-    fn begin_board(&mut self, alloc: Global) -> bool {
-        if self.question.board.is_some() {
+    fn begin_board(&mut self, alloc: Global) -> bool
+        ensures { when result self.new ≡ begin_board self.old self.old.board }
+    {
+        if self.board.is_some() {
             return false;
         }
-        self.question.board = Some(String::new(alloc));
+        self.board = Some(String::new(alloc));
         self.section = Section::Board;
         true
     }
 
     /// Begins the program's text. Returns whether it is the first one.
-    fn begin_program(&mut self, alloc: Global) -> bool {
-        if self.question.program.is_some() {
+    fn begin_program(&mut self, alloc: Global) -> bool
+        ensures { when result self.new ≡ begin_program self.old self.old.program }
+    {
+        if self.program.is_some() {
             return false;
         }
-        self.question.program = Some(String::new(alloc));
+        self.program = Some(String::new(alloc));
         self.section = Section::Program;
         true
     }
 
-    /// Reads the words of a line outside of texts. Returns whether they are one of a question.
-    fn read_words(&mut self, alloc: Global, words: &[&str]) -> Result<bool, AllocError> {
-        match words {
-            [] => Ok(true),
-            ["wire"] => Ok(self.begin_board(alloc)),
-            ["asm"] => Ok(self.begin_program(alloc)),
-            ["never"] => {
+    /// Takes what a line says. Returns whether it belongs there.
+    fn take(&mut self, alloc: Global, said: QuestionLine) -> Result<bool, AllocError>
+        ensures { IfOk result (λ known. when known self.new ≡ after_said self.old said) }
+    {
+        match said {
+            QuestionLine::Blank => {}
+            QuestionLine::Most(most) => self.most = most,
+            QuestionLine::Sets(sets) => self.sets = sets,
+            QuestionLine::Memory(memory) => self.memory = memory,
+            QuestionLine::Pause(pause) => self.pause = pause,
+            QuestionLine::Wire => return Ok(self.begin_board(alloc)),
+            QuestionLine::Asm => return Ok(self.begin_program(alloc)),
+            QuestionLine::Never => {
                 self.end_never()?;
                 self.conditions = Some(Vec::new(alloc));
-                Ok(true)
             }
-            ["prove"] => {
+            QuestionLine::Met(condition) => return self.add_condition(condition),
+            QuestionLine::Prove => {
                 self.end_never()?;
-                self.question.is_whole = true;
-                Ok(true)
+                self.is_whole = true;
             }
-            _ if is_mistake(words) => self.add_condition(words),
-            [name, number] => Ok(self.set_number(name, number)),
-            _ => self.add_condition(words),
+        }
+        Ok(true)
+    }
+
+    /// Reads a line outside of texts. Returns whether it is one of a question.
+    fn read_words(&mut self, alloc: Global, line: &str) -> Result<bool, AllocError>
+        ensures { IfOk result (λ known. when known self.new ≡ after_words self.old (words_of line.now)) }
+    {
+        if self.is_whole {
+            return Ok(false);
+        }
+        match line_of(line.as_bytes()) {
+            None => Ok(false),
+            Some(said) => self.take(alloc, said),
         }
     }
 
-    /// Reads a line. Returns whether it is one of a question.
-    fn read_line(&mut self, alloc: Global, line: &str) -> Result<bool, AllocError> {
-        let text = match self.section {
-            Section::Lines if self.question.is_whole => return Ok(false),
-            Section::Lines => {
-                let words: Vec<&str> = line.split_whitespace().collect(alloc)?;
-                return self.read_words(alloc, &words);
-            }
-            Section::Board => &mut self.question.board,
-            Section::Program => &mut self.question.program,
-        };
+    /// Reads a line of the board's text.
+    fn read_board(&mut self, line: &str) -> Result<(), AllocError>
+        ensures { OnOk result (Some self.new ≡ after_line_in Board self.old line.now) }
+    {
         if line == "." {
             self.section = Section::Lines;
-        } else if let Some(text) = text {
-            add_line(text, line)?;
+        } else {
+            add_line(&mut self.board, line)?;
+        }
+        Ok(())
+    }
+
+    /// Reads a line of the program's text.
+    fn read_program(&mut self, line: &str) -> Result<(), AllocError>
+        ensures { OnOk result (Some self.new ≡ after_line_in Program self.old line.now) }
+    {
+        if line == "." {
+            self.section = Section::Lines;
+        } else {
+            add_line(&mut self.program, line)?;
+        }
+        Ok(())
+    }
+
+    /// Reads a line. Returns whether it is one of a question.
+    fn read_line(&mut self, alloc: Global, line: &str) -> Result<bool, AllocError>
+        ensures { IfOk result (λ known. when known self.new ≡ after_line self.old line.now) }
+    {
+        match self.section {
+            Section::Lines => return self.read_words(alloc, line),
+            Section::Board => self.read_board(line)?,
+            Section::Program => self.read_program(line)?,
         }
         Ok(true)
     }
 }
 
-/// Returns the question of a text.
-pub(crate) fn question_of(alloc: Global, text: &str) -> Result<Question, Refusal> {
-    let mut reader = Reader::new(alloc);
-    let mut count = 0usize;
-    for line in text.lines() {
-        count = count.saturating_add(1);
-        if !reader.read_line(alloc, line)? {
-            return Err(Refusal::Line(count));
+/// Returns the lines of a text.
+fn lines_of(alloc: Global, text: &str) -> Result<Vec<&str>, AllocError>
+    ensures { IfOk result (λ found. map (λ l. l.now) found.items ≡ lines text.now) }
+{
+    text.lines().collect(alloc)
+}
+
+/// Returns what a text asks.
+pub(crate) fn question_of(alloc: Global, text: &str) -> Result<Question, Refusal>
+    ensures { IfOk result (λ question. asked_by text.now ≡ Some question) }
+{
+    let lines = lines_of(alloc, text)?;
+    let mut question = Question::new(alloc);
+    for i in 0..lines.len() {
+        if !question.read_line(alloc, lines[i])? {
+            return Err(Refusal::Line(i + 1));
         }
     }
-    Ok(reader.question)
+    Ok(question)
 }

@@ -1,7 +1,6 @@
--- A bank of 4002s as flat lists.
--- Source: MCS-4 Users Manual, 4002: four registers of 16 main and 4 status characters and an output
--- port a chip; SRC selects chip, register and character. That an absent chip reads 0 is our own
--- choice.
+-- A bank of 4002s as flat lists. Source: MCS-4 Users Manual, 4002: each chip has four registers of
+-- 16 main and 4 status characters and an output port; SRC selects chip, register and character.
+-- That an absent chip reads 0 is our own choice.
 use Rattle.std.specs.Prelude.{◌≡◌, ℕ, ◌+◌, ◌*◌, ◌/◌, ◌%◌, ◌^◌, ◌<◌, ◌≤◌, List, [], All, replicate, slice_index, slice_set, length, take, if◌then◌else◌, nat_lt}
 use Rattle.mcs_nibble.specs.Tables.{table_of, flat_rows, column}
 use Rattle.mcs_ram4002.specs.declared.BankWrite.{BankWrite}
@@ -9,7 +8,7 @@ use Rattle.mcs_ram4002.specs.declared.BankWrite.TheVariants.{Character, Status, 
 use Rattle.mcs_ram4002.specs.declared.Chip.{Chip}
 
 pub record BankState : Type 0 where
-  -- how many chips are there
+  -- the number of chips that are present
   pub wired : ℕ
   -- the last SRC byte
   pub src : ℕ
@@ -20,7 +19,7 @@ pub record BankState : Type 0 where
   -- the output ports of chips 0 to 3
   pub ports : List ℕ
 
--- where status character k of the register with SRC high nibble `high` stands
+-- the index of status character k of the register with SRC high nibble `high`
 abbrev pub status_cell : ℕ → ℕ → ℕ
 status_cell high k = high * 4 + k
 
@@ -35,7 +34,7 @@ blank_bank wired =
 
 -- ---- writes
 
--- whether a write is within a bank
+-- a write is within a bank
 abbrev pub IsInBank : BankWrite → Type 0
 IsInBank (Character src n) = Unit {0}
 IsInBank (Status high k n) = k < 4
@@ -56,18 +55,18 @@ with_write b (Status high k n) = record b { status = slice_set b.status (status_
 with_write b (Port chip n) = record b { ports = slice_set b.ports chip n }
 with_write b (Src byte) = record b { src = byte }
 
--- a bank after a write; lost where its chip is absent
+-- a bank after a write, which is lost if its chip is absent
 unfoldable pub after_write : BankState → BankWrite → BankState
 after_write b write = if nat_lt (chip_written write) b.wired then with_write b write else b
 
--- ---- what holds of every bank
+-- ---- the properties of every bank
 
 pub record IsWhole (b : BankState) : Type 0 where
   pub main : length b.main ≡ 256
   pub status : length b.status ≡ 64
   pub ports : length b.ports ≡ 4
 
--- each number is in its range, and what is absent is 0
+-- each number is in its range, and absent parts are 0
 pub record IsValidBank (b : BankState) : Type 0 where
   pub whole : IsWhole b
   pub main : All (λ n. n < 16) b.main
@@ -90,7 +89,7 @@ half_of byte k = byte / 16 ^ k % 16
 unfoldable pub characters_of : List ℕ → List ℕ
 characters_of bytes = table_of (2 * length bytes) (λ k. half_of (slice_index bytes (k / 2)) (k % 2))
 
--- the cells of a chip, each list by index: how a chip stores them is said here alone
+-- the cells of a chip, each list by index: only this definition says how a chip stores them
 abbrev pub main_cells_of : Chip → List ℕ
 main_cells_of c = characters_of c.main
 
@@ -105,7 +104,7 @@ pub record ChipState : Type 0 where
   pub status : List ℕ
   pub port : ℕ
 
--- those of a chip as it stores them
+-- the cells and the port of a chip as it stores them
 abbrev pub cells_of : Chip → ChipState
 cells_of c = record { main = main_cells_of c; status = status_cells_of c; port = c.port }
 

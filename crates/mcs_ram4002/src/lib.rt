@@ -1,8 +1,8 @@
-//! The 4002: RAM chips, and the banks that they form. A chip keeps two characters a byte.
+//! The 4002: RAM chips, and the banks that they form. A chip keeps two characters in a byte.
 //!
-//! A bank by itself is what a processor sees: `src`, `read`, `write`, `read_status`, `write_status` and `write_port` go to
-//! what the last SRC selects. A rig asks and writes by index instead (`at`, `status_at`, `port`, `store`), as whoever looks
-//! at a board does: so what SRC selects is said once there, of the state of all banks.
+//! A bank by itself is what a processor sees: `src`, `read`, `write`, `read_status`, `write_status` and `write_port` go
+//! to what the last SRC selects. A rig reads and writes by index instead (`at`, `status_at`, `port`, `store`), as an
+//! observer of a board does. What SRC selects is therefore defined once there, on the state of all banks.
 #![tactic(auto)]
 
 ghost use Rattle.std.specs.Prelude.{◌≡◌, ℕ, ◌+◌, ◌-◌, ◌*◌, ◌/◌, ◌%◌, ◌<◌, ◌≤◌, All, replicate, slice_index};
@@ -11,7 +11,7 @@ ghost use Rattle.mcs_ram4002.specs.RamBank.{BankState, half_of, cells_of, main_c
 use mcs_nibble::Nibble;
 use std::marker::Model;
 
-/// One write to a bank: where, and what stands there from then on.
+/// One write to a bank: the location, and its new value.
 #[derive(Clone, Copy)]
 pub enum BankWrite {
     /// The character of an SRC byte.
@@ -25,7 +25,7 @@ pub enum BankWrite {
 }
 
 impl BankWrite {
-    /// The chip that it goes to.
+    /// Returns the chip that the write goes to.
     fn chip(self) -> u8
         ensures chip { result ≡ chip_written self }
         ensures few { IsInBank self → result < 4 }
@@ -38,7 +38,7 @@ impl BankWrite {
         }
     }
 
-    /// The SRC byte that a bank keeps after it.
+    /// Returns the SRC byte that a bank keeps after the write.
     fn src_after(self, src: u8) -> u8
         ensures { result ≡ src_after self src }
     {
@@ -49,7 +49,7 @@ impl BankWrite {
     }
 }
 
-/// The half of a byte that holds character `at`: the lower for an even one, the upper for an odd one.
+/// Returns the half of a byte that holds character `at`: the lower for an even one, the upper for an odd one.
 fn half(byte: u8, at: u8) -> Nibble
     ensures { result ≡ half_of byte (at % 2) }
 {
@@ -60,7 +60,7 @@ fn half(byte: u8, at: u8) -> Nibble
     }
 }
 
-/// A byte whose half that holds character `at` is replaced.
+/// Returns a byte with the half that holds character `at` replaced.
 fn with_half(byte: u8, at: u8, n: Nibble) -> u8
     ensures set { half_of result (at % 2) ≡ n }
     ensures kept { half_of result (1 - at % 2) ≡ half_of byte (1 - at % 2) }
@@ -83,7 +83,7 @@ pub struct Chip {
 }
 
 impl Chip {
-    /// A chip of all 0.
+    /// Returns a chip with all 0.
     fn blank() -> Chip
         ensures { result ≡ record { main = replicate 32 0; status = replicate 8 0; port = 0 } }
     {
@@ -94,7 +94,7 @@ impl Chip {
         }
     }
 
-    /// Main character `at`, which is register * 16 + character.
+    /// Returns main character `at`, which is register * 16 + character.
     fn character(&self, at: u8) -> Nibble
         requires { at < 64 }
         ensures { result ≡ slice_index (main_cells_of self.now) at }
@@ -102,7 +102,7 @@ impl Chip {
         half(self.main[usize::from(at / 2)], at)
     }
 
-    /// Status character `at`, which is register * 4 + character.
+    /// Returns status character `at`, which is register * 4 + character.
     fn status_character(&self, at: u8) -> Nibble
         requires { at < 16 }
         ensures { result ≡ slice_index (status_cells_of self.now) at }
@@ -139,7 +139,7 @@ impl Chip {
         }
     }
 
-    /// A law: each character, each status character and the port is a nibble.
+    /// Proves that each character, each status character and the port is a nibble.
     fn show_state_is_valid(&self)
         ensures { IsValidChip self.now }
     {
@@ -147,7 +147,7 @@ impl Chip {
     }
 }
 
-/// A law: each number that a chip holds is a nibble.
+/// Proves that each number that a chip holds is a nibble.
 fn are_valid(chips: &[Chip])
     ensures { All IsValidChip chips.now }
 {
@@ -156,7 +156,7 @@ fn are_valid(chips: &[Chip])
     }
 }
 
-/// The same chips.
+/// Returns the same chips.
 fn copied<const CHIPS: usize>(chips: &[Chip; CHIPS]) -> [Chip; CHIPS]
     ensures { result ≡ chips.now }
 {
@@ -167,11 +167,11 @@ fn copied<const CHIPS: usize>(chips: &[Chip; CHIPS]) -> [Chip; CHIPS]
     copy
 }
 
-/// A bank of RAM chips, of which the first ones are there. Absent characters, status characters and ports
-/// read 0, and writes to them are lost. The bank keeps its own last SRC byte.
+/// A bank of RAM chips. The first ones are present. Absent characters, status characters and ports read 0, and writes
+/// to them are lost. The bank keeps its own last SRC byte.
 ///
-/// An SRC byte selects the chip by its two upper bits, the register by the next two and the character by
-/// its low nibble.
+/// An SRC byte selects the chip by its two upper bits, the register by the next two and the character by its low
+/// nibble.
 #[derive(Drop)]
 pub struct Bank<const CHIPS: usize> {
     chips: [Chip; CHIPS],
@@ -191,7 +191,7 @@ impl<const CHIPS: usize> Model for Bank<CHIPS> {
 }
 
 impl<const CHIPS: usize> Bank<CHIPS> {
-    /// A bank whose first `wired` chips are there, with all 0.
+    /// Returns a bank whose first `wired` chips are present, with all 0.
     pub fn new(wired: usize) -> Self
         requires { wired ≤ CHIPS }
         ensures { result ≡ blank_bank wired }
@@ -203,7 +203,7 @@ impl<const CHIPS: usize> Bank<CHIPS> {
         }
     }
 
-    /// An equal bank.
+    /// Returns an equal bank.
     pub fn copy(&self) -> Self
         ensures { result ≡ self.now }
     {
@@ -214,7 +214,7 @@ impl<const CHIPS: usize> Bank<CHIPS> {
         }
     }
 
-    /// Does a write; lost where its chip is absent.
+    /// Does a write. It is lost if its chip is absent.
     #[inline(always)]
     pub fn store(&mut self, write: BankWrite)
         requires { IsInBank write }
@@ -237,7 +237,7 @@ impl<const CHIPS: usize> Bank<CHIPS> {
         self.store(BankWrite::Src(byte));
     }
 
-    /// The last SRC byte.
+    /// Returns the last SRC byte.
     pub fn last_src(&self) -> u8
         ensures { result ≡ self.now.src }
     {
@@ -245,7 +245,7 @@ impl<const CHIPS: usize> Bank<CHIPS> {
         self.src
     }
 
-    /// The character of an SRC byte.
+    /// Returns the character of an SRC byte.
     pub fn at(&self, src: u8) -> Nibble
         ensures { result ≡ slice_index self.now.main src }
     {
@@ -264,7 +264,7 @@ impl<const CHIPS: usize> Bank<CHIPS> {
         self.store(BankWrite::Character(src, n));
     }
 
-    /// Status character `k`, 0 to 3, of the register that the high nibble of an SRC byte selects.
+    /// Returns status character `k`, 0 to 3, of the register that the high nibble of an SRC byte selects.
     pub fn status_at(&self, high: Nibble, k: u8) -> Nibble
         requires { k < 4 }
         ensures { result ≡ slice_index self.now.status (status_cell high k) }
@@ -286,7 +286,7 @@ impl<const CHIPS: usize> Bank<CHIPS> {
         self.store(BankWrite::Status(high, k, n));
     }
 
-    /// The output port of a chip, 0 to 3.
+    /// Returns the output port of a chip, 0 to 3.
     pub fn port(&self, chip: u8) -> Nibble
         requires { chip < 4 }
         ensures { result ≡ slice_index self.now.ports chip }
@@ -299,7 +299,7 @@ impl<const CHIPS: usize> Bank<CHIPS> {
         }
     }
 
-    /// The character that the last SRC selected.
+    /// Returns the character that the last SRC selected.
     pub fn read(&self) -> Nibble
         ensures { result ≡ slice_index self.now.main self.now.src }
     {
@@ -314,7 +314,7 @@ impl<const CHIPS: usize> Bank<CHIPS> {
         self.set_at(src, n);
     }
 
-    /// Status character `k`, 0 to 3, of the register that the last SRC selected.
+    /// Returns status character `k`, 0 to 3, of the register that the last SRC selected.
     pub fn read_status(&self, k: u8) -> Nibble
         requires { k < 4 }
         ensures { result ≡ slice_index self.now.status (status_cell (self.now.src / 16) k) }
@@ -339,7 +339,7 @@ impl<const CHIPS: usize> Bank<CHIPS> {
         self.store(BankWrite::Port(chip, n));
     }
 
-    /// Makes all characters, status characters, ports and the SRC byte 0. The chips stay.
+    /// Sets all characters, status characters, ports and the SRC byte to 0. The chips stay.
     pub fn clear(&mut self)
         ensures { self.new ≡ blank_bank self.old.wired }
     {
@@ -348,7 +348,8 @@ impl<const CHIPS: usize> Bank<CHIPS> {
         *self = Bank::new(wired);
     }
 
-    /// A law: there are that many characters, status characters and ports, each a nibble, and what is absent is 0.
+    /// Proves that the lists have their lengths, that each character, status character and port is a nibble, and that
+    /// absent ones are 0.
     pub fn show_state_is_valid(&self)
         ensures { IsValidBank self.now }
     {

@@ -1,7 +1,7 @@
 //! The 4001: 256 bytes of program memory and a port of four lines.
 //!
-//! A `Rom` is a whole chip. A rig keeps the port of each ROM, a `RomPort`, and the bytes of all ROMs in one list by
-//! address, so that a fetch reads one place of it.
+//! A `Rom` is a whole chip. A rig keeps the port of each ROM, a `RomPort`. It keeps the bytes of all ROMs in one list
+//! by address, so that a fetch reads one element of it.
 #![tactic(auto)]
 
 ghost use Rattle.std.specs.Prelude.{◌≡◌, ℕ, ◌<◌, All, slice_index, slice_set, replicate, length};
@@ -12,7 +12,7 @@ ghost use Rattle.mcs_nibble.specs.Ports.{latch_value, latch_bit, read_bit, read_
 use mcs_nibble::{Bit, LineMask, Nibble};
 use std::marker::Model;
 
-/// The port of a 4001, by the MCS-4 Users Manual: four lines, each of which its mask makes an input or an output. The
+/// The port of a 4001, by the MCS-4 Users Manual: four lines. The mask of each line makes it an input or an output. The
 /// latch holds a value on the output lines; its bit at an input line is 0.
 #[derive(Drop)]
 pub struct RomPort {
@@ -32,7 +32,7 @@ impl Model for RomPort {
     ghost invariant = { λ r. latch_value r.mask r.port ≡ r.port };
 }
 
-/// What the latch holds on line `k` once `n` is written.
+/// Returns what the latch holds on line `k` after `n` is written.
 fn held_line(mask: &[LineMask; 4], n: Nibble, k: u8) -> Bit
     requires { k < 4 }
     ensures { result ≡ latch_bit mask.now n k }
@@ -43,7 +43,7 @@ fn held_line(mask: &[LineMask; 4], n: Nibble, k: u8) -> Bit
     }
 }
 
-/// What the processor reads at line `k`, where `inputs` has the levels of the input lines.
+/// Returns what the processor reads at line `k`. `inputs` has the levels of the input lines.
 fn read_line(mask: &[LineMask; 4], inputs: Nibble, k: u8) -> Bit
     requires { k < 4 }
     ensures { result ≡ read_bit (bit_of inputs) mask.now k }
@@ -55,7 +55,7 @@ fn read_line(mask: &[LineMask; 4], inputs: Nibble, k: u8) -> Bit
     }
 }
 
-/// What the latch of a port with these masks holds once `n` is written: 0 on input lines, `n` on output lines.
+/// Returns what the latch of a port with these masks holds after `n` is written: 0 on input lines, `n` on output lines.
 #[tactic(auto, unfolding(mcs_nibble::specs::Ports::latch_value))]
 pub fn held_port(mask: &[LineMask; 4], n: Nibble) -> Nibble
     ensures { result ≡ latch_value mask.now n }
@@ -68,8 +68,8 @@ pub fn held_port(mask: &[LineMask; 4], n: Nibble) -> Nibble
     )
 }
 
-/// What the processor reads at a port with these masks, where bit `k` of `inputs` is the level of line `k`: that level
-/// on an input line, and the constant of its mask on an output line.
+/// Returns what the processor reads at a port with these masks: the level on an input line, and the constant of its
+/// mask on an output line. Bit `k` of `inputs` is the level of line `k`.
 #[tactic(auto, unfolding(mcs_nibble::specs::Ports::read_lines))]
 pub fn read_port_of(mask: &[LineMask; 4], inputs: Nibble) -> Nibble
     ensures { result ≡ read_lines (bit_of inputs) mask.now }
@@ -83,7 +83,7 @@ pub fn read_port_of(mask: &[LineMask; 4], inputs: Nibble) -> Nibble
 }
 
 impl RomPort {
-    /// A port with these masks, of which mask `k` is that of line `k`. The latch is 0.
+    /// Returns a port with these masks. Mask `k` is that of line `k`. The latch is 0.
     pub fn new(mask: [LineMask; 4]) -> RomPort
         ensures { result ≡ record { mask = mask; port = 0 } }
     {
@@ -93,7 +93,7 @@ impl RomPort {
         }
     }
 
-    /// An equal port.
+    /// Returns an equal port.
     pub fn copy(&self) -> RomPort
         ensures { result ≡ self.now }
     {
@@ -111,29 +111,29 @@ impl RomPort {
         self.port = held_port(&self.mask, n);
     }
 
-    /// The port as RDR reads it, where bit `k` of `inputs` is the level of line `k`: that level on an input
-    /// line, and the constant of its mask on an output line.
+    /// Returns the port as RDR reads it: the level on an input line, and the constant of its mask on an output line.
+    /// Bit `k` of `inputs` is the level of line `k`.
     pub fn read_port(&self, inputs: Nibble) -> Nibble
         ensures { result ≡ read_lines (bit_of inputs) self.now.mask }
     {
         read_port_of(&self.mask, inputs)
     }
 
-    /// What the latch holds.
+    /// Returns what the latch holds.
     pub fn port(&self) -> Nibble
         ensures { result ≡ self.now.port }
     {
         self.port
     }
 
-    /// Makes the latch 0.
+    /// Sets the latch to 0.
     pub fn clear_port(&mut self)
         ensures { self.new ≡ record self.old { port = 0 } }
     {
         self.port = Nibble::ZERO;
     }
 
-    /// A law: the latch holds a nibble, whose bits at input lines are 0.
+    /// Proves that the latch holds a nibble, and that its bits at input lines are 0.
     pub fn show_state_is_valid(&self)
         ensures { IsValidPort self.now }
     {
@@ -156,7 +156,7 @@ impl Model for Rom {
     ghost view = { λ r. record { mask = r.lines.mask; bytes = r.bytes; port = r.lines.port } };
 }
 
-/// A law: there are 256 numbers, each below 256.
+/// Proves that there are 256 numbers, each below 256.
 fn are_bytes(bytes: &[u8; 256])
     ensures count { length bytes.now ≡ 256 }
     ensures range { All (λ byte. byte < 256) bytes.now }
@@ -165,7 +165,7 @@ fn are_bytes(bytes: &[u8; 256])
 }
 
 impl Rom {
-    /// A ROM with these masks, of which mask `k` is that of line `k`. All bytes and the latch are 0.
+    /// Returns a ROM with these masks. Mask `k` is that of line `k`. All bytes and the latch are 0.
     pub fn new(mask: [LineMask; 4]) -> Rom
         ensures { result ≡ record { mask = mask; bytes = replicate 256 0; port = 0 } }
     {
@@ -175,7 +175,7 @@ impl Rom {
         }
     }
 
-    /// The byte of word `at`.
+    /// Returns the byte of word `at`.
     pub fn byte(&self, at: u8) -> u8
         ensures { result ≡ slice_index self.now.bytes at }
     {
@@ -198,15 +198,15 @@ impl Rom {
         self.lines.write_port(n);
     }
 
-    /// The port as RDR reads it, where bit `k` of `inputs` is the level of line `k`: that level on an input
-    /// line, and the constant of its mask on an output line.
+    /// Returns the port as RDR reads it: the level on an input line, and the constant of its mask on an output line.
+    /// Bit `k` of `inputs` is the level of line `k`.
     pub fn read_port(&self, inputs: Nibble) -> Nibble
         ensures { result ≡ read_lines (bit_of inputs) self.now.mask }
     {
         self.lines.read_port(inputs)
     }
 
-    /// What the latch holds on line `k`, 0 to 3; 0 on an input line.
+    /// Returns what the latch holds on line `k`, 0 to 3, or 0 on an input line.
     pub fn line(&self, k: u8) -> Bit
         requires { k < 4 }
         ensures { result ≡ bit_of self.now.port k }
@@ -214,28 +214,29 @@ impl Rom {
         self.port().bit(k)
     }
 
-    /// What the latch holds.
+    /// Returns what the latch holds.
     pub fn port(&self) -> Nibble
         ensures { result ≡ self.now.port }
     {
         self.lines.port()
     }
 
-    /// Sets the latch, whose bits at input lines stay 0.
+    /// Sets the latch. Its bits at input lines stay 0.
     pub fn set_port(&mut self, n: Nibble)
         ensures { self.new ≡ record self.old { port = latch_value self.old.mask n } }
     {
         self.write_port(n);
     }
 
-    /// Makes the latch 0.
+    /// Sets the latch to 0.
     pub fn clear_port(&mut self)
         ensures { self.new ≡ record self.old { port = 0 } }
     {
         self.lines.clear_port();
     }
 
-    /// A law: there are 256 bytes, each below 256, and the latch holds a nibble, whose bits at input lines are 0.
+    /// Proves that there are 256 bytes, each below 256, that the latch holds a nibble, and that its bits at input lines
+    /// are 0.
     pub fn show_state_is_valid(&self)
         ensures { IsValidRom self.now }
     {

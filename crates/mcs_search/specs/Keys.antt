@@ -8,7 +8,7 @@ unfoldable pub keys_in : ℕ → ℕ → List ℕ → List (List ℕ)
 keys_in width zero bytes = []
 keys_in width (suc n) bytes = take width bytes ∷ keys_in width n (drop width bytes)
 
--- what is stored: how wide keys are, and the keys
+-- the stored form: the width of keys, and the keys
 pub record Stored : Type 0 where
   pub width : ℕ
   pub keys : List (List ℕ)
@@ -22,19 +22,19 @@ keys_of (b ∷ bs) = b.keys ++ keys_of bs
 abbrev pub AreFull : ℕ → ℕ → List Stored → Type 0
 AreFull width n = All (λ (b : Stored). (b.width ≡ width) × (length b.keys ≡ n))
 
--- what is stored of an arena fits together: its last block is never full
+-- the stored parts of an arena fit together: its last block is never full
 pub record FitsArena (width len : ℕ) (full : List Stored) (last : Stored) : Type 0 where
   pub blocks : AreFull width BLOCK full
   pub last_width : last.width ≡ width
   pub last_few : length last.keys < BLOCK
   pub count : len ≡ length (keys_of full) + length last.keys
 
--- keys may have been added, behind the others
+-- keys were added after the others, or none were
 pub record Grows (old new : Stored) : Type 0 where
   pub width : new.width ≡ old.width
   pub keys : (more : List (List ℕ)) × (new.keys ≡ old.keys ++ more)
 
--- one key may have been added, behind the others
+-- one key was added after the others, or none was
 pub record Adds (old : Stored) (key : List ℕ) (new : Stored) : Type 0 where
   pub width : new.width ≡ old.width
   pub keys : (new.keys ≡ old.keys) ⊎ (new.keys ≡ old.keys ++ key ∷ [])

@@ -1,4 +1,4 @@
--- A transition system whose states are told by keys, lists of bytes. (Our own choice.)
+-- A transition system whose states are identified by keys, lists of bytes. (Our own choice.)
 use Rattle.std.specs.Prelude.{◌≡◌, ◌⊎◌, ℕ, List, [], ◌∷◌, length}
 use Rattle.std.specs.List.{All, Contains}
 
@@ -19,15 +19,15 @@ abbrev pub IsFollowed : Rules → List (List ℕ) → List ℕ → Type 0
 IsFollowed r keys key =
     (choices : List ℕ) × r.covers key choices × All (LeadsInto r keys key) choices
 
--- n keys with the start among them, none of which leads to any other: whatever is chosen, and
--- however often, no state but these is reached, and the property holds all the way
+-- n keys with the start among them, none of which leads to any other: for all choices, however
+-- many, only these states are reached, and the property holds all the way
 pub record Closure (r : Rules) (start : List ℕ) (n : ℕ) : Type 0 where
   pub keys : List (List ℕ)
   pub count : length keys ≡ n
   pub contains_start : Contains keys start
   pub followed : All (IsFollowed r keys) keys
 
--- these choices, one after the other, lead to where the property fails
+-- these choices, one after the other, lead to a failure of the property
 abbrev pub Breaks : Rules → List ℕ → List ℕ → Type 0
 Breaks r key [] = ⊥
 Breaks r key (c ∷ cs) = r.fails key c ⊎ ((next : List ℕ) × r.leads key c next × Breaks r next cs)

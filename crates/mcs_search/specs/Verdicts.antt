@@ -1,4 +1,4 @@
--- What a verdict says, and what parts of a search do.
+-- The meaning of a verdict, and of the parts of a search.
 use Rattle.std.specs.Prelude.{◌≡◌, ◌<◌, ◌≤◌, ℕ, List, [], length, slice_index_or}
 use Rattle.std.specs.List.{All, Contains}
 use Rattle.mcs_search.specs.Rules.{Rules, LeadsInto, IsFollowed, Closure, Breaks}
@@ -11,14 +11,15 @@ use Rattle.mcs_search.specs.declared.following.Followed.TheVariants as followed
 use Rattle.mcs_search.specs.declared.visited.Added.{Added}
 use Rattle.mcs_search.specs.declared.visited.Added.TheVariants as added
 
--- what a verdict says of a start
+-- the meaning of a verdict for a start
 abbrev pub IsProved : Rules → List ℕ → Verdict → Type 0
 IsProved r start (verdict.Holds n) = Closure r start n
 IsProved r start (verdict.Broken choices) = Breaks r start choices.items
 IsProved r start verdict.TooMany = Unit {0}
+IsProved r start (verdict.NoMemory n) = Unit {0}
 IsProved r start verdict.GaveUp = Unit {0}
 
--- a search: the keys that it found, in this order, and how many of them it followed
+-- a search: the keys that it found, in this order, and the number of keys that it followed
 pub record Progress : Type 0 where
   pub keys : List (List ℕ)
   pub followed : ℕ
@@ -32,20 +33,20 @@ pub record IsUnderWay (r : Rules) (p : Progress) : Type 0 where
   pub states : All r.is_state p.keys
   pub followed : (k : ℕ) → k < p.followed → IsFollowed r p.keys (slice_index_or p.keys k [])
 
--- what became of a key that was to be added, of at most this many
+-- the result of adding a key, at most this many
 abbrev pub WasAdded : ℕ → List (List ℕ) → List (List ℕ) → List ℕ → Added → Type 0
 WasAdded most old new key added.New = Contains new key
 WasAdded most old new key added.Known = Contains new key
 WasAdded most old new key added.Full = most ≤ length old
 
--- what came of following these choices at a state
+-- the result of following these choices at a state
 abbrev pub CameOf : Rules → List (List ℕ) → List ℕ → List ℕ → Followed → Type 0
 CameOf r keys key choices followed.All = All (LeadsInto r keys key) choices
 CameOf r keys key choices (followed.Broken c) = r.fails key c
 CameOf r keys key choices followed.TooMany = Unit {0}
 CameOf r keys key choices followed.GaveUp = Unit {0}
 
--- what is stored of a search fits together
+-- the stored parts of a search fit together
 pub record FitsSearch (visited : Stored) (next limit key_len into_len : ℕ) : Type 0 where
   pub some : 0 < length visited.keys
   pub few : length visited.keys < 4294967295

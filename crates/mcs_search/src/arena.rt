@@ -7,8 +7,8 @@ use std::alloc::{AllocError, Global};
 use std::marker::Model;
 use std::mem;
 
-/// Keys of one width, each with its parent, in blocks. A growing arena never copies a full block, so
-/// that it needs no memory beyond that of its keys.
+/// Keys of one width, each with its parent, in blocks. A growing arena never copies a full block, so it needs no memory
+/// beyond that of its keys.
 #[derive(Drop)]
 pub(crate) struct Arena {
     full: Vec<KeyBlock>,

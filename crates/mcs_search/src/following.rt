@@ -10,14 +10,14 @@ use crate::system::System;
 use crate::visited::{Added, Visited};
 use std::alloc::{AllocError, Global};
 
-/// What came of following the choices of a state.
+/// The result of following the choices of a state.
 #[derive(Clone, Copy)]
 pub(crate) enum Followed {
-    /// The next states are all among those that were visited.
+    /// All next states are among those that were visited.
     All,
     /// The property fails on the way of this choice.
     Broken(u8),
-    /// A next state has no room.
+    /// There is no room for a next state.
     TooMany,
     /// The system gave up.
     GaveUp,
@@ -66,8 +66,8 @@ pub(crate) fn follow<S: System>(
     Ok(Followed::All)
 }
 
-/// Returns the choices that led to the state at an index, and one more. They are read from parents,
-/// of which nothing is proved, so that they have to be tried.
+/// Returns the choices that led to the state at an index, and one more. They are read from parents, about which nothing
+/// is proved, so they must be tried.
 pub(crate) fn choices_to(
     alloc: Global,
     visited: &Visited,
@@ -91,7 +91,7 @@ pub(crate) fn choices_to(
     Ok(choices)
 }
 
-/// Returns whether these choices, tried one after the other, lead to where the property fails.
+/// Returns whether these choices, tried one after the other, lead to a failure of the property.
 pub(crate) fn breaks<S: System>(
     system: &mut S,
     key: &mut [u8],

@@ -16,12 +16,14 @@ pub const MOST: usize = 4_000_000_000;
 /// The result of a search.
 #[derive(Drop)]
 pub enum Verdict {
-    /// The property holds, whatever is chosen. There are this many states.
+    /// The property holds for all choices. There are this many states.
     Holds(usize),
     /// The property fails after these choices.
     Broken(Vec<u8>),
     /// There are more states than the search may visit.
     TooMany,
+    /// Memory was refused. This many states were found.
+    NoMemory(usize),
     /// The system gave up.
     GaveUp,
 }
@@ -98,7 +100,7 @@ impl Search {
         self.visited.key(i)
     }
 
-    /// Returns the verdict on a choice on whose way the property failed.
+    /// Returns the verdict on a choice that broke the property.
     fn counterexample<S: System>(
         &mut self,
         system: &mut S,
@@ -156,8 +158,8 @@ impl Search {
         }
     }
 
-    /// Follows the choices of at most `steps` states. Returns `None` if the search has not ended; it
-    /// goes on with the next call, also after an error.
+    /// Follows the choices of at most `steps` states. Returns `None` if the search has not ended. It continues with the
+    /// next call, also after an error.
     pub fn go_on<S: System>(
         &mut self,
         system: &mut S,
@@ -180,7 +182,8 @@ impl Search {
     }
 }
 
-/// Searches through all states that a system can reach from one, at most `most`.
+/// Searches through all states that a system can reach from one, at most `most`. It fails if memory
+/// for the first state is refused.
 pub fn search_all<S: System>(
     alloc: Global,
     system: &mut S,
@@ -194,8 +197,9 @@ pub fn search_all<S: System>(
 {
     let mut search = Search::begin(alloc, start, most)?;
     // Each step follows one of at most `most` states, and the last one finds none left.
-    match search.go_on(system, most + 1)? {
-        Some(verdict) => Ok(verdict),
-        None => Ok(Verdict::TooMany),
+    match search.go_on(system, most + 1) {
+        Ok(Some(verdict)) => Ok(verdict),
+        Ok(None) => Ok(Verdict::TooMany),
+        Err(_) => Ok(Verdict::NoMemory(search.states())),
     }
 }

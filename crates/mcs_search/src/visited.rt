@@ -13,12 +13,12 @@ use std::marker::Model;
 /// The number of slots of the first table.
 const FIRST_SLOTS: usize = 1_024;
 
-/// What became of a key that was to be added.
+/// The result of adding a key.
 #[derive(Clone, Copy)]
 pub(crate) enum Added {
     /// The key was new.
     New,
-    /// The key was there.
+    /// The key was already present.
     Known,
     /// The key was new, and there was no room for it.
     Full,
@@ -39,7 +39,7 @@ fn first_slot(count: usize, key: &[u8]) -> usize
     hash(key) & (count - 1)
 }
 
-/// Returns the slot behind a slot; behind the last one it is the first.
+/// Returns the slot after a slot. After the last one comes the first.
 fn slot_behind(count: usize, at: usize) -> usize
     requires { at < count }
     ensures { result < count }
@@ -97,8 +97,8 @@ fn enter_all(slots: &mut [u32], arena: &Arena)
 
 /// Keys of one width, each with its parent, and a table over them.
 ///
-/// Nothing is proved of the table, and nothing has to be: a key counts as known only after its bytes
-/// were compared with those of a key in the arena. A key that the table misses is stored twice.
+/// Nothing is proved about the table, and nothing needs to be: a key counts as known only after its bytes were compared
+/// with those of a key in the arena. A key that the table misses is stored twice.
 #[derive(Drop)]
 pub(crate) struct Visited {
     arena: Arena,
@@ -151,8 +151,8 @@ impl Visited {
         self.arena.parent(i)
     }
 
-    /// Makes a table of four slots a key if less than half of this one is free. The old table is
-    /// freed first, since the arena has all that is in it.
+    /// Makes a table of four slots a key if less than half of this one is free. The old table is freed first, because
+    /// the arena has everything that is in it.
     fn make_room(&mut self) -> Result<(), AllocError>
         requires few { length self.old.keys < 4294967295 }
         ensures { self.new ≡ self.old }
@@ -169,7 +169,7 @@ impl Visited {
         Ok(())
     }
 
-    /// Adds a key unless it is there, or `most` keys are. On an error no key is lost.
+    /// Adds a key unless it is present, or `most` keys are. On an error no key is lost.
     pub(crate) fn add(
         &mut self,
         key: &[u8],

@@ -1,4 +1,4 @@
--- Which state a session is opened in, and why none is.
+-- The state in which a session is opened, and the reasons why none is.
 use Rattle.mcs_disk.specs.Disk.{DiskState, bytes_of}
 use Rattle.mcs_journal.specs.File.{IsNoSession}
 use Rattle.mcs_journal.specs.declared.fault.StoreFault.{StoreFault}
@@ -6,14 +6,14 @@ use Rattle.mcs_journal.specs.declared.fault.StoreFault.TheVariants as store_faul
 use Rattle.mcs_model.specs.BenchState.{BenchState}
 use Rattle.mcs_session.specs.StandsFor.{DiskStandsFor, StandsByEither}
 
--- the bytes of the disk stood for this state, by either version, and now whatever a power cut
--- leaves stands for it by version 2
+-- The bytes of the disk stood for this state, in either version. Now whatever a power cut leaves
+-- stands for it in version 2.
 pub record OpensSession (old new : DiskState) (s : BenchState) : Type 0 where
   pub stood : StandsByEither (bytes_of old) s
   pub stands : DiskStandsFor new s
 
--- what a refusal of `open` says of the disk: its bytes are no session, or they stand for no state;
--- of lack of memory and a device fault, nothing
+-- The statement about the disk that an error of `open` makes: its bytes are no session, or they
+-- stand for no state. Lack of memory and a device fault make no statement.
 abbrev pub RefusesSession : StoreFault → DiskState → Type 0
 RefusesSession store_fault.NotASession disk = IsNoSession disk
 RefusesSession store_fault.Damaged disk =

@@ -1,4 +1,4 @@
--- What making and opening a session do to the disk.
+-- The effect of making and of opening a session on the disk.
 use Rattle.std.specs.Prelude.{◌≡◌, ◌⊎◌, ◌+◌}
 use Rattle.mcs_disk.specs.Disk.{DiskState, bytes_of, time_of, images_of, IsLater}
 use Rattle.mcs_disk.specs.Stretches.{Either, LeavesOnly, AddsNoImage}
@@ -9,36 +9,36 @@ use Rattle.mcs_model.specs.BenchState.{BenchState, new_bench_state}
 use Rattle.mcs_session.specs.StandsFor.{HoldsState, DiskStandsFor, StandsByEither, StandsFor}
 use Rattle.mcs_session.specs.Version1.{StandsForLifted}
 
--- the disk was blank, and now, five ticks later, every image stands for a new bench
+-- holds if the disk was blank, and now, five ticks later, every image stands for a new bench
 pub record CreatesSession (old new : DiskState) : Type 0 where
   pub blank : IsBlank old
   pub stands : DiskStandsFor new new_bench_state
   pub ticks : time_of new ≡ time_of old + 5
   pub later : IsLater old new
 
--- whatever a power cut of this stretch leaves is an image that the disk had before, or stands for
--- this state by either version
+-- Holds if whatever a power cut in this stretch leaves is an image that the disk had before, or
+-- stands for this state in either version.
 abbrev pub LeavesOldOrState : DiskState → DiskState → BenchState → Type 0
 LeavesOldOrState old new s =
     LeavesOnly old new (Either (images_of old) (λ file. StandsByEither file s))
 
--- What opening a session in this state did: a file of version 2 is not written; in one of version 1
--- a snapshot of version 2 takes the place of the contents.
+-- The effect of opening a session in this state. A file of version 2 is not written. In a file of
+-- version 1 a snapshot of version 2 replaces the contents.
 pub record MigratesSession (old new : DiskState) (s : BenchState) : Type 0 where
   pub leaves : LeavesOldOrState old new s
   pub rests : StandsFor (bytes_of old) s → AddsNoImage old new
   pub migrated : StandsForLifted (bytes_of old) s → HoldsState (bytes_of new) s
 
--- a file of version 1 stood for a state, and whatever a power cut since leaves is an image from
--- before, or stands for that state by either version (`RefusalLeaves`: the device failed as the
--- contents were replaced)
+-- A file of version 1 stood for a state. Whatever a power cut since leaves is an image from before,
+-- or stands for that state in either version. (`RefusalLeaves` cites it: the device failed while
+-- the contents were replaced.)
 pub record FailsMigrating (old new : DiskState) : Type 0 where
   pub state : BenchState
   pub stands : StandsForLifted (bytes_of old) state
   pub leaves : LeavesOldOrState old new state
 
--- what a refused `open` did to the disk: reads and syncs alone, except for a device fault while the
--- contents of a file of version 1 were replaced
+-- The effect on the disk of an `open` that failed: reads and syncs only. The exception is a device
+-- fault while the contents of a file of version 1 were replaced.
 abbrev pub RefusalLeaves : StoreFault → DiskState → DiskState → Type 0
 RefusalLeaves store_fault.Device old new = AddsNoImage old new ⊎ FailsMigrating old new
 RefusalLeaves fault old new = AddsNoImage old new

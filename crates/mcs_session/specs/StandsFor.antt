@@ -1,7 +1,7 @@
--- What a session file stands for. What one of version 1 stands for is said by the definitions of
--- version 1 and carried over (`StandsForLifted` in Version1). Where a definition here takes a
--- version: in version 1 the snapshot is read as carried over, the records are commands that version
--- 1 has, and from there on they are refused and done as in version 2.
+-- The state that a session file stands for. For a file of version 1, the definitions of version 1
+-- state it, and it is carried over (`StandsForLifted` in Version1). Some definitions here have a
+-- version as an argument. In version 1 the snapshot is read as carried over, and the records are
+-- commands that version 1 has. From there on, they are rejected and done as in version 2.
 use Rattle.std.specs.Prelude.{◌≡◌, ◌⊎◌, ◌≤◌, ℕ, List, [], ◌∷◌, None}
 use Rattle.mcs_codec.specs.Codec.{SpellsBy, SpellsState, SpellsStateBy}
 use Rattle.mcs_codec.specs.declared.versions.Version.{Version}
@@ -16,7 +16,7 @@ use Rattle.mcs_model.specs.BenchState.{BenchState}
 use Rattle.mcs_model.specs.Command.{refusal, after}
 use Rattle.mcs_model.specs.Fold.{fold}
 
--- these records spell these commands, accepted in turn from this state
+-- holds if these records spell these commands, accepted in turn from this state
 abbrev pub ReplaysCommands : Version → BenchState → List (List ℕ) → List Command → Type 0
 ReplaysCommands version s [] [] = Unit {0}
 ReplaysCommands version s [] (c ∷ cs) = ⊥
@@ -24,7 +24,7 @@ ReplaysCommands version s (r ∷ rs) [] = ⊥
 ReplaysCommands version s (r ∷ rs) (c ∷ cs) =
     SpellsBy version r c × (refusal s c ≡ None) × ReplaysCommands version (after s c) rs cs
 
--- a snapshot and the records after it stand for this state
+-- holds if a snapshot and the records after it stand for this state
 pub record RecordsStandFor
     (version : Version) (snap : List ℕ) (records : List (List ℕ)) (s : BenchState) : Type 0 where
   pub start : BenchState
@@ -34,32 +34,35 @@ pub record RecordsStandFor
   pub bounded : log_cycles commands ≤ REPLAY_CYCLES
   pub state : s ≡ fold start commands
 
--- a file of version 2 stands for the state that its snapshot and its records stand for
+-- holds if a file of version 2 stands for this state: the one that its snapshot and its records
+-- stand for
 pub record StandsFor (file : List ℕ) (s : BenchState) : Type 0 where
   pub snap : List ℕ
   pub records : List (List ℕ)
   pub holds : Holds file snap records
   pub stand : RecordsStandFor Two snap records s
 
--- a file of either version stands for this state
+-- holds if a file of either version stands for this state
 abbrev pub StandsByEither : List ℕ → BenchState → Type 0
 StandsByEither file s = StandsFor file s ⊎ StandsForLifted file s
 
--- a file holds a snapshot of this state in version 2, and no records
+-- holds if a file holds a snapshot of this state in version 2, and no records
 pub record HoldsState (file : List ℕ) (s : BenchState) : Type 0 where
   pub snap : List ℕ
   pub spells : SpellsState snap s
   pub holds : Holds file snap []
 
--- whatever a power cut now leaves stands for this state
+-- holds if whatever a power cut now leaves stands for this state
 abbrev pub DiskStandsFor : DiskState → BenchState → Type 0
 DiskStandsFor disk s = (image : List ℕ) → images_of disk image → StandsFor image s
 
--- the same by version 1: the disk stands for the state carried over from it
+-- holds if whatever a power cut now leaves stands in version 1 for a state that is carried over to
+-- this one
 abbrev pub DiskStandsForLifted : DiskState → BenchState → Type 0
 DiskStandsForLifted disk s = (image : List ℕ) → images_of disk image → StandsForLifted image s
 
--- whatever a power cut at some moment since this time left stands for this state, by either version
+-- Holds if whatever a power cut at some moment since this time left stands for this state, in
+-- either version.
 abbrev pub DiskStandsSince : ℕ → DiskState → BenchState → Type 0
 DiskStandsSince time disk s =
     (image : List ℕ) → images_since time disk image → StandsByEither image s

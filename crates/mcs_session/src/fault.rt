@@ -1,11 +1,11 @@
-//! Why a session does not record a command.
+//! The reasons why a session does not record a command.
 use mcs_model::refusals::BenchFault;
 use thiserror::Error;
 
-/// Why a session does not record a command. The bench has not changed then.
+/// A reason why a session does not record a command. The bench has not changed then.
 #[derive(Clone, Copy, Debug, PartialEq, Eq, Error)]
 pub enum SessionFault {
-    /// The bench refuses the command.
+    /// The bench rejects the command.
     #[error("{0}")]
     Refused(BenchFault),
     /// A call of the disk failed. The session is closed from then on.

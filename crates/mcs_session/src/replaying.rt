@@ -1,4 +1,4 @@
-//! What a snapshot and the records after it stand for.
+//! The state that a snapshot and the records after it stand for.
 ghost use Rattle.std.specs.Prelude.{◌≡◌, IfOk, IfSome, IfNone};
 ghost use Rattle.mcs_model.specs.BenchState.{BenchState};
 ghost use Rattle.mcs_session.specs.Invariant.{IsReplayed};
@@ -21,7 +21,7 @@ pub struct Replayed {
     pub version: Version,
 }
 
-/// The instruction cycles that a command counts for in the log.
+/// Returns the instruction cycles that a command counts for in the log.
 pub(crate) fn replay_cycles(command: &Command) -> u32
     ensures { result ≡ replay_cycles command.now }
 {
@@ -32,8 +32,8 @@ pub(crate) fn replay_cycles(command: &Command) -> u32
     }
 }
 
-/// The bench that a snapshot and the records after it stand for, or none. All are of the version
-/// that the snapshot tells.
+/// Returns the bench that a snapshot and the records after it stand for, or none if they stand for
+/// no state. All are of the version that the snapshot names. It fails if memory runs out.
 pub(crate) fn replay(
     alloc: Global,
     snap: &[u8],

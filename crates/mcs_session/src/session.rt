@@ -22,10 +22,10 @@ use mcs_model::command::{Command, Reply};
 use std::alloc::Global;
 use std::marker::Model;
 
-/// A bench on a disk: each accepted command is recorded there before it is answered.
+/// A bench on a disk. Each accepted command is recorded there before it is answered.
 ///
-/// Once a command was answered with a device fault the session is closed. The disk then stands for
-/// the state before that command or after it, and opening it again tells which.
+/// Once a command was answered with a device fault, the session is closed. The disk then stands for
+/// the state before that command or for the state after it; opening it again shows which.
 #[derive(Drop)]
 pub struct Session<D: Disk + Drop> {
     log: CommandLog<D>,
@@ -48,9 +48,9 @@ impl<D: Disk + Drop> Model for Session<D> {
 impl<D: Disk + Drop> Session<D> {
     /// Makes the session of a new bench on a blank disk.
     ///
-    /// It is refused for lack of memory (90), where the disk is not blank (55; nothing is written
-    /// then), and where a call on it failed (53; what the disk then holds is not said). A refusal
-    /// hands the disk back.
+    /// It fails if memory runs out (90). It fails if the disk is not blank (55); then nothing is
+    /// written. It fails if a call on the disk failed (53); then nothing is promised about its
+    /// contents. An error returns the disk.
     pub fn create(alloc: Global, disk: D) -> Result<Session<D>, (StoreFault, D)>
         // on any disk
         ensures open { IfOk result (λ s. IsTrue s.live) }
@@ -99,13 +99,13 @@ impl<D: Disk + Drop> Session<D> {
         }
     }
 
-    /// Opens the session that a disk holds. Nothing is written to a file of version 2. In a file of
-    /// version 1 a snapshot of version 2 takes the place of what it holds, once all memory was
-    /// taken: it stands for the same state at every moment.
+    /// Opens the session that a disk holds. It writes nothing to a file of version 2. In a file of
+    /// version 1 a snapshot of version 2 replaces the contents, once all memory is there. The file
+    /// stands for the same state at every moment.
     ///
-    /// It is refused for lack of memory (90), where size or name is not that of a session file
-    /// (50), where the bytes stand for no state otherwise (51), and where a call on the disk failed
-    /// (53). A refusal hands the disk back.
+    /// It fails if memory runs out (90), or if size or name is not that of a session file (50). It
+    /// fails if the bytes stand for no state for another reason (51), and if a call on the disk
+    /// failed (53). An error returns the disk.
     pub fn open(alloc: Global, disk: D) -> Result<Session<D>, (StoreFault, D)>
         // on any disk
         ensures open { IfOk result (λ s. IsTrue s.live) }
@@ -154,14 +154,14 @@ impl<D: Disk + Drop> Session<D> {
         }
     }
 
-    /// Whether no command was answered with a device fault.
+    /// Returns true if no command was answered with a device fault.
     pub fn is_open(&self) -> bool
         ensures { result ≡ self.now.live }
     {
         self.log.store.is_open()
     }
 
-    /// The bench, as all the commands that were answered `Ok` left it.
+    /// Returns the bench, as all the commands that were answered `Ok` left it.
     pub fn bench(&self) -> &Bench
         ensures is { result.now ≡ self.now.state }
         ensures stands { IsTrue self.now.live → (D.state self.now.disk).honest
@@ -170,21 +170,21 @@ impl<D: Disk + Drop> Session<D> {
         &self.bench
     }
 
-    /// The disk, as the last call left it.
+    /// Returns the disk, as the last call left it.
     pub fn disk(&self) -> &D
         ensures { result.now ≡ self.now.disk }
     {
         self.log.store.disk()
     }
 
-    /// Does a command and records it. By `Ok` it is acknowledged: from then on no power cut loses
+    /// Does a command and records it. With `Ok` it is acknowledged: from then on no power cut loses
     /// it.
     ///
-    /// Where its record has no room in the log, by its bytes or by the cycles that the log counts,
-    /// the state before the command first takes the place of the snapshot and of all records.
+    /// Its record may have no room in the log, by its bytes or by the cycles that the log counts.
+    /// Then the state before the command first replaces the snapshot and all records.
     ///
-    /// It is refused on a closed session (54), where the bench refuses it (41 to 47), and where a
-    /// call on the disk failed (53). Each refusal but the last leaves the disk untouched.
+    /// It fails on a closed session (54), if the bench rejects the command (41 to 47), and if a
+    /// call on the disk failed (53). Each error but the last leaves the disk untouched.
     pub fn apply(&mut self, command: &Command) -> Result<Reply, SessionFault>
         // on any disk
         ensures applied { AppliesCommand self.old.live self.old.state command.now result
@@ -213,10 +213,10 @@ impl<D: Disk + Drop> Session<D> {
         }
     }
 
-    /// Puts a snapshot of the bench in the place of all that the disk holds: opening it then has no
-    /// command to do again. The state stays, and at every moment the disk stands for it.
+    /// Replaces all that the disk holds with a snapshot of the bench, so that opening it has no
+    /// command to repeat. The state stays, and at every moment the disk stands for it.
     ///
-    /// It is refused on a closed session (54), and where a call on the disk failed (53).
+    /// It fails on a closed session (54), and if a call on the disk failed (53).
     pub fn settle(&mut self) -> Result<(), SessionFault>
         // on any disk
         ensures state { self.new.state ≡ self.old.state }
@@ -243,7 +243,8 @@ impl<D: Disk + Drop> Session<D> {
         }
     }
 
-    /// The disk. That of an open session stands for the state of its bench.
+    /// Returns the disk, and ends the session. The disk of an open session stands for the state of
+    /// its bench.
     pub fn into_disk(self) -> D
         ensures is { result ≡ self.disk }
         ensures stands { IsTrue self.live → (D.state result).honest
@@ -260,8 +261,8 @@ impl<D: Disk + Drop> Session<D> {
     }
 }
 
-/// The session of a store whose log was replayed. Where that is of version 1, a snapshot of the
-/// bench takes the place of all that the disk holds.
+/// Returns the session of a store whose log was replayed. If the log is of version 1, a snapshot of
+/// the bench replaces all that the disk holds. It fails if the device fails.
 fn begin<D: Disk + Drop>(
     store: Store<D>,
     buffers: (Vec<u8>, Vec<u8>),

@@ -95,5 +95,5 @@ serves_all state_of run h =
     record {
       end = end;
       all_met = t.spelled ∙ ap (λ v. inputs_in met ++ v) (t.all_met none.0 none.1 none.2) ∙ append-nil (inputs_in met);
-      all_told = subst P (sym (append-nil t.told) ∙ ap (λ v. t.told ++ v) (sym (t.all_told none.0 none.2)) ∙ t.parts) t.written;
+      all_sent = subst P (sym (append-nil t.response) ∙ ap (λ v. t.response ++ v) (sym (t.all_sent none.0 none.2)) ∙ t.parts) t.written;
     }

@@ -18,7 +18,7 @@ use Rattle.mcs_lines.specs.declared.requests.TextKind.{TextKind}
 use Rattle.mcs_shell.specs.declared.texts.TextFault.{TextFault}
 use Rattle.mcs_shell.specs.declared.ends.ShellEnd.{ShellEnd}
 use Rattle.mcs_shell.specs.Inputs.{Input, Line, Text, text_fault_of, judged_text, text_or_fault}
-use Rattle.mcs_shell.specs.Spelling.{Does, Tells, meaning_of_text, text_refusal}
+use Rattle.mcs_shell.specs.Spelling.{Does, Reports, meaning_of_text, text_refusal}
 use Rattle.mcs_session.specs.CommandCalls.{AppliesCommand, ClosesAtDeviceFault, RecordsOrFails}
 use Rattle.mcs_session.specs.SessionState.{Premise, SessionState}
 use Rattle.mcs_shell.specs.ShellState.{ShellState}
@@ -69,15 +69,15 @@ text_refused s c f e = ap (λ (v : Option BenchFault). elim v [ None ↦ ok_text
 
 -- ---- a command
 
-pub ok_changed : (r : Reply) (live : Bool) (s : BenchState) (d : DiskState) (b : SessionState) (c : Command) (told : List ℕ) → Tried live s d c (Ok r) b → told ≡ ok_text r b.state → AnsweredInput (at live s d) (Line (Change c)) Plain told b
+pub ok_changed : (r : Reply) (live : Bool) (s : BenchState) (d : DiskState) (b : SessionState) (c : Command) (response : List ℕ) → Tried live s d c (Ok r) b → response ≡ ok_text r b.state → AnsweredInput (at live s d) (Line (Change c)) Plain response b
 unfolding answer acknowledged_commands reached_commands IsPossibleOutcome
-ok_changed r false s d b c told h k = absurd (h.applied)
-ok_changed r true s d b c told h k =
+ok_changed r false s d b c response h k = absurd (h.applied)
+ok_changed r true s d b c response h k =
     let yes : refusal s c ≡ None = h.applied.0 in
     let P : List Command → Type 0 = λ cs. LeavesSession IsIntact false (at true s d) b cs cs in
     record {
       may = inr refl;
-      told_is = k ∙ ap (λ v. ok_text v b.state) (h.applied.1) ∙ ap (ok_text (reply s c)) (h.applied.2) ∙ sym (text_accepted s c yes);
+      answer_is = k ∙ ap (λ v. ok_text v b.state) (h.applied.1) ∙ ap (ok_text (reply s c)) (h.applied.2) ∙ sym (text_accepted s c yes);
       leaves = subst P (sym (accepted_alone s c yes)) (record {
         live = h.closes.0;
         accepted = (yes, tt);
@@ -88,15 +88,15 @@ ok_changed r true s d b c told h k =
       });
     }
 
-refused_changed : (f : BenchFault) (live : Bool) (s : BenchState) (d : DiskState) (b : SessionState) (c : Command) (told : List ℕ) → Tried live s d c (Err (fault.Refused f)) b → told ≡ no_text (session_fault_number (fault.Refused f)) → AnsweredInput (at live s d) (Line (Change c)) Plain told b
+refused_changed : (f : BenchFault) (live : Bool) (s : BenchState) (d : DiskState) (b : SessionState) (c : Command) (response : List ℕ) → Tried live s d c (Err (fault.Refused f)) b → response ≡ no_text (session_fault_number (fault.Refused f)) → AnsweredInput (at live s d) (Line (Change c)) Plain response b
 unfolding answer acknowledged_commands reached_commands IsPossibleOutcome
-refused_changed f false s d b c told h k = absurd (h.applied)
-refused_changed f true s d b c told h k =
+refused_changed f false s d b c response h k = absurd (h.applied)
+refused_changed f true s d b c response h k =
     let no : refusal s c ≡ Some f = h.applied.0 in
     let P : List Command → Type 0 = λ cs. LeavesSession IsIntact false (at true s d) b cs cs in
     record {
       may = inr refl;
-      told_is = k ∙ sym (text_refused s c f no);
+      answer_is = k ∙ sym (text_refused s c f no);
       leaves = subst P (sym (refused_none s c f no)) (record {
         live = h.closes.0;
         accepted = tt;
@@ -107,15 +107,15 @@ refused_changed f true s d b c told h k =
       });
     }
 
-device_changed : (live : Bool) (s : BenchState) (d : DiskState) (b : SessionState) (c : Command) (told : List ℕ) → Tried live s d c (Err fault.Device) b → told ≡ no_text DEVICE → AnsweredInput (at live s d) (Line (Change c)) Device told b
+device_changed : (live : Bool) (s : BenchState) (d : DiskState) (b : SessionState) (c : Command) (response : List ℕ) → Tried live s d c (Err fault.Device) b → response ≡ no_text DEVICE → AnsweredInput (at live s d) (Line (Change c)) Device response b
 unfolding answer acknowledged_commands reached_commands IsPossibleOutcome
-device_changed false s d b c told h k = absurd (h.applied)
-device_changed true s d b c told h k =
+device_changed false s d b c response h k = absurd (h.applied)
+device_changed true s d b c response h k =
     let alone : accepted_commands s (Some c) ≡ c ∷ [] = accepted_alone s c (h.applied.0) in
     let P : List Command → Type 0 = λ cs. LeavesSession IsIntact true (at true s d) b [] cs in
     record {
       may = (λ none. let x : c ∷ [] ≡ [] = sym alone ∙ none in absurd (cc x), refl);
-      told_is = k;
+      answer_is = k;
       leaves = subst P (sym alone) (record {
         closed = h.closes.0;
         failed = c;
@@ -127,17 +127,17 @@ device_changed true s d b c told h k =
       });
     }
 
-closed_changed : (live : Bool) (s : BenchState) (d : DiskState) (b : SessionState) (c : Command) (told : List ℕ) → Tried live s d c (Err fault.Closed) b → told ≡ no_text CLOSED → AnsweredInput (at live s d) (Line (Change c)) Closed told b
+closed_changed : (live : Bool) (s : BenchState) (d : DiskState) (b : SessionState) (c : Command) (response : List ℕ) → Tried live s d c (Err fault.Closed) b → response ≡ no_text CLOSED → AnsweredInput (at live s d) (Line (Change c)) Closed response b
 unfolding answer acknowledged_commands reached_commands IsPossibleOutcome
-closed_changed true s d b c told h k = absurd (h.applied)
-closed_changed false s d b c told h k = record {
+closed_changed true s d b c response h k = absurd (h.applied)
+closed_changed false s d b c response h k = record {
   may = (λ x. absurd (cc x), refl);
-  told_is = k;
+  answer_is = k;
   leaves = record { live = h.closes.0; accepted = tt; state = h.applied; counts = none_counted d b.disk h.start h.honest h.closes.1; untouched = λ none. h.untouched (λ e. absurd (cc e)); kept = λ given. absurd (cc given.honest.0) };
 }
 
 -- it was not recorded
-pub fault_changed : (f : SessionFault) (live : Bool) (s : BenchState) (d : DiskState) (b : SessionState) (c : Command) (told : List ℕ) → Tried live s d c (Err f) b → told ≡ no_text (session_fault_number f) → AnsweredInput (at live s d) (Line (Change c)) (outcome_of f) told b
+pub fault_changed : (f : SessionFault) (live : Bool) (s : BenchState) (d : DiskState) (b : SessionState) (c : Command) (response : List ℕ) → Tried live s d c (Err f) b → response ≡ no_text (session_fault_number f) → AnsweredInput (at live s d) (Line (Change c)) (outcome_of f) response b
 fault_changed (fault.Refused f) = refused_changed f
 fault_changed fault.Device = device_changed
 fault_changed fault.Closed = closed_changed
@@ -145,23 +145,23 @@ fault_changed fault.Closed = closed_changed
 -- ---- inputs that change nothing
 
 -- an input that asks for no command
-pub answered_plain : (a : SessionState) (i : Input) (told : List ℕ) → asked_command i ≡ None → told ≡ plain_answer a.state i → AnsweredInput a i Plain told a
+pub answered_plain : (a : SessionState) (i : Input) (response : List ℕ) → asked_command i ≡ None → response ≡ plain_answer a.state i → AnsweredInput a i Plain response a
 unfolding answer acknowledged_commands reached_commands IsPossibleOutcome
-answered_plain a i told none k = record { may = inl none; told_is = k; leaves = rw none (carries_nothing a) }
+answered_plain a i response none k = record { may = inl none; answer_is = k; leaves = rw none (carries_nothing a) }
 
 -- memory for it was refused
-pub answered_no_memory : (a : SessionState) (i : Input) (told : List ℕ) → takes_memory i ≡ true → told ≡ no_text NO_MEMORY → AnsweredInput a i NoMemory told a
+pub answered_no_memory : (a : SessionState) (i : Input) (response : List ℕ) → takes_memory i ≡ true → response ≡ no_text NO_MEMORY → AnsweredInput a i NoMemory response a
 unfolding answer acknowledged_commands reached_commands IsPossibleOutcome
-answered_no_memory a i told takes k = record { may = takes; told_is = k; leaves = carries_nothing a }
+answered_no_memory a i response takes k = record { may = takes; answer_is = k; leaves = carries_nothing a }
 
-pub answered_as : (a b : SessionState) (i j : Input) (o : Outcome) (told : List ℕ) → i ≡ j → AnsweredInput a j o told b → AnsweredInput a i o told b
-answered_as a b i j o told same h = let P : Input → Type 0 = λ x. AnsweredInput a x o told b in subst P (sym same) h
+pub answered_as : (a b : SessionState) (i j : Input) (o : Outcome) (response : List ℕ) → i ≡ j → AnsweredInput a j o response b → AnsweredInput a i o response b
+answered_as a b i j o response same h = let P : Input → Type 0 = λ x. AnsweredInput a x o response b in subst P (sym same) h
 
 -- a request whose answer takes memory
-pub answered_long : {T E : Type 0} (r : Result T E) (a : SessionState) (i : Input) (o : Outcome) (text told : List ℕ) → asked_command i ≡ None → takes_memory i ≡ true
-    → OnOk r (text ≡ plain_answer a.state i) → OnOk r ((o ≡ Plain) × (told ≡ text)) → OnErr r ((o ≡ NoMemory) × (told ≡ no_text NO_MEMORY)) → AnsweredInput a i o told a
-answered_long (Ok x) a i o text told none takes is k refused = rw k.0 (answered_plain a i told none (k.1 ∙ is))
-answered_long (Err x) a i o text told none takes is k refused = rw refused.0 (answered_no_memory a i told takes (refused.1))
+pub answered_long : {T E : Type 0} (r : Result T E) (a : SessionState) (i : Input) (o : Outcome) (text response : List ℕ) → asked_command i ≡ None → takes_memory i ≡ true
+    → OnOk r (text ≡ plain_answer a.state i) → OnOk r ((o ≡ Plain) × (response ≡ text)) → OnErr r ((o ≡ NoMemory) × (response ≡ no_text NO_MEMORY)) → AnsweredInput a i o response a
+answered_long (Ok x) a i o text response none takes is k refused = rw k.0 (answered_plain a i response none (k.1 ∙ is))
+answered_long (Err x) a i o text response none takes is k refused = rw refused.0 (answered_no_memory a i response takes (refused.1))
 
 -- ---- a text
 
@@ -169,23 +169,23 @@ pub is_judged : (kind : TextKind) (text : List ℕ) (f : Option TextFault) → t
 is_judged kind text f e = ap (text_or_fault kind text) e
 
 -- a text that spells a command is answered as that command is
-pub answered_text : (a b : SessionState) (kind : TextKind) (text : List ℕ) (c : Command) (o : Outcome) (told : List ℕ)
-    → meaning_of_text kind text ≡ Ok (Does c) → AnsweredInput a (Line (Change c)) o told b → AnsweredInput a (Text kind text) o told b
+pub answered_text : (a b : SessionState) (kind : TextKind) (text : List ℕ) (c : Command) (o : Outcome) (response : List ℕ)
+    → meaning_of_text kind text ≡ Ok (Does c) → AnsweredInput a (Line (Change c)) o response b → AnsweredInput a (Text kind text) o response b
 unfolding answer acknowledged_commands reached_commands IsPossibleOutcome
-answered_text a b kind text c Plain told is h = record { may = rw is h.may; told_is = rw is h.told_is; leaves = rw is h.leaves }
-answered_text a b kind text c Device told is h = record { may = rw is h.may; told_is = h.told_is; leaves = rw is h.leaves }
-answered_text a b kind text c Closed told is h = record { may = rw is h.may; told_is = h.told_is; leaves = h.leaves }
-answered_text a b kind text c NoMemory told is h = record { may = refl; told_is = h.told_is; leaves = h.leaves }
+answered_text a b kind text c Plain response is h = record { may = rw is h.may; answer_is = rw is h.answer_is; leaves = rw is h.leaves }
+answered_text a b kind text c Device response is h = record { may = rw is h.may; answer_is = h.answer_is; leaves = rw is h.leaves }
+answered_text a b kind text c Closed response is h = record { may = rw is h.may; answer_is = h.answer_is; leaves = h.leaves }
+answered_text a b kind text c NoMemory response is h = record { may = refl; answer_is = h.answer_is; leaves = h.leaves }
 
 -- one that spells none
-pub answered_refused_text : (a : SessionState) (kind : TextKind) (text : List ℕ) (why : TextRefusal) (told : List ℕ)
-    → meaning_of_text kind text ≡ Err why → told ≡ text_refusal why → AnsweredInput a (Text kind text) Plain told a
-answered_refused_text a kind text why told is k = answered_plain a (Text kind text) told (rw is refl) (rw is k)
+pub answered_refused_text : (a : SessionState) (kind : TextKind) (text : List ℕ) (why : TextRefusal) (response : List ℕ)
+    → meaning_of_text kind text ≡ Err why → response ≡ text_refusal why → AnsweredInput a (Text kind text) Plain response a
+answered_refused_text a kind text why response is k = answered_plain a (Text kind text) response (rw is refl) (rw is k)
 
 -- one that comes to lines
-pub answered_told_text : (a : SessionState) (kind : TextKind) (text lines told : List ℕ)
-    → meaning_of_text kind text ≡ Ok (Tells lines) → told ≡ lines → AnsweredInput a (Text kind text) Plain told a
-answered_told_text a kind text lines told is k = answered_plain a (Text kind text) told (rw is refl) (rw is k)
+pub answered_report : (a : SessionState) (kind : TextKind) (text lines response : List ℕ)
+    → meaning_of_text kind text ≡ Ok (Reports lines) → response ≡ lines → AnsweredInput a (Text kind text) Plain response a
+answered_report a kind text lines response is k = answered_plain a (Text kind text) response (rw is refl) (rw is k)
 
 -- ---- an input that was answered, and its answer
 
@@ -197,23 +197,23 @@ abbrev pub leaves_as : (Given : Premise) (f g : Bool) (a b : SessionState) (cs d
 leaves_as Given f g a b cs ds rs qs e k l h =
     subst (λ (v : Bool). LeavesSession Given v a b cs rs) (sym e) (subst (λ (v : List Command). LeavesSession Given g a b v rs) (sym k) (subst (λ (v : List Command). LeavesSession Given g a b ds v) (sym l) h))
 
-serves_one : (a b : ShellState) (i : Input) (o : Outcome) (told : List ℕ) (whole : Bool) → AnsweredInput a.session i o told b.session → WroteBytes whole a.out b.out told
+serves_one : (a b : ShellState) (i : Input) (o : Outcome) (response : List ℕ) (whole : Bool) → AnsweredInput a.session i o response b.session → WroteBytes whole a.out b.out response
     → ServesExchanges IsIntact a (record { input = i; outcome = o; whole = whole } ∷ []) b
-serves_one a b i o told whole h sent =
+serves_one a b i o response whole h sent =
     let s = a.session.state in
     let P : List ℕ → Type 0 = λ v. WroteBytes whole a.out b.out v in
     record {
       may = (h.may, λ more. absurd (more refl), tt);
-      wrote = (b.out, subst P h.told_is sent, refl);
+      wrote = (b.out, subst P h.answer_is sent, refl);
       leaves = leaves_as IsIntact (is_device_fault o || false) (is_device_fault o) a.session b.session (acknowledged_commands s i o ++ []) (acknowledged_commands s i o) (reached_commands s i o ++ []) (reached_commands s i o)
           (or_no (is_device_fault o)) (append-nil (acknowledged_commands s i o)) (append-nil (reached_commands s i o)) h.leaves;
     }
 
-pub meets_one : (a b : ShellState) (i : Input) (o : Outcome) (told : List ℕ) (halted : Option ShellEnd) → AnsweredInput a.session i o told b.session
-    → ((whole : Bool) × WroteBytes whole a.out b.out told × (halted ≡ halt_of whole o)) → ServesInputs IsIntact (i ∷ []) a b halted
-meets_one a b i o told halted h sent = record {
+pub meets_one : (a b : ShellState) (i : Input) (o : Outcome) (response : List ℕ) (halted : Option ShellEnd) → AnsweredInput a.session i o response b.session
+    → ((whole : Bool) × WroteBytes whole a.out b.out response × (halted ≡ halt_of whole o)) → ServesInputs IsIntact (i ∷ []) a b halted
+meets_one a b i o response halted h sent = record {
   met = record { input = i; outcome = o; whole = sent.0 } ∷ [];
-  serves = serves_one a b i o told sent.0 h sent.1;
+  serves = serves_one a b i o response sent.0 h sent.1;
   halts = or_none (halt_of sent.0 o) ∙ sym sent.2;
   not_met = [];
   spelled = refl;

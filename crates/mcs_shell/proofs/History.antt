@@ -145,7 +145,7 @@ refused_in Device disk left image s here (inr fails) now = fails_in disk left im
 
 number_refused : {D : Type 0} (state_of : D → DiskState) (disk left : D) (number : ℕ) (s : BenchState) → Stands (state_of disk) s → OpenRefusal (state_of disk) (state_of left) number → (number ≡ 53) ⊎ (number ≡ 90)
 number_refused state_of disk left number s here refused =
-    elim (refused_number refused.fault (state_of disk) s here (refused.refuses here.honest).0) [ inl is ↦ inl (refused.told ∙ is) | inr is ↦ inr (refused.told ∙ is) ]
+    elim (refused_number refused.fault (state_of disk) s here (refused.refuses here.honest).0) [ inl is ↦ inl (refused.number_is ∙ is) | inr is ↦ inr (refused.number_is ∙ is) ]
 
 stands_refused : {D : Type 0} (state_of : D → DiskState) → (disk left found : D) (number t : ℕ) (s : BenchState) → Stands (state_of disk) s → OpenRefusal (state_of disk) (state_of left) number
     → time_of (state_of disk) ≤ t → ((state_of left).honest → IsLeftByCut t (state_of left) (state_of found)) → Stands (state_of found) s

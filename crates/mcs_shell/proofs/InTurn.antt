@@ -17,41 +17,41 @@ use Rattle.mcs_shell.specs.ShellState.{KnownBytes, ShellState}
 use Rattle.mcs_shell.specs.Transcript.{ArePossibleExchanges, Exchange, answer, acknowledged_commands, halt_after, halt_of, in_turn}
 
 -- of these bytes some were written, and the others were not, which are none unless a write failed
-record AnswersTold (old new : KnownBytes) (bytes : List ℕ) (halted : Option ShellEnd) : Type 0 where
-  pub told : List ℕ
+record AnswersWritten (old new : KnownBytes) (bytes : List ℕ) (halted : Option ShellEnd) : Type 0 where
+  pub response : List ℕ
   pub left_out : List ℕ
-  pub written : Appends old new told
-  pub parts : told ++ left_out ≡ bytes
-  pub all_told : halted ≢ Some WriteFault → left_out ≡ []
+  pub written : Appends old new response
+  pub parts : response ++ left_out ≡ bytes
+  pub all_sent : halted ≢ Some WriteFault → left_out ≡ []
 
 cut_later : (whole : Bool) (o : Outcome) (rest : List Exchange) → (rest ≢ [] → halt_of whole o ≡ None) → halt_after rest ≡ Some WriteFault → option_or (halt_of whole o) (halt_after rest) ≡ Some WriteFault
 cut_later whole o [] goes cut = absurd (cc cut)
 cut_later whole o (x ∷ rest) goes cut = ap (λ (h : Option ShellEnd). option_or h (halt_after (x ∷ rest))) (goes (λ e. absurd (cc e))) ∙ cut
 
 -- one answer, and then the others
-told_first : (s : BenchState) (whole : Bool) (o : Outcome) (rest : List Exchange) (old middle new : KnownBytes) (bytes : List ℕ) → WroteBytes whole old middle bytes → (rest ≢ [] → halt_of whole o ≡ None) → WroteAnswers s rest middle new
-    → AnswersTold middle new (in_turn answer s rest) (halt_after rest) → AnswersTold old new (bytes ++ in_turn answer s rest) (option_or (halt_of whole o) (halt_after rest))
-told_first s true o rest old middle new bytes wrote goes others t = record {
-  told = bytes ++ t.told;
+written_first : (s : BenchState) (whole : Bool) (o : Outcome) (rest : List Exchange) (old middle new : KnownBytes) (bytes : List ℕ) → WroteBytes whole old middle bytes → (rest ≢ [] → halt_of whole o ≡ None) → WroteAnswers s rest middle new
+    → AnswersWritten middle new (in_turn answer s rest) (halt_after rest) → AnswersWritten old new (bytes ++ in_turn answer s rest) (option_or (halt_of whole o) (halt_after rest))
+written_first s true o rest old middle new bytes wrote goes others t = record {
+  response = bytes ++ t.response;
   left_out = t.left_out;
-  written = Appends-trans old middle new bytes t.told wrote t.written;
-  parts = append_assoc bytes t.told t.left_out ∙ ap (λ v. bytes ++ v) t.parts;
-  all_told = λ uncut. t.all_told (λ cut. uncut (cut_later true o rest goes cut));
+  written = Appends-trans old middle new bytes t.response wrote t.written;
+  parts = append_assoc bytes t.response t.left_out ∙ ap (λ v. bytes ++ v) t.parts;
+  all_sent = λ uncut. t.all_sent (λ cut. uncut (cut_later true o rest goes cut));
 }
-told_first s false o [] old middle new bytes wrote goes others t = record {
-  told = take wrote.count bytes;
+written_first s false o [] old middle new bytes wrote goes others t = record {
+  response = take wrote.count bytes;
   left_out = drop wrote.count bytes;
   written = subst (λ (v : KnownBytes). Appends old v (take wrote.count bytes)) (sym others) wrote.got;
   parts = take-append-drop wrote.count bytes ∙ sym (append-nil bytes);
-  all_told = λ uncut. absurd (uncut refl);
+  all_sent = λ uncut. absurd (uncut refl);
 }
-told_first s false o (x ∷ rest) old middle new bytes wrote goes others t = absurd (cc (goes (λ e. absurd (cc e))))
+written_first s false o (x ∷ rest) old middle new bytes wrote goes others t = absurd (cc (goes (λ e. absurd (cc e))))
 
-told_all : (live : Bool) (s : BenchState) (met : List Exchange) (old new : KnownBytes) → ArePossibleExchanges live s met → WroteAnswers s met old new → AnswersTold old new (in_turn answer s met) (halt_after met)
-told_all live s [] old new may wrote = record { told = []; left_out = []; written = subst (λ (v : KnownBytes). Appends old v []) (sym wrote) (Appends-nil old); parts = refl; all_told = λ uncut. refl }
-told_all live s (x ∷ rest) old new may wrote =
+written_all : (live : Bool) (s : BenchState) (met : List Exchange) (old new : KnownBytes) → ArePossibleExchanges live s met → WroteAnswers s met old new → AnswersWritten old new (in_turn answer s met) (halt_after met)
+written_all live s [] old new may wrote = record { response = []; left_out = []; written = subst (λ (v : KnownBytes). Appends old v []) (sym wrote) (Appends-nil old); parts = refl; all_sent = λ uncut. refl }
+written_all live s (x ∷ rest) old new may wrote =
     let t = fold s (acknowledged_commands s x.input x.outcome) in
-    told_first t x.whole x.outcome rest old wrote.0 new (answer s x.input x.outcome) wrote.1 may.1 wrote.2 (told_all live t rest wrote.0 new may.2 wrote.2)
+    written_first t x.whole x.outcome rest old wrote.0 new (answer s x.input x.outcome) wrote.1 may.1 wrote.2 (written_all live t rest wrote.0 new may.2 wrote.2)
 
 -- ---- a run that wrote its first line, or not
 
@@ -62,17 +62,17 @@ begun end r r' a b ran whole uncut none =
     let met = ran.served.met in
     let serves = ran.served.serves in
     let first : Appends a.out ran.began.started (session_text s) = subst (λ (v : Bool). WroteBytes v a.out ran.began.started (session_text s)) whole ran.began.wrote in
-    let t : AnswersTold ran.began.started b.out (in_turn answer s met) (halt_after met) = told_all a.session.live s met ran.began.started b.out serves.may serves.wrote in
+    let t : AnswersWritten ran.began.started b.out (in_turn answer s met) (halt_after met) = written_all a.session.live s met ran.began.started b.out serves.may serves.wrote in
     record {
       not_met = ran.served.not_met;
       spelled = ran.served.spelled;
       all_met = λ x y z. ran.served.all_met (none x y);
       may = serves.may;
-      told = session_text s ++ t.told;
+      response = session_text s ++ t.response;
       left_out = t.left_out;
-      written = Appends-trans a.out ran.began.started b.out (session_text s) t.told first t.written;
-      parts = append_assoc (session_text s) t.told t.left_out ∙ ap (λ v. session_text s ++ v) t.parts;
-      all_told = λ x z. t.all_told (λ cut. uncut x (sym ran.served.halts ∙ cut));
+      written = Appends-trans a.out ran.began.started b.out (session_text s) t.response first t.written;
+      parts = append_assoc (session_text s) t.response t.left_out ∙ ap (λ v. session_text s ++ v) t.parts;
+      all_sent = λ x z. t.all_sent (λ cut. uncut x (sym ran.served.halts ∙ cut));
     }
 
 not_begun : (end : ShellEnd) (r r' : KnownBytes) (a b : ShellState) (ran : RanShell end r r' a b) → ran.began.whole ≡ false → ran.served.met ≡ [] → (end ≢ WriteFault → end ≢ NoMemory → ⊥) → AnswersInTurn end ran.read a b ran.served.met
@@ -85,11 +85,11 @@ not_begun end r r' a b ran cut none by =
       spelled = ran.served.spelled;
       all_met = λ x y z. absurd (by x z);
       may = ran.served.serves.may;
-      told = take some.count (session_text s);
+      response = take some.count (session_text s);
       left_out = drop some.count (session_text s);
       written = subst (λ (v : KnownBytes). Appends a.out v (take some.count (session_text s))) (sym then) some.got;
       parts = take-append-drop some.count (session_text s) ∙ sym (append-nil (session_text s)) ∙ ap (λ (v : List Exchange). session_text s ++ in_turn answer s v) (sym none);
-      all_told = λ x z. absurd (by x z);
+      all_sent = λ x z. absurd (by x z);
     }
 
 pub answers_of_run : (end : ShellEnd) (r r' : KnownBytes) (a b : ShellState) (ran : RanShell end r r' a b) → AnswersInTurn end ran.read a b ran.served.met

@@ -11,6 +11,6 @@ pub mod Surviving
 pub mod InTurn
 pub mod History
 pub mod FoundAgain
-pub mod MayTell
+pub mod MayAnswer
 pub mod Carrying
 pub mod Counting

@@ -251,14 +251,14 @@ nothing_cut = from_fresh [] false ∙ after-cut nothing_pending tt
 -- nothing was read or done
 pub not_begun : (end : ShellEnd) (r : KnownBytes) (a : ShellState) (out : KnownBytes) (first_line : List ℕ) → (IsOpenOnHonestDisk a.session → IsIntact a.session) → GotFirstBytes a.out out first_line
     → (end ≡ NoMemory → out ≡ a.out) → EndsBy end false [] false [] None → RanShellGiven IsOpenOnHonestDisk first_line end r r a (with_written a out)
-not_begun end r a out first_line settle some untold ends = record {
+not_begun end r a out first_line settle some unwritten ends = record {
   read = read_cut r r [] (Consumes-nil r) (omega arith);
   began = record { whole = false; started = out; wrote = some };
   halted = None;
   served = meets_as IsOpenOnHonestDisk (inputs [] false) [] (with_written a out) (with_written a out) None nothing_cut (meets_under [] (with_written a out) (with_written a out) None settle (meets_nothing (with_written a out)));
   near = record { before = []; ahead = []; parts = refl; few = omega arith; more = []; answered_are = sym (append-nil (inputs [] false) ∙ nothing_cut) };
   ends = ends;
-  unwritten = untold;
+  unwritten = unwritten;
 }
 
 pub session_has_bytes : (s : BenchState) → 0 < length (session_text s)

@@ -1,4 +1,4 @@
--- What a shell may tell, and when. (Our own choice.)
+-- The answers that a shell may give, and when. (Our own choice.)
 use Rattle.std.specs.Prelude.{◌≡◌, ◌⊎◌, ℕ, List, IsTrue}
 use Rattle.mcs_answers.specs.AnswerTexts.{session_text}
 use Rattle.mcs_disk.specs.Disk.{DiskState}
@@ -10,10 +10,10 @@ use Rattle.mcs_shell.specs.Serving.{LeavesSession}
 use Rattle.mcs_shell.specs.Transcript.{IsPossibleOutcome, acknowledged_commands, answer, is_device_fault, reached_commands}
 use Rattle.mcs_shell.specs.declared.ends.Outcome.{Outcome}
 
--- These bytes are what is answered to some input with some outcome, which is a possible one, in a
--- session `before`, which that leaves as it is now. Where it was open, on an honest disk, `ok` is
--- of a command that is recorded, and no call came since (`clock` of `KeepsAllCommands`). That the
--- input was read and met says `RanShell`.
+-- Holds if these bytes are the answer to some input with some possible outcome in a session
+-- `before`, and that input leaves the session as it is now. If the session was open on an honest
+-- disk, `ok` is of a command that is recorded, and no call happened since (`clock` of
+-- `KeepsAllCommands`). `RanShell` says that the input was read and met.
 pub record AnswersJustNow {D : Type 0} (state_of : D → DiskState) (now : SessionView D)
     (bytes : List ℕ) : Type 0 where
   pub before : SessionView D
@@ -26,10 +26,10 @@ pub record AnswersJustNow {D : Type 0} (state_of : D → DiskState) (now : Sessi
       (acknowledged_commands before.state input outcome)
       (reached_commands before.state input outcome)
 
--- These bytes may be told now: they are the first line of the session, or an answer to what the
--- session has just met; and on an honest disk, whatever a power cut leaves of an open session
--- stands for its state, with the command that is answered.
-pub record MayTell {D : Type 0} (state_of : D → DiskState) (session : SessionView D)
+-- Holds if the shell may write these bytes now. They are the first line of the session, or an
+-- answer to what the session has just met. On an honest disk, whatever a power cut leaves of an
+-- open session stands for its state, with the command that is answered.
+pub record MayAnswer {D : Type 0} (state_of : D → DiskState) (session : SessionView D)
     (bytes : List ℕ) : Type 0 where
   pub says : (bytes ≡ session_text session.state) ⊎ AnswersJustNow state_of session bytes
   pub stands : IsTrue session.live → (state_of session.disk).honest

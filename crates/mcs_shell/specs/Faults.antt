@@ -1,4 +1,5 @@
--- How often a reader and a writer have failed, by how a shell ended; and a run without any fault.
+-- The counts of failures of a reader and a writer, by how a shell ended; and a run without any
+-- fault.
 use Rattle.std.specs.Prelude.{◌≡◌, ◌≢◌, ◌⊎◌, ◌+◌, ◌<◌, ◌++◌, ℕ, min, Option, Some, None, MatchResult, Result}
 use Rattle.std.specs.Io.KnownBytes.{Appends}
 use Rattle.std.specs.Option.{option_map}
@@ -10,43 +11,43 @@ use Rattle.mcs_shell.specs.Shell.{ShellRun, inputs_read}
 use Rattle.mcs_shell.specs.ShellState.{KnownBytes}
 use Rattle.mcs_shell.specs.Transcript.{answer, in_turn, inputs_in}
 
--- how many calls have failed, where that is known; it stays at its greatest value
+-- the count of calls that have failed, if it is known; it stays at its greatest value
 abbrev pub KnownFaults : Type 0
 KnownFaults = Option ℕ
 
--- a call that failed counts as one more
+-- the count after one more failed call
 abbrev pub one_more : KnownFaults → KnownFaults
 one_more faults = option_map (λ n. min (n + 1) most_faults) faults
 
--- the count rises by one where a call failed, and nowhere else
+-- Holds if the count rises by one when a call failed, and stays when it did not.
 abbrev pub CountsKnownFault : {T E : Type 0} → KnownFaults → KnownFaults → Result T E → Type 0
 CountsKnownFault old new result = MatchResult result (λ x. new ≡ old) (λ e. new ≡ one_more old)
 
--- how often the reader has failed once a shell ended so
+-- the reader's count of failures after a shell ended so
 abbrev pub faults_read : ShellEnd → KnownFaults → KnownFaults
 faults_read ReadFault faults = one_more faults
 faults_read end faults = faults
 
--- how often the writer has failed once a shell ended so, or goes on
+-- the writer's count of failures after a shell ended so, or while it continues
 abbrev pub faults_written : Option ShellEnd → KnownFaults → KnownFaults
 faults_written (Some WriteFault) faults = one_more faults
 faults_written halted faults = faults
 
--- The reader failed once where the shell ended by a read, the writer where it ended by a write, and
--- else neither failed.
+-- Holds if the failures match the end of a shell. The reader failed once if the shell ended by a
+-- read. The writer failed once if it ended by a write. Otherwise neither failed.
 pub record EndsByItsFault (end : ShellEnd) (read read' written written' : KnownFaults) : Type 0 where
   pub reader : read' ≡ faults_read end read
   pub writer : written' ≡ faults_written (Some end) written
 
--- what contracts see of a reader and a writer: what the one has left and the other has got, and how
--- often each has failed
+-- the view of a reader and a writer in contracts: what the reader has left, what the writer has
+-- got, and how often each has failed
 pub record StreamsView : Type 0 where
   pub left : KnownBytes
   pub read_faults : KnownFaults
   pub got : KnownBytes
   pub write_faults : KnownFaults
 
--- the same, by the members of their traits
+-- that view, by the members of the traits
 abbrev pub streams_view : {R W : Type 0} → (R → KnownBytes) → (R → KnownFaults) → (W → KnownBytes)
     → (W → KnownFaults) → R → W → StreamsView
 streams_view remaining read_faults contents write_faults reader writer = record {
@@ -58,13 +59,13 @@ streams_view remaining read_faults contents write_faults reader writer = record 
 
 -- ---- a run without a fault
 
--- it is known that no call has failed from the first count to the second
+-- Holds if it is known that no call has failed from the first count to the second.
 abbrev pub HasNotFailed : KnownFaults → KnownFaults → Type 0
 HasNotFailed None new = ⊥
 HasNotFailed (Some n) new = (new ≡ Some n) × (n < most_faults)
 
--- in this run no call of the reader, of the writer or of the disk failed, and the shell had memory
--- to begin (the four counts are its streams', which a `ShellRun` does not have)
+-- A run without a failed call of the reader, of the writer or of the disk, whose shell had memory
+-- to begin. (The four counts are its streams', which a `ShellRun` does not have.)
 pub record RanWithoutFault {D : Type 0} {state_of : D → DiskState} (run : ShellRun state_of) : Type 0 where
   pub read : KnownFaults
   pub read' : KnownFaults
@@ -77,10 +78,10 @@ pub record RanWithoutFault {D : Type 0} {state_of : D → DiskState} (run : Shel
       (Some (state_of run.after.disk).faults)
   pub memory : run.end ≢ NoMemory
 
--- the run came to the end of its input or to the limit of it, met all that it had read, and told
--- each answer whole
+-- Holds if a run serves all its input. It reached the end of its input or the limit of it. It met
+-- all inputs that it had read, and wrote each answer whole.
 pub record ServesAll {D : Type 0} {state_of : D → DiskState} (run : ShellRun state_of) : Type 0 where
   pub end : (run.end ≡ End) ⊎ (run.end ≡ InputLimit)
   pub all_met : inputs_read run.ran.read ≡ inputs_in run.ran.served.met
-  pub all_told : Appends run.out run.out' (session_text run.before.state
+  pub all_sent : Appends run.out run.out' (session_text run.before.state
       ++ in_turn answer run.before.state run.ran.served.met)

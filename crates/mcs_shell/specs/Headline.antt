@@ -1,4 +1,5 @@
--- The headline: what a run answered, and what is found again after a power cut at any moment of it.
+-- The headline: the answers of a run, and the state found after a power cut at any moment of the
+-- run.
 use Rattle.std.specs.Prelude.{◌≡◌, ◌≢◌, ◌⊎◌, ◌≤◌, ℕ, List, [], ◌++◌}
 use Rattle.std.specs.Io.KnownBytes.{Appends}
 use Rattle.mcs_answers.specs.AnswerTexts.{session_text}
@@ -18,12 +19,13 @@ use Rattle.mcs_shell.specs.Shell.{ReadInput, ShellRun, inputs_read}
 use Rattle.mcs_shell.specs.ShellState.{KnownBytes, ShellState, shell_state}
 use Rattle.mcs_shell.specs.Transcript.{ArePossibleExchanges, Exchange, answer, acknowledged_commands, in_turn, inputs_in, reached_commands}
 
--- ---- what a run answered
+-- ---- the answers of a run
 
--- A run met the first inputs among those that the bytes which it read spell: all of them, unless a
--- write or the device failed, or the shell had no memory to begin. It wrote the first line of a
--- session and then their answers, each by the state after the commands that were answered `ok`
--- before it; a failed write, and lack of memory to begin, alone cut that off at its end.
+-- The answers of a run, in turn. The bytes that the run read spell inputs, and the run met the
+-- first of these inputs. It met all of them unless a write or the device failed, or the shell had
+-- no memory to begin. The run wrote the first line of a session and then the answers to the inputs
+-- that it met. Each answer is by the state after the commands that were answered `ok` before it.
+-- Only a failed write or lack of memory to begin cuts these bytes off at their end.
 pub record AnswersInTurn
     (end : ShellEnd) {reader reader' : KnownBytes} (read : ReadInput reader reader')
     (a b : ShellState) (met : List Exchange) : Type 0 where
@@ -31,24 +33,25 @@ pub record AnswersInTurn
   pub spelled : inputs_read read ≡ inputs_in met ++ not_met
   pub all_met : end ≢ WriteFault → end ≢ DeviceFault → end ≢ NoMemory → not_met ≡ []
   pub may : ArePossibleExchanges a.session.live a.session.state met
-  pub told : List ℕ
+  pub response : List ℕ
   pub left_out : List ℕ
-  pub written : Appends a.out b.out told
-  pub parts : told ++ left_out
+  pub written : Appends a.out b.out response
+  pub parts : response ++ left_out
       ≡ session_text a.session.state ++ in_turn answer a.session.state met
-  pub all_told : end ≢ WriteFault → end ≢ NoMemory → left_out ≡ []
+  pub all_sent : end ≢ WriteFault → end ≢ NoMemory → left_out ≡ []
 
 -- the commands that a run answered `ok`
 abbrev pub done_in : {D : Type 0} {state_of : D → DiskState} → ShellRun state_of → List Command
 done_in run = in_turn acknowledged_commands run.before.state run.ran.served.met
 
--- these, and then the one that it answered `no 53`, if it did
+-- the commands that a run answered `ok`, and then the one that it answered `no 53`, if it did
 abbrev pub reached_in : {D : Type 0} {state_of : D → DiskState} → ShellRun state_of → List Command
 reached_in run = in_turn reached_commands run.before.state run.ran.served.met
 
--- The answers of a run are those of the inputs that it met, in turn. The commands that it answered
--- `ok` have their moments; `reached_in` are these, and then at most the one that it answered `no
--- 53` (`state_of` is what contracts see of its disk).
+-- The answers and the acknowledgements of a run. The answers are those of the inputs that the run
+-- met, in turn. Each command that the run answered `ok` has its moment. `reached_in` are these
+-- commands, and then at most the one that the run answered `no 53`. (`state_of` is what contracts
+-- see of its disk.)
 pub record AnswersAndAcknowledges
     {D : Type 0} {state_of : D → DiskState} (run : ShellRun state_of) : Type 0 where
   pub answers : AnswersInTurn run.end run.ran.read
@@ -59,12 +62,13 @@ pub record AnswersAndAcknowledges
   pub failed : List Command
   pub reached_are : reached_in run ≡ done_in run ++ failed
 
--- ---- what is found again
+-- ---- the state found again
 
--- A power cut at some moment since `time`, in a run or at its end, left a disk (`found_of` is what
--- contracts see of one): opened, it gives the bench as it is after a prefix of the commands
--- answered `ok` and the one answered `no 53`, and the prefix holds each one that had its moment by
--- that time. Opening it is refused for lack of memory and for a device fault alone.
+-- The results of power cuts. A power cut at some moment since `time`, in a run or at its end, left
+-- a disk (`found_of` is what contracts see of one). When opened, this disk gives the bench as it
+-- is after a prefix of some commands. These are the commands answered `ok` and the one answered
+-- `no 53`. The prefix holds each command that had its moment by that time. Only lack of memory and
+-- a device fault prevent the opening.
 pub record SurvivesPowerCuts
     {D E : Type 0} {state_of : D → DiskState} (found_of : E → DiskState) (run : ShellRun state_of)
     (moments : List ℕ) : Type 0 where
@@ -79,8 +83,8 @@ pub record SurvivesPowerCuts
       → RefusesSession fault (found_of found)
       → (fault ≡ store_fault.Device) ⊎ (fault ≡ store_fault.NoMemory)
 
--- What a run answered and acknowledged, and what of it survives. The premise of the law is that the
--- session is open and its disk honest (`IsOpenOnHonestDisk`).
+-- The answers and acknowledgements of a run, and what of it survives. The premise of the law is
+-- that the session is open and its disk honest (`IsOpenOnHonestDisk`).
 pub record AnswersAndSurvives
     {D E : Type 0} (state_of : D → DiskState) (found_of : E → DiskState)
     (run : ShellRun state_of) : Type 0 where

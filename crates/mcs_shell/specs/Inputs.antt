@@ -12,8 +12,8 @@ use Rattle.mcs_lines.specs.LineRequests.{request_of}
 use Rattle.mcs_lines.specs.Words.{is_plain_byte}
 use Rattle.mcs_model.specs.TextLines.{is_line_feed, lines, text_of}
 
--- what a line outside a text asks for (none that begins a text), a text, or a text that is refused
--- whatever its lines say
+-- the request of a line outside a text (but no line that begins a text), a text, or a text that is
+-- refused whatever its lines say
 pub data Input : Type 0 where
   Line : Request → Input
   Text : TextKind → List ℕ → Input
@@ -25,15 +25,15 @@ pub data Input : Type 0 where
 abbrev pub is_dot_line : List ℕ → Bool
 is_dot_line line = bytes_eq line (codes ".")
 
--- a line, or a byte, that a text may have
+-- true if a text may have this line, or this byte
 abbrev pub is_short : List ℕ → Bool
 is_short line = nat_le (length line) LINE_BYTES
 
 abbrev pub is_text_byte : ℕ → Bool
 is_text_byte b = is_line_feed b || is_plain_byte b
 
--- why a text that has an end is refused whatever its lines say, if it is: it is too long, else a
--- line of it is, else it has a bad byte
+-- The reason why a text that has an end is refused whatever its lines say, if any. It is too long,
+-- else a line of it is, else it has a bad byte.
 unfoldable pub text_fault_of : List ℕ → Option TextFault
 text_fault_of text =
     if nat_lt TEXT_BYTES (length text) then Some TextTooLong
@@ -50,22 +50,22 @@ judged_text kind text = text_or_fault kind text (text_fault_of text)
 
 -- ---- lines in groups
 
--- the kind of the text that begins after a line, if one does
+-- the kind of the text that begins after a line, if one begins
 abbrev pub text_begun : Request → Option TextKind
 text_begun (Begin kind) = Some kind
 text_begun request = None
 
--- A text, by the lines after the one that began it: it is those before the first that is a dot,
--- each followed by a line feed. Without a dot it is refused (no end) if input ended (`whole`), else
--- it is no input yet.
+-- The input of a text, by the lines after the one that began it. The text is the lines before the
+-- first dot line, each followed by a line feed. Without a dot line the text is refused (no end) if
+-- input ended (`whole`). Otherwise it is no input yet.
 abbrev pub text_input : Bool → TextKind → List (List ℕ) → List Input
 text_input whole kind ls =
     if list_any is_dot_line ls
     then judged_text kind (text_of (before_first is_dot_line ls)) ∷ []
     else if whole then BadText NoEnd ∷ [] else []
 
--- the inputs that lines spell; `in_text`: those up to the first dot are a text's, whose input
--- `text_input` gave; `whole`: input ended after them
+-- The inputs that lines spell. `in_text`: the lines up to the first dot line belong to a text,
+-- whose input `text_input` gave. `whole`: input ended after the lines.
 unfoldable pub inputs_of_lines : Bool → Bool → List (List ℕ) → List Input
 inputs_of_lines whole in_text [] = []
 inputs_of_lines whole true (l ∷ ls) = inputs_of_lines whole (not (is_dot_line l)) ls
@@ -75,6 +75,6 @@ inputs_of_lines whole false (l ∷ ls) =
       | Some kind ↦ text_input whole kind ls ++ inputs_of_lines whole true ls
     ]
 
--- the inputs that the bytes spell; `ended` says that input ended there, else it was cut
+-- the inputs that the bytes spell; `ended`: input ended there, else it was cut
 unfoldable pub inputs : List ℕ → Bool → List Input
 inputs bytes ended = inputs_of_lines ended false (lines bytes ended)

@@ -1,5 +1,5 @@
--- What a reader of pieces has not finished, and the inputs that come of it. It is cited by clauses
--- of private functions alone.
+-- The unfinished input of a reader of pieces, and the inputs that result from it. It is cited by
+-- clauses of private functions alone.
 use Rattle.std.specs.Prelude.{Bool, ℕ, List, [], ◌∷◌, ◌++◌, if◌then◌else◌, Some, None}
 use Rattle.mcs_lines.specs.declared.requests.TextKind.{TextKind}
 use Rattle.mcs_lines.specs.LineRequests.{request_of}
@@ -7,12 +7,12 @@ use Rattle.mcs_model.specs.TextLines.{as_line, lines}
 use Rattle.mcs_shell.specs.declared.texts.TextFault.TheVariants.{NoEnd}
 use Rattle.mcs_shell.specs.Inputs.{BadText, Input, Line, is_dot_line, judged_text, text_begun}
 
--- where a line stands: outside a text, or in one, after these bytes of it
+-- the position of a line: outside a text, or in one, after these bytes of it
 pub data Mode : Type 0 where
   Commands : Mode
   InText : TextKind → List ℕ → Mode
 
--- the inputs of lines, the first of which stands there
+-- the inputs of lines, the first of which is at that position
 unfoldable pub inputs_from : Bool → Mode → List (List ℕ) → List Input
 inputs_from whole Commands [] = []
 inputs_from whole (InText kind text) [] = if whole then BadText NoEnd ∷ [] else []
@@ -30,10 +30,10 @@ pub record Pending : Type 0 where
   pub mode : Mode
   pub line : List ℕ
 
--- no text is open, and no line has begun
+-- the state in which no text is open, and no line has begun
 abbrev pub nothing_pending : Pending
 nothing_pending = record { mode = Commands; line = [] }
 
--- the inputs that what is unfinished and these bytes spell
+-- the inputs that the unfinished input and these bytes spell
 abbrev pub inputs_after : Pending → List ℕ → Bool → List Input
 inputs_after p bytes whole = inputs_from whole p.mode (lines (p.line ++ bytes) whole)

@@ -1,4 +1,4 @@
--- The numbers that refusals of commands and of sessions are reported as.
+-- The numbers of refusals of commands and of sessions.
 use Rattle.std.specs.Prelude.{ℕ}
 use Rattle.mcs_host.specs.declared.file_fault.FileFault.{FileFault}
 use Rattle.mcs_host.specs.declared.file_fault.FileFault.TheVariants as file_fault
@@ -13,13 +13,13 @@ use Rattle.mcs_session.specs.declared.fault.SessionFault.TheVariants as session_
 use Rattle.mcs_shell.specs.declared.faults.BeginFault.{BeginFault}
 use Rattle.mcs_shell.specs.declared.faults.BeginFault.TheVariants as begin_fault
 
--- the numbers that refusals to record a command are reported as
+-- the numbers of refusals to record a command
 abbrev pub session_fault_number : SessionFault → ℕ
 session_fault_number (session_fault.Refused f) = bench_fault_number f
 session_fault_number session_fault.Device = DEVICE
 session_fault_number session_fault.Closed = CLOSED
 
--- the numbers that refusals to make and to open a session are reported as
+-- the numbers of refusals to make and to open a session
 abbrev pub store_fault_number : StoreFault → ℕ
 store_fault_number store_fault.NotASession = NOT_A_SESSION
 store_fault_number store_fault.Damaged = DAMAGED
@@ -27,8 +27,8 @@ store_fault_number store_fault.Device = DEVICE
 store_fault_number store_fault.NotBlank = NOT_BLANK
 store_fault_number store_fault.NoMemory = NO_MEMORY
 
--- the numbers that refusals to open a file are reported as: whatever the host has against it, there
--- is no device to work on
+-- the numbers of refusals to open a file: whatever the host has against it, there is no device to
+-- work on
 abbrev pub file_fault_number : FileFault → ℕ
 file_fault_number file_fault.InUse = DEVICE
 file_fault_number file_fault.NoLock = DEVICE
@@ -45,7 +45,7 @@ file_fault_number file_fault.StreamsUnknown = DEVICE
 file_fault_number file_fault.Device = DEVICE
 file_fault_number file_fault.NoMemory = NO_MEMORY
 
--- the number that it is reported as that no session was begun
+-- the number that reports that no session was begun
 abbrev pub begin_fault_number : BeginFault → ℕ
 begin_fault_number (begin_fault.File f) = file_fault_number f
 begin_fault_number (begin_fault.Create f) = store_fault_number f

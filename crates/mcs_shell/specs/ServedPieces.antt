@@ -1,4 +1,4 @@
--- An input alone, and inputs that come in pieces. It is cited by clauses of private functions
+-- An input alone, and inputs that arrive in pieces. It is cited by clauses of private functions
 -- alone.
 use Rattle.std.specs.Prelude.{◌≡◌, Bool, ℕ, List, ◌++◌, Option, None}
 use Rattle.mcs_session.specs.declared.fault.SessionFault.{SessionFault}
@@ -16,36 +16,37 @@ use Rattle.mcs_shell.specs.Serving.{LeavesSession, ServesExchanges}
 use Rattle.mcs_shell.specs.ShellState.{ShellState}
 use Rattle.mcs_shell.specs.Transcript.{IsPossibleOutcome, Exchange, acknowledged_commands, answer, halt_after, inputs_in, is_device_fault, reached_commands}
 
--- what each input of a run hands on to the next: the premise of the run, and that the disk stands
--- for the state
+-- the invariant that each input of a run hands on to the next: the premise of the run, and that
+-- the disk stands for the state
 pub record IsIntact (a : SessionState) : Type 0 where
   pub honest : IsOpenOnHonestDisk a
   pub stands : DiskStandsFor a.disk a.state
 
--- what comes of an input whose command was not recorded
+-- the outcome of an input whose command was not recorded
 abbrev pub outcome_of : SessionFault → Outcome
 outcome_of (session_fault.Refused fault) = Plain
 outcome_of session_fault.Device = Device
 outcome_of session_fault.Closed = Closed
 
--- an input had this outcome in the session a: its answer is this, and it left the session b
+-- an input that had this outcome in the session a: its answer is this, and it left the session b
 pub record AnsweredInput
-    (a : SessionState) (i : Input) (o : Outcome) (told : List ℕ)
+    (a : SessionState) (i : Input) (o : Outcome) (response : List ℕ)
     (b : SessionState) : Type 0 where
   pub may : IsPossibleOutcome a.live a.state i o
-  pub told_is : told ≡ answer a.state i o
+  pub answer_is : response ≡ answer a.state i o
   pub leaves : LeavesSession IsIntact (is_device_fault o) a b
       (acknowledged_commands a.state i o)
       (reached_commands a.state i o)
 
--- From what was unfinished in `p` on, these bytes were read, and the first of the inputs that they
--- spell were met: all, where nothing halted the shell, and what is unfinished then is `q`.
+-- The service of these bytes, which were read after what was unfinished in `p`. The first of the
+-- inputs that they spell were met. All were met if nothing halted the shell, and `q` is what is
+-- unfinished then.
 pub record ServesBytes
     (a b : ShellState) (p q : Pending) (bytes : List ℕ) (halted : Option ShellEnd) : Type 0 where
   pub met : List Exchange
   pub serves : ServesExchanges IsIntact a met b
   pub halts : halt_after met ≡ halted
-  -- however the bytes go on
+  -- however the bytes continue
   pub not_met : List ℕ → Bool → List Input
   pub spelled : (more : List ℕ) (whole : Bool)
       → inputs_after p (bytes ++ more) whole ≡ inputs_in met ++ not_met more whole

@@ -1,4 +1,4 @@
--- How inputs are served, in turn, and what is there then.
+-- The service of inputs, in turn, and the state after it.
 use Rattle.std.specs.Prelude.{◌≡◌, ◌<◌, Bool, true, false, ℕ, List, [], ◌∷◌, ◌++◌, length, take, Option, None}
 use Rattle.std.specs.Io.KnownBytes.{Appends}
 use Rattle.std.specs.List.{list_any}
@@ -15,18 +15,19 @@ use Rattle.mcs_session.specs.KeptCommands.{RecordsCommands, KeepsCommands}
 
 -- ---- an answer
 
--- the writer got only the first of these bytes, or none
+-- Holds if the writer got only the first of these bytes, or none.
 pub record GotFirstBytes (old new : KnownBytes) (bytes : List ℕ) : Type 0 where
   pub count : ℕ
   pub fewer : count < length bytes
   pub got : Appends old new (take count bytes)
 
--- the writer got all of these bytes where this is true, else only the first of them, or none
+-- Holds if the writer got all of these bytes when this is true, else only the first of them, or
+-- none.
 abbrev pub WroteBytes : Bool → KnownBytes → KnownBytes → List ℕ → Type 0
 WroteBytes true old new bytes = Appends old new bytes
 WroteBytes false old new bytes = GotFirstBytes old new bytes
 
--- what the writer got of the answers of these exchanges, in turn
+-- Holds for the bytes that the writer got of the answers of these exchanges, in turn.
 abbrev pub WroteAnswers : BenchState → List Exchange → KnownBytes → KnownBytes → Type 0
 WroteAnswers s [] old new = new ≡ old
 WroteAnswers s (x ∷ rest) old new =
@@ -35,9 +36,9 @@ WroteAnswers s (x ∷ rest) old new =
 
 -- ---- the session
 
--- The device failed, which closed the session. The commands `done` were answered `ok`; all of
--- `reached`, which are these and then the one at which the device failed, may have reached the
--- disk.
+-- Holds if the device failed, which closed the session. The commands `done` were answered `ok`.
+-- `reached` are these and then the one at which the device failed. All of `reached` may have
+-- reached the disk.
 pub record ClosesSession
     (Given : Premise) (a b : SessionState) (done reached : List Command) : Type 0 where
   pub closed : b.live ≡ false
@@ -48,7 +49,8 @@ pub record ClosesSession
   pub counts : CountsFault a.disk b.disk (Unit {0})
   pub kept : Given a → KeepsCommands a.disk b.disk a.state done reached
 
--- what inputs leave of the session and its disk, by whether the device failed at the last of them
+-- Holds for the session and the disk after inputs, by whether the device failed at the last of
+-- them.
 abbrev pub LeavesSession : Premise → Bool → SessionState → SessionState → List Command
     → List Command → Type 0
 LeavesSession Given false a b done reached = RecordsCommands Given a b done
@@ -56,7 +58,7 @@ LeavesSession Given true a b done reached = ClosesSession Given a b done reached
 
 -- ---- inputs in turn
 
--- From a on these exchanges were made, in turn, and left b. `Given` is the premise of what the
+-- The exchanges that were made from a on, in turn, and left b. `Given` is the premise of what the
 -- disk keeps.
 pub record ServesExchanges
     (Given : Premise) (a : ShellState) (met : List Exchange) (b : ShellState) : Type 0 where
@@ -67,7 +69,7 @@ pub record ServesExchanges
       (in_turn acknowledged_commands a.session.state met)
       (in_turn reached_commands a.session.state met)
 
--- the first of these inputs were met: all, where nothing halted the shell
+-- Holds if the first of these inputs were met: all, if nothing halted the shell.
 pub record ServesInputs
     (Given : Premise) (asked : List Input) (a b : ShellState)
     (halted : Option ShellEnd) : Type 0 where

@@ -1,4 +1,4 @@
--- What a shell read, wrote and did, by how it ended.
+-- The reads, the writes and the effects of a shell, by how it ended.
 use Rattle.std.specs.Prelude.{◌≡◌, ◌⊎◌, ◌<◌, ◌≤◌, Bool, true, false, ℕ, List, [], ◌++◌, length, Option, Some, None}
 use Rattle.std.specs.Io.KnownBytes.{Consumes, IsAtEnd}
 use Rattle.mcs_shell.specs.declared.ends.ShellEnd.{ShellEnd}
@@ -13,8 +13,8 @@ use Rattle.mcs_answers.specs.AnswerTexts.{session_text}
 use Rattle.mcs_session.specs.KeptCommands.{IsOpenOnHonestDisk}
 use Rattle.mcs_shell.specs.Serving.{ServesInputs, WroteBytes}
 
--- All inputs that the bytes read spell, but for the last 4,096 bytes at most, were answered, and
--- maybe more. (A numeral, so that a shell with a larger chunk is refused.)
+-- Holds if all inputs spelled by the bytes read, except for at most the last 4,096 bytes, were
+-- answered, and perhaps more inputs. (A numeral, so that a shell with a larger chunk is refused.)
 pub record ReadsLittleAhead (bytes : List ℕ) (answered : List Input) : Type 0 where
   pub before : List ℕ
   pub ahead : List ℕ
@@ -23,32 +23,34 @@ pub record ReadsLittleAhead (bytes : List ℕ) (answered : List Input) : Type 0 
   pub more : List Input
   pub answered_are : answered ≡ inputs before false ++ more
 
--- What was read: these bytes, up to the limit.
+-- The bytes that were read, up to the limit.
 pub record ReadInput (reader reader' : KnownBytes) : Type 0 where
   pub bytes : List ℕ
   pub consumed : Consumes reader reader' bytes
   pub within : length bytes ≤ INPUT_BYTES
-  -- whether input ended after them; then the limit was not reached, and the reader has nothing left
+  -- true if input ended after these bytes; then the limit was not reached, and the reader has
+  -- nothing left
   pub ended : Bool
   pub input_ended : ended ≡ true → (length bytes < INPUT_BYTES) × IsAtEnd reader'
 
--- the inputs that it spells
+-- the inputs that the bytes read spell
 abbrev pub inputs_read : {reader reader' : KnownBytes} → ReadInput reader reader' → List Input
 inputs_read read = inputs read.bytes read.ended
 
--- What was begun: a first line was written, or only the first bytes of it, or none.
+-- The start of a run: a first line was written, or only its first bytes, or none.
 pub record Began (first_line : List ℕ) (out : KnownBytes) : Type 0 where
-  -- whether it was written whole, and what the writer had got then
+  -- true if the first line was written whole; and what the writer had got then
   pub whole : Bool
   pub started : KnownBytes
   pub wrote : WroteBytes whole out started first_line
 
--- The first line was not written whole; then nothing was read or done.
+-- Holds if the first line was not written whole, and nothing was read or done.
 abbrev pub IsNotBegun : Bool → List ℕ → List Exchange → Type 0
 IsNotBegun begun bytes met = (begun ≡ false) × (bytes ≡ []) × (met ≡ [])
 
--- What a run is by its end: whether its first line was written whole, the bytes that were read and
--- whether input ended after them, the inputs that were met, and what halted it.
+-- Holds if a run matches its end. The next arguments are true if the first line was written whole,
+-- and the bytes that were read. Then follow true if input ended after these bytes, the inputs that
+-- were met, and the end that halted the run, if any.
 abbrev pub EndsBy : ShellEnd → Bool → List ℕ → Bool → List Exchange → Option ShellEnd → Type 0
 EndsBy End begun bytes ended met halted = (begun ≡ true) × (ended ≡ true) × (halted ≡ None)
 EndsBy ReadFault begun bytes ended met halted =
@@ -61,8 +63,8 @@ EndsBy DeviceFault begun bytes ended met halted =
     (begun ≡ true) × (halted ≡ Some DeviceFault)
 EndsBy NoMemory begun bytes ended met halted = IsNotBegun begun bytes met
 
--- The shell ran from a to b: what it read, what it began, and what it served of the inputs that it
--- read.
+-- A run of the shell from a to b: the bytes read, the first line begun, and the inputs served
+-- among those that were read.
 pub record RanShellGiven
     (Given : Premise) (first_line : List ℕ) (end : ShellEnd) (reader reader' : KnownBytes)
     (a b : ShellState) : Type 0 where
@@ -74,14 +76,14 @@ pub record RanShellGiven
   pub ends : EndsBy end began.whole read.bytes read.ended served.met halted
   pub unwritten : end ≡ NoMemory → b.out ≡ a.out
 
--- a run whose first line is that of the session; what `kept` says of its disk has the premise that
--- the session is open and its disk honest
+-- A run whose first line is that of the session. The claims of `kept` about its disk have the
+-- premise that the session is open and its disk honest.
 abbrev pub RanShell : ShellEnd → KnownBytes → KnownBytes → ShellState → ShellState → Type 0
 RanShell end reader reader' a b =
     RanShellGiven IsOpenOnHonestDisk (session_text a.session.state) end reader reader' a b
 
--- A run of the shell: how it ended, what the reader had left, what the writer held, and the session
--- (`state_of` is what contracts see of its disk), before and after.
+-- A run of the shell: its end, what the reader had left, what the writer held, and the session,
+-- before and after. (`state_of` is what contracts see of the session's disk.)
 pub record ShellRun {D : Type 0} (state_of : D → DiskState) : Type 0 where
   pub end : ShellEnd
   pub reader : KnownBytes
@@ -93,7 +95,7 @@ pub record ShellRun {D : Type 0} (state_of : D → DiskState) : Type 0 where
   pub ran : RanShell end reader reader'
       (shell_state state_of before out) (shell_state state_of after out')
 
--- a read gave these n bytes, none only at the end
+-- a read that gave these n bytes, none only at the end
 pub record ReadBytes (n most : ℕ) (old new : KnownBytes) (bytes : List ℕ) : Type 0 where
   pub within : n ≤ most
   pub count : length bytes ≡ n

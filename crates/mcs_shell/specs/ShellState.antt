@@ -3,19 +3,20 @@ use Rattle.std.specs.Prelude.{ℕ, List, Option}
 use Rattle.mcs_disk.specs.Disk.{DiskState}
 use Rattle.mcs_session.specs.SessionState.{SessionState, SessionView, session_state}
 
--- what a reader has left or a writer has got, where it tells that
+-- the bytes that a reader has left or a writer has got, if it makes them known
 abbrev pub KnownBytes : Type 0
 KnownBytes = Option (List ℕ)
 
--- a session, and what its shell has written so far, where the writer tells it
+-- a session, and the bytes that its shell has written so far, if the writer makes them known
 pub record ShellState : Type 1 where
   pub session : SessionState
   pub out : KnownBytes
 
--- a session on a disk of some type, and what its shell has written, where the writer tells it
+-- a session on a disk of some type, and the bytes that its shell has written, if the writer makes
+-- them known
 abbrev pub shell_state : {D : Type 0} → (D → DiskState) → SessionView D → KnownBytes → ShellState
 shell_state state_of s out = record { session = session_state state_of s; out = out }
 
--- the same session, once this is what its shell has written
+-- the same session, after its shell has written this
 abbrev pub with_written : ShellState → KnownBytes → ShellState
 with_written a out = record { session = a.session; out = out }

@@ -1,4 +1,4 @@
--- What a text comes to, and what is told where it spells nothing.
+-- The meaning of a text, and the answer to a text that spells nothing.
 use Rattle.std.specs.Prelude.{ℕ, List, Result, Ok, Err}
 use Rattle.std.specs.Result.{result_map_both}
 use Rattle.mcs_model.specs.declared.board.BoardParts.{BoardParts}
@@ -11,6 +11,7 @@ use Rattle.mcs_source.specs.RefusalNumbers.{source_fault_number}
 use Rattle.mcs_source.specs.Survey.{Survey, survey_of_text}
 use Rattle.mcs_source.specs.declared.fault.SourceFault.{SourceFault}
 use Rattle.mcs_wiring.specs.RefusalNumbers.{wiring_fault_number}
+use Rattle.mcs_wiring.specs.Parts.{wiring_text}
 use Rattle.mcs_wiring.specs.Wiring.{board_of_text}
 use Rattle.mcs_wiring.specs.declared.fault.WiringFault.{WiringFault}
 use Rattle.mcs_shell.specs.declared.texts.TextMeaning as code
@@ -18,10 +19,11 @@ use Rattle.mcs_shell.specs.declared.texts.TextMeaning.TheVariants as spelled
 use Rattle.mcs_shell.specs.declared.texts.TextRefusal.{TextRefusal}
 use Rattle.mcs_shell.specs.declared.texts.TextRefusal.TheVariants.{Wiring, Program}
 use Rattle.mcs_lines.specs.declared.requests.TextKind.{TextKind}
-use Rattle.mcs_lines.specs.declared.requests.TextKind.TheVariants.{Wire, Asm, Map}
+use Rattle.mcs_lines.specs.declared.requests.TextKind.TheVariants.{Wire, Asm, Map, Wiring, Errors}
+use Rattle.mcs_asm.specs.Errors.{errors_of_text, errors_text}
 use Rattle.mcs_answers.specs.AnswerTexts.{no_line_text, no_text}
 
--- the command to put a board in place of the one that is there
+-- the command to replace the board with this one
 abbrev pub wire_command : Result BoardParts WiringFault → Result Command TextRefusal
 wire_command (Ok board) = Ok (command.Wire board)
 wire_command (Err fault) = Err (Wiring fault)
@@ -31,27 +33,29 @@ abbrev pub load_command : Result (List (ℕ × ℕ)) (ℕ × SourceFault) → Re
 load_command (Ok pairs) = Ok (command.Load (by_address pairs))
 load_command (Err at) = Err (Program (at.0) (at.1))
 
--- what a text comes to: a command to do, or lines (bytes, with line feeds), which are told while
--- nothing is done
+-- the meaning of a text: a command to do, or lines (bytes, with line feeds), which are answered
+-- while nothing is done
 pub data TextMeaning : Type 0 where
   Does : Command → TextMeaning
-  Tells : List ℕ → TextMeaning
+  Reports : List ℕ → TextMeaning
 
--- the map of a program, or why the text is none
+-- the map of a program, or the reason why the text is none
 abbrev pub program_map : Result Survey (ℕ × SourceFault) → Result TextMeaning TextRefusal
-program_map (Ok survey) = Ok (Tells (survey_text survey))
+program_map (Ok survey) = Ok (Reports (survey_text survey))
 program_map (Err at) = Err (Program (at.0) (at.1))
 
--- what a text comes to, or why it spells nothing
+-- the meaning of a text, or the reason why it spells nothing
 unfoldable pub meaning_of_text : TextKind → List ℕ → Result TextMeaning TextRefusal
 meaning_of_text Wire text = result_map_both Does (λ why. why) (wire_command (board_of_text text))
 meaning_of_text Asm text = result_map_both Does (λ why. why) (load_command (assembly_of_text text))
 meaning_of_text Map text = program_map (survey_of_text text)
+meaning_of_text Wiring text = Ok (Reports (wiring_text text))
+meaning_of_text Errors text = Ok (Reports (errors_text (errors_of_text text)))
 
--- the meaning that a value of the Rust type is
+-- the meaning that a value of the Rust type represents
 abbrev pub meaning_view : code.TextMeaning → TextMeaning
 meaning_view (spelled.Does c) = Does c
-meaning_view (spelled.Tells lines) = Tells lines.items
+meaning_view (spelled.Reports lines) = Reports lines.items
 
 -- the answer to a text that spells nothing
 abbrev pub text_refusal : TextRefusal → List ℕ

@@ -1,4 +1,4 @@
--- The numbers that refused texts are reported as.
+-- The numbers of refused texts.
 use Rattle.std.specs.Prelude.{ℕ}
 use Rattle.mcs_model.specs.declared.refusal_numbers.TheConstants.{LINE_TOO_LONG, NOT_ASCII, NO_END, TEXT_TOO_LONG}
 use Rattle.mcs_shell.specs.declared.texts.TextFault.{TextFault}

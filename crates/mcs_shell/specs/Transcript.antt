@@ -1,4 +1,4 @@
--- What is answered to inputs, and what they do.
+-- The answers to inputs, and the effects of inputs.
 use Rattle.std.specs.Prelude.{◌≡◌, ◌≢◌, ◌⊎◌, Bool, true, false, ℕ, List, [], ◌∷◌, ◌++◌, filter, map, Option, Some, None, Result, Ok, Err}
 use Rattle.std.specs.Option.{option_or}
 use Rattle.mcs_model.specs.declared.command.Command.{Command}
@@ -8,9 +8,10 @@ use Rattle.mcs_model.specs.Fold.{fold}
 use Rattle.mcs_model.specs.RefusalNumbers.{bench_fault_number}
 use Rattle.mcs_model.specs.declared.refusal_numbers.TheConstants.{CLOSED, DEVICE, NO_MEMORY}
 use Rattle.mcs_lines.specs.RefusalNumbers.{line_fault_number}
+use Rattle.mcs_lines.specs.declared.requests.TextKind.{TextKind}
 use Rattle.mcs_lines.specs.declared.requests.Request.TheVariants.{Nothing, Refused, Ask, Listing, Board, Count, Trace, Change, Begin}
 use Rattle.mcs_answers.specs.AnswerTexts.{board_answer, listing_answer, no_text, ok_text, query_answer}
-use Rattle.mcs_answers.specs.AheadTexts.{count_answer, trace_answer}
+use Rattle.mcs_answers.specs.ForecastTexts.{count_answer, trace_answer}
 use Rattle.mcs_shell.specs.declared.ends.ShellEnd.{ShellEnd}
 use Rattle.mcs_shell.specs.declared.ends.ShellEnd.TheVariants.{WriteFault, DeviceFault}
 use Rattle.mcs_shell.specs.declared.ends.Outcome.{Outcome}
@@ -18,7 +19,7 @@ use Rattle.mcs_shell.specs.declared.ends.Outcome.TheVariants.{Plain, Device, Clo
 use Rattle.mcs_shell.specs.declared.texts.TextRefusal.{TextRefusal}
 use Rattle.mcs_shell.specs.Inputs.{Input, Line, Text, BadText}
 use Rattle.mcs_shell.specs.TextNumbers.{text_fault_number}
-use Rattle.mcs_shell.specs.Spelling.{TextMeaning, Does, Tells, meaning_of_text, text_refusal}
+use Rattle.mcs_shell.specs.Spelling.{TextMeaning, Does, Reports, meaning_of_text, text_refusal}
 
 -- ---- one input
 
@@ -33,12 +34,17 @@ asked_command (Line (Change c)) = Some c
 asked_command (Text kind text) = text_command (meaning_of_text kind text)
 asked_command i = None
 
--- that command as a list: empty where there is none or the state refuses it
+-- that command as a list: empty if there is none or the state refuses it
 abbrev pub accepted_commands : BenchState → Option Command → List Command
 accepted_commands s (Some c) = elim (refusal s c) [ None ↦ c ∷ [] | Some fault ↦ [] ]
 accepted_commands s None = []
 
--- whether an input takes memory, which may be refused: a text, `list`, `board`, `count` and `trace`
+-- holds if no text of this kind asks for a command
+abbrev pub AsksForNoCommand : TextKind → Type 0
+AsksForNoCommand kind = (text : List ℕ) → asked_command (Text kind text) ≡ None
+
+-- true if an input takes memory, which may be refused: a text, `list`, `board`, `count` and
+-- `trace`
 abbrev pub takes_memory : Input → Bool
 takes_memory (Text kind text) = true
 takes_memory (Line (Listing at lines)) = true
@@ -47,17 +53,18 @@ takes_memory (Line (Count n)) = true
 takes_memory (Line (Trace n probes)) = true
 takes_memory i = false
 
--- What may come of an input: the state gave the answer, to a command on an open session alone; or
--- its command was accepted, and the device failed as it was recorded; or its command met a closed
--- session; or memory for it was refused.
+-- Holds if the outcome is possible for the input. `Plain`: the state gave the answer; to a command
+-- only if the session is open. `Device`: the command was accepted, and the device failed as it was
+-- recorded. `Closed`: the command met a closed session. `NoMemory`: memory for the input was
+-- refused.
 unfoldable pub IsPossibleOutcome : Bool → BenchState → Input → Outcome → Type 0
 IsPossibleOutcome live s i Plain = (asked_command i ≡ None) ⊎ (live ≡ true)
 IsPossibleOutcome live s i Device = (accepted_commands s (asked_command i) ≢ []) × (live ≡ true)
 IsPossibleOutcome live s i Closed = (asked_command i ≢ None) × (live ≡ false)
 IsPossibleOutcome live s i NoMemory = takes_memory i ≡ true
 
--- the command that was answered `ok`, even if that did not go out whole, as a list: empty where
--- there is none
+-- the command that was answered `ok`, even if that answer was not written whole, as a list: empty
+-- if there is none
 unfoldable pub acknowledged_commands : BenchState → Input → Outcome → List Command
 acknowledged_commands s i Plain = accepted_commands s (asked_command i)
 acknowledged_commands s i o = []
@@ -76,11 +83,11 @@ change_answer s c =
       | Some fault ↦ no_text (bench_fault_number fault)
     ]
 
--- the answer that the state gives to a text: to the command that it spells, the lines that it comes
--- to, or why it spells nothing
+-- the answer that the state gives to a text: to the command that it spells, the lines that it
+-- produces, or the reason why it spells nothing
 abbrev pub meaning_answer : BenchState → Result TextMeaning TextRefusal → List ℕ
 meaning_answer s (Ok (Does c)) = change_answer s c
-meaning_answer s (Ok (Tells lines)) = lines
+meaning_answer s (Ok (Reports lines)) = lines
 meaning_answer s (Err why) = text_refusal why
 
 -- the answer that the state gives to an input
@@ -106,30 +113,30 @@ answer s i NoMemory = no_text NO_MEMORY
 
 -- ---- inputs in turn
 
--- an input that was met, what came of it, and whether its answer went out whole
+-- an input that was met, its outcome, and true if its answer was written whole
 pub record Exchange : Type 0 where
   pub input : Input
   pub outcome : Outcome
   pub whole : Bool
 
--- those whose answers went out whole
+-- the exchanges whose answers were written whole
 abbrev pub answered_exchanges : List Exchange → List Exchange
 answered_exchanges met = filter (λ (x : Exchange). x.whole) met
 
--- the inputs alone
+-- the inputs of exchanges
 abbrev pub inputs_in : List Exchange → List Input
 inputs_in met = map (λ (x : Exchange). x.input) met
 
--- What each input gives by the state that it meets, in turn: `in_turn answer` are the answers,
--- `in_turn acknowledged_commands` the commands answered `ok`, and `in_turn reached_commands` those
--- that may have reached the disk.
+-- The result of each input by the state that it meets, in turn. `in_turn answer` are the answers.
+-- `in_turn acknowledged_commands` are the commands answered `ok`. `in_turn reached_commands` are
+-- the commands that may have reached the disk.
 abbrev pub in_turn : {A : Type 0} → (BenchState → Input → Outcome → List A) → BenchState
     → List Exchange → List A
 in_turn f s [] = []
 in_turn f s (x ∷ rest) =
     f s x.input x.outcome ++ in_turn f (fold s (acknowledged_commands s x.input x.outcome)) rest
 
--- the end that an answer makes, if it makes one: by whether it went out whole, and what it answers
+-- the end that an answer makes, if it makes one; `false`: the answer was not written whole
 abbrev pub halt_of : Bool → Outcome → Option ShellEnd
 halt_of false o = Some WriteFault
 halt_of true Device = Some DeviceFault
@@ -140,13 +147,13 @@ abbrev pub halt_after : List Exchange → Option ShellEnd
 halt_after [] = None
 halt_after (x ∷ rest) = option_or (halt_of x.whole x.outcome) (halt_after rest)
 
--- whether the device failed
+-- true if the device failed
 abbrev pub is_device_fault : Outcome → Bool
 is_device_fault Device = true
 is_device_fault o = false
 
--- each outcome is one that may come of its input in its turn, and none but the last may halt the
--- shell
+-- Holds if each outcome is possible for its input in its turn, and only the last may halt the
+-- shell.
 abbrev pub ArePossibleExchanges : Bool → BenchState → List Exchange → Type 0
 ArePossibleExchanges live s [] = Unit {0}
 ArePossibleExchanges live s (x ∷ rest) =

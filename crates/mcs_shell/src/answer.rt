@@ -4,9 +4,9 @@ ghost use Rattle.std.specs.Io.KnownBytes.{Appends};
 ghost use Rattle.std.specs.Fmt.{decimal};
 ghost use Rattle.mcs_answers.specs.AnswerTexts.{board_answer, listing_answer, no_text, ok_text, query_answer};
 ghost use Rattle.mcs_model.specs.TextLines.{as_line};
-ghost use Rattle.mcs_answers.specs.AheadTexts.{count_answer, trace_answer};
+ghost use Rattle.mcs_answers.specs.ForecastTexts.{count_answer, trace_answer};
 ghost use Rattle.mcs_shell.specs.Serving.{GotFirstBytes};
-ghost use Rattle.mcs_shell.specs.Answers.{MayTell};
+ghost use Rattle.mcs_shell.specs.Answers.{MayAnswer};
 ghost use Rattle.mcs_shell.specs.Faults.{CountsKnownFault};
 ghost use Rattle.mcs_shell.specs.Spelling.{text_refusal};
 
@@ -14,7 +14,6 @@ use crate::sending::WriteStopped;
 use crate::streams::AnswerSink;
 use crate::texts::TextRefusal;
 use arrayvec::ArrayVec;
-use mcs_ahead::{PROBES, Probe};
 use mcs_answers::{
     ANSWER_BYTES, listing_answer, put_board, put_count, put_number, put_query, put_refusal_at,
     put_reply, put_trace,
@@ -24,11 +23,12 @@ use mcs_disk::Disk;
 use mcs_model::command::Reply;
 use mcs_model::query::Query;
 use mcs_nibble::Addr;
+use mcs_probe::{PROBES, Probe};
 use mcs_session::session::Session;
 use std::alloc::{AllocError, Global};
 use std::marker::Model;
 
-/// The answer to one input: a short text, and where it takes memory a long one after it.
+/// The answer to one input: a short text, and a long one after it if the answer takes memory.
 #[derive(Drop)]
 pub struct Answer {
     short: ArrayVec<u8, ANSWER_BYTES>,
@@ -45,7 +45,7 @@ impl Model for Answer {
 }
 
 impl Answer {
-    /// Nothing is told.
+    /// Returns an empty answer.
     pub fn new() -> Self
         ensures { result ≡ [] }
     {
@@ -55,7 +55,7 @@ impl Answer {
         }
     }
 
-    /// Tells a word, a number and a line feed.
+    /// Sets the answer to a word, a number and a line feed.
     pub(crate) fn set_number(&mut self, word: &[u8], n: u32)
         requires { length word.now ≤ 20 }
         ensures { self.new ≡ word.now ++ as_line (decimal n) }
@@ -65,14 +65,14 @@ impl Answer {
         put_number(&mut self.short, word, u64::from(n));
     }
 
-    /// Tells a refusal by its number.
+    /// Sets the answer to a refusal, by its number.
     pub(crate) fn set_refusal(&mut self, number: u8)
         ensures { self.new ≡ no_text number }
     {
         self.set_number(b"no ", u32::from(number));
     }
 
-    /// Tells why a text spells nothing.
+    /// Sets the answer to the reason why a text spells nothing.
     pub(crate) fn set_text_refusal(&mut self, refusal: TextRefusal)
         ensures { self.new ≡ text_refusal refusal }
     {
@@ -86,7 +86,7 @@ impl Answer {
         }
     }
 
-    /// Tells of an accepted command, by its reply and the bench after it.
+    /// Sets the answer to an accepted command, by its reply and the bench after it.
     pub(crate) fn set_reply(&mut self, reply: &Reply, bench: &Bench)
         ensures { self.new ≡ ok_text reply.now bench.now }
     {
@@ -95,7 +95,7 @@ impl Answer {
         put_reply(&mut self.short, reply, bench);
     }
 
-    /// Tells what a query asks of the state.
+    /// Sets the answer to a query of the state.
     pub(crate) fn set_query(&mut self, query: Query, bench: &Bench)
         ensures { self.new ≡ query_answer query bench.now }
     {
@@ -104,8 +104,8 @@ impl Answer {
         put_query(&mut self.short, query, bench);
     }
 
-    /// Tells a listing of the ROM. It fails where memory is refused, and then nothing is said of
-    /// what is told.
+    /// Sets the answer to a listing of the ROM. It fails if memory is refused; then nothing is
+    /// said of the answer.
     pub(crate) fn set_listing(
         &mut self,
         alloc: Global,
@@ -120,8 +120,8 @@ impl Answer {
         Ok(())
     }
 
-    /// Tells the wiring of the board. It fails where memory is refused, and then nothing is said of
-    /// what is told.
+    /// Sets the answer to the wiring of the board. It fails if memory is refused; then nothing is
+    /// said of the answer.
     pub(crate) fn set_board(&mut self, alloc: Global, bench: &Bench) -> Result<(), AllocError>
         ensures { OnOk result (self.new ≡ board_answer bench.now) }
     {
@@ -130,8 +130,8 @@ impl Answer {
         Ok(())
     }
 
-    /// Tells how often each address would be begun at in a run of at most `n` cycles. It fails where memory is refused, and
-    /// then nothing is said of what is told.
+    /// Sets the answer to how often a run of at most `n` cycles would begin at each address. It
+    /// fails if memory is refused; then nothing is said of the answer.
     pub(crate) fn set_count(
         &mut self,
         alloc: Global,
@@ -145,8 +145,8 @@ impl Answer {
         Ok(())
     }
 
-    /// Tells what a run of at most `n` cycles would change at places. It fails where memory is refused, and then nothing is
-    /// said of what is told.
+    /// Sets the answer to the changes that a run of at most `n` cycles would make at places. It
+    /// fails if memory is refused; then nothing is said of the answer.
     pub(crate) fn set_trace(
         &mut self,
         alloc: Global,
@@ -162,7 +162,7 @@ impl Answer {
         Ok(())
     }
 
-    /// Tells lines, each of which has its line feed.
+    /// Sets the answer to lines, each with its line feed.
     pub(crate) fn set_lines(&mut self, lines: Vec<u8>)
         ensures { self.new ≡ lines.items }
     {
@@ -170,14 +170,14 @@ impl Answer {
         self.long = Some(lines);
     }
 
-    /// Tells all of it, once this session has done what it acknowledges. On an `Err` the writer
-    /// has got less, the first bytes.
+    /// Writes the whole answer, once this session has done what it acknowledges. On an `Err` the
+    /// writer has got less, the first bytes.
     pub(crate) fn send<W: AnswerSink, D: Disk + Drop>(
         &self,
         session: &Session<D>,
         writer: &mut W,
     ) -> Result<(), WriteStopped>
-        requires { MayTell D.state session.now self.now }
+        requires { MayAnswer D.state session.now self.now }
         ensures ok { OnOk result
             (Appends (W.contents writer.old) (W.contents writer.new) self.now) }
         ensures err { OnErr result
@@ -185,8 +185,8 @@ impl Answer {
         ensures counted { CountsKnownFault (W.faults writer.old) (W.faults writer.new) result }
     {
         match &self.long {
-            None => writer.tell(session, self.short.as_slice(), &[]),
-            Some(long) => writer.tell(session, self.short.as_slice(), long.as_slice()),
+            None => writer.write_answer(session, self.short.as_slice(), &[]),
+            Some(long) => writer.write_answer(session, self.short.as_slice(), long.as_slice()),
         }
     }
 }

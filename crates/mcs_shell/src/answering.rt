@@ -1,4 +1,4 @@
-//! What is done and answered for an input.
+//! The effect of an input and its answer.
 ghost use Rattle.std.specs.Prelude.{◌≡◌, [], OnErr, OnOk};
 ghost use Rattle.mcs_answers.specs.AnswerTexts.{no_text};
 ghost use Rattle.mcs_lines.specs.declared.requests.Request.TheVariants.{Change};
@@ -19,7 +19,7 @@ use mcs_session::fault::SessionFault;
 use mcs_session::session::Session;
 use std::alloc::{AllocError, Global};
 
-/// What comes of an input whose command was not recorded.
+/// Returns the outcome of an input whose command was not recorded.
 fn outcome_of(fault: SessionFault) -> Outcome
     ensures { result ≡ outcome_of fault }
 {
@@ -30,7 +30,7 @@ fn outcome_of(fault: SessionFault) -> Outcome
     }
 }
 
-/// Does a command, and tells of it.
+/// Does a command, and sets its answer.
 fn answer_change<D: Disk + Drop>(
     command: &Command,
     session: &mut Session<D>,
@@ -51,13 +51,13 @@ fn answer_change<D: Disk + Drop>(
     }
 }
 
-/// What comes of a request whose answer takes memory. Where that was refused, this is told in its
-/// place.
-fn unless_refused(told: Result<(), AllocError>, answer: &mut Answer) -> Outcome
-    ensures told { OnOk told ((result ≡ Outcome.Plain) × (answer.new ≡ answer.old)) }
-    ensures refused { OnErr told ((result ≡ Outcome.NoMemory) × (answer.new ≡ no_text NO_MEMORY)) }
+/// Returns the outcome of a request whose answer takes memory. If memory was refused, the answer
+/// reports that instead.
+fn unless_refused(put: Result<(), AllocError>, answer: &mut Answer) -> Outcome
+    ensures put { OnOk put ((result ≡ Outcome.Plain) × (answer.new ≡ answer.old)) }
+    ensures refused { OnErr put ((result ≡ Outcome.NoMemory) × (answer.new ≡ no_text NO_MEMORY)) }
 {
-    match told {
+    match put {
         Ok(()) => Outcome::Plain,
         Err(_) => {
             answer.set_refusal(refusal_numbers::NO_MEMORY);
@@ -66,8 +66,8 @@ fn unless_refused(told: Result<(), AllocError>, answer: &mut Answer) -> Outcome
     }
 }
 
-/// Does what a line outside a text asks for, and tells of it in an empty answer. A line that begins
-/// a text has no answer of its own.
+/// Does the request of a line outside a text, and sets its answer, which is empty before. A line
+/// that begins a text has no answer of its own.
 pub(crate) fn answer_request<D: Disk + Drop>(
     alloc: Global,
     request: &Request,
@@ -89,27 +89,27 @@ pub(crate) fn answer_request<D: Disk + Drop>(
             Outcome::Plain
         }
         Request::Listing(from, lines) => {
-            let told = answer.set_listing(alloc, *from, *lines, session.bench());
-            unless_refused(told, answer)
+            let put = answer.set_listing(alloc, *from, *lines, session.bench());
+            unless_refused(put, answer)
         }
         Request::Board => {
-            let told = answer.set_board(alloc, session.bench());
-            unless_refused(told, answer)
+            let put = answer.set_board(alloc, session.bench());
+            unless_refused(put, answer)
         }
         Request::Count(n) => {
-            let told = answer.set_count(alloc, *n, session.bench());
-            unless_refused(told, answer)
+            let put = answer.set_count(alloc, *n, session.bench());
+            unless_refused(put, answer)
         }
         Request::Trace(n, probes) => {
-            let told = answer.set_trace(alloc, *n, probes.as_slice(), session.bench());
-            unless_refused(told, answer)
+            let put = answer.set_trace(alloc, *n, probes.as_slice(), session.bench());
+            unless_refused(put, answer)
         }
         Request::Change(command) => answer_change(command, session, answer),
         Request::Begin(_) => Outcome::Plain,
     }
 }
 
-/// Judges a text that has an end, does what it spells, and tells of it.
+/// Judges a text that has an end, does what it spells, and sets its answer.
 pub(crate) fn answer_text<D: Disk + Drop>(
     alloc: Global,
     kind: TextKind,
@@ -126,7 +126,7 @@ pub(crate) fn answer_text<D: Disk + Drop>(
     }
     match read_text(alloc, kind, as_text(text)) {
         Ok(Ok(TextMeaning::Does(command))) => answer_change(&command, session, answer),
-        Ok(Ok(TextMeaning::Tells(lines))) => {
+        Ok(Ok(TextMeaning::Reports(lines))) => {
             answer.set_lines(lines);
             Outcome::Plain
         }

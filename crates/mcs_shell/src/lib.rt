@@ -8,12 +8,12 @@ pub mod ends;
 pub mod faults;
 pub mod headline;
 pub mod laws;
+mod messages;
 pub mod program;
 pub mod sending;
 mod serving;
 pub mod shell;
 pub mod streams;
-mod telling;
 pub mod texts;
 mod unfinished;
 

@@ -13,11 +13,12 @@ ghost use Rattle.mcs_shell.specs.Shell.{exit_status_of};
 
 use crate::ends::{ShellEnd, status};
 use crate::faults::BeginFault;
+use crate::messages::{
+    Refusal, print_end, print_no_memory, print_no_session, print_opening, print_streams,
+    print_usage,
+};
 use crate::shell::run_shell;
 use crate::streams::{AnswerSink, InputSource};
-use crate::telling::{
-    Refusal, tell_end, tell_no_memory, tell_no_session, tell_opening, tell_streams, tell_usage,
-};
 use mcs_disk::Disk;
 use mcs_host::{
     Choice, FileDisk, FileFault, RefusedStreams, StandIns, Streams, WordsFault, choice,
@@ -30,14 +31,14 @@ use std::env;
 use std::io::ErrorKind;
 use std::process::ExitCode;
 
-/// The exit status where the arguments are none of the program's.
+/// The exit status if the arguments are none of the program's.
 const WRONG_ARGUMENTS: u8 = 2;
 
-/// The exit status where the session is refused.
+/// The exit status if the session is refused.
 const REFUSED: u8 = 3;
 
-/// The arguments of the command line, the program's name first. Those that are no text are none of
-/// the program's.
+/// Returns the arguments of the command line, the program's name first. Arguments that are no text
+/// are none of the program's.
 fn given_arguments(rt: &HostRuntime) -> Result<Vec<String>, WordsFault> {
     match env::args(rt) {
         Ok(arguments) => Ok(arguments.collect(rt.alloc())?),
@@ -70,7 +71,7 @@ pub fn refuse_streams(rt: &HostRuntime, refused: RefusedStreams) -> ExitCode
     ensures { exit_status result ≡ 3 }
 {
     let status = refuse_beside(rt, refusal_numbers::DEVICE, refused.unusable);
-    tell_streams(rt, refused);
+    print_streams(rt, refused);
     status
 }
 
@@ -82,28 +83,28 @@ pub fn refuse_arguments(rt: &HostRuntime, fault: WordsFault) -> ExitCode
 {
     match fault {
         WordsFault::Usage => {
-            tell_usage(rt);
+            print_usage(rt);
             ExitCode::from(WRONG_ARGUMENTS)
         }
         WordsFault::NoMemory => {
             let refused = refuse(rt, refusal_numbers::NO_MEMORY);
-            tell_no_memory(rt);
+            print_no_memory(rt);
             refused
         }
     }
 }
 
-/// Why there is no session.
+/// The failure to begin a session.
 #[derive(Drop)]
 pub struct NotBegun<D: Disk + Drop> {
-    /// Why.
+    /// The reason.
     pub fault: BeginFault,
-    /// The disk that was opened for it, as the refusal left it; `None` where none was.
+    /// The disk that was opened for the session, as the refusal left it; `None` if none was.
     pub disk: Option<D>,
 }
 
-/// Begins the session that a choice asks for, on the disk that opening its file gave; or why there
-/// is none.
+/// Begins the session that a choice asks for, on the disk that opening its file gave; or returns
+/// the reason why there is none.
 pub fn session_on<D: Disk + Drop>(
     alloc: Global,
     choice: &Choice,
@@ -144,7 +145,7 @@ pub fn session_on<D: Disk + Drop>(
     }
 }
 
-/// Makes or opens the session in a file, or tells why there is none.
+/// Makes or opens the session in a file, or returns the reason why there is none.
 pub fn session_in(
     rt: &HostRuntime,
     choice: &Choice,
@@ -160,11 +161,11 @@ pub fn session_in(
     let alloc = rt.alloc();
     let make = matches!(choice, Choice::New(_));
     let opened = FileDisk::open_at(rt, alloc, choice.file(), make);
-    tell_opening(rt, choice.file(), &opened);
+    print_opening(rt, choice.file(), &opened);
     session_on(alloc, choice, opened)
 }
 
-/// Serves the session over a reader and a writer, and gives the shell's end and its exit status.
+/// Serves the session over a reader and a writer, and returns the shell's end and its exit status.
 pub fn serve<R: InputSource, W: AnswerSink, D: Disk + Drop>(
     rt: &HostRuntime,
     reader: &mut R,
@@ -184,14 +185,14 @@ pub fn serve<R: InputSource, W: AnswerSink, D: Disk + Drop>(
     }
 }
 
-/// How the program ends.
+/// The end of the program.
 #[derive(Drop)]
 pub struct Ended<D: Disk + Drop> {
     /// The exit status.
     pub status: ExitCode,
     /// The session that was served, as its shell left it.
     pub session: Option<Session<D>>,
-    /// How its shell ended.
+    /// The end of the session's shell.
     pub end: Option<ShellEnd>,
 }
 
@@ -232,7 +233,7 @@ pub fn serve_begun<R: InputSource, W: AnswerSink, D: Disk + Drop>(
     }
 }
 
-/// What people are told of a refused session.
+/// Returns the facts about a refused session that are reported to people.
 fn refusal_of(begun: &Result<Session<FileDisk>, NotBegun<FileDisk>>) -> Option<Refusal> {
     match begun {
         Ok(_) => None,
@@ -250,7 +251,7 @@ fn refusal_of(begun: &Result<Session<FileDisk>, NotBegun<FileDisk>>) -> Option<R
     }
 }
 
-/// How a shell ended that was run, and whether its device is full.
+/// Returns the end of a shell that was run, and true if its device is full.
 fn end_of(ended: &Ended<FileDisk>) -> Option<(ShellEnd, bool)> {
     match (ended.end, &ended.session) {
         (Some(end), Some(session)) => Some((end, session.disk().is_full())),
@@ -295,8 +296,8 @@ pub fn run_arguments<S: AsStr, R: InputSource, W: AnswerSink>(
     let begun = session_in(rt, &choice);
     let refusal = refusal_of(&begun);
     let ended = serve_begun(rt, reader, writer, begun);
-    tell_no_session(rt, &choice, refusal);
-    tell_end(rt, choice.file(), end_of(&ended));
+    print_no_session(rt, &choice, refusal);
+    print_end(rt, choice.file(), end_of(&ended));
     ended
 }
 
@@ -320,16 +321,16 @@ fn run_given_arguments(rt: &HostRuntime) -> Ended<FileDisk>
     }
 }
 
-/// Runs the bench by the arguments of the command line, over standard input and standard output,
-/// where each of the standard streams can be had and none goes into a session file. It hands the
-/// session back, so that nothing was done to it since its shell ended.
+/// Runs the bench by the arguments of the command line, over standard input and standard output.
+/// It does so if each of the standard streams can be had and none goes into a session file. It
+/// returns the session, so that nothing was done to it since its shell ended.
 pub fn run_program(rt: &HostRuntime) -> Ended<FileDisk>
     ensures served { IfSome result.session (λ after.
         ServedBySomeArguments as_disk (exit_status result.status) after) }
     ensures unserved { IfNone result.session
         ((exit_status result.status ≡ 2) ⊎ (exit_status result.status ≡ 3)) }
 {
-    // They stay to the end of all that is read, written and opened here.
+    // The stand-ins stay to the end of all that is read, written and opened here.
     let _stand_ins = match StandIns::open(rt) {
         Ok(stand_ins) => stand_ins,
         Err(refused) => {

@@ -1,4 +1,4 @@
-//! Lines as they come, in pieces.
+//! Lines, in the pieces in which they arrive.
 ghost use Rattle.std.specs.Prelude.{◌≡◌, ◌∷◌, ◌++◌, Bool, [], MatchOption, OnOk, length};
 ghost use Rattle.std.specs.Result.{result_err};
 ghost use Rattle.mcs_shell.specs.declared.texts.TextFault.TheVariants.{NoEnd};
@@ -7,7 +7,7 @@ ghost use Rattle.mcs_shell.specs.Inputs.{BadText, Line, judged_text};
 ghost use Rattle.mcs_shell.specs.ShellState.{shell_state};
 ghost use Rattle.mcs_shell.specs.Serving.{ServesInputs, WroteBytes};
 ghost use Rattle.mcs_shell.specs.ServedPieces.{IsIntact, ServesBytes};
-ghost use Rattle.mcs_shell.specs.Answers.{MayTell};
+ghost use Rattle.mcs_shell.specs.Answers.{MayAnswer};
 ghost use Rattle.mcs_shell.specs.Faults.{faults_written};
 ghost use Rattle.mcs_shell.specs.Transcript.{halt_of};
 
@@ -24,14 +24,14 @@ use mcs_model::text_lines::without_return;
 use mcs_session::session::Session;
 use std::alloc::Global;
 
-/// Writes the answer to an input that met this outcome, which left the session so.
+/// Writes the answer to an input that had this outcome, which left the session so.
 fn deliver<W: AnswerSink, D: Disk + Drop>(
     outcome: Outcome,
     answer: &Answer,
     writer: &mut W,
     session: &Session<D>,
 ) -> Result<(), ShellEnd>
-    requires { MayTell D.state session.now answer.now }
+    requires { MayAnswer D.state session.now answer.now }
     ensures wrote { (whole : Bool)
         × WroteBytes whole (W.contents writer.old) (W.contents writer.new) answer.now
         × (result_err result ≡ halt_of whole outcome) }
@@ -46,7 +46,7 @@ fn deliver<W: AnswerSink, D: Disk + Drop>(
     }
 }
 
-/// Serves a line outside a text: what it asks for is done, and then the answer is written.
+/// Serves a line outside a text: does its request, and then writes the answer.
 fn serve_request<W: AnswerSink, D: Disk + Drop>(
     alloc: Global,
     request: Request,
@@ -147,7 +147,8 @@ pub(crate) fn end_line<W: AnswerSink, D: Disk + Drop>(
     }
 }
 
-/// The bytes before the first line feed, and those after it; or none, where there is no line feed.
+/// Returns the bytes before the first line feed, and those after it; or `None` if there is no line
+/// feed.
 fn split_line(bytes: &[u8]) -> Option<(&[u8], &[u8])>
     ensures { MatchOption result (HasNoFeed bytes.now) (λ p.
         HasNoFeed p.0.now × (bytes.now ≡ p.0.now ++ 10 ∷ p.1.now)) }

@@ -21,10 +21,10 @@ use mcs_model::limits::INPUT_BYTES;
 use mcs_session::session::Session;
 use std::alloc::Global;
 
-/// Bytes that one read asks for at most.
+/// The most bytes that one read asks for.
 const CHUNK_BYTES: usize = 4_096;
 
-/// Reads at most `most` bytes to the front of the buffer; none only where input has ended.
+/// Reads at most `most` bytes to the front of the buffer; none only if input has ended.
 fn read_some<R: InputSource>(
     reader: &mut R,
     buffer: &mut [u8],
@@ -40,7 +40,7 @@ fn read_some<R: InputSource>(
     reader.read_some(&mut buffer[..most])
 }
 
-/// Refuses the text that is open where input has ended after a whole line.
+/// Refuses the open text if input has ended after a whole line.
 fn finish_text<W: AnswerSink, D: Disk + Drop>(
     unfinished: &Unfinished,
     writer: &mut W,
@@ -58,7 +58,7 @@ fn finish_text<W: AnswerSink, D: Disk + Drop>(
     }
 }
 
-/// Serves what is unfinished where input has ended.
+/// Serves the unfinished input once input has ended.
 fn finish<W: AnswerSink, D: Disk + Drop>(
     alloc: Global,
     unfinished: &mut Unfinished,
@@ -126,9 +126,9 @@ fn run_loop<R: InputSource, W: AnswerSink, D: Disk + Drop>(
 /// Serves the lines of a reader on a session, until input ends, something fails, or the limit of
 /// input is reached.
 ///
-/// Each command is answered after it was recorded. Wherever the machine stops, what the disk then
-/// holds opens to the state after some first commands of those that were accepted, and each
-/// acknowledged one is among them.
+/// The shell answers each command after it was recorded. The machine may stop at any moment. The
+/// contents of the disk then open to the state after some first commands of those that were
+/// accepted. Each acknowledged command is among them.
 pub fn run_shell<R: InputSource, W: AnswerSink, D: Disk + Drop>(
     alloc: Global,
     reader: &mut R,

@@ -1,7 +1,7 @@
-//! Where a shell reads its input, and where it tells its answers.
+//! The input of a shell, and the sink of its answers.
 ghost use Rattle.std.specs.Prelude.{◌<◌, ◌++◌, ℕ, List, Option, None, length, take, IfOk, OnErr, OnOk};
 ghost use Rattle.std.specs.Io.KnownBytes.{Appends, Keeps};
-ghost use Rattle.mcs_shell.specs.Answers.{MayTell};
+ghost use Rattle.mcs_shell.specs.Answers.{MayAnswer};
 ghost use Rattle.mcs_shell.specs.Faults.{CountsKnownFault};
 ghost use Rattle.mcs_shell.specs.Serving.{GotFirstBytes};
 ghost use Rattle.mcs_shell.specs.Shell.{ReadBytes};
@@ -11,20 +11,20 @@ use mcs_disk::Disk;
 use mcs_session::session::Session;
 use std::io::{Read, Write};
 
-/// A read failed.
+/// The failure of a read.
 #[derive(Clone, Copy)]
 pub struct ReadFailed;
 
-/// What a shell reads. Each `Read` is one, of which it is not known how often it failed.
+/// The input of a shell. Each `Read` is one, with an unknown count of failures.
 pub trait InputSource {
-    /// The bytes that it will give from here on, where they are known.
+    /// The bytes that it will give from here on, if they are known.
     ghost remaining: { Self → Option (List ℕ) };
 
-    /// How many reads have failed, where that is known.
+    /// The count of reads that have failed, if it is known.
     ghost faults: { Self → Option ℕ };
 
-    /// Reads bytes to the front of the buffer; none only where input has ended. An `Err` leaves
-    /// what it has left.
+    /// Reads bytes to the front of the buffer; none only if input has ended. On an `Err` the bytes
+    /// that are left stay the same.
     fn read_some(&mut self, buffer: &mut [u8]) -> Result<usize, ReadFailed>
         requires { 0 < length buffer.old }
         ensures ok { IfOk result (λ n. ReadBytes n (length buffer.old)
@@ -46,24 +46,23 @@ impl<R: Read> InputSource for R {
     }
 }
 
-/// What a shell tells its answers to. Each `Write` is one, of which it is not known how often it
-/// failed.
+/// The sink of a shell's answers. Each `Write` is one, with an unknown count of failures.
 pub trait AnswerSink {
-    /// The bytes that it has got, where they are known.
+    /// The bytes that it has got, if they are known.
     ghost contents: { Self → Option (List ℕ) };
 
-    /// How many answers it has not taken whole, where that is known.
+    /// The count of answers that it has not taken whole, if it is known.
     ghost faults: { Self → Option ℕ };
 
     /// Takes an answer in two stretches of bytes, once this session has done what it acknowledges
     /// and its disk stands for that. On an `Err` it has got less, the first bytes.
-    fn tell<D: Disk + Drop>(
+    fn write_answer<D: Disk + Drop>(
         &mut self,
         session: &Session<D>,
         first: &[u8],
         second: &[u8],
     ) -> Result<(), WriteStopped>
-        requires { MayTell D.state session.now (first.now ++ second.now) }
+        requires { MayAnswer D.state session.now (first.now ++ second.now) }
         ensures ok { OnOk result
             (Appends (contents self.old) (contents self.new) (first.now ++ second.now)) }
         ensures err { OnErr result
@@ -76,7 +75,7 @@ impl<W: Write> AnswerSink for W {
 
     ghost faults = { λ _. None };
 
-    fn tell<D: Disk + Drop>(
+    fn write_answer<D: Disk + Drop>(
         &mut self,
         _session: &Session<D>,
         first: &[u8],

@@ -1,27 +1,30 @@
-//! Texts: where they end, which are refused whatever their lines say, and what the others come to.
+//! Texts: their ends, the reasons to refuse them whatever their lines say, and the meanings of the
+//! others.
 ghost use Rattle.std.specs.Prelude.{◌≡◌, None, IfOk};
 ghost use Rattle.std.specs.List.{list_all, slice_split};
 ghost use Rattle.std.specs.Result.{result_map_both};
 ghost use Rattle.mcs_model.specs.TextLines.{is_line_feed};
 ghost use Rattle.mcs_source.specs.Assembly.{assembly_of_text};
 ghost use Rattle.mcs_source.specs.Survey.{survey_of_text};
+ghost use Rattle.mcs_wiring.specs.Parts.{wiring_text};
 ghost use Rattle.mcs_wiring.specs.Wiring.{board_of_text};
+ghost use Rattle.mcs_asm.specs.Errors.{errors_of_text, errors_text};
 ghost use Rattle.mcs_shell.specs.Inputs.{text_fault_of, is_dot_line, is_short, is_text_byte};
-ghost use Rattle.mcs_shell.specs.Spelling.{Tells, load_command, program_map, meaning_of_text, meaning_view, wire_command};
+ghost use Rattle.mcs_shell.specs.Spelling.{Reports, load_command, program_map, meaning_of_text, meaning_view, wire_command};
 ghost use Rattle.mcs_shell.specs.TextNumbers.{text_fault_number};
 
-use mcs_asm::{FaultKind, SourceFault, assemble, survey, survey_text};
+use mcs_asm::{FaultKind, SourceFault, assemble, errors, errors_text, survey, survey_text};
 use mcs_lines::requests::TextKind;
 use mcs_lines::words::{equals, is_plain_byte};
 use mcs_model::command::Command;
 use mcs_model::limits::{LINE_BYTES, TEXT_BYTES};
 use mcs_model::refusal_numbers;
-use mcs_wiring::{WiringFault, board_of};
+use mcs_wiring::{WiringFault, board_of, wiring_text};
 use std::alloc::{AllocError, Global};
 use std::str;
 use thiserror::Error;
 
-/// Why a text is refused, whatever its lines say.
+/// The reason why a text is refused, whatever its lines say.
 #[derive(Clone, Copy, Debug, Error)]
 pub enum TextFault {
     /// Input ended inside it.
@@ -39,7 +42,7 @@ pub enum TextFault {
 }
 
 impl TextFault {
-    /// The number that the refusal is reported as.
+    /// Returns the number of the refusal.
     pub fn number(self) -> u8
         ensures { result ≡ text_fault_number self }
     {
@@ -52,7 +55,7 @@ impl TextFault {
     }
 }
 
-/// Whether a line ends a text.
+/// Returns true if a line ends a text.
 pub fn ends_text(line: &[u8]) -> bool
     ensures { result ≡ is_dot_line line.now }
 {
@@ -81,7 +84,7 @@ fn has_text_bytes(text: &[u8]) -> bool
     text.iter().all(|b| *b == b'\n' || is_plain_byte(*b))
 }
 
-/// Why a text that has an end is refused whatever its lines say, if it is.
+/// Returns the reason why a text that has an end is refused whatever its lines say, if any.
 #[tactic(auto, unfolding(crate::specs::Inputs::text_fault_of))]
 pub fn text_fault(text: &[u8]) -> Option<TextFault>
     ensures { result ≡ text_fault_of text.now }
@@ -97,7 +100,7 @@ pub fn text_fault(text: &[u8]) -> Option<TextFault>
     }
 }
 
-/// The bytes of a text that is not refused, as text.
+/// Returns the bytes of a text that is not refused, as text.
 pub fn as_text(text: &[u8]) -> &str
     requires { text_fault_of text.now ≡ None }
     ensures { result.now ≡ text.now }
@@ -108,29 +111,28 @@ pub fn as_text(text: &[u8]) -> &str
     }
 }
 
-/// Why a text spells nothing.
+/// The reason why a text spells nothing.
 #[derive(Clone, Copy, Debug, Error)]
 pub enum TextRefusal {
     /// It has no board.
     #[error("{0}")]
     Wiring(WiringFault),
-    /// It is no program: the number of the line that is at fault, from 1, and what is wrong with
-    /// it.
+    /// It is no program: the number of the line that has an error, from 1, and the error.
     #[error("line {0}: {1}")]
     Program(usize, SourceFault),
 }
 
-/// What a text comes to.
+/// The meaning of a text.
 #[derive(Drop)]
 pub enum TextMeaning {
     /// A command, which is done.
     Does(Command),
-    /// Lines, each with its line feed, which are told while nothing is done.
-    Tells(Vec<u8>),
+    /// Lines, each with its line feed, which are the answer while nothing is done.
+    Reports(Vec<u8>),
 }
 
-/// The command to put the board of a text in place, or why the text has none. It fails where memory
-/// is refused.
+/// Returns the command to put the board of a text in place, or the reason why the text has none.
+/// It fails if memory is refused.
 fn read_board(alloc: Global, text: &str) -> Result<Result<Command, TextRefusal>, AllocError>
     ensures { IfOk result (λ spelled. spelled ≡ wire_command (board_of_text text.now)) }
 {
@@ -141,8 +143,8 @@ fn read_board(alloc: Global, text: &str) -> Result<Result<Command, TextRefusal>,
     }
 }
 
-/// The command to load the bytes of a program, or why the text is none. It fails where memory is
-/// refused.
+/// Returns the command to load the bytes of a program, or the reason why the text is none. It
+/// fails if memory is refused.
 fn read_program(alloc: Global, text: &str) -> Result<Result<Command, TextRefusal>, AllocError>
     ensures { IfOk result (λ spelled. spelled ≡ load_command (assembly_of_text text.now)) }
 {
@@ -155,10 +157,11 @@ fn read_program(alloc: Global, text: &str) -> Result<Result<Command, TextRefusal
     }
 }
 
-/// The map of a program, or why the text is none. It fails where memory is refused.
+/// Returns the map of a program, or the reason why the text is none. It fails if memory is
+/// refused.
 fn read_map(alloc: Global, text: &str) -> Result<Result<Vec<u8>, TextRefusal>, AllocError>
-    ensures { IfOk result (λ told.
-        result_map_both (λ lines. Tells lines.items) (λ why. why) told
+    ensures { IfOk result (λ meant.
+        result_map_both (λ lines. Reports lines.items) (λ why. why) meant
         ≡ program_map (survey_of_text text.now)) }
 {
     match survey(alloc, text) {
@@ -170,7 +173,23 @@ fn read_map(alloc: Global, text: &str) -> Result<Result<Vec<u8>, TextRefusal>, A
     }
 }
 
-/// What a text comes to, or why it spells nothing. It fails where memory is refused.
+/// Returns the answer that reports the first error of a board text. It fails if memory is refused.
+fn read_wiring(alloc: Global, text: &str) -> Result<Vec<u8>, AllocError>
+    ensures { IfOk result (λ lines. lines.items ≡ wiring_text text.now) }
+{
+    Ok(wiring_text(alloc, text)?.into_bytes())
+}
+
+/// Returns the answer that reports the errors of a program. It fails if memory is refused.
+fn read_errors(alloc: Global, text: &str) -> Result<Vec<u8>, AllocError>
+    ensures { IfOk result (λ lines. lines.items ≡ errors_text (errors_of_text text.now)) }
+{
+    let errors = errors(alloc, text)?;
+    errors_text(alloc, &errors)
+}
+
+/// Returns the meaning of a text, or the reason why it spells nothing. It fails if memory is
+/// refused.
 #[tactic(auto, unfolding(crate::specs::Spelling::meaning_of_text))]
 pub fn read_text(
     alloc: Global,
@@ -183,6 +202,8 @@ pub fn read_text(
     match kind {
         TextKind::Wire => Ok(read_board(alloc, text)?.map(TextMeaning::Does)),
         TextKind::Asm => Ok(read_program(alloc, text)?.map(TextMeaning::Does)),
-        TextKind::Map => Ok(read_map(alloc, text)?.map(TextMeaning::Tells)),
+        TextKind::Map => Ok(read_map(alloc, text)?.map(TextMeaning::Reports)),
+        TextKind::Wiring => Ok(Ok(TextMeaning::Reports(read_wiring(alloc, text)?))),
+        TextKind::Errors => Ok(Ok(TextMeaning::Reports(read_errors(alloc, text)?))),
     }
 }

@@ -1,4 +1,4 @@
--- How words of ten bits hold a row of bits. (Our own choice.)
+-- Words of ten bits that hold a row of bits. (Our own choice.)
 use Rattle.std.specs.Prelude.{◌≡◌, ℕ, zero, suc, ◌+◌, ◌/◌, ◌%◌, ◌<◌, ◌≤◌, List, length, slice_index}
 use Rattle.mcs_nibble.specs.Bits.{bit_of}
 use Rattle.mcs_nibble.specs.Tables.{table_of}
@@ -7,7 +7,7 @@ use Rattle.mcs_nibble.specs.Tables.{table_of}
 abbrev pub packed_bit : List ℕ → ℕ → ℕ
 packed_bit words i = bit_of (slice_index words (i / 10)) (i % 10)
 
--- what stands before bit i: the bit below it, or the level at the row's end
+-- the value before bit i: the bit below it, or the level at the row's end
 abbrev pub bit_before : ℕ → List ℕ → ℕ → ℕ
 bit_before level words zero = level
 bit_before level words (suc i) = packed_bit words i
@@ -16,7 +16,7 @@ bit_before level words (suc i) = packed_bit words i
 unfoldable pub chain_bits_of : ℕ → List ℕ → List ℕ
 chain_bits_of bits words = table_of bits (packed_bit words)
 
--- words that hold that many bits and nothing else
+-- words that hold exactly `bits` bits and nothing else
 pub record IsPacked (bits : ℕ) (words : List ℕ) : Type 0 where
   pub used : length words ≡ (bits + 9) / 10
   pub ten : (k : ℕ) → slice_index words k < 1024

@@ -1,6 +1,6 @@
 //! The 4003: a chain of 10-bit shift registers, as one row of bits.
 //!
-//! A chain keeps ten bits a word, as many as a chip has, so that it is shifted word by word.
+//! A chain keeps ten bits in a word, as many as a chip has. A shift therefore goes word by word.
 #![tactic(auto)]
 
 ghost use Rattle.std.specs.Prelude.{◌≡◌, ◌≢◌, ℕ, ◌+◌, ◌*◌, ◌/◌, ◌%◌, ◌<◌, ◌≤◌, All, length, replicate, slice_index, slice_get, slice_set};
@@ -12,15 +12,15 @@ use arrayvec::ArrayVec;
 use mcs_nibble::Bit;
 use std::marker::Model;
 
-/// How many bits a word has, which is as many as a chip has.
+/// The number of bits in a word, which equals that in a chip.
 const WORD_BITS: usize = 10;
 
-/// A chain of 4003s, by the MCS-4 Users Manual: a row of at most `MAX` bits, of which bit 0 is the one that
-/// was shifted in last. Its outputs are always enabled.
+/// A shift-register chain of 4003s, by the MCS-4 Users Manual: a row of at most `MAX` bits. Bit 0 is the one that was
+/// shifted in last. Its outputs are always enabled.
 #[derive(Drop)]
 pub struct Chain<const MAX: usize> {
     bits: usize,
-    // Bit i is bit i % 10 of word i / 10; what lies past the end is 0.
+    // Bit i is bit i % 10 of word i / 10. Bits past the end are 0.
     words: ArrayVec<u16, MAX>,
 }
 
@@ -35,7 +35,7 @@ impl<const MAX: usize> Model for Chain<MAX> {
     ghost invariant = { λ c. record { fits : c.bits ≤ MAX; packed : IsPacked c.bits c.words.items } };
 }
 
-/// A word whose bit `j` is at a level.
+/// Returns a word with bit `j` at a level.
 fn with_bit(word: u16, j: usize, level: Bit) -> u16
     requires word { word < 1024 }
     requires j { j < 10 }
@@ -50,7 +50,7 @@ fn with_bit(word: u16, j: usize, level: Bit) -> u16
     }
 }
 
-/// A word whose bits are moved one place up, where its bit 0 takes in a level, and the bit that it loses.
+/// Returns a word with its bits moved up by one and a level as its bit 0, and the bit that it loses.
 fn moved(word: u16, level: u16) -> (u16, u16)
     requires word { word < 1024 }
     requires level { level < 2 }
@@ -60,7 +60,7 @@ fn moved(word: u16, level: u16) -> (u16, u16)
     ((2 * word + level) % 1024, word / 512)
 }
 
-/// Puts bit `i` of words of ten bits at a level.
+/// Sets bit `i` of words of ten bits to a level.
 fn put(words: &mut [u16], i: usize, level: Bit)
     requires there { i / 10 < length words.old }
     requires ten { (k : ℕ) → slice_index words.old k < 1024 }
@@ -73,8 +73,8 @@ fn put(words: &mut [u16], i: usize, level: Bit)
     words[at] = with_bit(words[at], i % WORD_BITS, level);
 }
 
-/// Moves each bit of words of ten bits one place up, word by word, where bit 0 takes in a level and the last word's last
-/// bit is lost.
+/// Moves each bit of words of ten bits up by one, word by word. Bit 0 takes the level, and the last bit of the last
+/// word is lost.
 fn shift_words(words: &mut [u16], level: Bit)
     requires { (k : ℕ) → slice_index words.old k < 1024 }
     ensures len { length words.new ≡ length words.old }
@@ -90,7 +90,7 @@ fn shift_words(words: &mut [u16], level: Bit)
     }
 }
 
-/// Moves each of that many bits one place up, where bit 0 takes in a level and the last bit is lost.
+/// Moves each of the first `bits` bits up by one. Bit 0 takes the level, and the last bit is lost.
 fn shift_bits(words: &mut [u16], bits: usize, level: Bit)
     requires { IsPacked bits words.old }
     ensures len { length words.new ≡ length words.old }
@@ -103,7 +103,7 @@ fn shift_bits(words: &mut [u16], bits: usize, level: Bit)
     }
 }
 
-/// The same words.
+/// Returns the same words.
 fn copied<const MAX: usize>(words: &ArrayVec<u16, MAX>) -> ArrayVec<u16, MAX>
     ensures { result.items ≡ words.now.items }
 {
@@ -114,7 +114,7 @@ fn copied<const MAX: usize>(words: &ArrayVec<u16, MAX>) -> ArrayVec<u16, MAX>
     copy
 }
 
-/// Word `k`; 0 beyond the last one.
+/// Returns word `k`, or 0 beyond the last one.
 fn word_at(words: &[u16], k: usize) -> u16
     ensures { result ≡ slice_index words.now k }
 {
@@ -125,7 +125,7 @@ fn word_at(words: &[u16], k: usize) -> u16
 }
 
 impl<const MAX: usize> Chain<MAX> {
-    /// A chain of `bits` bits, all 0.
+    /// Returns a chain of `bits` bits, all 0.
     pub fn new(bits: usize) -> Self
         requires { bits ≤ MAX }
         ensures { result ≡ replicate bits 0 }
@@ -137,7 +137,7 @@ impl<const MAX: usize> Chain<MAX> {
         Chain { bits, words }
     }
 
-    /// An equal chain.
+    /// Returns an equal chain.
     pub fn copy(&self) -> Self
         ensures { result ≡ self.now }
     {
@@ -147,7 +147,7 @@ impl<const MAX: usize> Chain<MAX> {
         }
     }
 
-    /// How many bits it has.
+    /// Returns the number of bits.
     pub fn bits(&self) -> usize
         ensures bits { result ≡ length self.now }
         ensures fits { result ≤ MAX }
@@ -155,7 +155,7 @@ impl<const MAX: usize> Chain<MAX> {
         self.bits
     }
 
-    /// Bit `i`, or none beyond the last one.
+    /// Returns bit `i`, or `None` beyond the last one.
     pub fn bit(&self, i: usize) -> Option<Bit>
         ensures { result ≡ slice_get self.now i }
     {
@@ -167,7 +167,7 @@ impl<const MAX: usize> Chain<MAX> {
         }
     }
 
-    /// The ten bits from bit `first` on as a number, whose bit j is bit `first` + j, or 0 beyond the last one.
+    /// Returns the ten bits from bit `first` on as a number. Its bit j is bit `first` + j, or 0 beyond the last one.
     pub fn ten_from(&self, first: usize) -> u16
         ensures bits { (j : ℕ) → j < 10 → bit_of result j ≡ slice_index self.now (first + j) }
         ensures ten { result < 1024 }
@@ -188,22 +188,22 @@ impl<const MAX: usize> Chain<MAX> {
         put(&mut self.words, i, bit);
     }
 
-    /// Takes in the level of the data line: each bit moves one place up, the level becomes bit 0, and the
-    /// last bit is lost.
+    /// Shifts in the level of the data line: each bit moves up by one, the level becomes bit 0, and the last bit is
+    /// lost.
     pub fn shift(&mut self, level: Bit)
         ensures { self.new ≡ bits_after_shift level self.old }
     {
         shift_bits(&mut self.words, self.bits, level);
     }
 
-    /// Makes every bit 0.
+    /// Sets every bit to 0.
     pub fn clear(&mut self)
         ensures { self.new ≡ replicate (length self.old) 0 }
     {
         *self = Chain::new(self.bits);
     }
 
-    /// A law: each bit is 0 or 1.
+    /// Proves that each bit is 0 or 1.
     pub fn show_state_is_valid(&self)
         ensures { All (λ bit. bit < 2) self.now }
     {

@@ -1,6 +1,6 @@
--- What a source text assembles to: the (address, byte) pairs that its lines spell, or its first
--- fault. (Our own choice.) Each definition speaks of line i in the list of all lines. Lines count
--- from 0 here, and from 1 in a fault. Faults go by their numbers, 30 to 37 (`RefusalNumbers`).
+-- The result of assembling a source text: the (address, byte) pairs that its lines spell, or its
+-- first error. (Our own choice.) Each definition is about line i in the list of all lines. Lines
+-- count from 0 here, and from 1 in an error. Errors have the numbers 30 to 37 (`RefusalNumbers`).
 use Rattle.std.specs.Prelude.{ℕ, zero, suc, ◌+◌, slice_index_or, ◌/◌, ◌%◌, Bool, true, false, not, ◌&&◌, ◌||◌, List, [], ◌∷◌, length, map, find, Option, Some, None, is_some, option_map, Result, Ok, Err, nat_lt, nat_le, ◌==◌, if◌then◌else◌}
 use Rattle.std.specs.List.{list_any, list_all, flat_map, filter_map, range_with_len}
 use Rattle.std.specs.Str.{bytes_eq}
@@ -18,19 +18,19 @@ use Rattle.mcs_model.specs.Table.{word_count_of}
 use Rattle.mcs_model.specs.Options.{◌>>=◌}
 use Rattle.mcs_model.specs.WordTables.{beside}
 
--- ---- the lines of a text, and what they say
+-- ---- the lines of a text, and their readings
 
--- what each line says; None where it has no form
+-- the reading of each line; None if it has no form
 abbrev pub read : List (List ℕ) → List (Option SourceLine)
 read lines = map (λ line. line_of (tokens line)) lines
 
--- what line i says
+-- the reading of line i
 abbrev pub ith_line : List (Option SourceLine) → ℕ → Option SourceLine
 ith_line lines i = slice_index_or lines i None
 
 -- ---- addresses
 
--- how many bytes a statement spells, whatever its names are
+-- the number of bytes that a statement spells, whatever its names are
 abbrev pub size : Statement → ℕ
 size (Origin n) = 0
 size (Data vs) = length vs
@@ -52,13 +52,13 @@ abbrev pub next_statement : Option Statement → ℕ → ℕ
 next_statement (Some (Origin n)) at = n
 next_statement s at = at + statement_size s
 
--- the address after a line whose statement stands at `at`
+-- the address after a line whose statement is at `at`
 abbrev pub next_at : Option SourceLine → ℕ → ℕ
 next_at (Some (Code label s)) at = next_statement s at
 next_at (Some (Define w n)) at = at
 next_at None at = at
 
--- the address at which the statement of line i stands; the first one stands at 0
+-- the address of the statement of line i; the first one is at 0
 unfoldable pub address_of : List (Option SourceLine) → ℕ → ℕ
 address_of lines zero = 0
 address_of lines (suc i) = next_at (ith_line lines i) (address_of lines i)
@@ -85,9 +85,10 @@ names_before lines i =
 abbrev pub all_names : List (Option SourceLine) → Names
 all_names lines = names_before lines (length lines)
 
--- ---- faults of class one: 30, 31, 36, 37, and 33 of `ORG` and `=`. They show from a line and those before it.
+-- ---- errors of class one: 30, 31, 36, 37, and 33 of `ORG` and `=`. They show from a line and
+-- those before it.
 
--- fault 31: a name that an earlier line defines
+-- error 31: a name that an earlier line defines
 abbrev pub is_known : List ℕ → Names → Bool
 is_known w names = list_any (λ n. bytes_eq n.0 w) names
 
@@ -99,7 +100,7 @@ abbrev pub is_known_name : Option (List ℕ) → Names → Bool
 is_known_name None names = false
 is_known_name (Some w) names = is_known w names
 
--- fault 33 of class one: the number of an `ORG` or of a `NAME = NUMBER` is above 4095
+-- error 33 of class one: the number of an `ORG` or of a `NAME = NUMBER` is above 4095
 abbrev pub is_bad_origin : Option Statement → Bool
 is_bad_origin (Some (Origin n)) = not (nat_lt n 4096)
 is_bad_origin s = false
@@ -108,15 +109,15 @@ abbrev pub has_bad_number : SourceLine → Bool
 has_bad_number (Define w n) = not (nat_lt n 4096)
 has_bad_number (Code label s) = is_bad_origin s
 
--- fault 36: a label at 4096, or a byte at 4096 or later (`at` is above 4096 only where an earlier
--- line has a fault)
+-- error 36: a label at 4096, or a byte at 4096 or later (`at` is above 4096 only if an earlier line
+-- has an error)
 abbrev pub passes_end : SourceLine → ℕ → Bool
 passes_end (Define w n) at = false
 passes_end (Code label s) at =
     (is_some label && nat_le 4096 at) || nat_lt 4096 (at + statement_size s)
 
--- the first of the faults 30, 33, 31, 37 and 36 that a line has, if any. Its statement stands at
--- `at`, and the lines before it define `names`; 37 is that it defines one more than `NAMES`
+-- the first of the errors 30, 33, 31, 37 and 36 that a line has, if any. Its statement is at `at`,
+-- and the lines before it define `names`. Error 37 means that it defines one more than `NAMES`.
 abbrev pub fault_one : ℕ → Names → Option SourceLine → Option SourceFault
 fault_one at names None = Some BadStatement
 fault_one at names (Some line) =
@@ -125,14 +126,13 @@ fault_one at names (Some line) =
     if is_some (defined_name line) && nat_le NAMES (length names) then Some TooManyNames else
     if passes_end line at then Some PastEnd else None
 
--- the fault of class one of line i, if it has one: it depends on this line and on those before it
+-- the error of class one of line i, if it has one: it depends on this line and on those before it
 unfoldable pub class_one_fault : List (Option SourceLine) → ℕ → Option SourceFault
 class_one_fault lines i = fault_one (address_of lines i) (names_before lines i) (ith_line lines i)
 
--- ---- the bytes of a line, where all names have their values
+-- ---- the bytes of a line, when all names have their values
 
--- the value of a name: the one that the first line that defines it gives it, if there is such a
--- line
+-- the value of a name: the one from the first line that defines it, if there is such a line
 abbrev pub value_of : List ℕ → Names → Option ℕ
 value_of w names = beside (λ name. bytes_eq name w) names
 
@@ -144,17 +144,17 @@ abbrev pub values_in : Names → List Operand → Option (List ℕ)
 values_in names [] = Some []
 values_in names (v ∷ vs) = value_in names v >>= λ n. values_in names vs >>= λ ns. Some (n ∷ ns)
 
--- fault 32 where a value is unknown
+-- error 32 if a value is unknown
 abbrev pub if_known : {A B : Type 0} → Option A → (A → Result B SourceFault) → Result B SourceFault
 if_known None next = Err UnknownName
 if_known (Some x) next = next x
 
--- fault 33 where a value is out of its range
+-- error 33 if a value is out of its range
 abbrev pub if_in_range : {B : Type 0} → Bool → Result B SourceFault → Result B SourceFault
 if_in_range false next = Err OutOfRange
 if_in_range true next = next
 
--- fault 34 where an address is off its page
+-- error 34 if an address is off its page
 abbrev pub if_on_page : {B : Type 0} → Bool → Result B SourceFault → Result B SourceFault
 if_on_page false next = Err WrongPage
 if_on_page true next = next
@@ -167,7 +167,7 @@ near_page at = page_of (at + 2)
 abbrev pub is_near : ℕ → ℕ → Bool
 is_near at t = t / 256 == near_page at
 
--- the bytes that a statement at an address spells, or the first of the faults 32, 33 and 34 that it
+-- the bytes that a statement at an address spells, or the first of the errors 32, 33 and 34 that it
 -- has
 abbrev pub statement_bytes : ℕ → Names → Statement → Result (List ℕ) SourceFault
 statement_bytes at names (Origin n) = Ok []
@@ -195,7 +195,7 @@ statement_bytes at names (Isz r w) =
     if_known (value_in names w) (λ t.
     if_in_range (nat_lt t 4096) (if_on_page (is_near at t) (Ok (spelling (op.Isz r (t % 256))))))
 
--- the bytes of a line whose statement stands at an address
+-- the bytes of a line whose statement is at an address
 abbrev pub line_bytes : ℕ → Names → Option SourceLine → Result (List ℕ) SourceFault
 line_bytes at names (Some (Code label (Some s))) = statement_bytes at names s
 line_bytes at names line = Ok []
@@ -204,7 +204,7 @@ abbrev pub bytes_or_none : Result (List ℕ) SourceFault → List ℕ
 bytes_or_none (Ok bytes) = bytes
 bytes_or_none (Err f) = []
 
--- the (address, byte) pairs of line i; none where it has one of the faults 32, 33 and 34
+-- the (address, byte) pairs of line i; none if it has one of the errors 32, 33 and 34
 abbrev pub line_pairs : List (Option SourceLine) → Names → ℕ → List (ℕ × ℕ)
 line_pairs lines names i =
     from_address (address_of lines i)
@@ -214,16 +214,16 @@ line_pairs lines names i =
 unfoldable pub pairs_before : List (Option SourceLine) → Names → ℕ → List (ℕ × ℕ)
 pairs_before lines names i = flat_map (line_pairs lines names) (range_with_len 0 i)
 
--- ---- faults of class two: 32 to 35. They need the values of all names, and are looked for only where no line
+-- ---- errors of class two: 32 to 35. They need the values of all names, and count only if no line
 -- has one of class one.
 
--- the first of the faults 32, 33, 34 and 35 that a line has, if any: of its bytes; else 35 where
+-- the first of the errors 32, 33, 34 and 35 that a line has, if any: of its bytes; else 35 if
 -- `pairs`, those of the lines before it, have one of its addresses
 abbrev pub fault_two : ℕ → List (ℕ × ℕ) → Result (List ℕ) SourceFault → Option SourceFault
 fault_two at pairs (Err f) = Some f
 fault_two at pairs (Ok bytes) = if overlaps pairs at (length bytes) then Some Overlap else None
 
--- the fault of class two of line i, if it has one: it depends on this line, on those before it and
+-- the error of class two of line i, if it has one: it depends on this line, on those before it and
 -- on the values of all names
 unfoldable pub class_two_fault : List (Option SourceLine) → Names → ℕ → Option SourceFault
 class_two_fault lines names i =
@@ -232,7 +232,7 @@ class_two_fault lines names i =
 
 -- ---- the whole
 
--- the first of n lines that has a fault: its number, which counts from 1, and the fault
+-- the first of n lines that has an error: its number, which counts from 1, and the error
 abbrev pub first_fault : (ℕ → Option SourceFault) → ℕ → Option (ℕ × SourceFault)
 first_fault fault n =
     find (λ i. is_some (fault i)) (range_with_len 0 n) >>= λ i. fault i >>= λ f. Some (i + 1, f)
@@ -247,7 +247,7 @@ abbrev pub unless_fault : {A E : Type 0} → Option E → Result A E → Result 
 unless_fault (Some f) answer = Err f
 unless_fault None answer = answer
 
--- the first fault of class one if there is one, else the first one of class two, else the pairs of
+-- the first error of class one if there is one, else the first one of class two, else the pairs of
 -- all lines
 unfoldable pub assembly_of : List (Option SourceLine) → Result (List (ℕ × ℕ)) (ℕ × SourceFault)
 assembly_of lines =
@@ -255,7 +255,7 @@ assembly_of lines =
     (unless_fault (first_of_class_two lines (all_names lines))
     (Ok (pairs_before lines (all_names lines) (length lines))))
 
--- the pairs that a text spells, in the order of its lines, or its first fault with the number of
+-- the pairs that a text spells, in the order of its lines, or its first error with the number of
 -- its line
 abbrev pub assembly_of_text : List ℕ → Result (List (ℕ × ℕ)) (ℕ × SourceFault)
 assembly_of_text text = assembly_of (read (lines_of text))

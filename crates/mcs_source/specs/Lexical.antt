@@ -4,8 +4,8 @@ use Rattle.std.specs.List.{before_first, flat_map}
 use Rattle.std.specs.Char.{is_ascii_digit, is_ascii_uppercase, is_ascii_lowercase}
 use Rattle.mcs_model.specs.TextLines.{is_blank, words_of}
 
--- a word is a run of letters, digits and `_`; `Other` is a byte that no form of a line has, as one
--- that is not ASCII
+-- a word is a run of letters, digits and `_`; `Other` is a byte that no form of a line has, such as
+-- one that is not ASCII
 pub data Token : Type 0 where
   Word : List ℕ → Token
   Comma : Token
@@ -21,11 +21,11 @@ is_word_byte b = ((is_ascii_digit b || is_ascii_uppercase b) || is_ascii_lowerca
 abbrev pub symbol : ℕ → Token
 symbol b = if b == 44 then Comma else if b == 58 then Colon else if b == 61 then Equals else Other
 
--- a byte of a line; blanks set a symbol apart from what stands beside it
+-- a byte of a line; blanks separate a symbol from its neighbours
 abbrev pub set_apart : ℕ → List ℕ
 set_apart b = if is_word_byte b || is_blank b then b ∷ [] else 32 ∷ b ∷ 32 ∷ []
 
--- the token that a piece without blanks is: a word, or a byte that was set apart
+-- the token of a piece without blanks: a word, or a byte that was separated
 abbrev pub token_of : List ℕ → Token
 token_of [] = Other
 token_of (b ∷ word) = if is_word_byte b then Word (b ∷ word) else symbol b

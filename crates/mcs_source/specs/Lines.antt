@@ -1,5 +1,5 @@
--- What the tokens of a line say: an optional label and an optional statement, or a definition of a
--- name. A comment is no token. (Our own choice, with the operands of the MCS-4 Users Manual.)
+-- The reading of the tokens of a line: an optional label and an optional statement, or a definition
+-- of a name. A comment is no token. (Our own choice, with the operands of the MCS-4 Users Manual.)
 use Rattle.std.specs.Prelude.{ℕ, ◌-◌, Bool, false, not, ◌&&◌, ◌||◌, List, [], ◌∷◌, Option, Some, None, is_some, nat_le, ◌==◌, if◌then◌else◌, codes, length}
 use Rattle.std.specs.Str.{str_eq_ignore_ascii_case}
 use Rattle.std.specs.Char.{is_ascii_digit, is_ascii_uppercase, is_ascii_lowercase}
@@ -19,8 +19,8 @@ pub data Operand : Type 0 where
   Number : ℕ → Operand
   Name : List ℕ → Operand
 
--- a statement as it is written, its operands in that order; `Whole` is an instruction none of whose
--- operands is a value, with its registers or pair
+-- a statement as it is written, its operands in that order; `Whole` is an instruction without a
+-- value among its operands, with its registers or pair
 pub data Statement : Type 0 where
   Origin : ℕ → Statement
   Data : List Operand → Statement
@@ -30,7 +30,7 @@ pub data Statement : Type 0 where
   Jcn : Operand → Operand → Statement
   Isz : ℕ → Operand → Statement
 
--- whether a word begins with a letter or `_`
+-- true if a word begins with a letter or `_`
 abbrev pub begins_name : List ℕ → Bool
 begins_name [] = false
 begins_name (b ∷ word) = (is_ascii_uppercase b || is_ascii_lowercase b) || b == 95
@@ -73,17 +73,17 @@ number_or None name = name
 abbrev pub operand_of : List ℕ → Option Operand
 operand_of w = number_or (number_written w) (name_of w)
 
--- the word, where nothing else is there
+-- the word, if there is nothing else
 abbrev pub word_only : List Token → Option (List ℕ)
 word_only (Word w ∷ []) = Some w
 word_only ts = None
 
--- the word before a comma, and what follows the comma
+-- the word before a comma, and the part after the comma
 abbrev pub word_first : List Token → Option (List ℕ × List Token)
 word_first (Word w ∷ Comma ∷ ts) = Some (w, ts)
 word_first ts = None
 
--- the operand, where nothing else is there
+-- the operand, if there is nothing else
 abbrev pub one_operand : List Token → Option Operand
 one_operand ts = word_only ts >>= operand_of
 
@@ -96,7 +96,7 @@ one_register ts = word_only ts >>= register_named
 abbrev pub one_pair : List Token → Option ℕ
 one_pair ts = word_only ts >>= pair_named
 
--- the operand before a comma, and what follows the comma
+-- the operand before a comma, and the part after the comma
 abbrev pub first_operand : List Token → Option (Operand × List Token)
 first_operand ts = word_first ts >>= λ x. operand_of x.0 >>= λ v. Some (v, x.1)
 
@@ -117,7 +117,7 @@ abbrev pub bare_statement : Op → List Token → Option Statement
 bare_statement o [] = Some (Whole o)
 bare_statement o (t ∷ ts) = None
 
--- the statement that a mnemonic begins, from what follows it
+-- the statement that a mnemonic begins, from the part after it
 abbrev pub after_mnemonic : Mnemonic → List Token → Option Statement
 after_mnemonic m.Org ts = one_number ts >>= λ n. Some (Origin n)
 after_mnemonic m.Db ts = operands_of ts >>= λ vs. Some (Data vs)
@@ -138,7 +138,7 @@ after_mnemonic m.Bbl ts = one_operand ts >>= λ v. Some (Bbl v)
 after_mnemonic m.Ldm ts = one_operand ts >>= λ v. Some (Ldm v)
 after_mnemonic (m.Bare o) ts = bare_statement o ts
 
--- the statement that some tokens are, if they have the form of one
+-- the statement of some tokens, if they have the form of one
 unfoldable pub statement_of : List Token → Option Statement
 statement_of (Word w ∷ ts) = mnemonic_of w >>= λ k. after_mnemonic k ts
 statement_of ts = None
@@ -159,7 +159,7 @@ unlabelled (Word w ∷ Equals ∷ ts) =
     if is_name w then (one_number ts >>= λ n. Some (Define w n)) else None
 unlabelled ts = rest_of None ts
 
--- what a line says, if it has a form
+-- the reading of a line, if it has a form
 abbrev pub line_of : List Token → Option SourceLine
 line_of (Word w ∷ Colon ∷ ts) = if is_name w then rest_of (Some w) ts else None
 line_of ts = unlabelled ts

@@ -7,15 +7,15 @@ use Rattle.mcs_model.specs.TextLines.{as_line, text_of}
 use Rattle.mcs_source.specs.declared.survey.Span.{Span}
 use Rattle.mcs_source.specs.Survey.{Survey}
 
--- an address, or the place after the last one
+-- an address, or the location after the last one
 abbrev pub address_or_end_text : ℕ → List ℕ
 address_or_end_text at = if nat_lt at 4096 then address_text at else codes "1000"
 
--- how many rows of each kind follow
+-- the numbers of rows of each kind that follow
 abbrev pub head_row : ℕ → ℕ → List ℕ
 head_row lines names = codes "map lines " ++ decimal lines ++ codes " names " ++ decimal names
 
--- a line of the source by its number, with where it stands and how many bytes it spells
+-- a line of the source by its number, with its address and the number of bytes that it spells
 abbrev pub line_row : ℕ → Span → List ℕ
 line_row number s =
     codes "line " ++ decimal number ++ codes " " ++ address_or_end_text s.at ++ codes " " ++ decimal s.size

@@ -10,7 +10,7 @@ use Rattle.mcs_source.specs.Text.{address, op_at, piece_size, piece_text}
 abbrev pub line_text : ℕ → ℕ → Option ℕ → List ℕ
 line_text at first second = piece_text at first (op_at first (option_to_list second))
 
--- the texts of the pieces of some bytes, whose first stands at an address; at most `most` of them
+-- the texts of the pieces of some bytes, the first at an address; at most `most` of them
 unfoldable pub piece_texts : ℕ → ℕ → List ℕ → List (List ℕ)
 piece_texts zero at bytes = []
 piece_texts (suc most) at [] = []
@@ -21,18 +21,18 @@ piece_texts (suc most) at (b ∷ rest) =
 abbrev pub origin_text : ℕ → List ℕ
 origin_text at = codes "ORG " ++ address (at / 256) (at % 256)
 
--- the source of some bytes that stand from an address on: the `ORG` line, and a line for each piece
+-- the source of some bytes from an address on: the `ORG` line, and a line for each piece
 abbrev pub source_of : ℕ → List ℕ → List ℕ
 source_of from bytes = text_of (origin_text from ∷ piece_texts (length bytes) from bytes)
 
 abbrev pub range : List ℕ → ℕ → ℕ → List ℕ
 range rom from to = take (to - from) (drop from rom)
 
--- the source of the addresses `from` to below `to`
+-- the source of the addresses from `from` to below `to`
 abbrev pub source_text : List ℕ → ℕ → ℕ → List ℕ
 source_text rom from to = source_of from (range rom from to)
 
--- the law: the source of a range has no fault, and spells exactly the bytes of the range, each at
+-- the law: the source of a range has no error, and spells exactly the bytes of the range, each at
 -- its address
 abbrev pub SpellsItself : List ℕ → ℕ → ℕ → Type 0
 SpellsItself rom from to =

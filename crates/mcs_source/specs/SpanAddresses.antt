@@ -1,4 +1,4 @@
--- What a law of surveys cites.
+-- The addresses in a law of surveys.
 use Rattle.std.specs.Prelude.{ℕ, List}
 use Rattle.std.specs.List.{range_with_len}
 use Rattle.mcs_source.specs.declared.survey.Span.{Span}

@@ -1,4 +1,4 @@
--- Which words spell an instruction.
+-- The words that spell an instruction.
 use Rattle.std.specs.Prelude.{◌≡◌, take, ℕ, ◌<◌, [], ◌∷◌}
 use Rattle.mcs_model.specs.declared.op.Op.{Op}
 use Rattle.mcs_model.specs.Table.{word_count_of}

@@ -10,7 +10,7 @@ one code = code ∷ []
 abbrev pub two : ℕ → ℕ → List ℕ
 two code second = code ∷ second ∷ []
 
--- the words that spell an instruction; where its operands are in their ranges, `instruction_of` of
+-- the words that spell an instruction; if its operands are in their ranges, `instruction_of` of
 -- `Table` reads it back from them
 abbrev pub spelling : Op → List ℕ
 spelling Nop = one 0x00

@@ -1,5 +1,5 @@
--- Where the lines of a source text stand, how many bytes each one spells, and the values of its
--- names. (Our own choice.) Lines count from 0, as in `Assembly`.
+-- The locations of the lines of a source text, the number of bytes that each one spells, and the
+-- values of its names. (Our own choice.) Lines count from 0, as in `Assembly`.
 use Rattle.std.specs.Prelude.{ℕ, List, length, map, Option, Result}
 use Rattle.std.specs.Result.{result_map_both}
 use Rattle.std.specs.List.{range_with_len}
@@ -9,7 +9,7 @@ use Rattle.mcs_source.specs.Lines.{SourceLine}
 use Rattle.mcs_source.specs.Assembly.{Names, read, address_of, all_names, line_pairs, assembly_of_text}
 use Rattle.mcs_model.specs.TextLines.{lines_of}
 
--- where the statement of line i stands, and how many bytes the line spells
+-- the address of the statement of line i, and the number of bytes that the line spells
 abbrev pub span : List (Option SourceLine) → Names → ℕ → Span
 span lines names i = record { at = address_of lines i; size = length (line_pairs lines names i) }
 
@@ -17,20 +17,21 @@ span lines names i = record { at = address_of lines i; size = length (line_pairs
 unfoldable pub spans_before : List (Option SourceLine) → Names → ℕ → List Span
 spans_before lines names i = map (span lines names) (range_with_len 0 i)
 
--- what is told of a text without a fault: the span of each line, and the names with their values in
+-- the survey of a text without an error: the span of each line, and the names with their values in
 -- the order of the lines that define them
 pub record Survey : Type 0 where
   pub spans : List Span
   pub names : Names
 
--- the survey of lines that have no fault
+-- the survey of lines that have no error
 abbrev pub survey_of : List (Option SourceLine) → Survey
 survey_of lines = record {
   spans = spans_before lines (all_names lines) (length lines);
   names = all_names lines;
 }
 
--- the survey of a text that assembles; of any other its first fault, as `assembly_of_text` has it
+-- the survey of a text that assembles; for any other text its first error, as `assembly_of_text`
+-- has it
 abbrev pub survey_of_text : List ℕ → Result Survey (ℕ × SourceFault)
 survey_of_text text =
     result_map_both (λ pairs. survey_of (read (lines_of text))) (λ f. f) (assembly_of_text text)

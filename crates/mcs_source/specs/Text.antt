@@ -41,22 +41,22 @@ operands at (Bbl d) = codes " " ++ decimal d
 operands at (Ldm d) = codes " " ++ decimal d
 operands at o = []
 
--- the text of an instruction that stands at an address
+-- the text of an instruction at an address
 abbrev pub instruction_text : ℕ → Op → List ℕ
 instruction_text at o = name o ++ operands at o
 
--- the instruction read from byte b and the bytes `rest` after it, where it lies in them whole; None
--- where the piece is the byte: outside the table, or its second word is past the end
+-- the instruction read from byte b and the bytes `rest` after it, if it is complete in them; None
+-- if the piece is the byte: outside the table, or its second word is past the end
 abbrev pub whole_or_byte : Option Op → ℕ → List ℕ → Option Op
 whole_or_byte None b rest = None
 whole_or_byte (Some o) b rest = if nat_le (word_count_of o) (1 + length rest) then Some o else None
 
--- the byte after the first; 0 where there is none, which `whole_or_byte` leaves without effect
+-- the byte after the first, or 0 if there is none, which `whole_or_byte` leaves without effect
 abbrev pub second_word : List ℕ → ℕ
 second_word [] = 0
 second_word (c ∷ rest) = c
 
--- the instruction that b begins, where `rest` are the bytes after it; None where b is a byte alone
+-- the instruction that b begins, with the bytes `rest` after it; None if b is a byte alone
 unfoldable pub op_at : ℕ → List ℕ → Option Op
 op_at b rest = whole_or_byte (instruction_of b (second_word rest)) b rest
 
@@ -71,7 +71,7 @@ piece_size (Some o) = word_count_of o
 
 -- ---- the listing
 
--- a second word as it is listed: two digits, or two spaces where a piece has none
+-- a second word in a listing: two digits, or two spaces if a piece has none
 abbrev pub second_column : Option ℕ → List ℕ
 second_column (Some second) = hex_2 second
 second_column None = codes "  "
@@ -93,7 +93,7 @@ columns at first second = address_digits (at / 256) (at % 256) ++ word_columns f
 abbrev pub listing_line : ℕ → ℕ → List ℕ → Option Op → List ℕ
 listing_line at b rest piece = columns at b (second_of piece rest) ++ piece_text at b piece
 
--- the lines of the pieces of some bytes, whose first stands at an address; at most `most` of them
+-- the lines of the pieces of some bytes, the first at an address; at most `most` of them
 unfoldable pub listing_lines : ℕ → ℕ → List ℕ → List (List ℕ)
 listing_lines zero at bytes = []
 listing_lines (suc most) at [] = []
@@ -102,7 +102,7 @@ listing_lines (suc most) at (b ∷ rest) =
     ∷ listing_lines most (at + piece_size (op_at b rest))
     (drop (piece_size (op_at b rest) - 1) rest)
 
--- the listing of a ROM from an address on: that many lines, or fewer where address FFF comes first;
--- each ends with LF
+-- the listing of a ROM from an address on: as many lines as the third argument says, or fewer if
+-- address FFF comes first; each ends with LF
 abbrev pub listing_text : List ℕ → ℕ → ℕ → List ℕ
 listing_text rom from lines = text_of (listing_lines lines from (drop from rom))

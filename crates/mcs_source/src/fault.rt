@@ -1,20 +1,20 @@
-//! What can be wrong with a line of a source text.
+//! The errors of a line of a source text.
 ghost use Rattle.std.specs.Prelude.{◌≡◌};
 ghost use Rattle.mcs_source.specs.RefusalNumbers.{source_fault_number};
 
 use mcs_model::refusal_numbers;
 use thiserror::Error;
 
-/// What is wrong with a line of a source text.
+/// An error in a line of a source text.
 #[derive(Clone, Copy, Debug, PartialEq, Eq, Error)]
 pub enum SourceFault {
     /// The line has no form of a source text (no 30).
     #[error("the line is not a statement")]
     BadStatement,
-    /// It defines a name that an earlier line defined (no 31).
+    /// The line defines a name that an earlier line defined (no 31).
     #[error("an earlier line defines the name")]
     DoubleName,
-    /// It uses a name that no line defines (no 32).
+    /// The line uses a name that no line defines (no 32).
     #[error("no line defines the name")]
     UnknownName,
     /// A value is out of its range (no 33).
@@ -23,19 +23,19 @@ pub enum SourceFault {
     /// An address is off the page that the instruction reaches (no 34).
     #[error("the address is on another page")]
     WrongPage,
-    /// It spells an address that an earlier line spells (no 35).
+    /// The line spells an address that an earlier line spells (no 35).
     #[error("an earlier line fills the address")]
     Overlap,
-    /// Its label stands at 4096, or it spells a byte at 4096 or later (no 36).
+    /// The label of the line is at 4096, or the line spells a byte at 4096 or later (no 36).
     #[error("the address is past the end of the ROM")]
     PastEnd,
-    /// It defines a 513th name (no 37).
+    /// The line defines a 513th name (no 37).
     #[error("the text defines too many names")]
     TooManyNames,
 }
 
 impl SourceFault {
-    /// The number that the refusal is reported as.
+    /// Returns the number that the refusal is reported as.
     pub fn number(self) -> u8
         ensures { result ≡ source_fault_number self }
     {

@@ -1,5 +1,5 @@
-//! The source language of the 4004: its words, what can be wrong with one of its lines, and the
-//! definitions in `specs/` of what a source text assembles to and of the text of an instruction.
+//! The source language of the 4004: its words, the errors of its lines, and the definitions in `specs/`. Those define
+//! what a source text assembles to, and the text of an instruction.
 #![tactic(auto)]
 
 pub mod fault;

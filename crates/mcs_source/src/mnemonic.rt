@@ -4,7 +4,7 @@ use mcs_model::op::Op;
 /// The word that begins a statement. A bare one has no operands.
 #[derive(Clone, Copy)]
 pub enum Mnemonic {
-    /// The next statement stands at an address.
+    /// Origin: the address of the next statement.
     Org,
     /// Bytes.
     Db,

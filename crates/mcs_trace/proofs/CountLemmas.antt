@@ -6,7 +6,7 @@ use Rattle.mcs_model.specs.declared.regs.Regs.{Regs}
 use Rattle.mcs_model.specs.Running.{Machine, Stops, after_cycles}
 use Rattle.mcs_cpu4004.specs.InstructionRan.{InstructionRan}
 use Rattle.mcs_bench.specs.Runs.{GoesOn, RanTo}
-use Rattle.mcs_ahead.specs.Ahead.{Begun, begins, begun_within, cycle_at, is_at, jumps, jumps_at, runs_at}
+use Rattle.mcs_probe.specs.Forecast.{Begun, begins, begun_within, cycle_at, is_at, jumps, jumps_at, runs_at}
 use Rattle.mcs_trace.specs.declared.counting.Counts.{Counts}
 use Rattle.mcs_trace.specs.Counted.{IsCounted, IsTally, one_more}
 use Rattle.mcs_trace.proofs.Steps.{begun-on, one-behind, rests}
@@ -60,16 +60,16 @@ tally-none s p xs e = rw e (record {
 })
 
 pub runs-next : (left k d : ℕ) (s t u : Machine) (before : Regs) (xs ys : List ℕ) → t ≡ after_cycles k s → InstructionRan left t u d → 0 < d → before ≡ t.0 → before.pc < 4096 → ys ≡ one_more xs (before.owed == 0) before.pc → IsTally xs (runs_at (begun_within k s)) → IsTally ys (runs_at (begun_within (k + d) s))
-runs-next left k d s t u before xs ys at ran some e l new told =
+runs-next left k d s t u before xs ys at ran some e l new noted =
     let same : before ≡ (after_cycles k s).0 = e ∙ ap (λ (m : Machine). m.0) at in
     subst (λ v. IsTally v (runs_at (begun_within (k + d) s))) (sym new)
-    (runs-more k (k + d) s xs (before.owed == 0) before.pc l (begun-on left k d s t u at ran some) (ap (λ (r : Regs). r.owed == 0) same) (ap (λ (r : Regs). r.pc) same) told)
+    (runs-more k (k + d) s xs (before.owed == 0) before.pc l (begun-on left k d s t u at ran some) (ap (λ (r : Regs). r.owed == 0) same) (ap (λ (r : Regs). r.pc) same) noted)
 
 pub jumps-next : (left k d : ℕ) (s t u : Machine) (before after : Regs) (xs ys : List ℕ) → t ≡ after_cycles k s → InstructionRan left t u d → 0 < d → before ≡ t.0 → after ≡ u.0 → before.pc < 4096 → ys ≡ one_more xs (before.owed == 0 && not (after.pc == (before.pc + 2) % 4096)) before.pc → IsTally xs (jumps_at (begun_within k s)) → IsTally ys (jumps_at (begun_within (k + d) s))
-jumps-next left k d s t u before after xs ys at ran some e f l new told =
+jumps-next left k d s t u before after xs ys at ran some e f l new noted =
     let same : before ≡ (after_cycles k s).0 = e ∙ ap (λ (m : Machine). m.0) at in
     let later : after.pc ≡ (after_cycles (k + 1) s).0.pc = ap (λ (r : Regs). r.pc) f ∙ ap (λ (m : Machine). m.0.pc) (rests left d t u ran some) ∙ ap (λ (m : Machine). m.0.pc) (one-behind k s t at) in
     subst (λ v. IsTally v (jumps_at (begun_within (k + d) s))) (sym new)
     (jumps-more k (k + d) s xs (before.owed == 0 && not (after.pc == (before.pc + 2) % 4096)) before.pc l (begun-on left k d s t u at ran some)
     (ap (λ (r : Regs). r.owed == 0 && not (after.pc == (r.pc + 2) % 4096)) same ∙ ap (λ (p : ℕ). (after_cycles k s).0.owed == 0 && not (p == ((after_cycles k s).0.pc + 2) % 4096)) later)
-    (ap (λ (r : Regs). r.pc) same) told)
+    (ap (λ (r : Regs). r.pc) same) noted)

@@ -4,7 +4,7 @@ use Rattle.std.proofs.lemmas.Bool.Decides.{nat_tests}
 use Rattle.mcs_model.specs.declared.stop.Stop.TheVariants.{Outside, Breakpoint, Watched, Ended}
 use Rattle.mcs_model.specs.Running.{Machine, Stops, is_outside, stop_at}
 use Rattle.mcs_bench.proofs.Writes.{same-ram}
-use Rattle.mcs_ahead.specs.Ahead.{early_stop}
+use Rattle.mcs_probe.specs.Forecast.{early_stop}
 
 -- at its start a run of some cycles goes on where a cycle can follow
 pub none-at-start : (stops : Stops) (n : ℕ) (s : Machine) → 0 < n → is_outside s ≡ false → stop_at stops n 0 s s ≡ None

@@ -8,7 +8,7 @@ use Rattle.mcs_model.specs.declared.stop.Stop.TheVariants.{Outside, Breakpoint, 
 use Rattle.mcs_model.specs.Running.{Machine, Stops, is_outside, after_cycles, after_run, at_break, has_changed, stop_at, stop_after, run_length}
 use Rattle.mcs_model.proofs.ListLemmas.{find_at}
 use Rattle.mcs_model.proofs.RunLemmas.{cycled-add}
-use Rattle.mcs_ahead.specs.Ahead.{Begun, begins, begun_in, begun_within, cycle_at, early_stop, later}
+use Rattle.mcs_probe.specs.Forecast.{Begun, begins, begun_in, begun_within, cycle_at, early_stop, later}
 use Rattle.mcs_trace.proofs.Going.{early-before, none-at-start}
 use Rattle.mcs_trace.proofs.Tallies.{begun-more, begun_at}
 

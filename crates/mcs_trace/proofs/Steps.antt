@@ -5,7 +5,7 @@ use Rattle.mcs_model.specs.Effect.{cycle_of}
 use Rattle.mcs_model.specs.Running.{Machine, after_cycles}
 use Rattle.mcs_cpu4004.specs.InstructionRan.{InstructionRan}
 use Rattle.mcs_model.proofs.RunLemmas.{cycled-add}
-use Rattle.mcs_ahead.specs.Ahead.{begun_within}
+use Rattle.mcs_probe.specs.Forecast.{begun_within}
 use Rattle.mcs_trace.proofs.Tallies.{begun-more, begun_at}
 
 -- a machine of which nothing but what is owed is another

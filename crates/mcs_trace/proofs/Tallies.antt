@@ -9,7 +9,7 @@ use Rattle.std.proofs.lemmas.List.FromFn.{length-range_with_len}
 use Rattle.std.proofs.lemmas.List.Sums.{sum_by-append, count_by-le-length}
 use Rattle.mcs_model.specs.Running.{Machine}
 use Rattle.mcs_model.proofs.ListLemmas.{range_more}
-use Rattle.mcs_ahead.specs.Ahead.{Begun, begins, begun_within, cycle_at}
+use Rattle.mcs_probe.specs.Forecast.{Begun, begins, begun_within, cycle_at}
 use Rattle.mcs_trace.specs.Counted.{IsTally, one_more}
 
 -- the instruction that a cycle begins, if it begins one

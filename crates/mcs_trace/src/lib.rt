@@ -1,4 +1,4 @@
-//! What would happen in a run: a copy of a bench goes on in its place, instruction by instruction.
+//! Forecast of a run: a copy of a bench continues in its place, instruction by instruction.
 #![tactic(auto)]
 
 mod counting;

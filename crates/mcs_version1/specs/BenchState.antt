@@ -10,5 +10,5 @@ pub record BenchState1 : Type 0 where
   pub bus : BusState
   -- the breakpoints, rising
   pub breakpoints : List ℕ
-  -- how many commands were accepted
+  -- the number of accepted commands
   pub seq : ℕ

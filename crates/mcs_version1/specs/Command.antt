@@ -1,5 +1,5 @@
--- Version 1 of what commands do. It lacks watching, and boards that are not small: of a command
--- that it lacks (`in_version_1`), all else here is without meaning.
+-- Version 1 of the effects of commands. It lacks watching, and boards that are not small. For a
+-- command that it lacks (`in_version_1`), nothing else here has a meaning.
 use Rattle.std.specs.Prelude.{Bool, true, false, ◌+◌, ◌==◌, ◌&&◌, ◌||◌, length, Option, Some, None, nat_lt, nat_le, slice_set, if◌then◌else◌}
 use Rattle.std.specs.List.{list_any}
 use Rattle.mcs_model.specs.declared.command.Command.{Command}
@@ -23,7 +23,7 @@ use Rattle.mcs_version1.specs.Boards.{is_small}
 use Rattle.mcs_version1.specs.BenchState.{BenchState1}
 use Rattle.mcs_version1.specs.Running.{run_length_1, after_run_1, run_stop_1}
 
--- which places version 1 has: each is named, so that it does not get a new one unseen
+-- true for the places of version 1: each is named, so that it cannot get a new one unnoticed
 abbrev pub is_place_1 : Place → Bool
 is_place_1 (Acc n) = true
 is_place_1 (Cy bit) = true
@@ -34,7 +34,7 @@ is_place_1 (Rom at byte) = true
 is_place_1 (Ram bank src n) = true
 is_place_1 (Status bank high k n) = true
 
--- which commands version 1 has
+-- true for the commands of version 1
 abbrev pub in_version_1 : Command → Bool
 in_version_1 (Wire board) = is_small board
 in_version_1 (Poke place) = is_place_1 place
@@ -44,27 +44,27 @@ in_version_1 _ = true
 
 -- ---- which commands are accepted
 
--- why a state refuses a command for the command's own sake, if it does
-abbrev pub own_refusal_1 : BenchState1 → Command → Option BenchFault
-own_refusal_1 s (Load image) =
+-- the reason that a state rejects a command because of the command itself, if any
+abbrev pub refusal_of_command_1 : BenchState1 → Command → Option BenchFault
+refusal_of_command_1 s (Load image) =
     if list_any (λ p. lacks_rom s.bus.board p.0) image
     then Some NoRom
     else None
-own_refusal_1 s (Press row column) = if has_key s.bus.board row column then None else Some NoKey
-own_refusal_1 s (Release row column) = if has_key s.bus.board row column then None else Some NoKey
-own_refusal_1 s (Run n) = if nat_le 1 n && nat_le n RUN_CYCLES then None else Some BadCount
-own_refusal_1 s (Poke place) = place_refusal s.bus place
-own_refusal_1 s (Break at) =
+refusal_of_command_1 s (Press row column) = if has_key s.bus.board row column then None else Some NoKey
+refusal_of_command_1 s (Release row column) = if has_key s.bus.board row column then None else Some NoKey
+refusal_of_command_1 s (Run n) = if nat_le 1 n && nat_le n RUN_CYCLES then None else Some BadCount
+refusal_of_command_1 s (Poke place) = place_refusal s.bus place
+refusal_of_command_1 s (Break at) =
     if is_listed s.breakpoints at || nat_lt (length s.breakpoints) BREAKPOINTS
     then None
     else Some BreaksFull
-own_refusal_1 s _ = None
+refusal_of_command_1 s _ = None
 
--- why a state refuses a command, if it does: a worn session refuses each of them
+-- the reason that a state rejects a command, if any: a worn session rejects each of them
 abbrev pub refusal_1 : BenchState1 → Command → Option BenchFault
-refusal_1 s c = if s.seq == ACCEPTED_COMMANDS then Some Worn else own_refusal_1 s c
+refusal_1 s c = if s.seq == ACCEPTED_COMMANDS then Some Worn else refusal_of_command_1 s c
 
--- ---- what they do
+-- ---- the effects
 
 abbrev pub machine_of_1 : BenchState1 → Machine
 machine_of_1 s = (s.processor, s.bus)
@@ -90,7 +90,7 @@ with_place_1 s (Rom at byte) = with_bus_1 s (with_rom_byte s.bus at byte)
 with_place_1 s (Ram bank src n) = with_bus_1 s (with_ram s.bus bank src n)
 with_place_1 s (Status bank high k n) = with_bus_1 s (with_status s.bus bank high k n)
 
--- what a command does, except for the count of commands
+-- the effect of a command, except for the count of commands
 abbrev pub after_change_1 : BenchState1 → Command → BenchState1
 after_change_1 s (Wire board) = with_machine_1 s (new_regs, after_wire s.bus board)
 after_change_1 s (Load image) = with_bus_1 s (with_rom_bytes s.bus image)
@@ -105,14 +105,13 @@ after_change_1 s (Break at) = record s { breakpoints = with_listed s.breakpoints
 after_change_1 s (Unbreak at) = record s { breakpoints = without_listed s.breakpoints at }
 after_change_1 s _ = s
 
--- the state after an accepted command: each raises the count by one, also where nothing else
--- changes
+-- the state after an accepted command: each raises the count by one, even if nothing else changes
 abbrev pub after_1 : BenchState1 → Command → BenchState1
 after_1 s c = record (after_change_1 s c) { seq = s.seq + 1 }
 
--- ---- what they answer
+-- ---- the replies
 
--- what an accepted command answers
+-- the reply to an accepted command
 abbrev pub reply_1 : BenchState1 → Command → Reply
 reply_1 s (Load image) = Loaded (length image)
 reply_1 s (Run n) =

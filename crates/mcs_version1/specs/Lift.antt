@@ -1,5 +1,4 @@
--- A state of version 1 as one of version 2, and that commands and queries do not tell the two
--- apart.
+-- A state of version 1 as one of version 2. Commands and queries do not distinguish the two.
 use Rattle.std.specs.Prelude.{◌≡◌, [], IsTrue, List}
 use Rattle.mcs_model.specs.declared.command.Command.{Command}
 use Rattle.mcs_model.specs.declared.query.Query.{Query}
@@ -25,8 +24,8 @@ lift_query (Ram bank) = asked.Ram bank
 lift_query Breaks = asked.Breaks
 lift_query Seq = asked.Seq
 
--- a command of version 1: at the state carried over it is refused, done and answered as version 1
--- did at this state
+-- a command of version 1: at the lifted state it is rejected, done and replied to as version 1 did
+-- at this state
 pub record IsLifted (s : BenchState1) (c : Command) : Type 0 where
   pub refusal : refusal (lift s) c ≡ refusal_1 s c
   pub after : lift (after_1 s c) ≡ after (lift s) c

@@ -1,11 +1,11 @@
--- Version 1 of what a bench tells of its state.
+-- Version 1 of the answers of a bench about its state.
 use Rattle.std.specs.Prelude.{ℕ, List}
 use Rattle.std.specs.List.{join_with_byte}
 use Rattle.mcs_model.specs.QueryText.{breaks_text, lamps_text, ram_lines, regs_text, seq_text}
 use Rattle.mcs_model.specs.TextLines.{line_feed}
 use Rattle.mcs_version1.specs.BenchState.{BenchState1}
 
--- a query of version 1, but for `list` and `board` (of these, Version1 of mcs_answers)
+-- a query of version 1, except `list` and `board` (for these, Version1 of mcs_answers)
 pub data Query1 : Type 0 where
   Lamps : Query1
   Regs : Query1

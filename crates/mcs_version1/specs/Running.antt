@@ -6,7 +6,7 @@ use Rattle.mcs_model.specs.declared.stop.Stop.{Stop}
 use Rattle.mcs_model.specs.declared.stop.Stop.TheVariants.{Outside, Breakpoint, Ended}
 use Rattle.mcs_model.specs.Running.{Machine, is_outside, after_cycles, at_break}
 
--- whether a run of n cycles stops after k of them, at the machine s, and why
+-- the reason that a run of n cycles stops after k of them, at the machine s, if it does
 abbrev pub stop_at_1 : List ℕ → ℕ → ℕ → Machine → Option Stop
 stop_at_1 breaks n k s =
     if is_outside s then Some Outside
@@ -14,7 +14,8 @@ stop_at_1 breaks n k s =
     else if k == n then Some Ended
     else None
 
--- how many cycles a run of n cycles from the machine s takes: the least k at which it stops
+-- the number of cycles that a run of n cycles from the machine s takes: the least k at which it
+-- stops
 abbrev pub run_length_1 : List ℕ → ℕ → Machine → ℕ
 run_length_1 breaks n s =
     unwrap_or (find (λ k. is_some (stop_at_1 breaks n k (after_cycles k s))) (range_with_len 0 (n + 1))) n
@@ -23,7 +24,7 @@ run_length_1 breaks n s =
 abbrev pub after_run_1 : List ℕ → ℕ → Machine → Machine
 after_run_1 breaks n s = after_cycles (run_length_1 breaks n s) s
 
--- why a run of n cycles stops
+-- the reason that a run of n cycles stops
 abbrev pub run_stop_1 : List ℕ → ℕ → Machine → Stop
 run_stop_1 breaks n s =
     unwrap_or (stop_at_1 breaks n (run_length_1 breaks n s) (after_run_1 breaks n s)) Ended

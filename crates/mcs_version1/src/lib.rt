@@ -1,4 +1,4 @@
-//! Version 1 of a bench: its definitions, and that what it did is what version 2 does.
+//! Version 1 of a bench: its definitions, and laws that version 2 does the same.
 #![tactic(auto)]
 
 pub mod laws;

@@ -44,3 +44,8 @@ double_from ps i p lt is =
 pub part_from : {A : Type 0} (none : A) (ps : List (Numbered A)) (n i : ℕ) (p : Numbered A) → i < length ps → p ≡ get_or ps i p → part_at none (drop i ps) n ≡ (if eqb p.number n then p.part else part_at none (drop (i + 1) ps) n)
 part_from none ps n i p lt is =
     ap (λ qs. part_at none qs n) (drop_more ps i p lt) ∙ ap (λ r. if eqb r.number n then r.part else part_at none (drop (i + 1) ps) n) (sym is)
+
+-- the keys of a map
+pub keys_seen : (es : List Entry) → map string_bytes (map_keys es) ≡ keys_of (members_view es)
+keys_seen [] = refl
+keys_seen (e ∷ es) = ap (λ ks. string_bytes e.0 ∷ ks) (keys_seen es)

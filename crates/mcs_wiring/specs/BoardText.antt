@@ -23,14 +23,14 @@ quoted_text text = codes "\"" ++ (text ++ codes "\"")
 abbrev pub quoted_name : Line → List ℕ
 quoted_name line = quoted_text (line_name line)
 
--- the lines of a ROM, where the board has it
+-- the lines of a ROM, if the board has it
 abbrev pub rom_lines : ℕ → Option (List LineMask) → List (List ℕ)
 rom_lines chip None = []
 rom_lines chip (Some masks) =
     codes "[[rom]]" ∷ entry (codes "chip") (decimal chip)
     ∷ entry (codes "port") (quoted_text (port_name masks)) ∷ []
 
--- the lines of a bank, where it has chips
+-- the lines of a bank, if it has chips
 abbrev pub bank_lines : ℕ → ℕ → List (List ℕ)
 bank_lines bank chips =
     if nat_lt 0 chips

@@ -1,4 +1,4 @@
--- What the clauses of private functions cite.
+-- The definitions that clauses of private functions cite.
 use Rattle.std.specs.Prelude.{if◌then◌else◌, ℕ, ◌≤◌, Bool, List, length, codes, slice_index, Option, Some, None, Result, Ok, Err}
 use Rattle.std.specs.List.{flat_map, range_with_len}
 use Rattle.toml.specs.Data.{Data, Members}
@@ -16,13 +16,13 @@ use Rattle.mcs_wiring.specs.BoardText.{rom_lines, bank_lines}
 use Rattle.mcs_model.specs.TextLines.{text_of}
 use Rattle.mcs_wiring.specs.Wiring.{has_other_key, lacks_key, is_malformed, values_at, column_values, has_double_chip, parts_in}
 
--- whether a value in the place of a section's table has a flaw
+-- true if a value in the place of a section's table has a flaw
 abbrev pub has_flaw : Flaw → Section → Data → Bool
 has_flaw UnknownKey = has_other_key
 has_flaw MissingKey = lacks_key
 has_flaw BadValue = is_malformed
 
--- there are no more parts of one kind than a board can have
+-- Holds if there are no more parts of one kind than a board can have.
 pub record IsWithinLimits (ms : Members) : Type 0 where
   pub roms : length (values_at (codes "rom") ms) ≤ ROMS
   pub banks : length (values_at (codes "ram") ms) ≤ BANKS
@@ -43,13 +43,13 @@ ram_text b bank = text_of (bank_lines bank (slice_index b.banks bank))
 abbrev pub rams_text : BoardParts → ℕ → List ℕ
 rams_text b n = flat_map (ram_text b) (range_with_len 0 n)
 
--- the board of parts, or the refusal of what is wrong with them
+-- the board of parts, or the refusal for the error in them
 abbrev pub judgement_of : BoardParts → Option BoardFault → Result BoardParts WiringFault
 judgement_of parts None = Ok parts
 judgement_of parts (Some fault) = Err (refusal_of fault)
 
--- what is left to say of parts whose numbers are in range, and of a table that has nothing of 21,
--- 22, 23 and 27
+-- the remaining judgement of parts whose numbers are in range, and of a table that has nothing of
+-- 21, 22, 23 and 27
 abbrev pub board_of_parts : BoardParts → Result BoardParts WiringFault
 board_of_parts parts =
     if lacks_line parts then Err NoSuchLine

@@ -5,7 +5,7 @@ use Rattle.std.specs.Str.{bytes_eq}
 use Rattle.mcs_wiring.specs.declared.sections.Section.{Section}
 use Rattle.mcs_wiring.specs.declared.sections.Section.TheVariants.{Rom, Ram, Chain, Keys, Lamp}
 
--- the sections, as they stand in a board text
+-- the sections, in the order of a board text
 abbrev pub sections : List Section
 sections = Rom ∷ Ram ∷ Chain ∷ Keys ∷ Lamp ∷ []
 
@@ -17,7 +17,7 @@ section_key Chain = codes "chain"
 section_key Keys = codes "keys"
 section_key Lamp = codes "lamp"
 
--- the keys of its tables
+-- the keys of a section's tables
 abbrev pub table_keys : Section → List (List ℕ)
 table_keys Rom = codes "chip" ∷ codes "port" ∷ []
 table_keys Ram = codes "bank" ∷ codes "chips" ∷ []
@@ -25,7 +25,7 @@ table_keys Chain = codes "clock" ∷ codes "data" ∷ codes "chips" ∷ []
 table_keys Keys = codes "chain" ∷ codes "first" ∷ codes "rows" ∷ codes "columns" ∷ []
 table_keys Lamp = codes "line" ∷ []
 
--- whether a key may stand at the top, and in a table of a section
+-- true if a key may be at the top; true if a key may be in a table of a section
 abbrev pub is_board_key : List ℕ → Bool
 is_board_key key = list_any (λ s. bytes_eq key (section_key s)) sections
 

@@ -4,3 +4,5 @@ pub mod LineNames
 pub mod Wiring
 pub mod Flaws
 pub mod BoardText
+pub mod Parts
+pub mod PartView

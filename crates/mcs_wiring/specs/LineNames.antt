@@ -1,5 +1,5 @@
--- How a board text names a line of the board, and writes the masks of a ROM's port. (Our own
--- choice.)
+-- The names of the lines of a board in a board text, and the text of the masks of a ROM's port.
+-- (Our own choice.)
 use Rattle.std.specs.Prelude.{ℕ, ◌+◌, ◌*◌, ◌-◌, ◌&&◌, not, List, [], ◌∷◌, ◌++◌, length, Option, Some, None, nat_lt, ◌==◌, if◌then◌else◌, codes, take, drop}
 use Rattle.std.specs.List.{position_or_len, before_first, after_first}
 use Rattle.std.specs.Str.{bytes_eq}
@@ -17,8 +17,8 @@ use Rattle.mcs_model.specs.Options.{◌>>=◌}
 abbrev pub below_or_none : ℕ → ℕ → Option ℕ
 below_or_none limit n = if nat_lt n limit then Some n else None
 
--- the number below a limit that one or two decimal digits are, without a leading zero; no number of
--- a line has three digits
+-- the number below a limit that one or two decimal digits are, without a leading zero; no number
+-- of a line has three digits
 abbrev pub number_below : ℕ → List ℕ → Option ℕ
 number_below limit (d ∷ []) = if is_ascii_digit d then below_or_none limit (d - 48) else None
 number_below limit (t ∷ d ∷ []) =
@@ -28,18 +28,18 @@ number_below limit text = None
 
 -- ---- lines: `romC.K`, `ramB.C.K`, `chainN.I`
 
--- what stands after a word, if the text begins with it
+-- the text after a word, if the text begins with the word
 abbrev pub rest_after : List ℕ → List ℕ → Option (List ℕ)
 rest_after word text =
     if bytes_eq (take (length word) text) word then Some (drop (length word) text) else None
 
--- what stands before and after the first dot
+-- the texts before and after the first dot
 abbrev pub parts_around_dot : List ℕ → Option (List ℕ × List ℕ)
 parts_around_dot text =
     if nat_lt (position_or_len (λ b. b == 46) text) (length text)
     then Some (before_first (λ b. b == 46) text, after_first (λ b. b == 46) text) else None
 
--- the line that stands after `rom`, after `ram` and after `chain`
+-- the line that a text after `rom`, after `ram` and after `chain` names
 abbrev pub rom_line_named : List ℕ → Option Line
 rom_line_named text =
     parts_around_dot text >>= (λ (p : List ℕ × List ℕ).
@@ -80,7 +80,7 @@ line_name (Chain n i) = codes "chain" ++ (decimal n ++ (codes "." ++ decimal i))
 
 -- ---- ports: four characters, line 3 first
 
--- the masks, line 0 first, that the text of a port writes
+-- the masks, line 0 first, that the text of a port represents
 abbrev pub masks_named : List ℕ → Option (List LineMask)
 masks_named (c3 ∷ c2 ∷ c1 ∷ c0 ∷ []) =
     mask_of c0 >>= (λ m0.

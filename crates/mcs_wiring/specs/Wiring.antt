@@ -21,7 +21,7 @@ use Rattle.mcs_wiring.specs.Format.{sections, section_key, table_keys, is_board_
 use Rattle.mcs_wiring.specs.LineNames.{line_named, masks_named}
 use Rattle.mcs_model.specs.Options.{◌>>=◌}
 
--- ---- what stands in a table
+-- ---- the values in a table
 
 -- the values of an array, in order
 abbrev pub values_of : Items → List Data
@@ -33,7 +33,7 @@ abbrev pub keys_of : Members → List (List ℕ)
 keys_of no_members = []
 keys_of (member key d ms) = key ∷ keys_of ms
 
--- the values of the array at a key; none where no array stands there
+-- the values of the array at a key; none if there is no array at the key
 abbrev pub array_values : Option Data → List Data
 array_values (Some (array ds)) = values_of ds
 array_values d = []
@@ -41,17 +41,17 @@ array_values d = []
 abbrev pub values_at : List ℕ → Members → List Data
 values_at key ms = array_values (get_member key ms)
 
--- the values that stand in the place of a section's tables: at `keys` the one value, else the
--- values of the array
+-- the values in the place of a section's tables: at `keys` the one value, else the values of the
+-- array
 abbrev pub section_values : Section → Members → List Data
 section_values Keys ms = option_to_list (get_member (codes "keys") ms)
 section_values s ms = values_at (section_key s) ms
 
--- p holds of some value in the place of some section's table
+-- true if p holds of some value in the place of some section's table
 abbrev pub any_section : (Section → Data → Bool) → Members → Bool
 any_section p ms = list_any (λ s. list_any (p s) (section_values s ms)) sections
 
--- ---- 21: a key that is not known, at the top or in a table that stands in its place
+-- ---- 21: a key that is not known, at the top or in a table in its place
 
 abbrev pub has_other_key : Section → Data → Bool
 has_other_key s (table ms) = list_any (λ key. not (is_table_key s key)) (keys_of ms)
@@ -61,7 +61,7 @@ abbrev pub has_unknown_key : Members → Bool
 has_unknown_key ms =
     list_any (λ key. not (is_board_key key)) (keys_of ms) || any_section has_other_key ms
 
--- ---- 22: a table that stands in its place lacks a key
+-- ---- 22: a table in its place lacks a key
 
 abbrev pub lacks_one_of : List (List ℕ) → Members → Bool
 lacks_one_of names ms = list_any (λ key. is_none (get_member key ms)) names
@@ -96,7 +96,7 @@ rom_in ms =
     get_member (codes "port") ms >>= as_str >>= masks_named >>= (λ masks.
     Some (record { number = chip; part = Some masks })))
 
--- a bank of RAM, and how many chips it has
+-- a bank of RAM, and the count of its chips
 abbrev pub ram_in : Members → Option (Numbered ℕ)
 ram_in ms =
     number_at (codes "bank") 0 (BANKS - 1) ms >>= (λ bank.
@@ -123,11 +123,11 @@ matrix_in ms =
       columns = record { items = filter_map line_in (values_at (codes "columns") ms) };
     }))))
 
--- whether a value is no line
+-- true if a value is no line
 abbrev pub is_no_line : Data → Bool
 is_no_line d = is_none (line_in d)
 
--- no array, an empty one, or one with something that is no line
+-- true for no array, an empty one, or one with a value that is no line
 abbrev pub are_bad_columns : List Data → Bool
 are_bad_columns [] = true
 are_bad_columns (d ∷ ds) = list_any is_no_line (d ∷ ds)
@@ -138,12 +138,12 @@ has_bad_columns ms = are_bad_columns (values_at (codes "columns") ms)
 abbrev pub lamp_in : Members → Option Line
 lamp_in ms = line_at (codes "line") ms
 
--- what a table tells, if the value is a table that tells it
+-- the part in a table, if the value is a table that has the part
 abbrev pub part_of : {A : Type 0} → (Members → Option A) → Data → Option A
 part_of read d = as_table d >>= read
 
--- whether a value in the place of a section's table does not tell its part: it is no table, or
--- lacks a value, or has one of another type or form or out of its range
+-- True if a value in the place of a section's table does not give its part. It is no table, or
+-- lacks a value, or has one of another type or form or out of its range.
 abbrev pub is_malformed : Section → Data → Bool
 is_malformed Rom d = is_none (part_of rom_in d)
 is_malformed Ram d = is_none (part_of ram_in d)
@@ -152,8 +152,8 @@ is_malformed Keys d =
     is_none (part_of matrix_in d) || option_map_or has_bad_columns (as_table d) true
 is_malformed Lamp d = is_none (part_of lamp_in d)
 
--- whether a value stands there that is no array; and whether one does at a section's key (not at
--- `keys`, where no array is wanted). That nothing stands there is no fault
+-- true if there is a value and it is no array; true if the value at a section's key is no array
+-- (not at `keys`, which needs no array). A missing value is no error.
 abbrev pub is_no_array : Option Data → Bool
 is_no_array None = false
 is_no_array (Some d) = is_none (as_array d)
@@ -167,7 +167,7 @@ has_malformed_value ms = list_any (lacks_array ms) sections || any_section is_ma
 
 -- ---- 27: more parts of one kind than a board can have
 
--- the table at `keys`, if a table stands there
+-- the table at `keys`, if there is one
 abbrev pub keys_table : Members → Option Members
 keys_table ms = get_member (codes "keys") ms >>= as_table
 
@@ -203,12 +203,12 @@ has_double_chip ms = has_double (roms_of ms) || has_double (rams_of ms)
 
 -- ---- the board
 
--- the part of a number, or what stands for none
+-- the part of a number, or the value for none
 abbrev pub part_at : {A : Type 0} → A → List (Numbered A) → ℕ → A
 part_at none [] n = none
 part_at none (p ∷ ps) n = if p.number == n then p.part else part_at none ps n
 
--- the parts that a table tells
+-- the parts that a table gives
 abbrev pub parts_in : Members → BoardParts
 parts_in ms = record {
   roms = table_of ROMS (part_at None (roms_of ms));
@@ -218,8 +218,8 @@ parts_in ms = record {
   lamps = record { items = filter_map (part_of lamp_in) (values_at (codes "lamp") ms) };
 }
 
--- the board that a table describes, or the first refusal that holds of it; 25: a line, a chain or
--- a row's bit that is not there; 26: a line of the wrong direction
+-- The board that a table describes, or the first refusal that holds of it. 25: a line, a chain or
+-- a row's bit that is not there. 26: a line of the wrong direction.
 unfoldable pub board_of_table : Members → Result BoardParts WiringFault
 board_of_table ms =
     if has_unknown_key ms then Err UnknownKey
@@ -231,12 +231,12 @@ board_of_table ms =
     else if has_wrong_direction (parts_in ms) then Err WrongDirection
     else Ok (parts_in ms)
 
--- the board of a text: 20 where it is not TOML, else that of its table
+-- the board of a text: 20 if it is not TOML, else that of its table
 abbrev pub board_of_text : List ℕ → Result BoardParts WiringFault
 board_of_text text =
     elim (parse_document text) [ None ↦ Err BadToml | Some ms ↦ board_of_table ms ]
 
--- an answer is what is wanted, or memory was refused
+-- Holds if an answer is the wanted one, or memory was refused.
 abbrev pub ReadsBoard : Result BoardParts WiringFault → Result BoardParts WiringFault → Type 0
 ReadsBoard (Err NoMemory) wanted = Unit {0}
 ReadsBoard (Err fault) wanted = wanted ≡ Err fault

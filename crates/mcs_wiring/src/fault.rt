@@ -1,4 +1,4 @@
-//! Why a text has no board.
+//! The reasons why a text has no board.
 ghost use Rattle.std.specs.Prelude.{◌≡◌};
 ghost use Rattle.mcs_wiring.specs.RefusalNumbers.{wiring_fault_number};
 
@@ -6,8 +6,8 @@ use mcs_model::board::BoardFault;
 use mcs_model::refusal_numbers;
 use thiserror::Error;
 
-/// Why a text has no board: the first of these that holds of it, in the order in which they stand
-/// here, where memory was not refused.
+/// The reason why a text has no board: the first of these that holds of it, in this order, unless
+/// memory was refused.
 #[derive(Clone, Copy, Debug, PartialEq, Eq, Error)]
 pub enum WiringFault {
     /// The text is not TOML.
@@ -41,7 +41,7 @@ pub enum WiringFault {
 }
 
 impl WiringFault {
-    /// The number that the refusal is reported as.
+    /// Returns the number of the refusal.
     pub fn number(self) -> u8
         ensures { result ≡ wiring_fault_number self }
     {

@@ -2,14 +2,17 @@
 #![tactic(auto)]
 
 mod fault;
+mod flawed;
 pub mod laws;
 mod names;
 mod parts;
 mod reading;
+mod report;
 mod sections;
 mod values;
 mod writing;
 
 pub use fault::WiringFault;
 pub use reading::board_of;
+pub use report::wiring_text;
 pub use writing::board_text;

@@ -22,14 +22,14 @@ use mcs_nibble::LineMask;
 use std::alloc::Global;
 use toml::{Table, Value};
 
-/// Whether a key stands at the top that no board has.
+/// Returns true if there is a key at the top that no board has.
 fn has_other_board_key(table: &Table) -> bool
     ensures { result ≡ list_any (λ key. not (is_board_key (string_bytes key))) (keys table.now) }
 {
     table.keys().any(|key| !is_board_key(key.as_str()))
 }
 
-/// Whether a table has a key that the tables of a section have not.
+/// Returns true if a table has a key that the tables of a section do not have.
 fn has_key_beside(section: Section, table: &Table) -> bool
     ensures { result
         ≡ list_any (λ key. not (is_table_key section (string_bytes key))) (keys table.now) }
@@ -37,7 +37,8 @@ fn has_key_beside(section: Section, table: &Table) -> bool
     table.keys().any(|key| !section.has_key(key.as_str()))
 }
 
-/// Whether a value in the place of a section's table is a table with a key that those have not.
+/// Returns true if a value in the place of a section's table is a table with a key that the
+/// section's tables do not have.
 fn has_other_key(section: Section, value: &Value) -> bool
     ensures { result ≡ has_other_key section (view value.now) }
 {
@@ -47,7 +48,7 @@ fn has_other_key(section: Section, value: &Value) -> bool
     }
 }
 
-/// Whether a table lacks a key of a section's tables.
+/// Returns true if a table lacks a key of a section's tables.
 fn lacks_one_of(section: Section, table: &Table) -> bool
     ensures { result ≡ lacks_one_of (table_keys section) (table_view table.now) }
 {
@@ -65,7 +66,8 @@ fn lacks_one_of(section: Section, table: &Table) -> bool
     }
 }
 
-/// Whether a value in the place of a section's table is a table that lacks a key of those.
+/// Returns true if a value in the place of a section's table is a table that lacks a key of the
+/// section's tables.
 fn lacks_key(section: Section, value: &Value) -> bool
     ensures { result ≡ lacks_key section (view value.now) }
 {
@@ -75,7 +77,7 @@ fn lacks_key(section: Section, value: &Value) -> bool
     }
 }
 
-/// Whether a value is no key matrix.
+/// Returns true if a value is no key matrix.
 fn is_no_matrix(value: &Value) -> bool
     ensures { result ≡ is_malformed Section.Keys (view value.now) }
 {
@@ -85,7 +87,7 @@ fn is_no_matrix(value: &Value) -> bool
     }
 }
 
-/// Whether a value in the place of a section's table is none of them.
+/// Returns true if a value in the place of a section's table does not give its part.
 fn is_malformed(section: Section, value: &Value) -> bool
     ensures { result ≡ is_malformed section (view value.now) }
 {
@@ -98,8 +100,8 @@ fn is_malformed(section: Section, value: &Value) -> bool
     }
 }
 
-/// Whether a value in the place of a section's table has a flaw.
-fn has_flaw(flaw: Flaw, section: Section, value: &Value) -> bool
+/// Returns true if a value in the place of a section's table has a flaw.
+pub(crate) fn has_flaw(flaw: Flaw, section: Section, value: &Value) -> bool
     ensures { result ≡ has_flaw flaw section (view value.now) }
 {
     match flaw {
@@ -109,14 +111,14 @@ fn has_flaw(flaw: Flaw, section: Section, value: &Value) -> bool
     }
 }
 
-/// Whether some value of an array has a flaw.
+/// Returns true if some value of an array has a flaw.
 fn any_flawed(flaw: Flaw, section: Section, values: &[Value]) -> bool
     ensures { result ≡ list_any (λ v. has_flaw flaw section (view v)) values.now }
 {
     values.iter().any(|value| has_flaw(flaw, section, value))
 }
 
-/// Whether some value of the array at a section's key has a flaw.
+/// Returns true if some value of the array at a section's key has a flaw.
 fn has_flaw_in_array(flaw: Flaw, table: &Table, section: Section) -> bool
     ensures { result ≡ list_any (has_flaw flaw section)
         (values_at (section_key section) (table_view table.now)) }
@@ -124,7 +126,7 @@ fn has_flaw_in_array(flaw: Flaw, table: &Table, section: Section) -> bool
     any_flawed(flaw, section, values_at(table, section.key()))
 }
 
-/// Whether some value in the place of a section's tables has a flaw.
+/// Returns true if some value in the place of a section's tables has a flaw.
 fn has_flaw_in(flaw: Flaw, table: &Table, section: Section) -> bool
     ensures { result ≡ list_any (has_flaw flaw section)
         (section_values section (table_view table.now)) }
@@ -140,7 +142,7 @@ fn has_flaw_in(flaw: Flaw, table: &Table, section: Section) -> bool
     }
 }
 
-/// Whether some section of a table has a flaw.
+/// Returns true if some section of a table has a flaw.
 fn has_flaw_anywhere(flaw: Flaw, table: &Table) -> bool
     ensures { result ≡ any_section (has_flaw flaw) (table_view table.now) }
 {
@@ -149,22 +151,22 @@ fn has_flaw_anywhere(flaw: Flaw, table: &Table) -> bool
         .any(|section| has_flaw_in(flaw, table, *section))
 }
 
-/// Whether a key is not known, at the top or in a table of a section.
+/// Returns true if a key is not known, at the top or in a table of a section.
 fn has_unknown_key(table: &Table) -> bool
     ensures { result ≡ has_unknown_key (table_view table.now) }
 {
     has_other_board_key(table) || has_flaw_anywhere(Flaw::UnknownKey, table)
 }
 
-/// Whether a table of a section lacks a key.
+/// Returns true if a table of a section lacks a key.
 fn has_missing_key(table: &Table) -> bool
     ensures { result ≡ has_missing_key (table_view table.now) }
 {
     has_flaw_anywhere(Flaw::MissingKey, table)
 }
 
-/// Whether no array stands where a section has one.
-fn lacks_array(table: &Table, section: Section) -> bool
+/// Returns true if the value at the key of a section that has an array is no array.
+pub(crate) fn lacks_array(table: &Table, section: Section) -> bool
     ensures { result ≡ lacks_array (table_view table.now) section }
 {
     match section {
@@ -183,22 +185,22 @@ fn lacks_an_array(table: &Table) -> bool
         .any(|section| lacks_array(table, *section))
 }
 
-/// Whether a value is of another type or form, or a number out of its range.
+/// Returns true if a value is of another type or form, or a number out of its range.
 fn has_malformed_value(table: &Table) -> bool
     ensures { result ≡ has_malformed_value (table_view table.now) }
 {
     lacks_an_array(table) || has_flaw_anywhere(Flaw::BadValue, table)
 }
 
-/// The table of the key matrix, if there is one.
+/// Returns the table of the key matrix, if there is one.
 fn keys_table(table: &Table) -> Option<&Table>
     ensures { option_map (λ t. table_view t.now) result ≡ keys_table (table_view table.now) }
 {
     member(table, "keys")?.as_table()
 }
 
-/// How many columns the key matrix has; 0 where there is none.
-fn column_count(table: &Table) -> usize
+/// Returns the count of columns of the key matrix; 0 if there is none.
+pub(crate) fn column_count(table: &Table) -> usize
     ensures { result ≡ length (column_values (table_view table.now)) }
 {
     match keys_table(table) {
@@ -207,7 +209,7 @@ fn column_count(table: &Table) -> usize
     }
 }
 
-/// Whether there are more parts of one kind than a board can have.
+/// Returns true if there are more parts of one kind than a board can have.
 fn has_too_many(table: &Table) -> bool
     ensures { result ≡ has_too_many (table_view table.now) }
 {
@@ -226,14 +228,14 @@ fn has_too_many(table: &Table) -> bool
     count_at(table, "lamp") > LAMPS
 }
 
-/// Whether some part has a number.
-fn has_number<T: Copy>(parts: &[Numbered<T>], number: u8) -> bool
+/// Returns true if some part has a number.
+pub(crate) fn has_number<T: Copy>(parts: &[Numbered<T>], number: u8) -> bool
     ensures { result ≡ list_any (λ q. q.number == number) parts.now }
 {
     parts.iter().any(|part| part.number == number)
 }
 
-/// Whether two parts have one number.
+/// Returns true if two parts have one number.
 #[tactic(auto, using(crate::proofs::Seen::double_from))]
 fn has_double<T: Copy>(parts: &[Numbered<T>]) -> bool
     ensures { result ≡ has_double parts.now }
@@ -246,7 +248,7 @@ fn has_double<T: Copy>(parts: &[Numbered<T>]) -> bool
     false
 }
 
-/// The part of a number, or what stands for none.
+/// Returns the part of a number, or the value for none.
 #[tactic(auto, using(crate::proofs::Seen::part_from))]
 fn part_at<T: Copy>(parts: &[Numbered<T>], none: T, number: u8) -> T
     ensures { result ≡ part_at none parts.now number }
@@ -259,7 +261,7 @@ fn part_at<T: Copy>(parts: &[Numbered<T>], none: T, number: u8) -> T
     none
 }
 
-/// The parts by their numbers.
+/// Returns the parts by their numbers.
 fn placed<T: Copy, const N: usize>(parts: &[Numbered<T>], none: T) -> [T; N]
     requires { N ≤ 256 }
     ensures { result ≡ table_of N (part_at none parts.now) }
@@ -271,7 +273,7 @@ fn placed<T: Copy, const N: usize>(parts: &[Numbered<T>], none: T) -> [T; N]
     placed
 }
 
-/// The key matrix of a table, if it has one.
+/// Returns the key matrix of a table, if it has one.
 fn matrix_of(table: &Table) -> Option<KeyMatrix>
     requires { length (column_values (table_view table.now)) ≤ KEY_COLUMNS }
     ensures { result ≡ option_and_then matrix_in (keys_table (table_view table.now)) }
@@ -279,9 +281,9 @@ fn matrix_of(table: &Table) -> Option<KeyMatrix>
     matrix(keys_table(table)?)
 }
 
-/// The parts that a table tells.
+/// Returns the parts that a table gives.
 #[tactic(auto, using(crate::proofs::Seen::length_seen))]
-fn parts_in(
+pub(crate) fn parts_in(
     table: &Table,
     roms: &[Numbered<Option<[LineMask; 4]>>],
     rams: &[Numbered<u8>],
@@ -300,14 +302,14 @@ fn parts_in(
     }
 }
 
-/// The board of parts, or what is wrong with them.
+/// Returns the board of parts, or the error in them.
 fn board_of_parts(parts: BoardParts) -> Result<Board, WiringFault>
     ensures { result ≡ judgement_of parts (board_fault_of parts) }
 {
     Ok(Board::of(parts)?)
 }
 
-/// The board of a table without too many parts.
+/// Returns the board of a table without too many parts.
 #[tactic(auto, using(crate::proofs::Seen::length_seen))]
 fn board_within_limits(table: &Table) -> Result<Board, WiringFault>
     requires no_bad_value { has_malformed_value (table_view table.now) ≡ false }
@@ -322,9 +324,9 @@ fn board_within_limits(table: &Table) -> Result<Board, WiringFault>
     board_of_parts(parts_in(table, &roms, &rams))
 }
 
-/// The board that a table describes, or the first refusal that holds of it.
+/// Returns the board that a table describes, or the first refusal that holds of it.
 #[tactic(auto, using(crate::proofs::Limits::within), unfolding(crate::specs::Wiring::board_of_table))]
-fn board_of_table(table: &Table) -> Result<Board, WiringFault>
+pub(crate) fn board_of_table(table: &Table) -> Result<Board, WiringFault>
     ensures { result ≡ board_of_table (table_view table.now) }
 {
     if has_unknown_key(table) {
@@ -342,7 +344,7 @@ fn board_of_table(table: &Table) -> Result<Board, WiringFault>
     board_within_limits(table)
 }
 
-/// The board of a text in TOML, or the first refusal that holds of it.
+/// Returns the board of a text in TOML, or the first refusal that holds of it.
 pub fn board_of(alloc: Global, text: &str) -> Result<Board, WiringFault>
     ensures answers { ReadsBoard result (board_of_text text.now) }
 

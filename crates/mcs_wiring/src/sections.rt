@@ -2,7 +2,7 @@
 ghost use Rattle.std.specs.Prelude.{◌≡◌};
 ghost use Rattle.mcs_wiring.specs.Format.{is_table_key, section_key, is_board_key};
 
-/// A section of a board text: a key at the top, and the tables that stand there.
+/// A section of a board text: a key at the top, and its tables.
 #[derive(Clone, Copy)]
 pub(crate) enum Section {
     /// The ROMs, a table each.
@@ -17,10 +17,10 @@ pub(crate) enum Section {
     Lamp,
 }
 
-/// What can be wrong with a section by itself.
+/// A flaw of a section by itself.
 #[derive(Clone, Copy)]
 pub(crate) enum Flaw {
-    /// A key that its tables have not.
+    /// A key that its tables do not have.
     UnknownKey,
     /// A table lacks a key.
     MissingKey,
@@ -33,11 +33,11 @@ pub(crate) enum Flaw {
 pub(crate) struct Numbered<T> {
     /// The number.
     pub(crate) number: u8,
-    /// What there is.
+    /// The part.
     pub(crate) part: T,
 }
 
-/// Whether a key may stand at the top.
+/// Returns true if a key may be at the top.
 pub(crate) fn is_board_key(key: &str) -> bool
     ensures { result ≡ is_board_key key.now }
 {
@@ -45,7 +45,7 @@ pub(crate) fn is_board_key(key: &str) -> bool
 }
 
 impl Section {
-    /// All sections, as they stand in a board text.
+    /// All sections, in the order of a board text.
     pub(crate) const ALL: [Section; 5] = [
         Section::Rom,
         Section::Ram,
@@ -54,7 +54,7 @@ impl Section {
         Section::Lamp,
     ];
 
-    /// Its key at the top.
+    /// Returns the key of the section at the top.
     pub(crate) fn key(self) -> &'static str
         ensures { result.now ≡ section_key self }
     {
@@ -67,7 +67,7 @@ impl Section {
         }
     }
 
-    /// Whether its tables have a key.
+    /// Returns true if the tables of the section have a key.
     pub(crate) fn has_key(self, key: &str) -> bool
         ensures { result ≡ is_table_key self key.now }
     {

@@ -1,4 +1,4 @@
-//! What stands in the table of a board text.
+//! The values in the table of a board text.
 ghost use Rattle.std.specs.Prelude.{◌≡◌, option_map, map, is_none, length};
 ghost use Rattle.toml.specs.Data.{get_member};
 ghost use Rattle.toml.specs.View.{view, table_view};
@@ -8,21 +8,21 @@ use crate::names::line_named;
 use mcs_model::board::Line;
 use toml::{Table, Value};
 
-/// The value at a key.
+/// Returns the value at a key.
 pub(crate) fn member<'a>(table: &'a Table, key: &str) -> Option<&'a Value>
     ensures { option_map (λ v. view v.now) result ≡ get_member key.now (table_view table.now) }
 {
     table.get(key)
 }
 
-/// Whether a table lacks a key.
+/// Returns true if a table lacks a key.
 pub(crate) fn lacks(table: &Table, key: &str) -> bool
     ensures { result ≡ is_none (get_member key.now (table_view table.now)) }
 {
     member(table, key).is_none()
 }
 
-/// The values of the array at a key; none where no array stands there.
+/// Returns the values of the array at a key; none if there is no array at the key.
 pub(crate) fn values_at<'a>(table: &'a Table, key: &str) -> &'a [Value]
     ensures { map view result.now ≡ values_at key.now (table_view table.now) }
 {
@@ -32,7 +32,7 @@ pub(crate) fn values_at<'a>(table: &'a Table, key: &str) -> &'a [Value]
     }
 }
 
-/// The number from `least` to `most` at a key, if there is one.
+/// Returns the number from `least` to `most` at a key, if there is one.
 pub(crate) fn number_at(table: &Table, key: &str, least: u8, most: u8) -> Option<u8>
     ensures { result ≡ number_at key.now least most (table_view table.now) }
 {
@@ -43,21 +43,21 @@ pub(crate) fn number_at(table: &Table, key: &str, least: u8, most: u8) -> Option
     }
 }
 
-/// The line that a value names, if it names one.
+/// Returns the line that a value names, if it names one.
 pub(crate) fn line_in(value: &Value) -> Option<Line>
     ensures { result ≡ line_in (view value.now) }
 {
     line_named(value.as_str()?)
 }
 
-/// The line that the value at a key names, if it names one.
+/// Returns the line that the value at a key names, if it names one.
 pub(crate) fn line_at(table: &Table, key: &str) -> Option<Line>
     ensures { result ≡ line_at key.now (table_view table.now) }
 {
     line_in(member(table, key)?)
 }
 
-/// Whether something else than an array stands at a key.
+/// Returns true if the value at a key is something else than an array.
 pub(crate) fn has_no_array_at(table: &Table, key: &str) -> bool
     ensures { result ≡ is_no_array (get_member key.now (table_view table.now)) }
 {
@@ -67,7 +67,7 @@ pub(crate) fn has_no_array_at(table: &Table, key: &str) -> bool
     }
 }
 
-/// How many values the array at a key has; 0 where no array stands there.
+/// Returns the count of values of the array at a key; 0 if there is no array at the key.
 pub(crate) fn count_at(table: &Table, key: &str) -> usize
     ensures { result ≡ length (values_at key.now (table_view table.now)) }
 {

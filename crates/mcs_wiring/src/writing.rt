@@ -12,7 +12,7 @@ use mcs_model::limits::{BANKS, ROMS};
 use mcs_nibble::LineMask;
 use std::alloc::{AllocError, Global};
 
-/// The character of line `k` in the name of a port.
+/// Returns the character of line `k` in the name of a port.
 fn mask_text(masks: &[LineMask; 4], k: usize) -> &'static str
     requires { k < 4 }
     ensures { result.now ≡ mask_character (mask_at masks.now k) ∷ [] }
@@ -35,7 +35,7 @@ fn push_name(out: &mut String, line: Line) -> Result<(), AllocError>
     }
 }
 
-/// Writes the lines of a ROM, where it is there.
+/// Writes the lines of a ROM, if it is there.
 fn push_rom(out: &mut String, chip: u8, masks: Option<[LineMask; 4]>) -> Result<(), AllocError>
     ensures { OnOk result (string_bytes out.new
         ≡ string_bytes out.old ++ text_of (rom_lines chip masks)) }
@@ -51,7 +51,7 @@ fn push_rom(out: &mut String, chip: u8, masks: Option<[LineMask; 4]>) -> Result<
     Ok(())
 }
 
-/// Writes the lines of a bank of RAM, where it has chips.
+/// Writes the lines of a bank of RAM, if it has chips.
 fn push_ram(out: &mut String, bank: u8, chips: u8) -> Result<(), AllocError>
     ensures { OnOk result (string_bytes out.new
         ≡ string_bytes out.old ++ text_of (bank_lines bank chips)) }
@@ -173,8 +173,8 @@ fn push_lamps(out: &mut String, lamps: &[Line]) -> Result<(), AllocError>
     Ok(())
 }
 
-/// The text of a board in TOML: the ROMs by rising chip, the RAM by rising bank, the chains, the
-/// key matrix and the lamps, each line ended by LF.
+/// Returns the text of a board in TOML: the ROMs by rising chip, the RAM by rising bank, the
+/// chains, the key matrix and the lamps. Each line ends with LF.
 pub fn board_text(alloc: Global, board: &Board) -> Result<String, AllocError>
     ensures { IfOk result (λ s. string_bytes s ≡ board_text board.now) }
 {

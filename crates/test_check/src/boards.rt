@@ -10,15 +10,15 @@ use std::alloc::{AllocError, Global};
 use std::process::Abort;
 
 /// The die's program.
-const PROGRAM: [u8; 29] = [
+pub(crate) const PROGRAM: [u8; 29] = [
     34, 0, 36, 16, 35, 210, 226, 242, 226, 32, 42, 54, 35, 167, 225, 37, 234, 20, 15, 113, 25, 218,
     177, 64, 11, 0, 0, 64, 11,
 ];
 
-/// The lamps of its faces, which stand behind it.
+/// The lamps of the die's faces, as stored after its program.
 pub(crate) const FACES: [u8; 6] = [8, 1, 9, 3, 11, 7];
 
-/// Where they stand.
+/// The address of the faces.
 const FACES_AT: u16 = 42;
 
 /// Returns a board with a ROM port of outputs, one of inputs, a RAM chip and one key.
@@ -50,17 +50,23 @@ fn put(rig: &mut BenchRig, from: u16, bytes: &[u8]) {
 }
 
 /// Returns the board of the die with a program, before its first cycle.
-pub(crate) fn machine(
-    alloc: Global,
-    rt: &impl Abort,
-    program: &[u8],
-) -> Result<Replica, AllocError> {
+pub(crate) fn rig(alloc: Global, rt: &impl Abort, program: &[u8]) -> Result<BenchRig, AllocError> {
     let board = one_key().expect(rt, "a board");
     let mut rig = BenchRig::new(alloc)?;
     assert!(rt; BenchRig::fits(&board));
     rig.wire(&board);
     put(&mut rig, 0, program);
     put(&mut rig, FACES_AT, &FACES);
+    Ok(rig)
+}
+
+/// Returns the machine of such a board.
+pub(crate) fn machine(
+    alloc: Global,
+    rt: &impl Abort,
+    program: &[u8],
+) -> Result<Replica, AllocError> {
+    let rig = rig(alloc, rt, program)?;
     Ok(Replica::of(Cpu::new(), rig))
 }
 

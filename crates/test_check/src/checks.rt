@@ -4,20 +4,23 @@ use mcs_check::{Cell, CellList, Comparison, Condition, Never, Outcome, Part, che
 use std::alloc::{AllocError, Global};
 use std::process::Abort;
 
-/// The states of the die: where it begins, and for each of six faces, where it was just shown and where its key was read as up. A
-/// second reading of the chips counts as many.
+/// The number of states of the die: one at the start, and for each of six faces, one after it was shown and one after
+/// its key was read as up. A second reading of the chips counts as many.
 pub(crate) const STATES: usize = 13;
 
-/// Cycles without a reading that are enough for the die.
+/// A number of cycles without a reading that is enough for the die.
 pub(crate) const PAUSE: u32 = 1_000;
 
-/// The lamps: what the port latch of the RAM chip holds.
+/// More memory than a search needs.
+pub(crate) const MEMORY: usize = 1_000_000_000;
+
+/// The lamps: the port latch of the RAM chip.
 const LAMPS: Cell = Cell {
     list: CellList::RamPorts,
     index: 0,
 };
 
-/// Returns that the lamps show this, or do not.
+/// Returns the condition that the lamps show this, or do not.
 fn shown(n: u8, inside: bool) -> Condition {
     Condition::Compare(Comparison {
         cell: LAMPS,
@@ -28,7 +31,7 @@ fn shown(n: u8, inside: bool) -> Condition {
     })
 }
 
-/// Returns that the lamps show no face, nor are dark. That is never to be.
+/// Returns the condition, never to be met, that the lamps show no face and are not dark.
 pub(crate) fn no_face(alloc: Global) -> Result<Vec<Never>, AllocError> {
     let mut conditions = Vec::new(alloc);
     conditions.push(shown(0, false))?;
@@ -40,7 +43,7 @@ pub(crate) fn no_face(alloc: Global) -> Result<Vec<Never>, AllocError> {
     Ok(nevers)
 }
 
-/// Returns that the lamps show this. That is never to be.
+/// Returns the condition, never to be met, that the lamps show this.
 fn lamps_are(alloc: Global, n: u8) -> Result<Vec<Never>, AllocError> {
     let mut conditions = Vec::new(alloc);
     conditions.push(shown(n, true))?;
@@ -55,7 +58,7 @@ pub(crate) fn all_checked(
     rt: &impl Abort,
     nevers: Vec<Never>,
 ) -> Result<Outcome, AllocError> {
-    check_all(alloc, die(alloc, rt)?, nevers, STATES, PAUSE)
+    check_all(alloc, die(alloc, rt)?, nevers, STATES, MEMORY, PAUSE)
 }
 
 /// Returns whether lamps that show this may be found.
@@ -95,7 +98,19 @@ fn no_state_more_than_asked_for(rt: HostRuntime) {
     for most in [0, 1, STATES - 1] {
         let die = die(rt.alloc(), &rt).expect(&rt, "memory");
         let nevers = no_face(rt.alloc()).expect(&rt, "memory");
-        let outcome = check_all(rt.alloc(), die, nevers, most, PAUSE).expect(&rt, "memory");
+        let outcome = check_all(rt.alloc(), die, nevers, most, MEMORY, PAUSE).expect(&rt, "memory");
         assert!(&rt; matches!(outcome, Outcome::TooMany), "{most}");
+    }
+}
+
+#[test]
+fn no_state_more_than_memory_has_room_for(rt: HostRuntime) {
+    for memory in [0, 1, 1_000] {
+        let die = die(rt.alloc(), &rt).expect(&rt, "memory");
+        let nevers = no_face(rt.alloc()).expect(&rt, "memory");
+        let outcome = check_all(rt.alloc(), die, nevers, STATES, memory, PAUSE).expect(
+            &rt, "memory",
+        );
+        assert!(&rt; matches!(outcome, Outcome::NoMemory(_)), "{memory}");
     }
 }

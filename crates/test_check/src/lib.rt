@@ -1,5 +1,5 @@
-//! Runs checks for all inputs on a board whose states a second reading of the chips counted: all that a proof does not say, as how
-//! many states there are, and that an answer is found at all.
+//! Tests of checks for all inputs on a board whose states a second reading of the chips counted. They cover what a
+//! proof does not say: the number of states, and that a result is found at all.
 #![tactic(auto)]
 
 #[cfg(test)]
@@ -10,3 +10,5 @@ mod checks;
 mod mistakes;
 #[cfg(test)]
 mod refused;
+#[cfg(test)]
+mod sets;

@@ -1,11 +1,11 @@
-//! Mistakes that a program makes, or does not.
+//! Mistakes that a program makes, or does not make.
 use crate::boards::{die, machine};
-use crate::checks::{PAUSE, STATES, expect_holds};
+use crate::checks::{MEMORY, PAUSE, STATES, expect_holds};
 use mcs_check::{Condition, Mistakes, Never, Outcome, check_all};
 use std::alloc::{AllocError, Global};
 
 /// All mistakes.
-const ALL: Mistakes = Mistakes {
+pub(crate) const ALL: Mistakes = Mistakes {
     no_code: true,
     fourth_call: true,
     lone_return: true,
@@ -15,7 +15,7 @@ const ALL: Mistakes = Mistakes {
     no_outputs: true,
 };
 
-/// Returns that these mistakes are never made.
+/// Returns the conditions, never to be met, that these mistakes are made.
 fn never(alloc: Global, asked: Mistakes) -> Result<Vec<Never>, AllocError> {
     let mut conditions = Vec::new(alloc);
     conditions.push(Condition::Mistaken(asked))?;
@@ -30,13 +30,13 @@ fn the_die_makes_none(rt: HostRuntime) {
     let nevers = never(rt.alloc(), ALL).expect(&rt, "memory");
     expect_holds(
         &rt,
-        check_all(rt.alloc(), die, nevers, STATES, PAUSE).expect(&rt, "memory"),
+        check_all(rt.alloc(), die, nevers, STATES, MEMORY, PAUSE).expect(&rt, "memory"),
     );
 }
 
-/// Programs, each of which makes one mistake: a code outside the table, four nested calls, a BBL, WRM behind DCL of bank 1,
-/// a jump to 200, RDR of the port of ROM 0, WRR to that of ROM 1. None runs on into the die's faces.
-const PROGRAMS: [[u8; 10]; 7] = [
+/// Programs, each of which makes one mistake: a code outside the table, four nested calls, a BBL, or WRM after DCL of
+/// bank 1; a jump to 200, RDR of the port of ROM 0, or WRR to that of ROM 1. None continues into the die's faces.
+pub(crate) const PROGRAMS: [[u8; 10]; 7] = [
     [0xFE, 0, 0, 0, 0, 0, 0, 0, 0, 0],
     [0x50, 2, 0x50, 4, 0x50, 6, 0x50, 8, 0x40, 8],
     [0x40, 2, 0xC0, 0x40, 0, 0, 0, 0, 0, 0],
@@ -47,7 +47,7 @@ const PROGRAMS: [[u8; 10]; 7] = [
 ];
 
 /// Returns the mistake of a program.
-fn mistake(k: usize) -> Mistakes {
+pub(crate) fn mistake(k: usize) -> Mistakes {
     let mut asked = Mistakes::NONE;
     match k {
         0 => asked.no_code = true,
@@ -67,7 +67,9 @@ fn each_program_makes_one(rt: HostRuntime) {
         for asked in 0..7 {
             let made = machine(rt.alloc(), &rt, &PROGRAMS[k]).expect(&rt, "memory");
             let nevers = never(rt.alloc(), mistake(asked)).expect(&rt, "memory");
-            let outcome = check_all(rt.alloc(), made, nevers, STATES, 5_000).expect(&rt, "memory");
+            let outcome = check_all(rt.alloc(), made, nevers, STATES, MEMORY, 5_000).expect(
+                &rt, "memory",
+            );
             let is_made = matches!(outcome, Outcome::MayFail(_));
             assert!(&rt; is_made == (asked == k), "program {k}, mistake {asked}");
         }

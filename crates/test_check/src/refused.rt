@@ -1,4 +1,4 @@
-//! One allocation that is refused, whichever it is: `checks/allocations` refuses each in turn, the gate none.
+//! One refused allocation: `checks/allocations` refuses each in turn, the gate none.
 use crate::checks::{all_checked, expect_holds, no_face};
 use std::alloc::Global;
 use std::process::Abort;

@@ -1,5 +1,5 @@
-//! Texts that no session hands to the assembler, since not each of their bytes is plain: what they come to, and their
-//! first faults. All others are in checks/lib/scripts/assembler.scripts.
+//! Texts that no session hands to the assembler, because some of their bytes are not plain: their results, and their
+//! first errors. All others are in checks/lib/scripts/assembler.scripts.
 use mcs_asm::{FaultKind, SourceFault, Span, assemble, survey};
 use mcs_nibble::Addr;
 use std::alloc::Global;
@@ -14,10 +14,10 @@ type TextRow = (
     &'static [(&'static str, u16)],
 );
 
-/// A text, and its first fault with the number of its line.
+/// A text, and its first error with the number of its line.
 type FaultRow = (&'static str, usize, SourceFault);
 
-/// Whether some pairs of an image are these bytes at these addresses.
+/// Returns whether some pairs of an image are these bytes at these addresses.
 fn are_bytes(pairs: &[(Addr, u8)], bytes: &[(u16, u8)]) -> bool {
     for (pair, wanted) in pairs.iter().zip(bytes.iter()) {
         if pair.0.get() != wanted.0 || pair.1 != wanted.1 {
@@ -92,7 +92,7 @@ fn texts_that_are_not_plain_are_read(rt: HostRuntime) -> Result<(), Fail> {
     Ok(())
 }
 
-/// Texts with bytes that are not plain, outside of a comment, and with their first faults.
+/// Texts with bytes that are not plain, outside of a comment, and with their first errors.
 const FIRST_FAULTS: [FaultRow; 4] = [
     ("NOP \u{e4}\n", 1, SourceFault::BadStatement),
     ("\u{e4}:", 1, SourceFault::BadStatement),

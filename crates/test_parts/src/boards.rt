@@ -4,17 +4,17 @@ use mcs_fixtures::boards::{CLOCK_AND_DATA, MIXED, OUTPUTS, chains, lines, on_one
 use mcs_model::board::{Board, BoardFault, BoardParts, ChainPart, Line};
 use mcs_model::limits::{BANK_CHIPS, BANKS, CHAIN_BITS, CHAIN_CHIPS, CHAINS, ROMS};
 
-/// A board with ROM 0 alone.
+/// Returns a board with ROM 0 alone.
 pub(crate) fn one_rom() -> Result<Board, BoardFault> {
     on_one_rom(OUTPUTS, [0; BANKS], ArrayVec::new(), &[])
 }
 
-/// ROM 0 with a port of both directions, alone.
+/// Returns a board with ROM 0 alone, whose port has both directions.
 pub(crate) fn one_mixed_rom() -> Result<Board, BoardFault> {
     on_one_rom(MIXED, [0; BANKS], ArrayVec::new(), &[])
 }
 
-/// One ROM, a bank of as many chips as it can have, a chain that is as long as it can be, and a lamp at its end.
+/// Returns a board with one ROM, a bank with the most chips, one chain of the greatest length, and a lamp at its end.
 pub(crate) fn one_long_chain() -> Result<Board, BoardFault> {
     let mut banks = [0; BANKS];
     banks[0] = BANK_CHIPS;
@@ -26,8 +26,8 @@ pub(crate) fn one_long_chain() -> Result<Board, BoardFault> {
     )
 }
 
-/// As many ROMs, RAM chips and chains as a board can have, and a lamp at the end of the last chain. Chain `n` is clocked by line 0
-/// of ROM `n`, and takes in line 1.
+/// Returns a board with the most ROMs, RAM chips and chains, and a lamp at the end of the last chain. Line 0 of ROM `n`
+/// clocks chain `n`, and line 1 is its data.
 pub(crate) fn largest() -> Result<Board, BoardFault> {
     let mut chains = ArrayVec::new();
     for n in 0..CHAINS as u8 {

@@ -5,7 +5,7 @@ use mcs_nibble::Nibble;
 use mcs_rom4001::Rom;
 use std::test::Fail;
 
-/// A port whose lines 0 and 2 are inputs, line 1 an output read as 0, and line 3 an output read as 1.
+/// Checks a port whose lines 0 and 2 are inputs, line 1 an output read as 0, and line 3 an output read as 1.
 #[test]
 fn port_of_mixed_lines(rt: HostRuntime) -> Result<(), Fail> {
     let mut rom = Rom::new(MIXED);

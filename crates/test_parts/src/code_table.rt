@@ -1,4 +1,4 @@
-//! Which codes the manual's table leaves out, by hand.
+//! The codes that the manual's table leaves out, listed manually.
 use crate::checks::equal;
 use mcs_code::{Op, Words, cycles, decode, encode, word_count, words};
 use mcs_nibble::{Nibble, PairNo};

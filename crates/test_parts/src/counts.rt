@@ -1,4 +1,4 @@
-//! Rigs of other counts: one place of each kind, and no chain.
+//! Rigs of other counts: one location of each kind, and no chain.
 use crate::boards::{largest, one_long_chain, one_mixed_rom};
 use crate::checks::equal;
 use mcs_board::Rig;
@@ -12,7 +12,7 @@ fn nibble(n: u8) -> Nibble {
     Nibble::low_of(n)
 }
 
-/// A rig on a board, with a program that runs over it for that many cycles, and the processor after it.
+/// Returns a rig on a board after a program ran over it for `cycles` cycles, and the processor after it.
 fn ran<const ROMS: usize, const BANKS: usize, const CHAINS: usize, const MAX: usize>(
     alloc: Global,
     rt: &impl Abort,
@@ -36,8 +36,8 @@ fn ran<const ROMS: usize, const BANKS: usize, const CHAINS: usize, const MAX: us
     (rig, cpu)
 }
 
-/// Looks at lamp 0 at the end of a chain of 80 bits whose first bit is 1: it comes to the end with 79 shifts more, and is
-/// lost with the next. The selected ROM clocks the chain by line 0.
+/// Checks lamp 0 at the end of a chain of 80 bits whose first bit is 1. The bit reaches the end with 79 more shifts,
+/// and is lost with the next. The selected ROM clocks the chain by line 0.
 fn comes_to_the_end<const ROMS: usize, const BANKS: usize, const CHAINS: usize, const MAX: usize>(
     rt: &impl Abort,
     rig: &mut Rig<ROMS, BANKS, CHAINS, MAX>,
@@ -53,7 +53,7 @@ fn comes_to_the_end<const ROMS: usize, const BANKS: usize, const CHAINS: usize, 
     equal(rt, rig.lamp(0), Some(Bit::ZERO));
 }
 
-/// FIM P0 FF, SRC P0, LDM 9, WRM, FIM P0 00, SRC P0, LDM 3, WRR: the last character of bank 0, and a shift.
+/// Runs FIM P0 FF, SRC P0, LDM 9, WRM, FIM P0 00, SRC P0, LDM 3, WRR: the last character of bank 0, and a shift.
 #[test]
 fn one_place_of_each_kind(rt: HostRuntime) {
     let program = [0x20, 0xFF, 0x21, 0xD9, 0xE0, 0x20, 0x00, 0x21, 0xD3, 0xE2];
@@ -69,7 +69,7 @@ fn one_place_of_each_kind(rt: HostRuntime) {
     assert!(rt; !Rig::<1, 1, 1, 79>::fits(&longer));
 }
 
-/// LDM 15, WRR, RDR, at a port `1i0i`: the latch takes lines 1 and 3, and the port reads its constants.
+/// Runs LDM 15, WRR, RDR, at a port `1i0i`: the latch takes lines 1 and 3, and the port reads its constants.
 #[test]
 fn no_place_for_a_chain(rt: HostRuntime) {
     let program = [0xDF, 0xE2, 0xEA];

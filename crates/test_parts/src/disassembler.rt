@@ -1,5 +1,5 @@
-//! What no command asks of the disassembler: sources, texts of words that are in no ROM, and a listing of no lines.
-//! Listings are in checks/lib/scripts/listings.scripts.
+//! Uses of the disassembler that no command makes: sources, texts of words that are in no ROM, and a listing of no
+//! lines. Listings are in checks/lib/scripts/listings.scripts.
 use mcs_dis::{line_of, listing, source};
 use mcs_nibble::Addr;
 use std::alloc::Global;
@@ -17,7 +17,7 @@ const CODES: [u8; 50] = [
     0xFC, 0xFD,
 ];
 
-/// Their source from address 0 on.
+/// The source of these codes from address 0 on.
 const TEXTS: &str =
     "ORG 0x000\nNOP\nJCN 4, 0x010\nFIM P1, 0x20\nSRC P0\nFIN P7\nJIN P3\nJUN 0x123\nJMS 0xFED\nINC R5\nISZ R15, 0x00A\nADD R0\nSUB R10\nLD R9\nXCH R11\nBBL 12\nLDM 15\nWRM\nWMP\nWRR\nWR0\nWR1\nWR2\nWR3\nSBM\nRDM\nRDR\nADM\nRD0\nRD1\nRD2\nRD3\nCLB\nCLC\nIAC\nCMC\nCMA\nRAL\nRAR\nTCC\nDAC\nTCS\nSTC\nDAA\nKBP\nDCL\n";
 
@@ -27,7 +27,7 @@ const JUMP_AND_DATA: [(usize, u8); 4] = [(0, 0x41), (0x100, 0xD5), (0x101, 1), (
 /// An instruction of two words on both sides of a page's end, and the first word of one at the last address.
 const JUMP_AT_A_PAGE: [(usize, u8); 4] = [(0xFE, 0xE0), (0xFF, 0x14), (0x100, 0x10), (0xFFF, 0x7F)];
 
-/// A ROM with these bytes, and 0 elsewhere.
+/// Returns a ROM with these bytes, and 0 elsewhere.
 fn holding(rt: &impl Abort, bytes: &[(usize, u8)]) -> [u8; 4096] {
     let mut rom = [0; 4096];
     for (at, byte) in bytes {
@@ -41,7 +41,7 @@ fn address(at: u16) -> Addr {
     Addr::of(at).unwrap_or(Addr::ZERO)
 }
 
-/// A ROM's lines from there on are these, that many.
+/// Expects these lines of a ROM's listing from an address on.
 fn expect_listing(
     rt: &impl Abort,
     alloc: Global,
@@ -54,7 +54,7 @@ fn expect_listing(
     Ok(())
 }
 
-/// A ROM has this source from the one address up to the other.
+/// Expects this source of a ROM's range.
 fn expect_source(
     rt: &impl Abort,
     alloc: Global,
@@ -69,7 +69,7 @@ fn expect_source(
     Ok(())
 }
 
-/// An instruction has this text.
+/// Expects this text of an instruction.
 fn expect_line(rt: &impl Abort, alloc: Global, row: TextRow<'_>) -> Result<(), Fail> {
     let (at, first, second, text) = row;
     let line = line_of(alloc, address(at), first, second)?;

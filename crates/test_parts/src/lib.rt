@@ -1,6 +1,6 @@
-//! Runs the parts below the bench: numbers, code table and processor on values worked by hand from the instruction descriptions of
-//! Intel's manual, the chips alone, rigs of other counts than the bench's, the reading of lines, and wiring, assembler and disassembler
-//! on texts that no script can give to the program.
+//! Tests of the parts below the bench. Numbers, code table and processor run on values worked manually from the
+//! instruction descriptions of Intel's manual. The chips run alone, and rigs with other counts than the bench's. Lines
+//! are read, and wiring, assembler and disassembler run on texts that no script can give to the program.
 #![tactic(auto)]
 
 #[cfg(test)]

@@ -1,4 +1,4 @@
-//! Command lines with what they ask for.
+//! Command lines with their requests.
 use mcs_lines::requests::{Request, read_request};
 use std::test::Fail;
 
@@ -55,13 +55,15 @@ fn lines_in_range(rt: HostRuntime) {
     }
 }
 
-/// Lines, and the requests that they are.
-const REQUESTS: [(&str, &str); 22] = [
+/// Lines, and their requests.
+const REQUESTS: [(&str, &str); 24] = [
     ("", "Nothing"),
     ("\t ", "Nothing"),
     ("wire", "Begin(Wire)"),
     (" asm\t", "Begin(Asm)"),
     ("map ", "Begin(Map)"),
+    ("wiring", "Begin(Wiring)"),
+    ("errors", "Begin(Errors)"),
     ("board", "Board"),
     ("press 9 7", "Change(Press(9, 7))"),
     ("run 100001", "Change(Run(100001))"),

@@ -1,4 +1,4 @@
-//! Worked values from outside: the manual's rule for SUB, by hand.
+//! Worked values from outside: the manual's rule for SUB, applied manually.
 use crate::checks::equal;
 use mcs_nibble::{Bit, Nibble};
 use std::test::Fail;

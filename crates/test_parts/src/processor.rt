@@ -1,4 +1,4 @@
-//! Worked cycles, by hand from the instruction descriptions of Intel's manual, over a program memory.
+//! Cycles worked manually from the instruction descriptions of Intel's manual, over a program memory.
 ghost use Rattle.std.specs.Prelude.{◌≡◌, ℕ, ◌<◌};
 ghost use Rattle.mcs_model.specs.Bus.{BusState, zero_bus};
 
@@ -67,7 +67,7 @@ fn nibble(n: u8) -> Nibble {
     Nibble::low_of(n)
 }
 
-/// A memory with TEST at 1 that holds these bytes, and 0 elsewhere.
+/// Returns a memory with TEST at 1 that holds these bytes, and 0 elsewhere.
 fn holding(bytes: &[(u16, u8)]) -> Memory {
     let mut rom = [0; 4096];
     for (at, byte) in bytes {
@@ -80,7 +80,7 @@ fn holding(bytes: &[(u16, u8)]) -> Memory {
     }
 }
 
-/// The registers of pairs, two nibbles a byte.
+/// Returns the registers of pairs, two nibbles a byte.
 fn index_registers(bytes: [u8; 8]) -> [Nibble; 16] {
     let mut r = [Nibble::ZERO; 16];
     for i in 0..8 {
@@ -90,7 +90,7 @@ fn index_registers(bytes: [u8; 8]) -> [Nibble; 16] {
     r
 }
 
-/// The registers after that many cycles from an address.
+/// Returns the registers after `cycles` cycles from an address.
 fn after(cpu: &mut Cpu, bus: &mut Memory, pc: u16, cycles: u32) -> Regs {
     cpu.set_pc(address(pc));
     for _ in 0..cycles {

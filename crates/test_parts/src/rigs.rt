@@ -1,4 +1,4 @@
-//! A rig that not every board fits: what it lacks, and keys, by hand from the rules of the wiring.
+//! A rig that not every board fits: what it lacks, and keys, worked manually from the rules of the wiring.
 use crate::boards::one_rom;
 use crate::checks::equal;
 use mcs_board::Rig;
@@ -31,7 +31,7 @@ fn address(at: u16) -> Addr {
     Addr::ZERO.plus(at)
 }
 
-/// Looks at the first four lamps.
+/// Checks the first four lamps.
 fn expect_lamps(rt: &impl Abort, rig: &SmallRig, wanted: [Option<Bit>; 4]) {
     let lamps = [rig.lamp(0), rig.lamp(1), rig.lamp(2), rig.lamp(3)];
     equal(rt, lamps, wanted);
@@ -47,7 +47,8 @@ fn an_absent_rom_reads_0_and_keeps_nothing(rt: HostRuntime) {
     equal(&rt, rig.fetch(address(0x0FF)), 0xD5);
 }
 
-/// Rows 0 and 1 are driven by two bits that were shifted in; the keys at (0, 1) and (1, 2) pull lines 1 and 2 of ROM 1.
+/// Checks keys on driven rows. Two bits that were shifted in drive rows 0 and 1; the keys at (0, 1) and (1, 2) pull
+/// lines 1 and 2 of ROM 1.
 #[test]
 fn keys_of_driven_rows_are_read(rt: HostRuntime) {
     let mut rig = wired(rt.alloc(), &rt, worked());

@@ -1,5 +1,5 @@
-//! Packed chips: worked values, and banks and chains of several sizes beside plain lists, under calls that a seeded
-//! generator picks.
+//! Packed chips: worked values, and banks and chains of several sizes compared with plain lists, under calls that a
+//! seeded generator picks.
 ghost use Rattle.std.specs.Prelude.{◌<◌, ◌≤◌};
 
 use crate::checks::equal;
@@ -10,7 +10,7 @@ use mcs_shift4003::Chain;
 use std::process::Abort;
 use std::test::Fail;
 
-/// A byte, of two characters.
+/// Returns a byte of two characters.
 fn byte(numbers: &mut Numbers) -> u8 {
     numbers.below(16) * 16 + numbers.below(16)
 }
@@ -19,7 +19,7 @@ fn nibble(numbers: &mut Numbers) -> Nibble {
     Nibble::low_of(numbers.below(16))
 }
 
-/// The upper character of a byte beside the lower one, and two status characters of one byte.
+/// Checks the upper character of a byte beside the lower one, and two status characters of one byte.
 #[test]
 fn two_characters_of_a_byte(rt: HostRuntime) -> Result<(), Fail> {
     let four = Nibble::of(4).ok_or("a nibble")?;
@@ -42,7 +42,7 @@ fn two_characters_of_a_byte(rt: HostRuntime) -> Result<(), Fail> {
     Ok(())
 }
 
-/// A 1 that is shifted through 13 bits, from one word into the next and out of the last.
+/// Shifts a 1 through 13 bits, from one word into the next and out of the last.
 #[test]
 fn thirteen_bits(rt: HostRuntime) {
     let mut chain = Chain::<13>::new(13);
@@ -153,7 +153,7 @@ fn call_bank<const CHIPS: usize>(
     }
 }
 
-/// Compares all that can be read.
+/// Compares everything that can be read.
 fn compare_bank<const CHIPS: usize>(rt: &impl Abort, bank: &Bank<CHIPS>, plain: &PlainBank) {
     for src in 0..=255u8 {
         assert_eq!(rt;
@@ -185,7 +185,7 @@ fn compare_bank<const CHIPS: usize>(rt: &impl Abort, bank: &Bank<CHIPS>, plain: 
     }
 }
 
-/// Two rounds of 1,500 calls, a comparison after every thirty, and a clear after each round.
+/// Does two rounds of 1,500 calls, with a comparison after every thirty, and a clear after each round.
 fn run_bank<const CHIPS: usize>(rt: &impl Abort, bank: &mut Bank<CHIPS>, wired: usize) {
     let mut numbers = Numbers::new(4002);
     for _ in 0..2 {
@@ -217,14 +217,14 @@ fn banks_under_seeded_calls(rt: HostRuntime) {
     }
 }
 
-/// A chain of at most 80 bits as a plain list, with room for what lies past its end, which is 0.
+/// A chain of at most 80 bits as a plain list. The list has room for bits past the chain's end, which are 0.
 #[derive(Drop)]
 struct PlainChain {
     list: [u8; 96],
 }
 
 impl PlainChain {
-    /// The ten bits from a place on, as a number.
+    /// Returns the ten bits from an index on, as a number.
     fn ten_from(&self, first: usize) -> u16
         requires { first ≤ 80 }
     {
@@ -237,7 +237,7 @@ impl PlainChain {
         ten
     }
 
-    /// Each of that many bits one place up, where bit 0 takes in a level.
+    /// Moves each of the first `bits` bits up by one. Bit 0 takes the level.
     fn shift(&mut self, bits: usize, level: Bit)
         requires { bits ≤ 80 }
     {
@@ -270,7 +270,7 @@ fn call_chain<const MAX: usize>(
     }
 }
 
-/// Compares all that can be read.
+/// Compares everything that can be read.
 fn compare_chain<const MAX: usize>(rt: &impl Abort, chain: &Chain<MAX>, plain: &PlainChain) {
     let bits = chain.bits();
     if bits > 80 {
@@ -284,7 +284,7 @@ fn compare_chain<const MAX: usize>(rt: &impl Abort, chain: &Chain<MAX>, plain: &
     equal(rt, chain.ten_from(bits), 0);
 }
 
-/// 2,000 calls, a comparison after every five, and a clear before every hundred.
+/// Does 2,000 calls, with a comparison after every five, and a clear before every hundred.
 fn run_chain<const MAX: usize>(rt: &impl Abort, chain: &mut Chain<MAX>) {
     let mut numbers = Numbers::new(4003);
     for _ in 0..20 {

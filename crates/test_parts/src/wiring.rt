@@ -1,11 +1,11 @@
-//! Texts that no session hands to the wiring, since not each of their bytes is plain, or they end without LF, and the
-//! numbers of its refusals. All others are in checks/lib/scripts/board_texts.scripts.
-use mcs_wiring::{WiringFault, board_of, board_text};
+//! Texts that no session hands to the wiring, because some of their bytes are not plain, or they end without LF, and
+//! the numbers of its refusals. All others are in checks/lib/scripts/board_texts.scripts.
+use mcs_wiring::{WiringFault, board_of, board_text, wiring_text};
 use std::alloc::Global;
 use std::process::Abort;
 use std::test::Fail;
 
-/// A text, and the number that it is refused with.
+/// A text, and the number of its refusal.
 type Row = (&'static str, u8);
 
 fn is_refused(alloc: Global, text: &str, number: u8) -> bool {
@@ -33,7 +33,7 @@ fn texts_that_no_script_gives_are_refused(rt: HostRuntime) {
     }
 }
 
-/// A text's board has this text.
+/// Expects this text of a text's board.
 fn expect_spelling(rt: &impl Abort, alloc: Global, text: &str, plain: &str) -> Result<(), Fail> {
     let board = board_of(alloc, text)?;
     let found = board_text(alloc, &board)?;
@@ -49,12 +49,38 @@ const SPELLINGS: &[&str] = &[
     "ram = []\nlamp = []\nchain = []\n[[rom]]\nport = \"1i0i\"\nchip = 10",
 ];
 
-/// One table in several spellings.
+/// Checks one table in several spellings.
 #[test]
 fn spellings(rt: HostRuntime) -> Result<(), Fail> {
     for text in SPELLINGS {
         let plain = "[[rom]]\nchip = 10\nport = \"1i0i\"\n";
         expect_spelling(&rt, rt.alloc(), text, plain)?;
+    }
+    Ok(())
+}
+
+/// Board texts and their reports.
+const REPORTS: &[(&str, &str)] = &[
+    ("[[rom]]\nchip = 0\nport = \"0000\"\n", "wiring valid\n"),
+    ("[[rom]]\nchip = 0\nport = \n[[lamp]]\n", "no 20 line 3\n"),
+    (
+        "[[ram]]\nbank = 0\nchips = 1\n\"a b\" = 1\n",
+        "no 21 line 1 ram 1 key ?\n",
+    ),
+    (
+        "[[rom]]\nchip = 1\nport = \"iiii\"\n[[rom]]\nchip = 1\nport = \"0000\"\n",
+        "no 24 line 4 rom 2 key chip\n",
+    ),
+    (
+        "[[rom]]\nchip = 0\nport = \"0000\"\n[[lamp]]\nline = \"rom0.0\"\n[[lamp]]\nline = \"ram0.0.0\"\n",
+        "no 25 line 6 lamp 2 key line\n",
+    ),
+];
+
+#[test]
+fn reports_of_board_texts(rt: HostRuntime) -> Result<(), Fail> {
+    for (text, report) in REPORTS {
+        assert_eq!(rt; wiring_text(rt.alloc(), text)?.as_str(), *report);
     }
     Ok(())
 }

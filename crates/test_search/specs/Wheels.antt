@@ -1,4 +1,4 @@
--- Rules that say nothing: the tests count states, and replay choices.
+-- Rules without content: the tests count states, and replay choices.
 use Rattle.std.specs.Prelude.{ℕ}
 use Rattle.mcs_search.specs.Rules.{Rules}
 

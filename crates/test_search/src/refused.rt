@@ -1,4 +1,4 @@
-//! One allocation that is refused, whichever it is: `checks/allocations` refuses each in turn, the gate none.
+//! One refused allocation: `checks/allocations` refuses each in turn, the gate none.
 use crate::wheels::{Wheels, go_on};
 use mcs_search::{Search, Verdict};
 use std::alloc::Global;
@@ -13,7 +13,7 @@ const PLACES: u8 = 41;
 /// The states.
 const STATES: usize = 68_921;
 
-/// Steps that are enough for all.
+/// A number of steps that is enough for all states.
 const STEPS: usize = 100_000;
 
 /// Expects that all states were found.
@@ -24,7 +24,7 @@ fn expect_all(rt: &impl Abort, verdict: Option<Verdict>) {
     }
 }
 
-/// Goes on to the end of a search, and again if memory was refused. Returns what was refused.
+/// Continues to the end of a search, and again if memory was refused. Returns what was refused.
 fn go_to_end(rt: &impl Abort, search: &mut Search) -> &'static str {
     let mut wheels = Wheels::new(3, PLACES);
     match go_on(search, &mut wheels, STEPS) {

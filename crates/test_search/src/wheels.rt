@@ -3,7 +3,7 @@ use mcs_search::{Search, System, Verdict, search_all};
 use std::alloc::{AllocError, Global};
 use std::process::Abort;
 
-/// Wheels of `places` places, all at place 0 first. A choice turns a wheel on by one place.
+/// Wheels of `places` places, all at place 0 first. A choice turns a wheel by one place.
 #[derive(Drop)]
 pub(crate) struct Wheels {
     pub(crate) count: usize,

@@ -1,17 +1,17 @@
-//! Commands in bytes that no session has: of a key that no board has, and of no byte.
+//! Commands whose bytes are in no session: for a key that no board has, and of no byte.
 use mcs_codec::{COMMAND_BYTES, command_bytes, command_of};
 use mcs_model::command::Command;
 use std::alloc::Global;
 use std::process::Abort;
 
-/// The command is written as these bytes.
+/// Checks that the command is written as these bytes.
 fn expect_bytes(rt: &impl Abort, command: &Command, want: &[u8]) {
     let mut bytes = [0; COMMAND_BYTES];
     let count = command_bytes(command, &mut bytes);
     assert_eq!(rt; &bytes[..count], want);
 }
 
-/// The command that these bytes spell, if they spell one.
+/// Returns the command that these bytes spell, if they spell one.
 fn read(rt: &impl Abort, alloc: Global, bytes: &[u8]) -> Option<Command> {
     command_of(alloc, bytes).expect(rt, "memory")
 }
@@ -20,7 +20,7 @@ fn is_read(rt: &impl Abort, alloc: Global, bytes: &[u8]) -> bool {
     read(rt, alloc, bytes).is_some()
 }
 
-/// What is read from these bytes is written so again.
+/// Checks that what is read from these bytes is written as these bytes again.
 fn expect_same(rt: &impl Abort, alloc: Global, want: &[u8]) {
     match read(rt, alloc, want) {
         Some(command) => expect_bytes(rt, &command, want),
@@ -28,7 +28,8 @@ fn expect_same(rt: &impl Abort, alloc: Global, want: &[u8]) {
     }
 }
 
-/// The command is written as these bytes, and what is read from them is written so again.
+/// Checks that the command is written as these bytes, and that what is read from them is written so
+/// again.
 fn expect_both(rt: &impl Abort, alloc: Global, command: &Command, want: &[u8]) {
     expect_bytes(rt, command, want);
     expect_same(rt, alloc, want);

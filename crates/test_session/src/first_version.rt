@@ -1,4 +1,4 @@
-//! A stop while the first opening carries a session of version 1 over.
+//! A stop while the first opening of a session of version 1 carries it over.
 use crate::checks::equal;
 use crate::desk::{blank, expect_bytes, expect_register, leave, mended, open};
 use mcs_disk::{FuseDisk, MemDisk};
@@ -9,7 +9,7 @@ use std::process::Abort;
 
 const SECOND_SLOT: usize = 81_936;
 
-/// A disk that holds the file of one register, of version 1.
+/// Returns a disk that holds the file of one register, of version 1.
 fn one_register(alloc: Global, rt: &impl Abort) -> MemDisk {
     let mut disk = blank(alloc, rt);
     for (at, bytes) in NEW_BENCH {
@@ -19,7 +19,8 @@ fn one_register(alloc: Global, rt: &impl Abort) -> MemDisk {
     disk
 }
 
-/// A stop after that many calls of the disk keeps the file of one register from opening. The disk is handed back then.
+/// Returns the disk after a stop that keeps the file of one register from opening, or none if the
+/// file opens. The stop is after `calls` calls of the disk.
 fn stopped(alloc: Global, rt: &impl Abort, calls: usize) -> Option<FuseDisk> {
     let disk = FuseDisk::after(one_register(alloc, rt), calls);
     match open(alloc, disk) {
@@ -31,7 +32,7 @@ fn stopped(alloc: Global, rt: &impl Abort, calls: usize) -> Option<FuseDisk> {
     }
 }
 
-/// How many calls of the disk the opening takes.
+/// Returns the number of calls of the disk that opening needs.
 fn count_calls(alloc: Global, rt: &impl Abort) -> usize {
     let mut calls = 0usize;
     for _ in 0..64 {
@@ -43,7 +44,7 @@ fn count_calls(alloc: Global, rt: &impl Abort) -> usize {
     calls
 }
 
-/// The disk after a stop at that call, which is that many calls before the end of the opening.
+/// Returns the disk after a stop at the call that is `before` calls before the end of opening.
 fn stopped_before(alloc: Global, rt: &impl Abort, calls: usize, before: usize) -> FuseDisk {
     assert!(rt; before <= calls);
     let call = calls - before;
@@ -53,8 +54,8 @@ fn stopped_before(alloc: Global, rt: &impl Abort, calls: usize, before: usize) -
     }
 }
 
-/// What the disk holds that many calls before the end: the last four write the snapshot, sync it, write the selector, and sync
-/// it.
+/// Checks what the disk holds `before` calls before the end. The last four calls write the
+/// snapshot, sync it, write the selector, and sync it.
 fn expect_stage(rt: &impl Abort, disk: &mut FuseDisk, before: usize) {
     let (length, selector) = match before {
         1 => ([0, 0, 0x1A, 0xA8], 1),

@@ -1,4 +1,5 @@
-//! A state as plain numbers, with lists that are not as long as its board has them: no file spells one.
+//! A state as plain numbers, whose lists have other lengths than its board gives them: no file
+//! spells one.
 use mcs_bench::Flat;
 use mcs_fixtures::boards::worked;
 use std::alloc::Global;
@@ -12,7 +13,7 @@ fn is_valid(flat: &Flat) -> bool {
     flat.check()
 }
 
-/// A key of a board without keys, and no chains and keys of one that has some.
+/// Checks a key of a board without keys, and a board with chains and keys whose lists are empty.
 #[test]
 fn lists_are_as_long_as_the_board_has_them(rt: HostRuntime) {
     let mut flat = new_state(rt.alloc(), &rt);

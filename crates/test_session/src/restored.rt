@@ -1,4 +1,4 @@
-//! Benches that are restored: from plain numbers, and from bytes.
+//! Benches that are restored from plain numbers and from bytes.
 use crate::checks::equal;
 use mcs_bench::{Bench, Flat};
 use mcs_codec::{STATE_BYTES, bench_of, state_bytes};
@@ -10,13 +10,13 @@ use mcs_nibble::Addr;
 use std::alloc::Global;
 use std::process::Abort;
 
-/// The bench in this state.
+/// Returns the bench in this state.
 fn restored(alloc: Global, rt: &impl Abort, flat: &Flat) -> Bench {
     assert!(rt; flat.check());
     Bench::restore(alloc, flat).expect(rt, "memory")
 }
 
-/// A bench that has accepted its last command refuses each other one.
+/// Checks that a bench that has accepted its last command rejects each further one.
 #[test]
 fn a_worn_bench(rt: HostRuntime) {
     let alloc = rt.alloc();
@@ -40,7 +40,7 @@ fn done(rt: &impl Abort, bench: &mut Bench, command: &Command) {
     }
 }
 
-/// `JUN 0x123`, at 0.
+/// Returns `JUN 0x123` at address 0.
 fn jump(alloc: Global, rt: &impl Abort) -> Image {
     let mut image = Image::new(alloc).expect(rt, "memory");
     assert!(rt; image.push(Addr::ZERO, 0x41).is_ok());
@@ -48,7 +48,7 @@ fn jump(alloc: Global, rt: &impl Abort) -> Image {
     image
 }
 
-/// A bench that owes the second cycle of a jump.
+/// Returns a bench with the second cycle of a jump pending.
 fn owing(alloc: Global, rt: &impl Abort) -> Bench {
     let mut bench = Bench::new(alloc).expect(rt, "memory");
     let board = worked().expect(rt, "a board");
@@ -58,14 +58,14 @@ fn owing(alloc: Global, rt: &impl Abort) -> Bench {
     bench
 }
 
-/// The state of a bench in bytes, and how many they are.
+/// Returns the state of a bench in bytes, and their number.
 fn written(bench: &Bench) -> ([u8; STATE_BYTES], usize) {
     let mut bytes = [0; STATE_BYTES];
     let count = state_bytes(bench, &mut bytes);
     (bytes, count)
 }
 
-/// An owed cycle is written and read, and so is all else.
+/// Checks that a pending cycle is written and read, like everything else.
 #[test]
 fn an_owed_cycle(rt: HostRuntime) {
     let alloc = rt.alloc();

@@ -9,7 +9,8 @@ use mcs_session::session::Session;
 use std::alloc::Global;
 use std::process::Abort;
 
-/// A log with one byte left for a commit byte of 0: 9,361 records of seven bytes, and one of eight.
+/// Fills a log so that one byte is left for a commit byte of 0: 9,361 records of seven bytes, and
+/// one of eight.
 fn fill_log<D: Disk + Drop>(rt: &impl Abort, session: &mut Session<D>) {
     let one = poke(rt, 0, 1);
     for _ in 0..9_361 {
@@ -18,9 +19,10 @@ fn fill_log<D: Disk + Drop>(rt: &impl Abort, session: &mut Session<D>) {
     run(rt, session, 1);
 }
 
-/// The disk after a full log and `poke r0 2`, during which the disk failed.
+/// Returns the disk after a full log and `poke r0 2`, during which the disk failed.
 fn stopped_in_the_turn(alloc: Global, rt: &impl Abort) -> FuseDisk {
-    // five calls make the session, and each of 9,362 commands takes four; then the snapshot is written and synced
+    // five calls make the session, and each of 9,362 commands needs four; then the snapshot is
+    // written and synced
     let mut session = made(alloc, rt, fused(alloc, rt, 5 + 4 * 9_362 + 2));
     fill_log(rt, &mut session);
     expect_fault(rt, &mut session, &poke(rt, 0, 2), SessionFault::Device);
@@ -37,7 +39,7 @@ fn a_stop_in_the_turn_leaves_the_state_before(rt: HostRuntime) {
     }
 }
 
-/// The disk fails at `poke r5 9`, which closes the session.
+/// Checks that the disk fails at `poke r5 9`, and that this closes the session.
 fn expect_close(rt: &impl Abort, session: &mut Session<FuseDisk>) {
     let command = poke(rt, 5, 9);
     expect_fault(rt, session, &command, SessionFault::Device);

@@ -13,7 +13,7 @@ use mcs_shell::shell::run_shell;
 use mcs_shell::streams::{AnswerSink, InputSource, ReadFailed};
 use std::io::{Read, Write};
 
-/// A reader, and how often it failed.
+/// A reader, and the number of its failures.
 #[derive(Drop)]
 struct CountedReader<R> {
     reader: R,
@@ -36,7 +36,7 @@ impl<R: Read + Drop> InputSource for CountedReader<R> {
     }
 }
 
-/// A writer, and how often it stopped.
+/// A writer, and the number of its stops.
 #[derive(Drop)]
 struct CountedWriter<W> {
     writer: W,
@@ -48,7 +48,7 @@ impl<W: Write + Drop> AnswerSink for CountedWriter<W> {
 
     ghost faults = { λ w. Some w.faults };
 
-    fn tell<D: Disk + Drop>(
+    fn write_answer<D: Disk + Drop>(
         &mut self,
         _session: &Session<D>,
         first: &[u8],
@@ -64,8 +64,9 @@ impl<W: Write + Drop> AnswerSink for CountedWriter<W> {
     }
 }
 
-/// A script is read whole, or fails once after so many bytes, and its answers go to a writer that takes all of them, or fails once after so
-/// many bytes: the shell ends by that, and it is counted where it failed.
+/// Checks that the shell ends by a failure of its reader or writer, and counts it there. The reader
+/// reads a script whole, or fails once after some bytes. The writer accepts all answers, or fails
+/// once after some bytes.
 #[test]
 fn a_fault_is_counted_where_it_was(rt: HostRuntime) {
     let rows = [

@@ -11,37 +11,38 @@ pub(crate) const SCRIPT: &[u8] = b"poke r5 9\nseq\nregs\n";
 pub(crate) const ANSWERS: &[u8] =
     b"session 0\nok 1\nseq 1\nacc 0 cy 0 pc 000 owed 0 dcl 0 test 1 r 0000090000000000 ret 000 000 000\n";
 
-/// How often a reader or a writer fails: a second try would find the first one well again.
+/// The number of failures of a reader or a writer. With one failure, a second try would succeed.
 const FAILURES: [usize; 2] = [1, usize::MAX];
 
-/// A reader that fails so often after that many bytes of the script ends the shell; that many bytes of the answers are told then.
-fn expect_cut_reading(rt: &impl Abort, alloc: Global, left: usize, failures: usize, told: usize) {
+/// Checks that a reader that fails `failures` times, after `left` bytes of the script, ends the
+/// shell. The shell has then written the first `size` bytes of the answers.
+fn expect_cut_reading(rt: &impl Abort, alloc: Global, left: usize, failures: usize, size: usize) {
     let mut session = new_in_memory(alloc, rt);
     let mut reader = CutReader::new(SCRIPT, left, failures);
     let (end, written) = answered(alloc, &mut reader, &mut session);
     equal(rt, end, ShellEnd::ReadFault);
     equal(rt, status(end), 1);
-    equal(rt, Some(written.as_slice()), ANSWERS.get(..told));
+    equal(rt, Some(written.as_slice()), ANSWERS.get(..size));
 }
 
 #[test]
 fn the_reader_fails_after_each_count_of_bytes(rt: HostRuntime) {
     for left in 0..SCRIPT.len() + 1 {
         // the lines end after 10, 14 and 19 bytes, and their answers after 15, 21 and all
-        let told = match left {
+        let size = match left {
             0..10 => 10,
             10..14 => 15,
             14..19 => 21,
             _ => ANSWERS.len(),
         };
         for failures in FAILURES {
-            expect_cut_reading(&rt, rt.alloc(), left, failures, told);
+            expect_cut_reading(&rt, rt.alloc(), left, failures, size);
         }
     }
 }
 
-/// A writer that fails so often after that many bytes of the answers ends the shell. The command is recorded once the first answer is
-/// out.
+/// Checks that a writer that fails `failures` times, after `left` bytes of the answers, ends the
+/// shell. The command is recorded once the first answer is out.
 fn expect_cut_writing(rt: &impl Abort, alloc: Global, left: usize, failures: usize) {
     let mut session = new_in_memory(alloc, rt);
     let mut writer = CutWriter::new(alloc, left, failures);

@@ -1,4 +1,4 @@
-//! Files of version 1: a stop while opening carries them over.
+//! Files of version 1, and a stop while opening carries them over.
 use crate::scripts::INPUTS;
 use crate::sessions::{expect, expect_state, failing_disk_of, file_of, found, left_on, open, put};
 use mcs_fixtures::files::NEW_BENCH;
@@ -6,10 +6,10 @@ use mcs_journal::{FILE_SIZE, StoreFault};
 use std::alloc::Global;
 use std::process::Abort;
 
-/// Where the first log begins.
+/// The offset of the first log.
 const LOG: usize = 16_400;
 
-/// The file of a new bench.
+/// Returns the file of a new bench.
 pub(crate) fn new_file(alloc: Global, rt: &impl Abort) -> Vec<u8> {
     let mut file = vec![in alloc; 0u8; FILE_SIZE].expect(rt, "memory");
     for (at, bytes) in NEW_BENCH {
@@ -18,7 +18,7 @@ pub(crate) fn new_file(alloc: Global, rt: &impl Abort) -> Vec<u8> {
     file
 }
 
-/// The file of the commands of the script. Their records are those of version 2.
+/// Returns the file of the commands of the script. Its records are those of version 2.
 fn file_of_inputs(alloc: Global, rt: &impl Abort) -> Vec<u8> {
     let mut file = new_file(alloc, rt);
     let later = file_of(alloc, rt, &INPUTS, 0, b"");
@@ -29,7 +29,8 @@ fn file_of_inputs(alloc: Global, rt: &impl Abort) -> Vec<u8> {
     file
 }
 
-/// The file that a stop after that many calls of the disk leaves, where it keeps a file from opening.
+/// Returns the file that a stop after `calls` calls of the disk leaves if it keeps a file from
+/// opening, or none if the file opens.
 fn left_by_a_stop(alloc: Global, rt: &impl Abort, file: &[u8], calls: usize) -> Option<Vec<u8>> {
     match open(alloc, failing_disk_of(alloc, rt, file, calls)) {
         Ok(_) => None,

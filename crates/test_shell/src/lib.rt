@@ -1,9 +1,7 @@
-//! Tests of whole sessions over disks in memory: disks that stop, readers and writers that fail, memory that is refused; and of the
-//! calls of the page.
+//! Tests of whole sessions over disks in memory: disks that stop, readers and writers that fail,
+//! and allocations that fail. Other tests are about the calls of the page.
 #![tactic(auto)]
 
-#[cfg(test)]
-mod ahead;
 #[cfg(test)]
 mod checks;
 #[cfg(test)]
@@ -12,6 +10,8 @@ mod counted;
 mod faults;
 #[cfg(test)]
 mod first_version;
+#[cfg(test)]
+mod forecast;
 #[cfg(test)]
 mod maps;
 #[cfg(test)]

@@ -1,5 +1,5 @@
-//! One allocation that is refused while questions are answered that take memory: maps, and what would happen. `checks/allocations`
-//! refuses each in turn, the gate none.
+//! One allocation that fails while the shell answers questions that need memory: maps, counts and
+//! traces. `checks/allocations` fails each in turn, and the gate none.
 use crate::sessions::{create, seq_of, serve};
 use mcs_disk::MemDisk;
 use mcs_journal::{FILE_SIZE, StoreFault};
@@ -11,7 +11,8 @@ use std::process::Abort;
 const SCRIPT: &[u8] =
     b"map\na: JUN a\nb = 0x2F\n.\nmap\nJUN c\n.\ncount 2\ntrace 2 pc lamps\nseq\n";
 
-/// The answers with nothing refused, and with the first program, the second one, the count or the trace refused.
+/// The answers if nothing found no memory, and if the first program, the second one, the count or
+/// the trace did.
 const ANSWERS: [(&[u8], &str); 5] = [
     (
         b"session 0\nmap lines 2 names 2\nline 1 000 2\nline 2 002 0\nname a 000\nname b 02F\nno 32 line 1\ncount ran 2 end lines 2\n000 1\n001 1\ntrace ran 2 end lines 2 000 -\n0 000 001 -\n1 001 002 -\nseq 0\n",
@@ -35,7 +36,7 @@ const ANSWERS: [(&[u8], &str); 5] = [
     ),
 ];
 
-/// What the one refusal of a run left out of these answers.
+/// Returns the part that one failed allocation left out of these answers.
 fn left_out(rt: &impl Abort, output: &[u8]) -> &'static str {
     for (answers, what) in ANSWERS {
         if output == answers {
@@ -45,12 +46,12 @@ fn left_out(rt: &impl Abort, output: &[u8]) -> &'static str {
     panic!(rt; "other answers")
 }
 
-/// A writer that has its memory before it is written to.
+/// Returns a writer that has its memory before it is written to.
 fn ready_writer(alloc: Global) -> Result<Vec<u8>, AllocError> {
     Vec::with_capacity(alloc, 1_024)
 }
 
-/// Does the script, which changes nothing. It answers what was refused.
+/// Does the script, which changes nothing. It returns the part that found no memory.
 fn run(alloc: Global, rt: &impl Abort, mut session: Session<MemDisk>) -> &'static str {
     let Ok(mut writer) = ready_writer(alloc) else {
         return "the writer";
@@ -68,7 +69,7 @@ fn run(alloc: Global, rt: &impl Abort, mut session: Session<MemDisk>) -> &'stati
     refused
 }
 
-/// Makes a session and does the script on it. It answers what was refused.
+/// Makes a session and does the script on it. It returns the part that found no memory.
 fn make_and_run(alloc: Global, rt: &impl Abort) -> &'static str {
     let Ok(disk) = MemDisk::new(alloc, FILE_SIZE) else {
         return "the disk";

@@ -1,4 +1,5 @@
-//! One allocation that is refused, whichever it is: `checks/allocations` refuses each in turn, the gate none.
+//! One allocation that fails, whichever it is: `checks/allocations` fails each in turn, and the
+//! gate none.
 use crate::first_version::new_file;
 use crate::sessions::{bytes_of, create, disk_behind, open, opened, put, seq_of, serve};
 use arrayvec::ArrayVec;
@@ -12,7 +13,7 @@ use std::alloc::Global;
 use std::io::{self, Write};
 use std::process::Abort;
 
-/// Takes that many bytes, without memory of its own.
+/// A writer that keeps what it is given, without memory of its own.
 #[derive(Drop)]
 struct FixedWriter {
     held: ArrayVec<u8, 1_024>,
@@ -36,8 +37,8 @@ const QUESTIONS: &[u8] = b"asm\nLDM 1\n.\nlist 0 1\nboard\nseq\n";
 /// The line before the text of the board.
 const BOARD: &[u8] = b"board\n";
 
-/// The answers with nothing refused; with the board, the program, the listing or the question for the board refused. After `BOARD`
-/// comes the text of the board.
+/// The answers if every allocation succeeds, and if one fails for the board, the program, the
+/// listing or the question for the board. The text of the board follows `BOARD`.
 const ANSWERS: [[&[u8]; 6]; 5] = [
     [
         b"session 0\n",
@@ -81,8 +82,9 @@ const ANSWERS: [[&[u8]; 6]; 5] = [
     ],
 ];
 
-/// The output is these answers, or that many first ones of them and then a device fault.
-fn is_told(output: &[u8], answers: &[&[u8]], is_device: bool) -> bool {
+/// Returns true if the output is these answers, or, with a device fault, some first ones of them
+/// and then the fault.
+fn is_answered(output: &[u8], answers: &[&[u8]], is_device: bool) -> bool {
     let mut rest = output;
     for answer in answers {
         if is_device && rest == b"no 53\n".as_slice() {
@@ -102,7 +104,7 @@ fn is_told(output: &[u8], answers: &[&[u8]], is_device: bool) -> bool {
     rest.is_empty() && !is_device
 }
 
-/// What the one refusal of a run left out, by the row of `ANSWERS` that was told.
+/// The part that one failed allocation left out, by the row of `ANSWERS` that was the output.
 const LEFT_OUT: [&str; 5] = [
     "nothing",
     "the board",
@@ -111,17 +113,18 @@ const LEFT_OUT: [&str; 5] = [
     "the question for the board",
 ];
 
-/// What was left out of the output, where it is one of those that one refusal allows.
+/// Returns the part that was left out of the output, or none if one failed allocation cannot have
+/// this output.
 fn left_out(output: &[u8], is_device: bool) -> Option<&'static str> {
     for (answers, what) in ANSWERS.iter().zip(LEFT_OUT.iter()) {
-        if is_told(output, answers, is_device) {
+        if is_answered(output, answers, is_device) {
             return Some(*what);
         }
     }
     None
 }
 
-/// The board and the questions.
+/// Returns the board and the questions.
 fn script() -> ArrayVec<u8, 1_024> {
     let mut script = ArrayVec::new();
     for part in [WIRE_WORKED, QUESTIONS] {
@@ -132,7 +135,7 @@ fn script() -> ArrayVec<u8, 1_024> {
     script
 }
 
-/// Does the script. It answers what was refused, if anything was.
+/// Does the script. It returns the part that found no memory, if there was one.
 fn do_script(alloc: Global, rt: &impl Abort, session: &mut Session<MemDisk>) -> &'static str {
     let script = script();
     let mut reader = script.as_slice();
@@ -155,7 +158,7 @@ fn do_script(alloc: Global, rt: &impl Abort, session: &mut Session<MemDisk>) -> 
     }
 }
 
-/// Serves the script, and then opens the file again. It answers what was refused.
+/// Serves the script, and then opens the file again. It returns the part that found no memory.
 fn run(alloc: Global, rt: &impl Abort, mut session: Session<MemDisk>) -> &'static str {
     let served = do_script(alloc, rt, &mut session);
     let seq = seq_of(&session);
@@ -166,7 +169,8 @@ fn run(alloc: Global, rt: &impl Abort, mut session: Session<MemDisk>) -> &'stati
     refused.unwrap_or(served)
 }
 
-/// The session of a disk, which is opened again where it was refused, and what was refused.
+/// Returns the session of a disk, which is opened again if opening failed, and the part that found
+/// no memory.
 fn open_again(
     alloc: Global,
     rt: &impl Abort,
@@ -181,7 +185,8 @@ fn open_again(
     (opened(alloc, rt, disk), Some(refused))
 }
 
-/// Makes the session, and again where it found no memory. It answers what was refused.
+/// Makes the session, and repeats this if it found no memory. It returns the part that found no
+/// memory.
 fn make_and_run(alloc: Global, rt: &impl Abort) -> &'static str {
     let Ok(disk) = MemDisk::new(alloc, FILE_SIZE) else {
         return "the disk";
@@ -208,7 +213,7 @@ fn one_allocation(rt: HostRuntime) {
     let _ = println!(rt; "refused: {refused}");
 }
 
-/// Puts the file of one register, of version 1, on a disk.
+/// Writes the file of one register, of version 1, to a disk.
 fn put_first(disk: &mut MemDisk) -> Result<(), DiskFault> {
     for (at, bytes) in [NEW_BENCH[0], NEW_BENCH[1], NEW_BENCH[2], NEW_BENCH[3], POKE] {
         if at <= disk.size() && bytes.len() <= disk.size() - at {
@@ -218,13 +223,13 @@ fn put_first(disk: &mut MemDisk) -> Result<(), DiskFault> {
     Ok(())
 }
 
-/// The session of that file.
+/// Checks that a session is that of this file.
 fn expect_register(rt: &impl Abort, session: &Session<MemDisk>) {
     let bench = session.bench();
     assert!(rt; bench.seq() == 1 && bench.regs().r[5].get() == 9);
 }
 
-/// Opens a file of version 1, and again where it was refused. It answers what was refused.
+/// Opens a file of version 1, and again if that failed. It returns the part that found no memory.
 fn carry_over(alloc: Global, rt: &impl Abort) -> &'static str {
     let Ok(mut disk) = MemDisk::new(alloc, FILE_SIZE) else {
         return "the disk";

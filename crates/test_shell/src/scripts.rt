@@ -1,8 +1,9 @@
-//! The script of commands, with its answers, and what a session is asked.
+//! The script of commands with its answers, and the questions to a session.
 use mcs_fixtures::texts::WIRE_WORKED;
 
-/// The commands, one after another: a board of three ROMs, two banks, a chain, keys and lamps; a program that drives two rows and
-/// reads four columns; a key; as many cycles as the program has before its last instruction; a register.
+/// The commands, in order. The first wires a board of three ROMs, two banks, a chain, keys and
+/// lamps. The second loads a program that drives two rows and reads four columns. Then come a key,
+/// as many cycles as the program has before its last instruction, and a register.
 pub(crate) const INPUTS: [&[u8]; 5] = [
     WIRE_WORKED,
     b"asm
@@ -23,7 +24,7 @@ KBP
     b"poke r5 9\n",
 ];
 
-/// What each of them is answered.
+/// The answer to each of them.
 pub(crate) const ANSWERS: [&[u8]; 5] = [
     b"ok 1\n",
     b"ok 2 bytes 11\n",
@@ -32,7 +33,7 @@ pub(crate) const ANSWERS: [&[u8]; 5] = [
     b"ok 5\n",
 ];
 
-/// What tells one state from another.
+/// The questions that distinguish two states.
 pub(crate) const QUESTIONS: &[u8] = b"board
 list 0 12
 ram 0
@@ -44,8 +45,9 @@ lamps
 regs
 ";
 
-/// A command whose record is seven bytes.
+/// A command whose record has seven bytes.
 pub(crate) const POKE: &[u8] = b"poke r0 1\n";
 
-/// That many pokes leave no room for another, after the commands: their records take 136, 527, 6, 8 and 7 of 65,535 bytes.
+/// After the commands, this many pokes leave no room for another: the records of the commands have
+/// 136, 527, 6, 8 and 7 of 65,535 bytes.
 pub(crate) const POKES: usize = 9_264;

@@ -14,38 +14,39 @@ use std::alloc::Global;
 use std::io::{Read, Write};
 use std::process::Abort;
 
-/// It holds, in the row or at the place of that number.
+/// Checks a condition, in the row or at the place of that number.
 pub(crate) fn expect(rt: &impl Abort, holds: bool, at: usize) {
     assert!(rt; holds, "at {at}");
 }
 
-/// A disk of a session file's size, all 0.
+/// Returns a disk of a session file's size, all 0.
 pub(crate) fn blank(alloc: Global, rt: &impl Abort) -> MemDisk {
     MemDisk::new(alloc, FILE_SIZE).expect(rt, "memory")
 }
 
-/// A disk that holds these bytes.
+/// Returns a disk that holds these bytes.
 pub(crate) fn disk_of(alloc: Global, rt: &impl Abort, bytes: &[u8]) -> MemDisk {
     let mut disk = MemDisk::new(alloc, bytes.len()).expect(rt, "memory");
     disk.write(0, bytes).expect(rt, "a write");
     disk
 }
 
-/// All bytes of a disk.
+/// Returns all bytes of a disk.
 pub(crate) fn bytes_of<D: Disk>(alloc: Global, rt: &impl Abort, disk: &mut D) -> Vec<u8> {
     let mut bytes = vec![in alloc; 0u8; disk.size()].expect(rt, "memory");
     disk.read(0, bytes.as_mut_slice()).expect(rt, "a read");
     bytes
 }
 
-/// Puts bytes over those of a file from `at` on.
+/// Writes bytes over those of a file from `at` on.
 pub(crate) fn put(rt: &impl Abort, file: &mut [u8], at: usize, bytes: &[u8]) {
     assert!(rt; at <= file.len() && bytes.len() <= file.len() - at);
     file[at..at + bytes.len()].copy_from_slice(bytes);
 }
 
-// The calls whose contracts are long are made here, once each. What they promise is of no use to a test, which owes no more than its
-// safety, and a call of these functions, which promise nothing, is proved at once.
+// The calls whose contracts are long are made here, once each. A test needs none of their promises,
+// because it must only be safe. A call of these functions, which promise nothing, is proved at
+// once.
 
 /// Makes the session of a new bench.
 pub(crate) fn create<D: Disk + Drop>(
@@ -60,7 +61,7 @@ pub(crate) fn open<D: Disk + Drop>(alloc: Global, disk: D) -> Result<Session<D>,
     Session::open(alloc, disk)
 }
 
-/// Serves a session what a reader gives, until its shell ends.
+/// Serves a session the input of a reader, until its shell ends, and returns the end.
 pub(crate) fn serve<R: Read, W: Write, D: Disk + Drop>(
     alloc: Global,
     reader: &mut R,
@@ -70,7 +71,7 @@ pub(crate) fn serve<R: Read, W: Write, D: Disk + Drop>(
     run_shell(alloc, reader, writer, session)
 }
 
-/// Puts the first register to 1.
+/// Sets the first register to 1.
 pub(crate) fn poke<D: Disk + Drop>(session: &mut Session<D>) -> Result<(), SessionFault> {
     let command = Command::Poke(Place::Register(RegNo::ZERO, Nibble::ONE));
     match session.apply(&command) {
@@ -79,17 +80,17 @@ pub(crate) fn poke<D: Disk + Drop>(session: &mut Session<D>) -> Result<(), Sessi
     }
 }
 
-/// How many commands a session has done.
+/// Returns the number of commands that a session has done.
 pub(crate) fn seq_of<D: Disk + Drop>(session: &Session<D>) -> u32 {
     session.bench().seq()
 }
 
-/// The disk of a session.
+/// Returns the disk of a session, and ends the session.
 pub(crate) fn disk_behind<D: Disk + Drop>(session: Session<D>) -> D {
     session.into_disk()
 }
 
-/// A disk that holds these bytes, and fails each call after that many.
+/// Returns a disk that holds these bytes, and fails each call after the first `calls`.
 pub(crate) fn failing_disk_of(
     alloc: Global,
     rt: &impl Abort,
@@ -99,13 +100,13 @@ pub(crate) fn failing_disk_of(
     FuseDisk::after(disk_of(alloc, rt, bytes), calls)
 }
 
-/// All bytes of a disk that failed, once it is mended.
+/// Returns all bytes of a disk that failed, once it is mended.
 pub(crate) fn left_on(alloc: Global, rt: &impl Abort, mut disk: FuseDisk) -> Vec<u8> {
     disk.mend();
     bytes_of(alloc, rt, &mut disk)
 }
 
-/// The session of a new bench.
+/// Returns the session of a new bench.
 pub(crate) fn new_session<D: Disk + Drop>(alloc: Global, rt: &impl Abort, disk: D) -> Session<D> {
     match create(alloc, disk) {
         Ok(session) => session,
@@ -113,12 +114,12 @@ pub(crate) fn new_session<D: Disk + Drop>(alloc: Global, rt: &impl Abort, disk: 
     }
 }
 
-/// The session of a new bench, on a disk in memory.
+/// Returns the session of a new bench, on a disk in memory.
 pub(crate) fn new_in_memory(alloc: Global, rt: &impl Abort) -> Session<MemDisk> {
     new_session(alloc, rt, blank(alloc, rt))
 }
 
-/// How the shell of a session ends over what a reader gives, and what it answers.
+/// Returns the end of a session's shell over the input of a reader, and its answers.
 pub(crate) fn answered<R: Read, D: Disk + Drop>(
     alloc: Global,
     reader: &mut R,
@@ -129,8 +130,8 @@ pub(crate) fn answered<R: Read, D: Disk + Drop>(
     (end, writer)
 }
 
-/// What a session answers to a script, to whose end its shell comes.
-pub(crate) fn told<D: Disk + Drop>(
+/// Returns a session's answers to a script, and checks that the shell reaches its end.
+pub(crate) fn answers_to<D: Disk + Drop>(
     alloc: Global,
     rt: &impl Abort,
     session: &mut Session<D>,
@@ -141,15 +142,15 @@ pub(crate) fn told<D: Disk + Drop>(
     answers
 }
 
-/// What the session of a file tells of its state, or why it is none.
+/// Returns the state of a file's session as its answers, or why the file holds none.
 pub(crate) fn found(alloc: Global, rt: &impl Abort, file: &[u8]) -> Result<Vec<u8>, StoreFault> {
     match open(alloc, disk_of(alloc, rt, file)) {
-        Ok(mut session) => Ok(told(alloc, rt, &mut session, QUESTIONS)),
+        Ok(mut session) => Ok(answers_to(alloc, rt, &mut session, QUESTIONS)),
         Err((fault, _)) => Err(fault),
     }
 }
 
-/// The session of a file tells this state.
+/// Checks that the session of a file has this state.
 pub(crate) fn expect_state(
     alloc: Global,
     rt: &impl Abort,
@@ -158,14 +159,15 @@ pub(crate) fn expect_state(
     at: usize,
 ) {
     match (found(alloc, rt, file), state) {
-        (Ok(told), Some(state)) => {
-            expect(rt, told.as_slice() == state.as_slice(), at);
+        (Ok(answers_to), Some(state)) => {
+            expect(rt, answers_to.as_slice() == state.as_slice(), at);
         }
         _ => panic!(rt; "no state, at {at}"),
     }
 }
 
-/// What a new session tells of its state, and then after each of these commands.
+/// Returns the state of a new session as its answers, and then the state after each of these
+/// commands.
 pub(crate) fn states_behind<D: Disk + Drop>(
     alloc: Global,
     rt: &impl Abort,
@@ -173,10 +175,10 @@ pub(crate) fn states_behind<D: Disk + Drop>(
     commands: &[&[u8]],
 ) -> Vec<Vec<u8>> {
     let mut states = Vec::new(alloc);
-    keep(rt, &mut states, told(alloc, rt, session, QUESTIONS));
+    keep(rt, &mut states, answers_to(alloc, rt, session, QUESTIONS));
     for command in commands {
-        let _answers = told(alloc, rt, session, command);
-        keep(rt, &mut states, told(alloc, rt, session, QUESTIONS));
+        let _answers = answers_to(alloc, rt, session, command);
+        keep(rt, &mut states, answers_to(alloc, rt, session, QUESTIONS));
     }
     states
 }
@@ -185,14 +187,14 @@ fn keep(rt: &impl Abort, states: &mut Vec<Vec<u8>>, state: Vec<u8>) {
     states.push(state).expect(rt, "memory");
 }
 
-/// Pokes that many times.
+/// Pokes `times` times.
 fn poke_often<D: Disk + Drop>(rt: &impl Abort, session: &mut Session<D>, times: usize) {
     for i in 0..times {
         expect(rt, poke(session).is_ok(), i);
     }
 }
 
-/// The file of a session after these commands, that many pokes, and a last command.
+/// Returns the file of a session after these commands, `pokes` pokes, and a last command.
 pub(crate) fn file_of(
     alloc: Global,
     rt: &impl Abort,
@@ -202,14 +204,14 @@ pub(crate) fn file_of(
 ) -> Vec<u8> {
     let mut session = new_in_memory(alloc, rt);
     for command in commands {
-        let _answers = told(alloc, rt, &mut session, command);
+        let _answers = answers_to(alloc, rt, &mut session, command);
     }
     poke_often(rt, &mut session, pokes);
-    let _answers = told(alloc, rt, &mut session, last);
+    let _answers = answers_to(alloc, rt, &mut session, last);
     bytes_behind(alloc, rt, session)
 }
 
-/// All bytes of the disk of a session.
+/// Returns all bytes of the disk of a session.
 pub(crate) fn bytes_behind<D: Disk + Drop>(
     alloc: Global,
     rt: &impl Abort,
@@ -218,7 +220,7 @@ pub(crate) fn bytes_behind<D: Disk + Drop>(
     bytes_of(alloc, rt, &mut disk_behind(session))
 }
 
-/// The session of a file.
+/// Returns the session of a file.
 pub(crate) fn opened<D: Disk + Drop>(alloc: Global, rt: &impl Abort, disk: D) -> Session<D> {
     match open(alloc, disk) {
         Ok(session) => session,
@@ -226,7 +228,7 @@ pub(crate) fn opened<D: Disk + Drop>(alloc: Global, rt: &impl Abort, disk: D) ->
     }
 }
 
-/// The session of a file, on a disk in memory.
+/// Returns the session of a file, on a disk in memory.
 pub(crate) fn opened_in_memory(alloc: Global, rt: &impl Abort, file: &[u8]) -> Session<MemDisk> {
     opened(alloc, rt, disk_of(alloc, rt, file))
 }

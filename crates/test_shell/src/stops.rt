@@ -17,7 +17,7 @@ use std::process::Abort;
 /// The first line of the answers of a new session.
 const FIRST: &[u8] = b"session 0\n";
 
-/// What a new session answers to the first commands, that many, and then.
+/// Returns a new session's answers to the first `done` commands, and then `then`.
 fn answers_to(alloc: Global, rt: &impl Abort, done: usize, then: &[u8]) -> Vec<u8> {
     let mut answers = joined(alloc, &[FIRST]).expect(rt, "memory");
     for answer in ANSWERS.iter().take(done) {
@@ -27,12 +27,13 @@ fn answers_to(alloc: Global, rt: &impl Abort, done: usize, then: &[u8]) -> Vec<u
     answers
 }
 
-/// All commands, one after another.
+/// Returns all commands, one after the other.
 fn script_of_inputs(alloc: Global, rt: &impl Abort) -> Vec<u8> {
     joined(alloc, &INPUTS).expect(rt, "memory")
 }
 
-/// How many of these pieces, one behind the other, end at a place or before it.
+/// Returns the number of these pieces that end at an offset or before it, if they follow one
+/// another.
 fn whole_pieces(pieces: &[&[u8]], place: usize) -> usize {
     let mut count = 0usize;
     let mut end = 0usize;
@@ -45,7 +46,7 @@ fn whole_pieces(pieces: &[&[u8]], place: usize) -> usize {
     count
 }
 
-/// A disk that fails each call after that many, or that one alone.
+/// Returns a disk that fails each call after the first `calls`, or only the next one.
 fn failing(alloc: Global, rt: &impl Abort, calls: usize, is_once: bool) -> FuseDisk {
     let disk = blank(alloc, rt);
     if is_once {
@@ -55,7 +56,8 @@ fn failing(alloc: Global, rt: &impl Abort, calls: usize, is_once: bool) -> FuseD
     }
 }
 
-/// The shell does that many commands, and the device refuses the one after them, if there is one. The session is closed then.
+/// Checks that the shell does the first `done` commands, and that the device fails the one after
+/// them, if there is one. The session is closed then.
 fn expect_stopped(
     alloc: Global,
     rt: &impl Abort,
@@ -79,8 +81,9 @@ fn expect_stopped(
     }
 }
 
-/// The commands on a session that took five calls to make, each of them four, of which the last acknowledges it. A disk that has
-/// failed one call alone needs no mending.
+/// Checks a stop in the commands of a session that took five calls to make. Each command takes
+/// four, and the last of them acknowledges it. A disk that has failed one call only needs no
+/// mending.
 fn stop_in_commands(
     alloc: Global,
     rt: &impl Abort,
@@ -121,7 +124,8 @@ fn at_each_call_of_the_disk(rt: HostRuntime) {
     }
 }
 
-/// Whether a stop after that many calls of the disk keeps a file from opening. The disk is handed back then, with the same bytes.
+/// Returns true if a stop after `calls` calls of the disk keeps a file from opening, and checks
+/// that the disk then has the same bytes.
 fn is_stopped_opening(alloc: Global, rt: &impl Abort, file: &[u8], calls: usize) -> bool {
     match open(alloc, failing_disk_of(alloc, rt, file, calls)) {
         Ok(_) => false,
@@ -134,7 +138,7 @@ fn is_stopped_opening(alloc: Global, rt: &impl Abort, file: &[u8], calls: usize)
     }
 }
 
-/// How many calls of the disk it takes to open a file, below 65,536.
+/// Returns the number of calls of the disk that opening a file needs, which is below 65,536.
 fn calls_of_open(alloc: Global, rt: &impl Abort, file: &[u8]) -> usize {
     let mut calls = 0usize;
     for bit in 0..16u32 {
@@ -146,7 +150,8 @@ fn calls_of_open(alloc: Global, rt: &impl Abort, file: &[u8]) -> usize {
     calls
 }
 
-/// A poke for which the log of a file has no room, stopped at each of its eight calls. `accepted` ends the answers of a whole one.
+/// Checks a poke for which the log of a file has no room, stopped at each of its eight calls.
+/// `accepted` ends the answers of a whole one.
 fn stop_in_a_checkpoint(alloc: Global, rt: &impl Abort, file: &[u8], accepted: &[u8]) {
     let mut session = opened_in_memory(alloc, rt, file);
     let states = states_behind(alloc, rt, &mut session, &[POKE]);
@@ -164,7 +169,8 @@ fn stop_in_a_checkpoint(alloc: Global, rt: &impl Abort, file: &[u8], accepted: &
     }
 }
 
-/// The file that a poke leaves on a disk. The shell ends so, and its answers end with that one.
+/// Returns the file that a poke leaves on a disk, and checks the end of the shell and the end of
+/// its answers.
 fn left_by_a_poke(
     alloc: Global,
     rt: &impl Abort,
@@ -204,7 +210,8 @@ fn at_each_call_of_opening(rt: HostRuntime) {
     }
 }
 
-/// A reader that fails after that many bytes ends the shell. The inputs that were read whole are answered.
+/// Checks that a reader that fails after `left` bytes ends the shell. The inputs that were read
+/// whole are answered.
 fn expect_cut_reading(alloc: Global, rt: &impl Abort, script: &[u8], left: usize) {
     let mut session = new_in_memory(alloc, rt);
     let mut reader = CutReader::new(script, left, usize::MAX);
@@ -223,7 +230,8 @@ fn at_each_byte_that_is_read(rt: HostRuntime) {
     }
 }
 
-/// A shell reads no more than its limit of an input that has no end. Empty lines are not answered.
+/// Checks that a shell reads no more than its limit of an input that has no end. Empty lines have
+/// no answers.
 #[test]
 fn at_the_limit_of_an_endless_input(rt: HostRuntime) {
     let alloc = rt.alloc();
@@ -235,7 +243,8 @@ fn at_the_limit_of_an_endless_input(rt: HostRuntime) {
     expect(&rt, answers.as_slice() == FIRST, 2);
 }
 
-/// A writer that fails after that many bytes of the answers ends the shell. It answers the disk.
+/// Checks that a writer that fails after `left` bytes of the answers ends the shell, and returns
+/// the disk.
 fn cut_writing(
     alloc: Global,
     rt: &impl Abort,

@@ -11,7 +11,7 @@ import { INITIALIZE_FIRST, INITIALIZE_ONCE, NOT_JSON } from "../../words/server.
 /**
  * A request that is not answered yet. Long work looks at `isCancelled`, and throws Cancelled.
  * @typedef {{ seq: number, command: string, hasBegun: boolean, isCancelled: boolean }} Asked
- * @typedef {(args: any, asked: Asked) => unknown} Act what a request does: it gives the body of the response, or a promise of it
+ * @typedef {(args: any, asked: Asked) => unknown} Act performs a request and returns the body of the response, or a promise of it
  */
 
 /** A body that something follows. */
@@ -58,7 +58,7 @@ export class AdapterConnection extends MessageStream {
       return;
     }
     const [seq, type, command] = ["seq", "type", "command"].map((name) => fieldOf(message, name));
-    // Nothing is ever asked of the client.
+    // The adapter never sends requests to the client.
     if (type === "response" || type === "event") return;
     const number = Number.isSafeInteger(seq) ? seq : 0;
     if (type !== "request" || typeof command !== "string" || number !== seq) {
@@ -73,7 +73,7 @@ export class AdapterConnection extends MessageStream {
   }
 
   /**
-   * Why a request is not taken now; "" where it is.
+   * Returns why a request cannot be served now; "" if it can.
    * @param {string} command
    */
   faultOfOrder(command) {
@@ -86,7 +86,7 @@ export class AdapterConnection extends MessageStream {
    * @param {any} args
    */
   async request(asked, args) {
-    // One that was cancelled before its turn has its answer.
+    // A request that was cancelled before its turn is answered already.
     if (!this.waiting.has(asked)) return;
     const { seq, command } = asked;
     asked.hasBegun = true;
@@ -108,19 +108,19 @@ export class AdapterConnection extends MessageStream {
   }
 
   /**
-   * Does what follows a response; an error there has no request to be the answer of.
+   * Does what follows a response. An error there belongs to no request.
    * @param {Followed} followed
    */
   follow({ after }) {
     try {
       after();
     } catch (thrown) {
-      this.tell("output", { category: "stderr", output: `${wordsOf(thrown)}\n` });
+      this.sendEvent("output", { category: "stderr", output: `${wordsOf(thrown)}\n` });
     }
   }
 
   /**
-   * Does the request `cancel`: the one that it names is refused at once if it has not begun, else it ends where it can. A request that is
+   * Serves the request `cancel`: rejects the named request at once if it has not begun; otherwise ends it where possible. A request that is
    * answered already stays so.
    * @param {any} args
    */
@@ -136,7 +136,7 @@ export class AdapterConnection extends MessageStream {
   }
 
   /**
-   * @param {number} seq of the request, 0 where it is not known
+   * @param {number} seq of the request, 0 if unknown
    * @param {string} command
    * @param {unknown} thrown
    */
@@ -151,7 +151,7 @@ export class AdapterConnection extends MessageStream {
    * @param {string} event
    * @param {object} [body]
    */
-  tell(event, body) {
+  sendEvent(event, body) {
     this.send({ type: "event", event, ...(body ? { body } : {}) });
   }
 

@@ -1,4 +1,4 @@
-// What is asked while time stands: the stack, scopes, values, memory, the source.
+// Answers to requests while time is paused: the stack, scopes, values, memory, the source.
 
 import { LAST_ADDRESS } from "../bench/numbers.js";
 import { WORDS } from "../conditions/parser.js";
@@ -23,14 +23,14 @@ import { wordsOfLine } from "../../words/stops.js";
  * @typedef {import("./expression_values.js").Known} Known
  */
 
-/** The reference of the source that is made of what stands in ROM. */
+/** The reference of the source that is disassembled from ROM. */
 const ROM_SOURCE = 1;
-/** This many instructions are told at once. */
+/** The instructions that are reported at once. */
 const MOST_ROWS = 8192;
 const MOST_COMPLETIONS = 500;
 /** The name of a key that is begun. */
 const KEY_BEGUN = /(?:^\s*(?:press|release|keys)\s(?:.*\s)?|\bkey\s+)(\S*)$/;
-/** Calls are looked for in so many instructions. */
+/** The number of instructions in which calls are searched for. */
 const MOST_LOOKED = 256;
 
 export class Answering {
@@ -103,14 +103,14 @@ export class Answering {
   /**
    * The frame that a request names.
    * @param {any} args
-   * @param {number} [usual] the one that is meant without an id
+   * @param {number} [usual] the id that is meant if none is given
    */
   frameOf(args, usual) {
     return framesOf(this.session)[needNumber(args, "frameId", usual) - 1] || fail(say.NO_FRAME);
   }
 
   /**
-   * The calls from the counter on, up to where the program surely goes on elsewhere: what a step can lead into.
+   * Returns the calls from the counter up to where control surely leaves: what a step can enter.
    * @param {any} args
    */
   stepInTargets(args) {
@@ -196,8 +196,8 @@ export class Answering {
   }
 
   /**
-   * What a line can go on with, and the word that is begun: keys after what moves them, lamps after `lamp`, else names and the words of
-   * conditions, at its beginning a command as well.
+   * Returns the words that can continue a line, and the word that is begun. After a command that moves keys these are keys, after `lamp`
+   * lamps; otherwise names and the words of conditions, at the beginning of a line also commands.
    * @param {string} before
    * @returns {{ words: string[], word: string }}
    */
@@ -224,7 +224,7 @@ export class Answering {
     const count = needNumber(args, "instructionCount");
     if (!(begin >= 0 && begin <= LAST_ADDRESS)) fail(say.ADDRESSES_ARE);
     if (!(count >= 0 && count <= MOST_ROWS)) fail(say.rowsAre(MOST_ROWS));
-    // Before ROM there is no address that a client could read; after it each row has one of its own.
+    // No address before ROM is readable by a client; after ROM each row has an address of its own.
     const rows = rowsAt(this.session, begin, needNumber(args, "instructionOffset", 0), count).filter(({ address }) => address >= 0);
     return {
       instructions: rows.map(({ address, bytes, words, line, name }) => ({
@@ -265,7 +265,7 @@ function nameInFormat(name, isHex) {
 }
 
 /**
- * The calls from an address on, up to the first instruction that does not go on to the next one, or that is none of the program.
+ * Returns the calls from an address up to the first instruction that does not continue with the next one, or that is not the program's.
  * @param {import("../debug/debug_session.js").DebugSession} session
  * @param {number} from
  */

@@ -1,5 +1,5 @@
-// The breakpoints that the client sets, of lines, labels and addresses, with those that the session had before; put together they are the
-// list that the debugger has. Likewise places whose changes stop time, and common mistakes that do.
+// The client's breakpoints (lines, labels and addresses), merged with those that the session had before into the debugger's list. Also the
+// places whose changes stop time, and the common mistakes that do.
 
 import { watchedPlaces } from "../bench/answers.js";
 import { LAST_ADDRESS } from "../bench/numbers.js";
@@ -8,7 +8,7 @@ import { BreakpointList, MOST_BREAKPOINTS, MOST_ON, instructionOfAddress, instru
 import { placeOf } from "../conditions/places.js";
 import { watchablePlace } from "../debug/data_watches.js";
 import { LARGEST_PIECE } from "../debug/debug_session.js";
-import { CYCLES_OF_CALL } from "../debug/usual_faults.js";
+import { CYCLES_OF_CALL } from "../debug/common_mistakes.js";
 import { listOf, needNumber, needText, textOrNone, wordsOf } from "./dap_protocol.js";
 import * as say from "../../words/adapter.js";
 import { inColumn, noLabel } from "../../words/conditions.js";
@@ -17,16 +17,16 @@ import { stopsEachTime } from "../../words/machine.js";
 
 /**
  * @typedef {import("../debug/debug_session.js").DebugSession} DebugSession
- * @typedef {import("../debug/usual_faults.js").Kind} KindOfFault
+ * @typedef {import("../debug/common_mistakes.js").Kind} KindOfFault
  *
- * One that is wanted: where it is, what it needs to stop, and why it cannot be, "" where it can.
+ * A requested breakpoint: its location, what it needs to stop, and in `words` why it cannot be set, "" if it can.
  * @typedef {{ id: number, line: number, address: number, condition: string, from: number, note: string, words: string }} Wanted
  *
- * As the protocol tells it, with lines counted from 1.
- * @typedef {{ id: number, verified: boolean, line?: number, message?: string, address: number }} Told
+ * As the protocol reports it, with lines counted from 1.
+ * @typedef {{ id: number, verified: boolean, line?: number, message?: string, address: number }} SentBreakpoint
  * @typedef {"lines" | "labels" | "addresses"} Kind
  *
- * A place whose changes are wanted, by its name, and a common mistake; `words` is why it cannot be, "" where it can.
+ * A place whose changes the client watches, by its name, and a common mistake; `words` says why it cannot be watched, "" if it can.
  * @typedef {{ id: number, name: string, condition: string, from: number, words: string }} WantedData
  * @typedef {{ kind: string, condition: string }} WantedFault
  */
@@ -37,19 +37,19 @@ const HITS = /^(?:>=|=|==|>)?\s*(\d{1,9})$/;
 const MOST_DATA = 8;
 
 /**
- * From which hit on it stops, by what the client calls a hit condition.
+ * Returns the first hit that stops, from the text that the client calls a hit condition.
  * @param {string} text
  */
 function fromOf(text) {
-  const told = text.trim();
-  if (told === "") return { from: 1, words: "" };
-  const found = HITS.exec(told);
-  const from = found ? Number(found[1]) + (told.startsWith(">") && !told.startsWith(">=") ? 1 : 0) : 0;
+  const trimmed = text.trim();
+  if (trimmed === "") return { from: 1, words: "" };
+  const found = HITS.exec(trimmed);
+  const from = found ? Number(found[1]) + (trimmed.startsWith(">") && !trimmed.startsWith(">=") ? 1 : 0) : 0;
   return from >= 1 ? { from, words: "" } : { from: 1, words: say.HITS_WORDS };
 }
 
 /**
- * What may stand at any breakpoint.
+ * Returns the parts that any breakpoint can have.
  * @param {any} given
  */
 function partsOf(given) {
@@ -58,7 +58,7 @@ function partsOf(given) {
 }
 
 /**
- * The address that a reference names, or why it names none, in words.
+ * Returns the address that a reference names, or an error message.
  * @param {string} reference
  * @param {number} offset
  * @param {(reference: string) => number} addressOf
@@ -79,9 +79,9 @@ export class ClientBreakpoints {
     this.made = 0;
     /** @type {Record<Kind, Wanted[]>} */
     this.wanted = { lines: [], labels: [], addresses: [] };
-    /** The addresses of those that the session had. */
+    /** The addresses of the breakpoints that the session had. */
     this.own = session.debugger.session.breaks;
-    /** The characters that the session watched, and those that the client watches, as `B 0xSS`. */
+    /** The RAM characters that the session watched, and those that the client watches, as `B 0xSS`. */
     this.ownWatches = watchesOf(session);
     /** @type {string[]} */
     this.watched = [];
@@ -94,7 +94,7 @@ export class ClientBreakpoints {
   }
 
   /**
-   * Takes over what another session had, before its program is made.
+   * Takes over the breakpoints of another session before its program is assembled.
    * @param {ClientBreakpoints} other
    */
   async takeFrom({ wanted, made, data, faults }) {
@@ -110,11 +110,11 @@ export class ClientBreakpoints {
     return { ...PLAIN, ...some, id: this.made };
   }
 
-  // --- what the client wants ---
+  // --- requests of the client ---
 
   /**
    * @param {any} args
-   * @param {(line: number) => number} lineOf a line as it is counted here
+   * @param {(line: number) => number} lineOf converts a line to the numbering here
    */
   setLines(args, lineOf) {
     const { map } = this.session;
@@ -156,22 +156,22 @@ export class ClientBreakpoints {
   async set(kind, wanted) {
     this.wanted[kind] = wanted;
     const faults = await this.apply();
-    return wanted.map((each) => this.told(each, faults.get(each) || ""));
+    return wanted.map((each) => this.answerTo(each, faults.get(each) || ""));
   }
 
   /**
    * @param {Wanted} wanted
    * @param {string} fault
-   * @returns {Told}
+   * @returns {SentBreakpoint}
    */
-  told({ id, line, address, words }, fault) {
+  answerTo({ id, line, address, words }, fault) {
     const message = words || fault;
     return { id, verified: message === "", ...(line > 0 ? { line } : {}), ...(message ? { message } : {}), address };
   }
 
   // --- the debugger's list ---
 
-  /** All of them, each address once: a breakpoint of the client stands before one that the session had. */
+  /** Returns all breakpoints, one per address: the client's takes precedence over one that the session had. */
   all() {
     /** @type {Map<number, Wanted>} */
     const all = new Map();
@@ -183,7 +183,7 @@ export class ClientBreakpoints {
     return all;
   }
 
-  /** They are those that stop from here on. Gives why some cannot be. */
+  /** Puts the list into the debugger. Returns why some breakpoints cannot be set. */
   async apply() {
     const { session } = this;
     /** @type {Map<Wanted, string>} */
@@ -206,7 +206,7 @@ export class ClientBreakpoints {
   }
 
   /**
-   * The client's breakpoint that is one of the debugger's, and which kind it is of; 0 for one that the session had.
+   * Returns the client's breakpoint for one of the debugger's, and its kind; 0 for a breakpoint that the session had.
    * @param {number} id
    */
   ofStop(id) {
@@ -217,7 +217,7 @@ export class ClientBreakpoints {
     return { id: found.id, reason: addresses.includes(found) ? "instruction breakpoint" : "breakpoint" };
   }
 
-  /** The program has moved: each of them is where its line is now. Gives those that have another place. */
+  /** Moves each breakpoint to where its line is now, after the program has changed. Returns those that moved. */
   async moveWithProgram() {
     const { map } = this.session;
     const moved = this.wanted.lines.filter((each) => {
@@ -227,14 +227,14 @@ export class ClientBreakpoints {
       return isOther;
     });
     await this.apply();
-    return moved.map((each) => this.told(each, ""));
+    return moved.map((each) => this.answerTo(each, ""));
   }
 
   // --- places that are watched ---
 
   /** @param {any} args */
   async setData(args) {
-    const { board } = this.session.debugger.session.lookQuestions;
+    const { board } = this.session.debugger.session.statusQueries;
     this.data = listOf(args, "breakpoints").map((given) => {
       const name = needText(given, "dataId");
       const { from, words } = fromOf(textOrNone(given, "hitCondition"));
@@ -252,8 +252,8 @@ export class ClientBreakpoints {
   }
 
   /**
-   * These are the places whose changes stop time from here on. The bench watches as many characters of RAM as it can; the others are found
-   * ahead. Gives why some cannot be, by their ids.
+   * Puts the watched places into the session. The bench watches as many characters of RAM as it can; changes of the others are found ahead.
+   * Returns why some cannot be watched, by their ids.
    */
   async applyData() {
     const { session, ownWatches } = this;
@@ -281,13 +281,13 @@ export class ClientBreakpoints {
     return this.applyFaults();
   }
 
-  /** Time stops at these from here on. One whose condition has an error stops each time. */
+  /** Time stops at these from now on. One whose condition has an error stops each time. */
   applyFaults() {
     const { session, faults } = this;
     const { usual } = session.debugger;
     usual.stops = new Set();
     usual.conditions = new Map();
-    const told = faults.map(({ kind, condition: text }) => {
+    const answers = faults.map(({ kind, condition: text }) => {
       if (!Object.prototype.hasOwnProperty.call(KINDS, kind)) return { verified: false, message: say.noFilter(kind) };
       const own = /** @type {KindOfFault} */ (kind);
       const isAlways = text.trim() === "";
@@ -296,12 +296,12 @@ export class ClientBreakpoints {
       if (condition) usual.conditions.set(own, condition);
       return fault ? { verified: false, message: stopsEachTime(inColumn(fault, column)) } : { verified: true };
     });
-    // All instructions are looked at only where so many cycles are done at once.
+    // All instructions are checked only if so many cycles are done at once.
     if (session.largestPiece >= CYCLES_OF_CALL) session.largestPiece = usual.stops.size > 0 ? CYCLES_OF_CALL : LARGEST_PIECE;
-    return told;
+    return answers;
   }
 
-  /** Those that the session has beside the client's are its own. */
+  /** Notes the session's own breakpoints, which the client did not set. */
   takeOwn() {
     const { lines, labels, addresses } = this.wanted;
     const ofClient = new Set([...lines, ...labels, ...addresses].map(({ address }) => address));
@@ -309,7 +309,7 @@ export class ClientBreakpoints {
     this.ownWatches = watchesOf(this.session).filter((place) => !this.watched.includes(place));
   }
 
-  /** The session has the breakpoints and watches that it had before, and no other. */
+  /** Restores exactly the breakpoints and watches that the session had before. */
   async leave() {
     this.wanted = { lines: [], labels: [], addresses: [] };
     try {
@@ -331,7 +331,7 @@ function watchesOf(session) {
 }
 
 /**
- * How `watch` calls a character of RAM; "" for any other place.
+ * Returns the name of a RAM character in `watch`; "" for any other place.
  * @param {string} name
  */
 export function watchOf(name) {
@@ -341,11 +341,11 @@ export function watchOf(name) {
 }
 
 /**
- * What the client calls a place whose changes can stop time, and how; null where a variable is none.
+ * Returns the client's name for a place whose changes can stop time, and how they can; null if a variable is no such place.
  * @param {string} name
  * @param {DebugSession} session
  */
 export function dataOf(name, session) {
-  const place = watchablePlace(name, session.debugger.session.lookQuestions.board);
+  const place = watchablePlace(name, session.debugger.session.statusQueries.board);
   return place ? { dataId: place.name, description: say.changes(place.name), canPersist: true } : null;
 }

@@ -18,16 +18,16 @@ import { noKey } from "../../words/testing.js";
  * @typedef {import("./expression_values.js").Known} Known
  * @typedef {import("../bench/words.js").Words} Words
  *
- * What came of a line: words, whether the machine is another one now, and a move that begins once they are told.
+ * The result of a line: words, whether the machine has changed, and a move that begins once they are shown.
  * @typedef {{ words: string, changes: boolean, move: (() => void) | null }} Done
  *
- * Says between pieces whether to go on; where it does not, no line is done.
+ * Returns between pieces whether to continue; if not, no line is done.
  * @typedef {(done: number) => Promise<boolean>} GoesOn
  */
 
-/** What a line begins with. */
+/** The first words of a line. */
 export const FIRST_WORDS = ["press", "release", "keys", "until", "change", "back", "forward", "set", "help", "display", ...FORMS.keys()];
-/** So many characters of lines, and so many lines, are taken at once. */
+/** The most characters of lines, and the most lines, that are accepted at once. */
 const LONGEST = 65536;
 const MOST_INPUTS = 1000;
 const COMPARES = /^[^\n]*[=<>]/;
@@ -35,13 +35,13 @@ const RUNS = new Set(["run", "step"]);
 const BREAKS = new Set(["break", "unbreak", "watch", "unwatch"]);
 
 /** @type {(words: string) => Done} */
-const told = (words) => ({ words, changes: false, move: null });
+const answerWith = (words) => ({ words, changes: false, move: null });
 
 export class Console {
   /**
    * @param {Machine} machine
    * @param {Known} known
-   * @param {Words} words of refusals
+   * @param {Words} words the messages of refusals
    * @param {{ breaksChanged: () => void, romChanged: () => void }} calls
    */
   constructor(machine, known, words, calls) {
@@ -66,7 +66,7 @@ export class Console {
     const line = text.trim();
     if (line.length > LONGEST) fail(say.tooLong(LONGEST));
     const [word, ...rest] = line.split("\n")[0].split(/[ \t]+/);
-    if (line === "" || line === "help" || line === "?") return told(say.HELP);
+    if (line === "" || line === "help" || line === "?") return answerWith(say.HELP);
     const isNumbers = rest.length === 2 && rest.every((each) => !Number.isNaN(numberOf(each)));
     if ((word === "press" || word === "release") && !isNumbers) return this.moveKeys(word, rest);
     if (word === "keys" && rest.length > 0) return this.typeKeys(rest);
@@ -83,7 +83,7 @@ export class Console {
    */
   valueOf(line, base) {
     try {
-      return told(valueOfExpression(line, this.known, base));
+      return answerWith(valueOfExpression(line, this.known, base));
     } catch (thrown) {
       return fail(say.seeHelp(wordsOf(thrown)));
     }
@@ -99,7 +99,7 @@ export class Console {
   }
 
   /**
-   * Where time stands a key stays as it is put; while it runs, it is pressed for a short time.
+   * Moves keys: while time is paused a key stays in its new position; while time runs, it is pressed for a short time.
    * @param {"press" | "release"} word
    * @param {string[]} names
    */
@@ -124,7 +124,7 @@ export class Console {
       queue.press(key);
       queue.release(key);
     }
-    return told(this.machine.isMoving ? "" : say.keysWait(keys.length));
+    return answerWith(this.machine.isMoving ? "" : say.keysWait(keys.length));
   }
 
   // --- moves ---
@@ -156,7 +156,7 @@ export class Console {
   }
 
   /**
-   * The place, or the condition, that is looked for.
+   * Returns the place, or the condition, of a search.
    * @param {string} text
    */
   goalOf(text) {
@@ -177,7 +177,7 @@ export class Console {
     const kinds = readInputs(lines).map(({ kind }) => kind);
     if (kinds.length > MOST_INPUTS) fail(say.tooManyLines(MOST_INPUTS));
     if (this.machine.isMoving && kinds.some((kind) => RUNS.has(kind))) fail(say.TIME_RUNS);
-    if (kinds.every(isQuestion)) return told(this.session.debugger.session.ask(lines).join("\n"));
+    if (kinds.every(isQuestion)) return answerWith(this.session.debugger.session.ask(lines).join("\n"));
     const done = await this.served(lines, goesOn);
     if (kinds.some((kind) => BREAKS.has(kind))) this.calls.breaksChanged();
     return done;
@@ -198,14 +198,14 @@ export class Console {
     });
     const refused = answers.every((answer) => refusalOf(answer));
     if (refused && answers.length > 0) throw new AdapterError(words.join("\n"));
-    this.machine.tellTally(tally, tally.noted);
-    if (answers.some((answer) => readRun(answer))) this.machine.tellShown();
+    this.machine.reportTally(tally, tally.noted);
+    if (answers.some((answer) => readRun(answer))) this.machine.reportShown();
     return { words: [...words, ...(stopWords ? [stopWords] : [])].join("\n"), changes: true, move: null };
   }
 }
 
 /**
- * The address that a label or a number says.
+ * Returns the address of a label or a number.
  * @param {string} text
  * @param {Known} known
  * @returns {number}

@@ -1,10 +1,10 @@
-// What the protocol of debug adapters says of messages, and what is read out of their arguments.
+// The form of messages in the protocol of debug adapters, and readers of their arguments.
 
 import { fieldOf } from "../server/framing.js";
 import * as say from "../../words/adapter.js";
 import { isText } from "../../words/server.js";
 
-/** What a request is answered in the place of a body. */
+/** The error that answers a request in place of a body. */
 export class AdapterError extends Error {
   /**
    * @param {string} words
@@ -16,9 +16,9 @@ export class AdapterError extends Error {
   }
 }
 
-/** The word of the protocol for what is asked while time runs. */
+/** The protocol's word for a request while time runs. */
 export const NOT_STOPPED = "notStopped";
-/** The word of the protocol for the answer to a request that the client has cancelled. */
+/** The protocol's word for the answer to a request that the client has cancelled. */
 export const CANCELLED = "cancelled";
 
 /**
@@ -50,7 +50,7 @@ export function textOrNone(from, name) {
 }
 
 /**
- * A whole number; where it may be left out, what it is then.
+ * A whole number, with its default if it may be left out.
  * @param {any} from
  * @param {string} name
  * @param {number} [usual]

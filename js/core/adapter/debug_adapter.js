@@ -1,8 +1,8 @@
-// The debug adapter: an editor launches a program on a board in it, or a session file, stops it at breakpoints, goes on and back, and looks
-// at what stands in the machine. The debugger is that of the page (debug/debug_session.js).
+// The debug adapter: an editor launches a program on a board in it, or a session file, stops it at breakpoints, runs on and back, and shows
+// the state of the machine. The debugger is that of the page (debug/debug_session.js).
 //
-//     const adapter = new DebugAdapter(new AdapterConnection(write), engine, dataOfPage, host);   (launching.js says what a host gives)
-//     connection.take(bytes) ..; await adapter.leave() where the client has gone
+//     const adapter = new DebugAdapter(new AdapterConnection(write), engine, dataOfPage, host);   (launching.js describes a host)
+//     connection.take(bytes) ..; await adapter.leave() once the client has gone
 
 import { Face } from "../board/face.js";
 import { instructionOfLine } from "../debug/breakpoints.js";
@@ -33,7 +33,7 @@ import * as say from "../../words/adapter.js";
  * @typedef {import("./launching.js").Launched} Launched
  * @typedef {import("./debugged_machine.js").Ended} Ended
  *
- * What is there once a session is launched.
+ * The state after a launch.
  * @typedef {{ launched: Launched, machine: Machine, breakpoints: ClientBreakpoints, console: Console, answering: Answering }} Open
  */
 
@@ -85,17 +85,17 @@ export class DebugAdapter {
     this.host = host;
     this.words = new Words(refusals);
     this.instructions = instructionsOf(manual);
-    /** How the client counts lines and columns, and which events it takes. */
+    /** How the client counts lines and columns, and which events it accepts. */
     this.firstLine = 1;
     this.firstColumn = 1;
     this.takesInvalidated = false;
     this.takesMemory = false;
-    this.progress = new Progress((event, body) => connection.tell(event, body));
+    this.progress = new Progress((event, body) => connection.sendEvent(event, body));
     this.moves = new Moves(this);
     /** @type {Open | null} */
     this.open = null;
     this.isConfigured = false;
-    /** @type {Promise<string> | null} once it is left */
+    /** @type {Promise<string> | null} set once the session is left */
     this.leaving = null;
     /** @type {Ended | null} the last stop */
     this.ended = null;
@@ -135,7 +135,7 @@ export class DebugAdapter {
       },
       restart: (args) => this.restart(args),
       terminate: () => new Followed(undefined, () => {
-        this.leave().then(() => this.connection.tell("terminated"));
+        this.leave().then(() => this.connection.sendEvent("terminated"));
       }),
       disconnect: async () => {
         const words = await this.leave();
@@ -152,7 +152,7 @@ export class DebugAdapter {
   async launch(args, act) {
     if (this.open) fail(say.LAUNCH_ONCE);
     await this.begin(await act(this.engine, args, this.host, this.words));
-    return new Followed(undefined, () => this.connection.tell("initialized"));
+    return new Followed(undefined, () => this.connection.sendEvent("initialized"));
   }
 
   /** @param {Launched} launched */
@@ -163,7 +163,7 @@ export class DebugAdapter {
       stopped: (ended) => this.stopped(ended),
       output: (words, category) => this.output(words, category),
       pause: this.host.pause,
-      looked: () => this.tellBoard(),
+      looked: () => this.sendBoard(),
       work: (title) => this.progress.begin(title, () => machine.pause()),
     }, launched.isRealTime);
     const breakpoints = new ClientBreakpoints(session);
@@ -171,24 +171,24 @@ export class DebugAdapter {
     const face = new Face(session.boardText);
     const known = { session, face, instructions: this.instructions, shown: () => machine.shown.now() };
     const lines = new Console(machine, known, this.words, {
-      breaksChanged: () => breakpoints.takeOwn(), romChanged: () => this.tellRom(launched),
+      breaksChanged: () => breakpoints.takeOwn(), romChanged: () => this.reportRom(launched),
     });
     const answering = new Answering(launched, new Scopes(session, face), known, this);
     this.open = { launched, machine, breakpoints, console: lines, answering };
     if (this.shownBoard) this.shownBoard = new ShownBoard(machine);
-    this.tellBoard();
+    this.sendBoard();
     if (launched.note) this.output(`${launched.note}\n`, "console");
   }
 
   /** @param {Launched} launched */
-  tellRom({ session }) {
+  reportRom({ session }) {
     const words = differenceWords(session);
     if (words) this.output(`${say.sourceDiffers(words)}\n`, "console");
   }
 
   /**
-   * Begins anew: a session file that is written by a power cycle; one that is read with what it has now; else with the texts as they are
-   * now.
+   * Restarts. A session file that is written restarts by a power cycle, one that is only read with its present contents, any other session
+   * with the texts as they are now.
    * @param {any} args
    */
   async restart(args) {
@@ -201,7 +201,7 @@ export class DebugAdapter {
       const given = fieldOf(args, "arguments");
       const act = launched.isAttached ? attach : launch;
       await this.begin(await act(this.engine, given === undefined ? launched.args : given, this.host, this.words));
-      for (const moved of await this.there.breakpoints.takeFrom(breakpoints)) this.tellBreakpoint(moved);
+      for (const moved of await this.there.breakpoints.takeFrom(breakpoints)) this.sendBreakpoint(moved);
     }
     return new Followed(undefined, () => this.stopped(this.standing("entry")));
   }
@@ -214,7 +214,7 @@ export class DebugAdapter {
     await machine.move;
   }
 
-  /** The session is left as it is, with the breakpoints that it had. Gives what was not kept, in words. */
+  /** Leaves the session as it is, with the breakpoints that it had. Returns in words what could not be saved. */
   leave() {
     if (!this.leaving) this.leaving = this.leaveOnce();
     return this.leaving;
@@ -272,22 +272,22 @@ export class DebugAdapter {
     return { breakpoints: listOf(args, "breakpoints").map((given) => ({ verified: false, line: needNumber(given, "line"), message })) };
   }
 
-  /** @param {(breakpoints: ClientBreakpoints) => Promise<import("./client_breakpoints.js").Told[]>} act */
+  /** @param {(breakpoints: ClientBreakpoints) => Promise<import("./client_breakpoints.js").SentBreakpoint[]>} act */
   async set(act) {
     const { machine, breakpoints } = this.there;
-    const told = await machine.quietly(() => act(breakpoints));
-    return { breakpoints: told.map((each) => this.breakpointOf(each)) };
+    const sent = await machine.quietly(() => act(breakpoints));
+    return { breakpoints: sent.map((each) => this.breakpointOf(each)) };
   }
 
-  /** @param {import("./client_breakpoints.js").Told} told */
-  breakpointOf({ address, line, ...told }) {
+  /** @param {import("./client_breakpoints.js").SentBreakpoint} breakpoint */
+  breakpointOf({ address, line, ...breakpoint }) {
     const inSource = line === undefined ? {} : { line: line - 1 + this.firstLine, source: this.there.answering.source };
-    return { ...told, ...inSource, ...(address >= 0 ? { instructionReference: referenceOf(address) } : {}) };
+    return { ...breakpoint, ...inSource, ...(address >= 0 ? { instructionReference: referenceOf(address) } : {}) };
   }
 
-  /** @param {import("./client_breakpoints.js").Told} told */
-  tellBreakpoint(told) {
-    this.connection.tell("breakpoint", { reason: "changed", breakpoint: this.breakpointOf(told) });
+  /** @param {import("./client_breakpoints.js").SentBreakpoint} breakpoint */
+  sendBreakpoint(breakpoint) {
+    this.connection.sendEvent("breakpoint", { reason: "changed", breakpoint: this.breakpointOf(breakpoint) });
   }
 
   /** @param {any} args */
@@ -315,7 +315,7 @@ export class DebugAdapter {
     return { breakpoints: lines };
   }
 
-  // --- what is asked ---
+  // --- requests ---
 
   /** @returns {Record<string, Act>} */
   askRequests() {
@@ -349,7 +349,7 @@ export class DebugAdapter {
         return this.shownBoard.take();
       },
       changeKey: (args) => this.changeKey(args),
-      tearPaper: () => (this.shownBoard ? this.shownBoard.tear() : undefined),
+      clearPrintout: () => (this.shownBoard ? this.shownBoard.clear() : undefined),
     };
   }
 
@@ -360,7 +360,7 @@ export class DebugAdapter {
   }
 
   /**
-   * The machine was changed while time stands: it is kept.
+   * Saves a change that was made to the machine while time is paused.
    * @template Result
    * @param {Result} result
    */
@@ -379,7 +379,7 @@ export class DebugAdapter {
     const { offset, bytesWritten: count } = written;
     if (!this.takesMemory || count === 0) return written;
     const memory = { memoryReference: needText(args, "memoryReference"), offset: needNumber(args, "offset", 0) + offset, count };
-    return new Followed(written, () => this.connection.tell("memory", memory));
+    return new Followed(written, () => this.connection.sendEvent("memory", memory));
   }
 
   /**
@@ -402,19 +402,19 @@ export class DebugAdapter {
     if (changes && !machine.isMoving) await machine.stand();
     return new Followed({ result: words, variablesReference: 0 }, () => {
       if (move) move();
-      else if (changes && isStanding) this.tellChanged();
+      else if (changes && isStanding) this.sendInvalidated();
     });
   }
 
-  /** A line has changed the machine: it is looked at anew. */
-  tellChanged() {
+  /** Takes a new snapshot after a line has changed the machine. */
+  sendInvalidated() {
     this.ended = this.standing("step");
-    if (this.takesInvalidated) this.connection.tell("invalidated", { areas: ["all"] });
+    if (this.takesInvalidated) this.connection.sendEvent("invalidated", { areas: ["all"] });
     else this.stopped(this.ended);
   }
 
   /**
-   * A key goes down or up, as by a line in the console.
+   * Moves a key up or down, as a line in the console does.
    * @param {"press" | "release"} word
    * @param {any} args
    */
@@ -426,7 +426,7 @@ export class DebugAdapter {
     return { words };
   }
 
-  /** @param {any} args a key by its place, as a view of the board moves it */
+  /** @param {any} args a key by its place, as sent by a view of the board */
   async changeKey(args) {
     const { machine, console: lines } = this.there;
     const key = needText(args, "place");
@@ -435,17 +435,17 @@ export class DebugAdapter {
     return {};
   }
 
-  // --- what is told ---
+  // --- events ---
 
-  /** What is new of the board, where the client draws it. */
-  tellBoard() {
+  /** Sends the board's news if the client draws the board. */
+  sendBoard() {
     const { shownBoard } = this;
     const news = shownBoard ? shownBoard.take() : {};
-    if (Object.keys(news).length > 0) this.connection.tell("boardShown", news);
+    if (Object.keys(news).length > 0) this.connection.sendEvent("boardShown", news);
   }
 
   /**
-   * Time stands here, for another reason than that it was stopped.
+   * Reports that time is paused, for another reason than a stop.
    * @param {string} reason
    * @returns {Ended}
    */
@@ -458,10 +458,10 @@ export class DebugAdapter {
     const { open } = this;
     if (!open) return;
     this.ended = ended;
-    this.tellBoard();
+    this.sendBoard();
     const isOwn = ended.reason === "data breakpoint";
     const found = ended.reason === "breakpoint" ? open.breakpoints.ofStop(ended.id) : { id: isOwn ? ended.id : 0, reason: ended.reason };
-    this.connection.tell("stopped", {
+    this.connection.sendEvent("stopped", {
       reason: found.reason, description: ended.words, threadId: THREAD, allThreadsStopped: true,
       ...(found.id > 0 ? { hitBreakpointIds: [found.id] } : {}),
     });
@@ -472,6 +472,6 @@ export class DebugAdapter {
    * @param {"console" | "stdout" | "stderr"} category
    */
   output(output, category) {
-    this.connection.tell("output", { category, output });
+    this.connection.sendEvent("output", { category, output });
   }
 }

@@ -1,5 +1,5 @@
-// The session that is debugged, while time runs in it and while it stands: one move at a time, what is done between its pieces, and what
-// is told once it stops.
+// The session that is debugged, both while time runs and while it is paused: one move at a time, the work that is done between its pieces,
+// and the report of each stop.
 
 import { Cancelled } from "../bench/faults.js";
 import { wordsOfCycles } from "../time/cycles.js";
@@ -18,14 +18,14 @@ import { stoppedAt } from "../../words/stops.js";
  * @typedef {import("./session_writer.js").KeptSession} KeptSession
  * @typedef {ReturnType<import("./progress.js").Progress["begin"]>} Work
  *
- * How a move ended: its reason as the protocol has it, the words, and the breakpoint that stopped it, 0 for none.
+ * The end of a move: its reason in the protocol, the message, and the breakpoint that stopped it, 0 for none.
  * @typedef {{ reason: string, words: string, id: number }} Ended
  */
 
 /**
- * What a moved session calls of its front end.
+ * The calls that a moved session makes to its front end.
  * @typedef {object} MachineCalls
- * @property {(ended: Ended) => void} stopped Reports that a move has ended. Called once for each move, after the session stands.
+ * @property {(ended: Ended) => void} stopped Reports that a move has ended. Called once for each move, after the session has stopped.
  * @property {(words: string, category: "console" | "stdout" | "stderr") => void} output Prints words, which end with a line feed, in one of
  *   the client's categories.
  * @property {() => Promise<void>} pause Resolves after other work had its turn; called between the pieces of a move.
@@ -39,24 +39,24 @@ const REASONS = {
   goal: "step", break: "breakpoint", watch: "data breakpoint", pause: "pause", lacks: "step", arrival: "pause", beginning: "entry",
   call: "restart",
 };
-/** @type {Record<string, string>} why time stands where going back has led, by its goal, and by what was met on the way */
+/** @type {Record<string, string>} why time is paused after going back, by the goal, and by what was met on the way */
 const REACHED = { stop: "pause", arrival: "arrival", call: "call" };
 /** @type {Record<string, string>} */
 const MET = { break: "break", change: "watch", beginning: "beginning" };
-/** What is shown is looked at so many milliseconds after it was last. */
+/** The milliseconds between two updates of what is shown. */
 const LOOK_TIME = 100;
 
 export class Machine {
   /**
    * @param {DebugSession} session
-   * @param {KeptSession | null} kept what writes it to its file
+   * @param {KeptSession | null} kept the writer of the session's file
    * @param {MachineCalls} calls
    * @param {boolean} [isRealTime] whether time runs as slowly as on a real 4004
    */
   constructor(session, kept, calls, isRealTime = false) {
     this.isRealTime = isRealTime;
     if (isRealTime) session.largestPiece = FRAME_CYCLES;
-    /** When the move began. */
+    /** The time at which the move began. */
     this.begun = 0;
     this.session = session;
     this.kept = kept;
@@ -64,21 +64,21 @@ export class Machine {
     this.shown = new Shown(session);
     this.isMoving = false;
     this.isToPause = false;
-    /** Whether what is done in the session now is done between two pieces of time that runs. */
+    /** True if work in the session is now done between two pieces of running time. */
     this.isOpen = () => false;
     /** @type {(() => Promise<void>)[]} what waits for that */
     this.waiting = [];
     this.noted = 0;
     this.looked = 0;
-    /** @type {Promise<void>} of the move that is under way, or the last one */
+    /** @type {Promise<void>} of the present move, or the last one */
     this.move = Promise.resolve();
-    /** @type {Work | null} of the move that is under way, but for time that runs as on a real 4004: somebody looks at that */
+    /** @type {Work | null} of the present move; null for time that runs as on a real 4004, which the user watches */
     this.work = null;
   }
 
   // --- moves ---
 
-  /** @param {Goal | null} goal null: on to a stop */
+  /** @param {Goal | null} goal null: run to a stop */
   go(goal) {
     const isOpen = () => goal === null || this.session.debugger.isMoving;
     const act = () => this.session.go(goal, (done, tally) => this.between(tally, done));
@@ -90,7 +90,7 @@ export class Machine {
   }
 
   /**
-   * On to a JMS, and into the subroutine that it calls.
+   * Runs to a JMS, and into the subroutine that it calls.
    * @param {number} address
    */
   intoCall(address) {
@@ -99,7 +99,7 @@ export class Machine {
       if (session.address === address) return session.into();
       const stop = await session.go({ kind: "here", address }, (done, tally) => this.between(tally, done));
       if (stop.why !== "goal") return stop;
-      this.tellTally(stop.tally, stop.tally.noted - this.noted);
+      this.reportTally(stop.tally, stop.tally.noted - this.noted);
       return session.into();
     }, () => session.debugger.isMoving);
   }
@@ -118,7 +118,7 @@ export class Machine {
 
   /**
    * @param {{ isDone: boolean, words: string, end: string, id: number }} went
-   * @param {string} why time stands there, where nothing that is met on the way tells it
+   * @param {string} why why time is paused there, unless something met on the way reports it
    */
   wentBack({ isDone, words, end, id }, why) {
     if (!isDone) this.calls.output(`${words}\n`, "console");
@@ -147,7 +147,7 @@ export class Machine {
     let ended;
     try {
       const { why, words, id, tally } = await act();
-      if (tally) this.tellTally(tally, tally.noted - this.noted);
+      if (tally) this.reportTally(tally, tally.noted - this.noted);
       ended = { reason: REASONS[why] || "exception", words, id };
     } catch (thrown) {
       const isPause = thrown instanceof Cancelled;
@@ -156,7 +156,7 @@ export class Machine {
       ended = { reason: isPause ? "pause" : "exception", words, id: 0 };
     }
     this.isOpen = () => false;
-    // What comes while the session is kept is done, too: nobody would do it later.
+    // Work that arrives while the session is saved is done too: nothing would do it later.
     do {
       await this.doWaiting();
       await this.stand();
@@ -166,9 +166,9 @@ export class Machine {
     this.calls.stopped(ended);
   }
 
-  /** Time stands: what was done is kept, and what is shown is told. */
+  /** Pauses time: saves what was done, and reports what is shown. */
   async stand() {
-    this.tellShown();
+    this.reportShown();
     if (this.kept) await this.keep(this.kept);
   }
 
@@ -184,12 +184,12 @@ export class Machine {
   /**
    * Between two pieces of work.
    * @param {Tally} [tally] of the last piece
-   * @param {number} [done] cycles that were done, or looked through
+   * @param {number} [done] cycles that were done, or searched
    */
   async between(tally, done = 0) {
-    if (tally) this.tellTally(tally, tally.noted);
+    if (tally) this.reportTally(tally, tally.noted);
     if (this.work) this.work.passed(() => wordsOfCycles(done));
-    if (performance.now() - this.looked >= LOOK_TIME && this.isOpen()) this.tellShown();
+    if (performance.now() - this.looked >= LOOK_TIME && this.isOpen()) this.reportShown();
     if (this.isRealTime && tally) await this.waitFor(done);
     await this.calls.pause();
     if (this.isOpen()) await this.doWaiting();
@@ -197,7 +197,7 @@ export class Machine {
   }
 
   /**
-   * A real 4004 has done so many cycles, too.
+   * A real 4004 would have done this number of cycles, too.
    * @param {number} cycles
    */
   async waitFor(cycles) {
@@ -210,14 +210,14 @@ export class Machine {
     this.isToPause = true;
   }
 
-  // --- what is done meanwhile ---
+  // --- work between pieces ---
 
   async doWaiting() {
     for (const act of this.waiting.splice(0)) await act();
   }
 
   /**
-   * Does something in the session: at once where time stands, else between two pieces.
+   * Does something in the session: at once while time is paused, otherwise between two pieces.
    * @template Result
    * @param {() => Result | Promise<Result>} act
    * @returns {Promise<Result>}
@@ -235,9 +235,9 @@ export class Machine {
     });
   }
 
-  // --- what is told ---
+  // --- reports ---
 
-  tellShown() {
+  reportShown() {
     this.looked = performance.now();
     const words = this.shown.take();
     if (words) this.calls.output(`${words}\n`, "stdout");
@@ -246,9 +246,9 @@ export class Machine {
 
   /**
    * @param {Tally} tally
-   * @param {number} count of the notes that were not told yet
+   * @param {number} count of the unreported notes
    */
-  tellTally({ notes, usual }, count) {
+  reportTally({ notes, usual }, count) {
     this.noted += count;
     if (count > notes.length) this.calls.output(`${say.notesBefore(count - notes.length)}\n`, "console");
     for (const { words } of notes.slice(notes.length - Math.min(count, notes.length))) this.calls.output(`${words}\n`, "console");

@@ -1,4 +1,4 @@
-// ROM as the protocol wants it: instructions around an address, and bytes.
+// ROM in the protocol's form: instructions around an address, and bytes.
 
 import { readListing } from "../bench/answers.js";
 import { LAST_ADDRESS, upTo } from "../bench/numbers.js";
@@ -7,15 +7,15 @@ import { MOST_LISTED } from "../bench/rom_bytes.js";
 /**
  * @typedef {import("../debug/debug_session.js").DebugSession} DebugSession
  * @typedef {import("../bench/answers.js").Listed} Listed
- * @typedef {{ address: number, bytes: string, words: string, line: number, name: string }} Row `address` may be none of ROM; `line` is 0
- *   where the program has none
+ * @typedef {{ address: number, bytes: string, words: string, line: number, name: string }} Row `address` may be outside ROM; `line` is 0 if
+ * the program has none
  */
 
 /** @param {Listed} listed */
 const endOf = ({ address, line }) => address + (line.slice(7, 9).trim() === "" ? 1 : 2);
 
 /**
- * The instructions from an address up to another one, which does not belong to them.
+ * Returns the instructions from an address up to another one, which is excluded.
  * @param {DebugSession} session
  * @param {number} from
  * @param {number} to
@@ -32,8 +32,8 @@ function listed(session, from, to) {
 }
 
 /**
- * So many instructions, the first one so many after the one at an address. A row before or after ROM has nothing but an address of its own,
- * which is negative before ROM.
+ * Returns `count` instructions, the first one `offset` instructions after the one at an address. A row before or after ROM has only an
+ * address of its own, which is negative before ROM.
  * @param {DebugSession} session
  * @param {number} address
  * @param {number} offset
@@ -66,7 +66,7 @@ function rowOf({ address, line }, { map }) {
 }
 
 /**
- * @param {number} address that is none of ROM
+ * @param {number} address outside ROM
  * @returns {Row}
  */
 function nothingAt(address) {

@@ -1,4 +1,4 @@
-// What an expression is now: a place, a name of the program, a lamp, the display, a sum of values, a condition.
+// The current value of an expression: a place, a name of the program, a lamp, the display, a sum of values, a condition.
 
 import { hex } from "../bench/numbers.js";
 import { expressionOf } from "../conditions/condition_language.js";
@@ -15,16 +15,16 @@ import { inColumn } from "../../words/conditions.js";
  * @typedef {import("../board/face.js").Face} Face
  * @typedef {import("../help/manual.js").Instruction} Instruction
  * @typedef {import("./number_format.js").Base} Base
- * @typedef {{ session: DebugSession, face: Face, instructions: Map<string, Instruction>, shown: () => string }} Known `shown` tells what
+ * @typedef {{ session: DebugSession, face: Face, instructions: Map<string, Instruction>, shown: () => string }} Known `shown` says what
  *   lamps and displays show
  */
 
-/** Places that `trace` writes as hexadecimal digits, and those that are marks and no numbers; any other is a bit. */
+/** The places that `trace` writes as hexadecimal digits, and those that are marks and not numbers; any other is a bit. */
 const OF_DIGITS = /^(acc|dcl|src|r\d+|p\d|ram\.\d\..*|st\..*|rom\d+|ram\d\.\d)$/;
 const OF_MARKS = /^(chain\d|lamps)$/;
 
 /**
- * The value of a place by its name; "" where it is none, or the board lacks it.
+ * Returns the value of a place by its name; "" if it is no place, or the board lacks it.
  * @param {string} text
  * @param {Known} known
  * @param {Base} base
@@ -42,7 +42,7 @@ function placeValue(text, { session, face }, base) {
 }
 
 /**
- * Of the counter with its line, and of what is no place.
+ * Returns the value of the counter with its line, and of what is not a place.
  * @param {string} text
  * @param {DebugSession} session
  * @param {Base} base
@@ -78,31 +78,31 @@ function nameValue(text, { map }) {
  */
 export function valueOfExpression(text, known, base = "usual") {
   const { session } = known;
-  const told = text.trim();
-  if (told === "") throw new AdapterError(say.NOTHING_TO_EVALUATE);
-  if (told === "display" || told === "lamps") return known.shown();
-  const value = registerValue(told, session, base) || inBase(nameValue(told, session), base) || placeValue(told, known, base);
+  const trimmed = text.trim();
+  if (trimmed === "") throw new AdapterError(say.NOTHING_TO_EVALUATE);
+  if (trimmed === "display" || trimmed === "lamps") return known.shown();
+  const value = registerValue(trimmed, session, base) || inBase(nameValue(trimmed, session), base) || placeValue(trimmed, known, base);
   if (value) return value;
-  const { expression, fault, column } = expressionOf(told, session.names);
+  const { expression, fault, column } = expressionOf(trimmed, session.names);
   if (!expression) throw new AdapterError(inColumn(fault, column));
-  const answers = session.debugger.told(expression.places);
-  return expression.number && base !== "usual" ? numberInBase(expression.number(answers), base) : expression.told(answers);
+  const answers = session.debugger.readPlaces(expression.places);
+  return expression.number && base !== "usual" ? numberInBase(expression.number(answers), base) : expression.textOf(answers);
 }
 
 /**
- * What the page tells of a word where one points at it: what it stands for now.
+ * Returns the current value of the word at the pointer, as text.
  * @param {string} text
  * @param {Known} known
  */
 export function hoverOf(text, known) {
   const { session, instructions } = known;
-  const told = text.trim();
+  const trimmed = text.trim();
   /** @type {(name: string) => import("../debug/value_words.js").Named | undefined} */
   const nameOf = (name) => {
     const found = session.map.names.get(name);
     return found && { ...found, words: session.map.meaningOf(name) };
   };
   const doesOf = (/** @type {string} */ word) => (instructions.get(word) || { does: "" }).does;
-  const pieces = valuesAt(told, 0, new Standing(session.debugger.session.look()), { nameOf, doesOf });
-  return pieces.length > 0 ? textOf(pieces) : doesOf(told.toUpperCase()) || valueOfExpression(told, known);
+  const pieces = valuesAt(trimmed, 0, new Standing(session.debugger.session.takeSnapshot()), { nameOf, doesOf });
+  return pieces.length > 0 ? textOf(pieces) : doesOf(trimmed.toUpperCase()) || valueOfExpression(trimmed, known);
 }

@@ -1,4 +1,4 @@
-// The stack as the protocol has it: the instruction that comes next, and the calls that wait for their return.
+// The stack as the protocol has it: the next instruction, and the calls that have not returned.
 
 import { hex } from "../bench/numbers.js";
 import { areLive, callBefore } from "../machine/returns.js";
@@ -6,8 +6,8 @@ import { areLive, callBefore } from "../machine/returns.js";
 /**
  * @typedef {import("../debug/debug_session.js").DebugSession} DebugSession
  *
- * `line` is 0 where the program has none there; `call` is the address of the JMS that began the frame, -1 for the outermost one, and
- * `returns` are the return addresses that waited then, the newest first.
+ * `line` is 0 if the program has none there. `call` is the address of the JMS that began the frame, -1 for the outermost one. `returns` are
+ * the return addresses then, the newest first.
  * @typedef {{ address: number, line: number, name: string, call: number, returns: string[] }} Frame
  */
 

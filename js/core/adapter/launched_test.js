@@ -1,5 +1,5 @@
-// A test that is debugged: it is run, and its session is made again by what the test did. So time goes back from its failure, or from its
-// end, to its beginning.
+// Debugging of a test: the test is run, and its session is rebuilt from what it did. So time can go back from its failure, or from its end,
+// to its beginning.
 
 import { DebugSession } from "../debug/debug_session.js";
 import { LONGEST_RUN } from "../engine/key_queue.js";
@@ -14,19 +14,19 @@ import * as say from "../../words/adapter.js";
  * @typedef {import("../testing/test_session.js").TestSession} TestSession
  * @typedef {import("../testing/test_suite.js").TestedTexts} TestedTexts
  *
- * The texts of a test: the whole names of the texts of tests up to its own, board and program, and its name.
+ * The texts of a test: the absolute names of the texts of tests up to its own, board and program, and its name.
  * @typedef {{ name: string, file: string, tests: string[], board: string, program: string }} TestTexts
  */
 
-/** @type {(name: string) => string} the address of a file, as far as folders are told apart by it */
+/** @type {(name: string) => string} the address of a file, as far as folders are distinguished by it */
 export const addressOf = (name) => `file://${name.split("/").map(encodeURIComponent).join("/")}`;
 /** @type {(uri: string) => string} */
 export const nameOfAddress = (uri) => decodeURIComponent(uri.slice("file://".length));
 
 /**
- * Finds the texts of a test: those of its project, or those beside it.
+ * Finds the texts of a test: those of its project, or those in its folder.
  * @param {string} name of the test
- * @param {string} file the whole name of its text
+ * @param {string} file the absolute name of its text
  * @param {(name: string) => string | null} read
  * @returns {TestTexts}
  */
@@ -48,11 +48,11 @@ function linesDone({ all }) {
 }
 
 /**
- * Runs a test; returns the session with its past, and what came of the test in words.
+ * Runs a test. Returns the session with its past, and the result of the test in words.
  * @param {Engine} engine
  * @param {TestedTexts} texts
  * @param {TestTexts} test
- * @param {() => Promise<void>} pause lets others have their turn
+ * @param {() => Promise<void>} pause yields to others
  */
 export async function sessionOfTest(engine, texts, { name, file }, pause) {
   /** @type {TestSession[]} */

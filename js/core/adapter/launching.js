@@ -1,5 +1,5 @@
-// What `launch` begins: a session in memory with the texts of a board and a program, or with what a session file has; and what `attach`
-// does: a session file as it is, in a copy, unless the user wants it written.
+// The sessions that `launch` and `attach` begin. `launch` makes a session in memory from the texts of a board and a program, or from a
+// session file. `attach` opens a session file, in a copy unless the user wants it written.
 
 import { refusalOf } from "../bench/answers.js";
 import { BenchRefusal } from "../bench/faults.js";
@@ -23,21 +23,22 @@ import { leadsOut } from "../../words/server.js";
  * @typedef {import("../bench/words.js").Words} Words
  * @typedef {import("./session_writer.js").OpenFile} OpenFile
  *
- * What the host gives: the whole name of a file, beside a folder where it is not whole; a text, null where none can be read; whether no
- * link leads out of a folder; a program that opens a session file, or makes one by some lines; the bytes of one that no program has open;
- * and a turn for others.
+ * The host's calls: the absolute name of a file, given the folder of a relative one; a text, null if unreadable, and the error if it cannot
+ * be read; whether no link leaves a folder; a program that opens a session file, or makes one from lines; the bytes of one that no program
+ * has open; and a turn for others.
  * @typedef {{ nameOf: (name: string, folder: string) => string, beside: (name: string, other: string) => string,
- *   read: (name: string) => string | null, isThere: (name: string) => boolean, isInside: (name: string, folder: string) => boolean,
+ *   read: (name: string) => string | null, whyUnread: (name: string) => string, isThere: (name: string) => boolean,
+ *   isInside: (name: string, folder: string) => boolean,
  *   open: (name: string) => Promise<OpenFile>, make: (name: string) => Promise<OpenFile>,
  *   readSession: (name: string) => Promise<Uint8Array>, pause: () => Promise<void> }} Host
  *
- * What was launched, or attached to, by some arguments: `program` is the name of its file, "" where its text was made of what stands in
- * ROM. `nameOf` gives the whole name of a file. `test` is the one that is debugged, and `note` what came of it.
+ * The result of a launch or attach: `program` is the name of its file, "" if its text was disassembled from ROM. `nameOf` returns the
+ * absolute name of a file. `test` is the one that is debugged, and `note` its result.
  * @typedef {{ session: DebugSession, kept: KeptSession | null, program: string, board: string, stopsOnEntry: boolean, isDebugged: boolean,
  *   isRealTime: boolean, isAttached: boolean, args: any, nameOf: (name: string) => string, test: TestTexts | null, note: string }} Launched
  *
  * @typedef {import("./launched_test.js").TestTexts} TestTexts
- * @typedef {{ board: string, program: string, session: string, load: boolean, test: TestTexts | null }} Wanted whole names, "" for none
+ * @typedef {{ board: string, program: string, session: string, load: boolean, test: TestTexts | null }} Wanted absolute names, "" for none
  */
 
 /** @param {string} name */
@@ -91,7 +92,7 @@ function filesOf(name, host) {
 }
 
 /**
- * The board that a program is for, as the language server finds it.
+ * Returns the board of a program, found as by the language server.
  * @param {string} program
  * @param {Host} host
  */
@@ -103,14 +104,14 @@ function boardOf(program, host) {
 }
 
 /**
- * The text of a file, with no character that cannot be sent.
+ * Returns the text of a file, without characters that cannot be sent.
  * @param {string} name
  * @param {";" | "#"} mark
  * @param {Host} host
  */
 function textIn(name, mark, host) {
   const text = host.read(name);
-  if (text === null) throw new AdapterError(say.cannotRead(name), true);
+  if (text === null) throw new AdapterError(host.whyUnread(name), true);
   const whole = text.replace(/^\uFEFF/, "").replace(/\r\n?/g, "\n");
   const [fault] = faultsOfLines(whole, mark);
   if (fault) throw new AdapterError(`${lastPart(name)}, line ${fault.line}: ${fault.words}`, true);
@@ -129,7 +130,7 @@ function refused(name, { number, line }, words) {
 }
 
 /**
- * The session of texts alone.
+ * Makes a session from texts only.
  * @param {Engine} engine
  * @param {Wanted} wanted
  * @param {Host} host
@@ -146,7 +147,7 @@ function ofTexts(engine, wanted, host, words) {
 }
 
 /**
- * The session of a test, as it is where the test has failed, or at its end.
+ * Returns the session of a test, at its failure or at its end.
  * @param {Engine} engine
  * @param {TestTexts} test
  * @param {Host} host
@@ -159,7 +160,7 @@ async function ofTest(engine, test, host) {
 }
 
 /**
- * The session of a file, and what writes it.
+ * Opens the session of a file, and its writer.
  * @param {Engine} engine
  * @param {Wanted} wanted
  * @param {Host} host
@@ -170,9 +171,9 @@ async function ofFile(engine, wanted, host, words) {
   const program = wanted.program === "" ? "" : textIn(wanted.program, ";", host);
   const isNew = !host.isThere(wanted.session);
   if (isNew && (board === "" || program === "")) {
-    throw new AdapterError(say.sessionNotThere(wanted.session), true);
+    throw new AdapterError(say.sessionMissing(wanted.session), true);
   }
-  // What cannot be made is refused before the file is.
+  // Errors in the arguments are reported before the file is opened.
   if (isNew) ofTexts(engine, wanted, host, words);
   const file = await (isNew ? host.make(wanted.session) : host.open(wanted.session));
   try {
@@ -190,7 +191,7 @@ async function ofFile(engine, wanted, host, words) {
 }
 
 /**
- * The session that a file has, in memory: the file stays as it is.
+ * Loads the session of a file into memory: the file is unchanged.
  * @param {Engine} engine
  * @param {Wanted} wanted
  * @param {Host} host
@@ -224,14 +225,14 @@ async function serveText(session, word, text, name, words) {
 }
 
 /**
- * Where ROM has other bytes than the program; "" where it has the same.
+ * Returns the place where ROM differs from the program, in words; "" if the bytes are the same.
  * @param {DebugSession} session
  */
 export function differenceWords(session) {
-  const { engine, file, lookQuestions } = session.debugger.session;
+  const { engine, file, statusQueries } = session.debugger.session;
   const { refusal, ...program } = readProgram(engine, sentText(session.program, ";"));
-  if (refusal) return say.PROGRAM_HAS_FAULTS;
-  const difference = differenceOf(engine, file, lookQuestions.board, { refusal, ...program });
+  if (refusal) return say.PROGRAM_HAS_ERRORS;
+  const difference = differenceOf(engine, file, statusQueries.board, { refusal, ...program });
   return difference ? say.romDiffers(difference.hasRom, hex(difference.address, 3)) : "";
 }
 
@@ -266,7 +267,7 @@ export async function launch(engine, args, host, words) {
 }
 
 /**
- * Attaches to a session file, which has to be there. Without `write` it stays as it is.
+ * Attaches to an existing session file. Without `write` the file stays as it is.
  * @param {Engine} engine
  * @param {any} args
  * @param {Host} host

@@ -12,10 +12,10 @@ import * as say from "../../words/adapter.js";
 /**
  * @typedef {import("../debug/debug_session.js").DebugSession} DebugSession
  *
- * A stretch of memory: the number of its first place, what it holds, and the place of `poke` of each.
+ * A range of memory: the number of its first place, its contents, and for each the place of `poke`.
  * @typedef {{ begin: number, bytes: Uint8Array, place: (at: number) => string }} Area
  *
- * What a request names: a stretch, and a place in it, which may be outside.
+ * The place that a request names: a range, and an offset in it, which may be outside.
  * @typedef {{ area: Area, from: number }} Spot
  */
 
@@ -46,7 +46,7 @@ export function numberOfPlace(name) {
 }
 
 /**
- * Returns the number that a reference names: a number, a bank as `ram.0`, a character of RAM, or what names an address.
+ * Returns the number that a reference names: a number, a bank as `ram.0`, a RAM character, or an expression for an address.
  * @param {string} reference
  * @param {(reference: string) => number} addressOf
  */
@@ -59,7 +59,7 @@ function numberOfReference(reference, addressOf) {
 }
 
 /**
- * Returns the stretch of memory around a place; null where the board has none.
+ * Returns the range of memory around a place; null if the board has none.
  * @param {DebugSession} session
  * @param {number} number
  * @returns {Area | null}
@@ -110,7 +110,7 @@ export function readMemory(args, session, addressOf) {
 }
 
 /**
- * Serves the request `writeMemory`: all of the bytes, or none if one is refused. With `allowPartial` those outside of memory are left out.
+ * Serves the request `writeMemory`: all of the bytes, or none if one is rejected. With `allowPartial` those outside of memory are left out.
  * @param {any} args
  * @param {DebugSession} session
  * @param {(reference: string) => number} addressOf

@@ -1,4 +1,4 @@
-// How numbers are shown: as usual (places of the machine by their hexadecimal digits, sums in decimal), or all of them in one base, if the
+// The format of numbers: as usual (places of the machine by their hexadecimal digits, sums in decimal), or all of them in one base, if the
 // client asks for it (`format.hex`).
 
 import { fieldOf } from "../server/framing.js";
@@ -8,10 +8,10 @@ import * as say from "../../words/adapter.js";
 /** @typedef {"usual" | "hex" | "decimal"} Base */
 
 /**
- * Returns what the arguments of a request ask for.
+ * Returns the number format that a request asks for.
  * @param {any} args
  * @param {"hex" | "line"} name
- * @returns {boolean | null} null where they do not say
+ * @returns {boolean | null} null if the request does not specify it
  */
 export function formatOf(args, name) {
   const format = fieldOf(args, "format");
@@ -31,7 +31,7 @@ export function baseOf(args) {
 }
 
 /**
- * Returns a value in which numbers begin with 0x; a name of the program is shown in both bases, `0x1F, 31`.
+ * Returns a value whose numbers begin with 0x; a name of the program is shown in both bases, `0x1F, 31`.
  * @param {string} text
  * @param {Base} base
  */

@@ -3,7 +3,7 @@
 import { AdapterError } from "./dap_protocol.js";
 import * as say from "../../words/adapter.js";
 
-/** Work is reported after so many milliseconds, and then again each time that so many have passed. */
+/** Progress is reported after this many milliseconds, and again after each further interval. */
 const REPORTED_AFTER = 1000;
 const REPORTED_EVERY = 500;
 
@@ -23,15 +23,15 @@ class Work {
   }
 
   /**
-   * Reports that the work goes on, if it is time to.
-   * @param {() => string} message how far it has come
+   * Reports progress if it is due.
+   * @param {() => string} message the progress in words
    */
   passed(message) {
     const now = performance.now();
     if (!this.progress.isOn || now < this.due) return;
     this.due = now + REPORTED_EVERY;
     if (this.id === "") this.id = this.progress.start(this, message());
-    else this.progress.tell("progressUpdate", { progressId: this.id, message: message() });
+    else this.progress.sendEvent("progressUpdate", { progressId: this.id, message: message() });
   }
 
   end() {
@@ -41,10 +41,10 @@ class Work {
 }
 
 export class Progress {
-  /** @param {(event: string, body: object) => void} tell sends an event */
-  constructor(tell) {
-    this.tell = tell;
-    /** Whether the client shows it. */
+  /** @param {(event: string, body: object) => void} sendEvent sends an event */
+  constructor(sendEvent) {
+    this.sendEvent = sendEvent;
+    /** True if the client shows it. */
     this.isOn = false;
     this.after = REPORTED_AFTER;
     this.made = 0;
@@ -53,7 +53,7 @@ export class Progress {
   }
 
   /**
-   * Some work begins.
+   * Begins some work.
    * @param {string} title
    * @param {() => void} stop ends it early
    */
@@ -69,14 +69,14 @@ export class Progress {
     this.made += 1;
     const progressId = `mcs4 ${this.made}`;
     this.works.set(progressId, work);
-    this.tell("progressStart", { progressId, title: work.title, cancellable: true, message });
+    this.sendEvent("progressStart", { progressId, title: work.title, cancellable: true, message });
     return progressId;
   }
 
   /** @param {string} progressId */
   end(progressId) {
     this.works.delete(progressId);
-    this.tell("progressEnd", { progressId });
+    this.sendEvent("progressEnd", { progressId });
   }
 
   /**

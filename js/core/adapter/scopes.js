@@ -1,4 +1,4 @@
-// What stands in the machine, as scopes of variables: registers, pairs, RAM, ports, lamps, keys, names of the program.
+// The state of the machine, as scopes of variables: registers, pairs, RAM, ports, lamps, keys, names of the program.
 
 import { readBoard, readMarks } from "../bench/answers.js";
 import { hex, upTo } from "../bench/numbers.js";
@@ -15,8 +15,8 @@ import { sourceOfBank } from "../../words/debug.js";
  * @typedef {import("../debug/debug_session.js").DebugSession} DebugSession
  * @typedef {import("../board/face.js").Face} Face
  *
- * A value with its name, what evaluates to it, and a reference to what is inside it, 0 for nothing. `place`: what set_place.js sets it by,
- * "" where nothing does; `memory`: where it is for who reads memory; `isDecimal`: its value is a decimal number; `watched`: the place whose
+ * A value with its name, the expression for it, and a reference to its contents, 0 for none. `place`: the place by which set_place.js sets
+ * it, "" if it cannot be set; `memory`: its memory reference; `isDecimal`: its value is a decimal number; `watched`: the place whose
  * changes can stop time.
  * @typedef {{ name: string, value: string, evaluateName?: string, place: string, inside: number, count?: number,
  *   memory?: string, isDecimal?: boolean, watched?: string }} Variable
@@ -30,7 +30,7 @@ const [REGISTERS, PAIRS, RAM, PORTS, LAMPS, KEYS, NAMES] = [1, 2, 3, 4, 5, 6, 7]
 const [BANK, REGISTER] = [100, 200];
 
 /** @type {(digit: string) => string} */
-const told = (digit) => `0x${digit}`;
+const inHex = (digit) => `0x${digit}`;
 
 /**
  * @param {string} name
@@ -51,7 +51,7 @@ function variable(name, value, place = "") {
 const decimal = (name, value, place) => ({ ...variable(name, value, place), isDecimal: true });
 
 /**
- * A place that is shown, and that nothing sets.
+ * A place that is shown and cannot be set.
  * @param {string} name
  * @param {string} value
  * @param {string} place
@@ -63,16 +63,16 @@ const shown = (name, value, place) => ({ ...variable(name, value), evaluateName:
 function registers({ standing: { registers: all } }) {
   const { accumulator, carry, counter, bank, test, owed } = all;
   return [
-    variable("acc", told(accumulator), "acc"), decimal("cy", carry, "cy"),
-    { ...variable("pc", told(counter), "pc"), memory: told(counter) },
-    variable("dcl", told(bank), "dcl"), decimal("test", test, "test"), decimal("owed", owed),
-    ...all.registers.map((value, at) => variable(`R${at}`, told(value), `r${at}`)),
+    variable("acc", inHex(accumulator), "acc"), decimal("cy", carry, "cy"),
+    { ...variable("pc", inHex(counter), "pc"), memory: inHex(counter) },
+    variable("dcl", inHex(bank), "dcl"), decimal("test", test, "test"), decimal("owed", owed),
+    ...all.registers.map((value, at) => variable(`R${at}`, inHex(value), `r${at}`)),
   ];
 }
 
 /** @param {Seen} seen */
 function pairs({ standing }) {
-  return upTo(8).map((at) => variable(`P${at}`, told(standing.pair(at)), `p${at}`));
+  return upTo(8).map((at) => variable(`P${at}`, inHex(standing.pair(at)), `p${at}`));
 }
 
 /** @param {Seen} seen */
@@ -115,11 +115,11 @@ function characters({ standing, session }, bank, register) {
       const named = constants.filter((each) => each.value === byte && byte > 15).map(({ name }) => name);
       const place = `ram.${bank}.0x${hex(byte, 2)}`;
       const name = `0x${hex(byte, 2)}${named.length > 0 ? ` ${named.join(" ")}` : ""}`;
-      return { ...variable(name, told(value), place), memory: memoryOf(place) };
+      return { ...variable(name, inHex(value), place), memory: memoryOf(place) };
     }),
     ...[...found.status].map((value, at) => {
       const place = `st.${bank}.${register}.${at}`;
-      return { ...variable(`status ${at}`, told(value), place), memory: memoryOf(place) };
+      return { ...variable(`status ${at}`, inHex(value), place), memory: memoryOf(place) };
     }),
   ];
 }
@@ -131,8 +131,8 @@ function ports({ standing, face }) {
   const { roms, chains, sources } = standing.ports;
   const rams = [...standing.ram].flatMap(([bank, ram]) => [...ram.ports].map(([name, out]) => ({ bank, name, out })));
   return [
-    ...roms.map(({ chip, out, in: read }) => shown(named(`rom${chip}`), `out ${told(out)}, in ${told(read)}`, `rom${chip}`)),
-    ...rams.map(({ name, out }) => shown(named(`ram${name}`), `out ${told(out)}`, `ram${name}`)),
+    ...roms.map(({ chip, out, in: read }) => shown(named(`rom${chip}`), `out ${inHex(out)}, in ${inHex(read)}`, `rom${chip}`)),
+    ...rams.map(({ name, out }) => shown(named(`ram${name}`), `out ${inHex(out)}`, `ram${name}`)),
     ...chains.map((bits, at) => shown(named(`chain${at}`), bits, `chain${at}`)),
     ...sources.map((source) => sourceOf(source)),
   ];
@@ -141,8 +141,8 @@ function ports({ standing, face }) {
 /** @param {string} source the byte that SRC has sent, of a bank with the bank and a dot before it */
 function sourceOf(source) {
   const [bank, byte] = source.split(".");
-  if (byte === undefined) return variable("SRC", say.selectsRom(told(bank), parseInt(bank[0], 16)));
-  return variable(sourceOfBank(bank), `${told(byte)}: ${wordsOfCharacter(parseInt(byte, 16))}`);
+  if (byte === undefined) return variable("SRC", say.selectsRom(inHex(bank), parseInt(bank[0], 16)));
+  return variable(sourceOfBank(bank), `${inHex(byte)}: ${wordsOfCharacter(parseInt(byte, 16))}`);
 }
 
 /** @param {Seen} seen */
@@ -195,10 +195,10 @@ export class Scopes {
   get seen() {
     const { session, face } = this;
     const bench = session.debugger.session;
-    return { standing: new Standing(bench.look()), face, session, board: readBoard(bench.lookQuestions.board) };
+    return { standing: new Standing(bench.takeSnapshot()), face, session, board: readBoard(bench.statusQueries.board) };
   }
 
-  /** Those that have something in them. */
+  /** Returns the scopes that are not empty. */
   all() {
     const { seen } = this;
     return Object.entries(SCOPES).map(([reference, { title, of, hint }]) => (
@@ -207,7 +207,7 @@ export class Scopes {
   }
 
   /**
-   * What is inside a reference; null where there is none of this number.
+   * Returns the variables inside a reference, or null if there is no reference of this number.
    * @param {number} reference
    * @param {Base} [base] of numbers
    * @returns {Variable[] | null}
@@ -228,7 +228,7 @@ export class Scopes {
   }
 
   /**
-   * Gives a variable another value; its new one, as it is shown.
+   * Sets a variable; returns its new value, as it is shown.
    * @param {number} reference
    * @param {string} name
    * @param {string} value

@@ -1,5 +1,5 @@
-// What was done in a session in memory is written to its file, line by line, by a program that has the file open (`mcs4 open FILE`). Where
-// going back has left what the file has, a file with the session as it was takes its place, and the program goes on with that.
+// Writes what was done in a session in memory to its file, line by line, through a program that has the file open (`mcs4 open FILE`). If
+// going back has left the history of the file, the file is replaced by the session as it was, and the program continues with that.
 
 import { refusalOf } from "../bench/answers.js";
 import { linesOf } from "../bench/inputs.js";
@@ -10,8 +10,8 @@ import * as say from "../../words/adapter.js";
  * @typedef {import("../engine/worker_session.js").WorkerSession} WorkerSession
  * @typedef {import("../engine/timeline.js").Segment} Segment
  *
- * A program with a session file open. `ask` gives so many answers to lines; `replace` puts a session with these bytes, on which lines
- * were served, into the place of the file; where their answers are not right, or it cannot be, it throws and all is as it was.
+ * A program with a session file open. `ask` returns a given number of answers to lines. `replace` replaces the file by a session with these
+ * bytes, on which lines were served; if the answers differ, or it cannot, it throws and changes nothing.
  * @typedef {{ bytes: Uint8Array, ask: (lines: string, count: number) => Promise<string[]>,
  *   replace: (bytes: Uint8Array, lines: string, count: number, check: (answers: string[]) => void) => Promise<void>,
  *   end: () => Promise<void> }} OpenFile
@@ -24,13 +24,13 @@ export class KeptSession {
    */
   constructor(file, session) {
     this.file = file;
-    /** @type {Segment | null} the one that the file has so many commands of; null where it is not known what it has */
+    /** @type {Segment | null} the segment whose commands the file has; null if its contents are unknown */
     this.segment = session.timeline.last;
     this.count = 0;
   }
 
   /**
-   * The commands after those that the file has; null where they do not lead on from there.
+   * Returns the commands that the file lacks; null if they do not continue its history.
    * @param {WorkerSession} session
    */
   missing({ timeline, unrecorded }) {
@@ -41,7 +41,7 @@ export class KeptSession {
   }
 
   /**
-   * The file has what the session is; it throws where that cannot be.
+   * Brings the file to the state of the session; throws if it cannot.
    * @param {WorkerSession} session
    */
   async write(session) {

@@ -1,4 +1,4 @@
-// Gives a place of the machine another value: what `poke` has, TEST, a pair of registers, a key.
+// Sets a place of the machine: any place of `poke`, TEST, a register pair, a key.
 
 import { refusalOf } from "../bench/answers.js";
 import { expressionOf } from "../conditions/condition_language.js";
@@ -14,27 +14,27 @@ import { cannotBeSet, inColumn } from "../../words/conditions.js";
 /** @typedef {import("../debug/debug_session.js").DebugSession} DebugSession */
 
 /**
- * The number that a value is now: a numeral, a name of the program, a place, a sum.
+ * Returns the current value of an expression as a number: a numeral, a name of the program, a place, a sum.
  * @param {string} text
  * @param {DebugSession} session
- * @param {number} [begin] its column in what was typed
+ * @param {number} [begin] its column in the typed text
  */
 export function valueOf(text, session, begin = 0) {
-  // A client sends what it was shown, perhaps with words about it: `0x012, line 9`.
-  const told = text.trim().replace(/^(\w+),.*$/, "$1");
-  if (told === "") throw new AdapterError(say.noNumber(say.NOTHING));
-  const { expression, fault, column } = expressionOf(told, session.names);
+  // A client sends back what it was shown, perhaps with a remark: `0x012, line 9`.
+  const valueText = text.trim().replace(/^(\w+),.*$/, "$1");
+  if (valueText === "") throw new AdapterError(say.noNumber(say.NOTHING));
+  const { expression, fault, column } = expressionOf(valueText, session.names);
   if (!expression) throw new AdapterError(inColumn(fault, begin + column));
-  if (!expression.number) throw new AdapterError(say.noNumber(told));
-  return expression.number(session.debugger.told(expression.places));
+  if (!expression.number) throw new AdapterError(say.noNumber(valueText));
+  return expression.number(session.debugger.readPlaces(expression.places));
 }
 
 /**
- * Returns the lines that give a place a value, which may be one that the machine has now.
+ * Returns the lines that set a place, even if it has that value now.
  * @param {string} place as `settablePlace` gives it, or `key 0 2`
  * @param {string} text
  * @param {DebugSession} session
- * @param {number} [begin] the column of the text in what was typed
+ * @param {number} [begin] the column of the text in the typed line
  */
 function linesFor(place, text, session, begin = 0) {
   const key = place.startsWith("key ") ? keyOfText(place.slice("key ".length)) : null;
@@ -49,8 +49,8 @@ function linesFor(place, text, session, begin = 0) {
 }
 
 /**
- * Returns the lines that `set` stands for.
- * @param {string} text what follows `set`: `r4 = r5 + 1`
+ * Returns the lines that `set` expands to.
+ * @param {string} text the text after `set`: `r4 = r5 + 1`
  * @param {DebugSession} session
  */
 export function linesOfSet(text, session) {

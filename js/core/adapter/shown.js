@@ -1,4 +1,4 @@
-// What the lamps and displays of a board show, in words, and when that has changed.
+// The lamps and displays of a board, in words, and the changes of that text.
 
 import { readMarks } from "../bench/answers.js";
 import { DisplayText } from "../board/display_text.js";
@@ -20,14 +20,14 @@ export class Shown {
     this.before = this.now();
   }
 
-  /** A mark for each lamp, `*` where it is lit. */
+  /** A mark for each lamp, `*` if it is on. */
   get marks() {
     return readMarks(this.session.debugger.session.ask("lamps\n")[0]).join("");
   }
 
   /**
-   * What a display shows, and the names of the lamps that are lit beside it; without a display the marks of all lamps, too. Where its
-   * digits are lit by turns, it is what an eye sees.
+   * Returns the text that a display shows, and the names of the other lamps that are on; without a display also the marks of all lamps. A
+   * multiplexed display shows its digits as perceived.
    */
   now() {
     const { marks } = this;
@@ -42,7 +42,7 @@ export class Shown {
     return new SeenText(this.face, count).read(this.session.debugger.session.ask(SEEN_QUESTION));
   }
 
-  /** What is shown, where it is not what was told last; else "". */
+  /** Returns the display if it differs from the last report; otherwise "". */
   take() {
     const now = this.now();
     if (now === this.before) return "";

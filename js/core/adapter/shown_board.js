@@ -2,13 +2,13 @@
 // key. editor_view.js draws it.
 
 import { readBoard } from "../bench/answers.js";
-import { LookReader } from "../bench/look.js";
+import { SnapshotReader } from "../bench/snapshot.js";
 import { Face } from "../board/face.js";
 import { printerOf } from "../board/face_board.js";
 import { keyOfText, lineOfKey } from "../board/key_place.js";
 import { Printing } from "../engine/printing.js";
 import { SEEN_QUESTION } from "../engine/seen_text.js";
-import { Shining } from "../engine/shining.js";
+import { BrightnessMeter } from "../engine/brightness_meter.js";
 import { fail } from "./dap_protocol.js";
 import * as say from "../../words/adapter.js";
 
@@ -16,29 +16,29 @@ import * as say from "../../words/adapter.js";
  * @typedef {import("./console.js").Console} Console
  * @typedef {import("./debugged_machine.js").Machine} Machine
  *
- * What is new: the answers to `board` and the board's text; a mark for each lamp, `*` where it is lit; the keys that are down, as
- * `row.column`; the level of TEST; whether time runs; while it runs, what is lit in the 30 ms that come next; and what was sent to the
- * board's printer since the board is drawn.
+ * The changes: the answers to `board` and the board's text; a mark for each lamp, `*` if it is on; the keys that are down, as `row.column`;
+ * the level of TEST; whether time runs; while it runs, the lamps of the next 30 ms as perceived; and what the printer received since the
+ * board was drawn.
  * @typedef {{ board?: string[], boardText?: string, lamps?: string, keys?: string[], test?: string, isRunning?: boolean,
- *   shone?: import("../engine/shining.js").Shone, printed?: import("../engine/printing.js").Printed }} ShownNews
+ *   litShares?: import("../engine/brightness_meter.js").LitShares, printed?: import("../engine/printing.js").Printed }} ShownNews
  */
 
 export class ShownBoard {
   /** @param {Machine} machine */
   constructor(machine) {
     this.machine = machine;
-    this.reader = new LookReader();
+    this.reader = new SnapshotReader();
     this.board = "";
-    /** @type {boolean | null} whether time ran when it was told last */
+    /** @type {boolean | null} whether time ran when it was reported last */
     this.isRunning = null;
     this.face = new Face("");
     this.lampCount = 0;
-    /** What was told last of what is lit, "" while time is paused. */
-    this.shone = "";
+    /** The last report of lamps as perceived, "" while time is paused. */
+    this.litShares = "";
   }
 
   /**
-   * What is new since it was told last; all of it at first.
+   * Returns the changes since the last report; all values at first.
    * @returns {ShownNews}
    */
   take() {
@@ -46,45 +46,45 @@ export class ShownBoard {
     const { session: bench } = session.debugger;
     /** @type {ShownNews} */
     const news = {};
-    const board = bench.lookQuestions.board.join("\n");
+    const board = bench.statusQueries.board.join("\n");
     if (board !== this.board) {
       this.board = board;
       this.reader.forget();
       this.face = new Face(session.boardText);
-      const wired = readBoard(bench.lookQuestions.board);
+      const wired = readBoard(bench.statusQueries.board);
       this.lampCount = wired.lamps.length;
       const printer = printerOf(wired, this.face);
       if (!printer) bench.printing = null;
       else if (!bench.printing || !bench.printing.isOf(printer)) bench.printing = new Printing({ ...printer, codes: [] });
-      Object.assign(news, { board: bench.lookQuestions.board, boardText: session.boardText });
+      Object.assign(news, { board: bench.statusQueries.board, boardText: session.boardText });
     }
     Object.assign(news, this.reader.take(bench.ask("state\n")));
     const printed = bench.printing && bench.printing.takeNews(bench.count.total);
     if (printed) news.printed = printed;
     if (isMoving !== this.isRunning) news.isRunning = isMoving;
     this.isRunning = isMoving;
-    return { ...news, ...this.takeShone() };
+    return { ...news, ...this.takeLitShares() };
   }
 
-  /** What was printed is taken away. */
-  tear() {
+  /** Clears the printout. */
+  clear() {
     const { printing } = this.machine.session.debugger.session;
-    if (printing) printing.tear();
+    if (printing) printing.clear();
   }
 
-  /** What is new of what is lit while time runs. */
-  takeShone() {
-    const { machine, face, lampCount, shone: before } = this;
-    this.shone = "";
+  /** Returns the changes of the lamps' brightness while time runs. */
+  takeLitShares() {
+    const { machine, face, lampCount, litShares: before } = this;
+    this.litShares = "";
     if (!machine.isMoving || lampCount === 0) return {};
-    const shone = new Shining(face, lampCount, 0).take([machine.session.debugger.session.ask(SEEN_QUESTION)]);
-    this.shone = JSON.stringify(shone);
-    return this.shone === before ? {} : { shone };
+    const litShares = new BrightnessMeter(face, lampCount, 0).take([machine.session.debugger.session.ask(SEEN_QUESTION)]);
+    this.litShares = JSON.stringify(litShares);
+    return this.litShares === before ? {} : { litShares };
   }
 }
 
 /**
- * A key goes down, or up: at once where time stands, else when its turn comes.
+ * Moves a key down or up: at once while time is paused, otherwise when its turn comes.
  * @param {Machine} machine
  * @param {Console} lines
  * @param {string} text of a key: `0 2`, or `test 0`

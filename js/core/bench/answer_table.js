@@ -1,10 +1,10 @@
-// Which line opens a text, and which answer is whose: the table tools/lib/answers.txt, which says what its columns are.
+// The lines that begin texts, and the line that each answer belongs to: the table tools/lib/answers.txt, which describes its columns.
 
 import table from "#answer-table";
 
 /**
- * What a word that begins a line of the bench means: whether it opens a text, and whether it only asks; the form of the first line of its
- * answer, and of each further one (null where there is none); and how many those are, as the table writes it.
+ * The meaning of the first word of a line: whether it begins a text, and whether it only asks; the form of the first line of its answer,
+ * and of each further one (null if there is none); and how many those are, as the table writes it.
  * @typedef {{ opensText: boolean, isQuestion: boolean, first: RegExp, further: RegExp | null, count: string }} Form
  */
 
@@ -28,7 +28,7 @@ export function readForms(text) {
 export const FORMS = readForms(table);
 
 /**
- * Whether a word begins a line that only asks.
+ * Returns whether a word begins a line that only asks.
  * @param {string} word
  */
 export function isQuestion(word) {
@@ -40,7 +40,7 @@ export function isQuestion(word) {
 const LISTED = /** @type {RegExp} */ (/** @type {Form} */ (FORMS.get("list")).further);
 
 /**
- * Whether an answer is a line of a listing.
+ * Returns whether an answer is a line of a listing.
  * @param {string} answer
  */
 export function isListed(answer) {

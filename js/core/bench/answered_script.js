@@ -1,4 +1,4 @@
-// A script of lines with the answers to it: which answer is whose, and whether they are the answers to this script at all.
+// A script of lines with its answers: which answer belongs to which input, and whether they are answers to this script at all.
 
 import { FORMS } from "./answer_table.js";
 import { refusalOf } from "./answers.js";
@@ -8,10 +8,10 @@ import * as say from "../../words/bench.js";
 /**
  * @typedef {import("./inputs.js").Input} Input
  *
- * An input, the number of its line, and the first line of its answer, "" if it was not answered.
+ * An input, its line number, and the first line of its answer, "" if it was not answered.
  * @typedef {{ input: Input, at: number, answer: string }} AnsweredInput
  *
- * The inputs of a script; or why the answers are not those to it, in words.
+ * The inputs of a script; or why these are not its answers, in words.
  * @typedef {{ inputs: AnsweredInput[], words: string }} AnsweredScript
  */
 
@@ -30,7 +30,7 @@ function canBegin({ kind, line }, answer) {
 }
 
 /**
- * Returns how many lines the answer to an input has, also those that are not there if its first line counts them.
+ * Returns the number of lines in the answer to an input, including those that are missing if its first line counts them.
  * @param {Input} input
  * @param {string[]} answers
  * @param {number} from
@@ -61,9 +61,9 @@ class Matching {
     this.answers = answers;
     this.commands = Number((OPENED.exec(answers[0]) || ["", "0"])[1]);
     this.at = 1;
-    /** Why these are not the answers, in words. */
+    /** Says why these are not the answers, in words. */
     this.words = "";
-    /** Whether the answers end within one. */
+    /** True if the answers end within one. */
     this.isCut = false;
   }
 

@@ -1,4 +1,4 @@
-// What answers say.
+// Readers of answers.
 
 import { isListed } from "./answer_table.js";
 
@@ -12,7 +12,7 @@ import { isListed } from "./answer_table.js";
  * @typedef {{ chip: string, out: string, in: string }} RomPort
  * @typedef {{ sources: string[], roms: RomPort[], chains: string[], keys: string[] }} Ports
  * @typedef {{ address: number, line: string }} Listed
- * @typedef {{ line: number, address: number, size: number }} MappedLine a line of a program, and how many bytes it puts from an address on
+ * @typedef {{ line: number, address: number, size: number }} MappedLine a line of a program, its address, and its number of bytes
  * @typedef {{ lines: MappedLine[], names: { name: string, value: number }[] }} ProgramMap
  * @typedef {{ clock: string, data: string, chips: number }} Chain
  * @typedef {{ chain: number, first: number, rows: number, columns: string[] }} Matrix row r is driven by bit `first + r` of the chain
@@ -21,17 +21,18 @@ import { isListed } from "./answer_table.js";
  */
 
 /**
- * The number of a refusal and the line that it names, 0 for none; null where an answer is not one.
+ * Returns the number of a refusal and the line that it names, 0 for none; null if an answer is not a refusal. After the line, `wiring`
+ * names a part.
  * @param {string} answer
  * @returns {Refusal | null}
  */
 export function refusalOf(answer) {
-  const found = /^no (\d+)(?: line (\d+))?$/.exec(answer);
+  const found = /^no (\d+)(?: line (\d+)(?: .+)?)?$/.exec(answer);
   return found && { number: Number(found[1]), line: Number(found[2] || 0) };
 }
 
 /**
- * `ok 7 ran 100 end`: how many cycles a run took and why it stopped; null where it is not the answer to a run.
+ * Reads `ok 7 ran 100 end`: the cycles of a run and why it stopped; null if it is not the answer to a run.
  * @param {string} answer
  * @returns {Run | null}
  */
@@ -41,7 +42,7 @@ export function readRun(answer) {
 }
 
 /**
- * Whether a command was not done to its end: refused, or a run that stopped early.
+ * Returns whether a command was not completed: it was rejected, or its run stopped early.
  * @param {string} answer
  */
 export function isStop(answer) {
@@ -50,7 +51,7 @@ export function isStop(answer) {
 }
 
 /**
- * The answer to `regs`.
+ * Reads the answer to `regs`.
  * @param {string} answer
  * @returns {Registers}
  */
@@ -63,7 +64,7 @@ export function readRegisters(answer) {
 }
 
 /**
- * The counter and the owed cycle alone, of the answer to `regs`.
+ * Reads the counter and the pending second cycle from the answer to `regs`.
  * @param {string} answer
  */
 export function readCounter(answer) {
@@ -72,7 +73,7 @@ export function readCounter(answer) {
 }
 
 /**
- * The answer to `ram B`: the registers by `bank.chip.register`, and the ports by `bank.chip`.
+ * Reads the answer to `ram B`: the registers by `bank.chip.register`, and the ports by `bank.chip`.
  * @param {string[]} answers
  * @returns {Ram}
  */
@@ -88,7 +89,7 @@ export function readRam(answers) {
 }
 
 /**
- * `breaks 000 003`, `watches 0.00`, `lamps **.`: what stands after the first word.
+ * Returns the values of `breaks 000 003`, `watches 0.00`, `lamps **.`: all after the first word.
  * @param {string} answer
  */
 export function readMarks(answer) {
@@ -105,7 +106,7 @@ export function watchedPlaces(answer) {
 }
 
 /**
- * The answer to `map`; a refusal maps nothing.
+ * Reads the answer to `map`; after a refusal the map is empty.
  * @param {string[]} answers
  * @returns {ProgramMap}
  */
@@ -121,7 +122,7 @@ export function readMap(answers) {
 }
 
 /**
- * The lines of a listing among answers.
+ * Returns the lines of a listing among answers.
  * @param {string[]} answers
  * @returns {Listed[]}
  */
@@ -130,7 +131,7 @@ export function readListing(answers) {
 }
 
 /**
- * The tables of a board as the bench writes its text: each value is written as JSON writes it.
+ * Returns the tables of a board as the bench writes its text: each value is written as JSON.
  * @param {string[]} answers
  * @returns {Record<string, any>[]}
  */
@@ -147,7 +148,7 @@ function readTables(answers) {
 }
 
 /**
- * The answer to `board`.
+ * Reads the answer to `board`.
  * @param {string[]} answers
  * @returns {Board}
  */

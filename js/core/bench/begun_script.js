@@ -1,4 +1,4 @@
-// Whether a session has begun with a script, and which part of the script it lacks.
+// Finds out whether a session has begun with a script, and the part of the script that it lacks.
 
 import { answeredScript } from "./answered_script.js";
 import { endOfInputs, opensText } from "./inputs.js";
@@ -10,17 +10,17 @@ import * as say from "../../words/bench.js";
  * @typedef {import("../engine/engine_host.js").EngineHost} EngineHost
  * @typedef {import("../engine/engine_host.js").State} State
  *
- * How many lines of a script a session has got; or why it has not begun with the script, in words, with the answers that differ: `<` the
- * session's, `>` those that the script leads to.
+ * How many lines of a script a session has received; or why it did not begin with the script, in words, with the answers that differ: `<`
+ * the session's, `>` those of the script.
  * @typedef {{ lines: number, words: string, differing: string[] }} BegunScript
  */
 
 const BANKS = 8;
-/** Lines are served in pieces of so many characters, so that somebody can interrupt it. */
+/** Lines are served in pieces of this many characters, so that the user can interrupt. */
 const PIECE = 4096;
-/** So many lines that differ are shown. */
+/** The most differing lines that are shown. */
 const MOST_SHOWN = 4;
-/** What sessions are asked for, to compare them. */
+/** The queries by which sessions are compared. */
 const QUESTIONS = `seq\nboard\nstate\n${upTo(BANKS).map((bank) => `ram ${bank}\n`).join("")}${listsOf(PAGES)}`;
 
 /**
@@ -35,7 +35,7 @@ function partsOf(answers) {
 }
 
 /**
- * Returns the first answers that differ; if one session has more of them, those that stand between what is the same at both ends.
+ * Returns the first answers that differ; if one session has more of them, those between the common beginning and the common end.
  * @param {string[]} own
  * @param {string[]} wanted
  */
@@ -53,7 +53,7 @@ export function differences(own, wanted) {
 }
 
 /**
- * Returns the number of lines up to the input that is accepted as the last one of some; -1 if fewer are accepted.
+ * Returns the number of lines up to the N-th accepted input; -1 if fewer are accepted.
  * @param {import("./answered_script.js").AnsweredInput[]} inputs
  * @param {number} commands
  */
@@ -72,9 +72,9 @@ function linesUpTo(inputs, commands) {
  * Serves lines on a new session, piece by piece; returns the state and the answers.
  * @param {EngineHost} engine
  * @param {string} lines
- * @param {() => Promise<any>} breathe is called between the pieces
+ * @param {() => Promise<any>} yieldToMessages is called between the pieces
  */
-async function served(engine, lines, breathe) {
+async function served(engine, lines, yieldToMessages) {
   const state = engine.begin();
   /** @type {string[]} */
   const answers = [];
@@ -82,23 +82,23 @@ async function served(engine, lines, breathe) {
     const end = endOfInputs(lines, at, PIECE);
     for (const answer of engine.serve(state, lines.slice(at, end), state).answers) answers.push(answer);
     at = end;
-    await breathe();
+    await yieldToMessages();
   }
   return { state, answers };
 }
 
 /**
- * Compares a session with what a script leads to after as many commands as the session has.
+ * Compares a session with the script's result after the same number of commands.
  * @param {EngineHost} engine
  * @param {State} state of the session
  * @param {string} script
- * @param {() => Promise<any>} breathe is called between pieces of long work
+ * @param {() => Promise<any>} yieldToMessages is called between pieces of long work
  * @returns {Promise<BegunScript>}
  */
-export async function begunScript(engine, state, script, breathe) {
+export async function begunScript(engine, state, script, yieldToMessages) {
   const { opened, answers: own } = engine.ask(state, QUESTIONS);
   const commands = Number(opened.slice("session ".length));
-  const whole = await served(engine, script, breathe);
+  const whole = await served(engine, script, yieldToMessages);
   const { inputs, words } = answeredScript(script, ["session 0", ...whole.answers]);
   if (words !== "") return { lines: 0, words, differing: [] };
   const lines = linesUpTo(inputs, commands);
@@ -106,7 +106,7 @@ export async function begunScript(engine, state, script, breathe) {
     const accepted = inputs.filter(({ answer }) => answer.startsWith("ok ")).length;
     return { lines: 0, words: say.acceptedMore(commands, accepted), differing: [] };
   }
-  const begun = await served(engine, script.split("\n").slice(0, lines).map((line) => `${line}\n`).join(""), breathe);
+  const begun = await served(engine, script.split("\n").slice(0, lines).map((line) => `${line}\n`).join(""), yieldToMessages);
   const wanted = engine.ask(begun.state, QUESTIONS).answers;
   const differing = differences(partsOf(own), partsOf(wanted));
   return { lines, words: differing.length > 0 ? say.someDiffer(commands) : "", differing };

@@ -1,5 +1,4 @@
-// The bench, as the page calls it: requests to the worker and their replies. A worker that does not answer any more is ended, and
-// another one is started in its place.
+// The page's access to the bench: requests to the worker and their replies. A worker that no longer answers is ended and replaced.
 
 import { WorkerDied, unpackFault } from "./faults.js";
 
@@ -12,27 +11,27 @@ import { WorkerDied, unpackFault } from "./faults.js";
  * @typedef {keyof Requests} CallName
  * @typedef {{ done: (result: any) => void, fail: (fault: Error) => void, progress: (done: number, total: number) => void }} Waiting
  *
- * How long work is cancelled, and told how far it is.
+ * The ways to cancel long work, and to receive its progress.
  * @typedef {{ signal?: AbortSignal, progress?: (done: number, total: number) => void }} Ways
  *
- * What a worker is to this page.
+ * The calls of a worker that the page uses.
  * @typedef {{ postMessage: (message: ToWorker, transfer: Transferable[]) => void, terminate: () => void,
  *   addEventListener: (kind: string, listen: (event: any) => void) => void }} WorkerLike
  *
- * Who is told of what was not asked for: time at full speed, its end by a fault, and a worker that died.
+ * The receiver of unsolicited messages: time at full speed, its end by an error, and a worker that died.
  * @typedef {{ frame: (frame: Frame) => void, failed: (fault: Error) => void, died: () => void }} Listener
  */
 
 /**
- * What makes the requests of some parts: each user declares the parts that it needs.
+ * The type of an object that makes the requests of some parts: each user declares the parts that it needs.
  * @template Part
  * @typedef {{ call<Name extends CallName & keyof Part>(call: Name, words: Parameters<Requests[Name]>, ways?: Ways):
  *   Promise<Awaited<ReturnType<Requests[Name]>>> }} Caller
  */
 
-/** A worker is asked for a sign of life so often, in milliseconds, while it owes something. */
+/** The milliseconds between pings of a worker that still has to answer. */
 const WATCH_TIME = 1000;
-/** After so many times without one it counts as dead. */
+/** After this many checks without an answer the worker counts as dead. */
 const SILENT_TIMES = 10;
 
 export class Bench {
@@ -53,18 +52,18 @@ export class Bench {
     this.worker = null;
     this.number = 0;
     this.silent = 0;
-    /** Whether frames come without being asked for. */
+    /** True if frames arrive without a request. */
     this.isRunning = false;
-    /** Whether its worker may be silent for as long as it likes: a question to the prover is one piece. */
+    /** True if its worker may be silent for as long as it likes: a question to the prover is one piece. */
     this.isPatient = false;
-    /** How many bytes a session file has. */
+    /** The size of a session file in bytes. */
     this.size = 0;
-    /** @type {ArrayBuffer[]} arrays that files came in, which go back with the next request */
+    /** @type {ArrayBuffer[]} arrays that files arrived in, which go back with the next request */
     this.spare = [];
     setInterval(() => this.watch(), WATCH_TIME);
   }
 
-  /** Starts a worker; it has the module when the promise is kept. */
+  /** Starts a worker; it has the module when the promise resolves. */
   async start() {
     const worker = this.makeWorker();
     this.worker = worker;
@@ -81,8 +80,7 @@ export class Bench {
    * @template {CallName} Name
    * @param {Name} call
    * @param {Parameters<Requests[Name]>} words
-   * @param {Ways} [ways] a call that serves lines tells its
-   *   progress, and can be cancelled by a signal: then nothing of it is done
+   * @param {Ways} [ways] a call that serves lines reports its progress, and can be cancelled by a signal: then nothing of it is done
    * @returns {Promise<Awaited<ReturnType<Requests[Name]>>>}
    */
   call(call, words, ways = {}) {
@@ -126,7 +124,7 @@ export class Bench {
       waiting.progress(message.done, message.total);
       return;
     }
-    // What is told early may overtake the replies before it: then it waits for its own.
+    // An early report may overtake the replies before it: then it waits for its own.
     if (message.kind === "early" && message.number !== this.oldest) return;
     this.waiting.delete(message.number);
     if (message.kind === "reply" && message.fault) waiting.fail(unpackFault(message.fault));
@@ -134,7 +132,7 @@ export class Bench {
   }
 
   /**
-   * Gives an array back to the worker that a file came in: where frames come by themselves at once, else with the next request.
+   * Returns to the worker the array that a file arrived in: at once if frames arrive by themselves, otherwise with the next request.
    * @param {ArrayBuffer} buffer
    */
   giveBack(buffer) {
@@ -144,7 +142,7 @@ export class Bench {
   }
 
   /**
-   * A worker that does not even hear that it is to stop is ended.
+   * A worker that does not react to the request to stop is terminated.
    * @param {number} number
    */
   cancel(number) {
@@ -155,7 +153,7 @@ export class Bench {
     }, 2 * WATCH_TIME);
   }
 
-  /** Looks whether a worker that owes something still lives. Counted in looks, not in time: a machine may sleep. */
+  /** Checks whether a worker that has requests is alive. The limit is counted in checks, not in time: a machine may sleep. */
   watch() {
     if (this.isPatient || (this.waiting.size === 0 && !this.isRunning)) {
       this.silent = 0;
@@ -166,7 +164,7 @@ export class Bench {
     else this.send({ kind: "ping" });
   }
 
-  /** The worker is dead: what was asked of it was not done. */
+  /** Handles a dead worker: its requests were not done. */
   die() {
     if (!this.worker) return;
     this.end();

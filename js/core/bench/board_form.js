@@ -1,5 +1,5 @@
-// What a board's text can say, once for the page: the keys of each part, the numbers that they can be, how many parts there can be, and the
-// lines that parts have. The bench alone says whether a board is right; the unit test asks it at each edge.
+// The form of a board's text, defined once for the page: the keys of each part, their ranges, how many parts there can be, and the lines
+// that parts have. Only the bench decides whether a board is right; the unit test asks it at each limit.
 
 import { upTo } from "./numbers.js";
 
@@ -12,14 +12,14 @@ import { upTo } from "./numbers.js";
  */
 
 /**
- * The keys of each kind of part, in the order in which the bench writes them.
+ * The keys of each kind of part, in the bench's order.
  * @type {Record<string, string[]>}
  */
 export const KEYS = {
   rom: ["chip", "port"], ram: ["bank", "chips"], chain: ["clock", "data", "chips"], keys: ["chain", "first", "rows", "columns"],
   lamp: ["line"],
 };
-/** The kinds, in the order in which the bench writes them. */
+/** The kinds, in the bench's order. */
 export const KINDS = /** @type {Kind[]} */ (Object.keys(KEYS));
 
 /** @type {Record<string, { from: number, to: number }>} whole numbers, by part and key */
@@ -28,12 +28,12 @@ export const RANGES = {
   "keys.chain": { from: 0, to: 3 }, "keys.first": { from: 0, to: 79 }, "keys.rows": { from: 1, to: 10 },
 };
 /**
- * How many of each kind a board has at most.
+ * The most parts of each kind on a board.
  * @type {Record<string, number>}
  */
 export const MOST = { rom: 16, ram: 8, chain: 4, lamp: 64 };
 export const MOST_COLUMNS = 8;
-/** So many bits a chain has for each chip. */
+/** The bits of a chain for each chip. */
 export const BITS = 10;
 const LINES_OF_PORT = upTo(4);
 

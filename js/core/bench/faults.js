@@ -1,8 +1,8 @@
-// What can go wrong with a call of the bench, on both sides of the worker.
+// The errors of a call of the bench, on both sides of the worker.
 
 import * as say from "../../words/bench.js";
 
-/** A call was answered by the number of a refusal (`no NN`). */
+/** A call was answered by a refusal (`no NN`). */
 export class BenchRefusal extends Error {
   /** @param {number} number */
   constructor(number) {
@@ -11,7 +11,7 @@ export class BenchRefusal extends Error {
   }
 }
 
-/** The module stopped inside a call. It has been started anew by the time that this is thrown. */
+/** The module stopped inside a call. It is restarted before this is thrown. */
 export class BenchTrap extends Error {}
 
 /** A call was cancelled before it was done. */
@@ -21,7 +21,7 @@ export class Cancelled extends Error {
   }
 }
 
-/** The worker does not answer any more. */
+/** The worker no longer answers. */
 export class WorkerDied extends Error {
   constructor() {
     super(say.WORKER_STOPPED);
@@ -32,7 +32,7 @@ export class WorkerDied extends Error {
 export const NO_MEMORY = 90;
 
 /**
- * A fault as a message carries it.
+ * An error as a message carries it.
  * @typedef {{ kind: "refusal" | "trap" | "cancelled" | "other", words: string, number: number }} PackedFault
  */
 

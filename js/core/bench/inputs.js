@@ -1,10 +1,17 @@
-// What lines say: the inputs among them, where they can be cut, and which answers are whose.
+// Lines: the inputs among them, the places where they can be cut, and the input of each answer.
 
 import { FORMS } from "./answer_table.js";
 import { LAST_ADDRESS, numberOf } from "./numbers.js";
 
-/** Longer lines are refused whole. */
+/** Longer lines are rejected whole. */
 export const LONGEST_LINE = 255;
+/** The refusals of a line: it is too long, or a character of it is not accepted. */
+export const LINE_TOO_LONG = 12;
+export const NOT_ASCII = 14;
+/** A character that no line of the bench has. */
+export const FOREIGN = /[^\t -~]/u;
+/** A question about a run (`trace`) names this many places at most. */
+export const MOST_PLACES = 16;
 const ONE_WORD = /^[ \t]*([a-z]+)[ \t]*$/;
 
 /**
@@ -20,7 +27,7 @@ export function withoutReturn(whole) {
 }
 
 /**
- * Whether a text up to a dot follows on a line.
+ * Returns whether a text up to a dot follows on a line.
  * @param {string} line
  */
 export function opensText(line) {
@@ -30,7 +37,7 @@ export function opensText(line) {
 }
 
 /**
- * Whether a line is `seq` alone, which is answered by a count. Behind other lines its answer shows where theirs end.
+ * Returns whether a line is `seq` alone, whose answer is a count. After other lines its answer marks where theirs end.
  * @param {string} line
  */
 export function isSeq(line) {
@@ -76,9 +83,9 @@ export function readInputs(lines) {
 }
 
 /**
- * Where lines can be cut: the end of the first input, from a place on, by which there are so many characters or more.
+ * Returns the place to cut lines: the end of the first input, from a place on, that makes at least the wanted number of characters.
  * @param {string} lines
- * @param {number} from where an input begins
+ * @param {number} from the index where an input begins
  * @param {number} least
  */
 export function endOfInputs(lines, from, least) {
@@ -95,7 +102,7 @@ export function endOfInputs(lines, from, least) {
 }
 
 /**
- * Where a line of a listing ends: the address after its bytes.
+ * Returns the address after the bytes of a line of a listing.
  * @param {string} answer
  */
 function endOfListed(answer) {
@@ -103,7 +110,7 @@ function endOfListed(answer) {
 }
 
 /**
- * Whether a line goes on with the listing of the line before it. Addresses rise within one listing, up to the last one.
+ * Returns whether a line continues the listing of the line before it. Addresses rise within one listing, up to the last one.
  * @param {string} before
  * @param {string} answer
  */
@@ -112,7 +119,7 @@ function goesOn(before, answer) {
 }
 
 /**
- * How many lines the answer to an input has at most, by its first line and the column COUNT of the table.
+ * Returns how many lines the answer to an input has at most, by its first line and the column COUNT of the table.
  * @param {Input} input
  * @param {string} first
  * @param {string} count
@@ -142,7 +149,7 @@ export function answerLength(input, answers, from) {
 }
 
 /**
- * The answers that belong to each input, in the order of the inputs. Inputs that were not served have none.
+ * Returns the answers that belong to each input, in the order of the inputs. Inputs that were not served have none.
  * @param {Input[]} inputs
  * @param {string[]} answers
  */
@@ -157,7 +164,7 @@ export function matchAnswers(inputs, answers) {
 }
 
 /**
- * Lines of which each is one question, as text.
+ * Returns lines as a text, each with its end.
  * @param {string[]} lines
  */
 export function linesOf(lines) {

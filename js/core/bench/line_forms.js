@@ -1,26 +1,23 @@
-// The forms of lines that the bench reads: their words, and the numbers among them with their ranges. A line that has no such form is
-// rejected because of one of its words, which `faultOfLine` names.
+// The forms of lines that the bench reads: their words, and the numbers among them with their ranges. A line that matches no form is
+// rejected for one of its words, which `faultOfLine` names.
 
 import { FORMS } from "./answer_table.js";
-import { LONGEST_LINE } from "./inputs.js";
+import { FOREIGN, LINE_TOO_LONG, LONGEST_LINE, MOST_PLACES, NOT_ASCII } from "./inputs.js";
 import { upTo } from "./numbers.js";
 import { mostAlike } from "../text/alike.js";
 import * as say from "../../words/lines.js";
 
 /**
- * What is wrong with a line: the number of the refusal, and words that name the word at fault.
+ * The error of a line: the number of the refusal, and words that name the wrong word.
  * @typedef {{ number: number, words: string }} LineFault
  *
- * The form of a place: the ranges of the numbers in its name begin with 0, and end with these; `value` is the last number that it holds.
+ * The form of a place: the ranges of the numbers in its name begin with 0, and end with these; `value` is its largest value.
  * @typedef {{ form: RegExp, most: number[], value: number }} PlaceForm
  * @typedef {[number, number]} Range the first and the last number
  */
 
 const NOT_A_COMMAND = 10;
 const BAD_NUMBER = 11;
-const LINE_TOO_LONG = 12;
-const NOT_ASCII = 14;
-const FOREIGN = /[^\t -~]/u;
 const BIT = 1;
 const BANK = 7;
 const NIBBLE = 15;
@@ -29,12 +26,10 @@ const ADDRESS = 4095;
 const MOST_CYCLES = 100000;
 const LARGEST = 4294967295;
 const MOST_LISTED = 256;
-/** `trace` has this many places at most. */
-const MOST_PLACES = 16;
 
 /** @type {(most: number) => Range} */
 const upToMost = (most) => [0, most];
-/** @type {Record<string, Range[]>} the numbers behind the first word */
+/** @type {Record<string, Range[]>} the numbers after the first word */
 const NUMBERS = {
   press: [upToMost(BYTE), upToMost(BYTE)],
   release: [upToMost(BYTE), upToMost(BYTE)],
@@ -57,12 +52,12 @@ const PLACES = [
   place("acc", [], NIBBLE), place("cy", [], BIT), place("pc", [], ADDRESS), place("dcl", [], BANK), place("rN", [NIBBLE], NIBBLE),
   place("rom.N", [ADDRESS], BYTE), place("ram.N.N", [BANK, BYTE], NIBBLE), place("st.N.N.N", [BANK, NIBBLE, 3], NIBBLE),
 ];
-/** Places of `trace` alone. */
+/** Places that only `trace` has. */
 const SEEN_PLACES = [
   place("lamps", []), place("ret", []), place("src", []), place("romN", [NIBBLE]), place("ramN.N", [BANK, 3]), place("chainN", [3]),
   place("romN.N", [NIBBLE, 3]), place("ramN.N.N", [BANK, 3, 3]), place("chainN.N", [3, 79]),
 ];
-/** Names of places, as a line is completed with them; those with a dot at their end go on. */
+/** The names of places that complete a line; those that end in a dot continue. */
 export const POKED = ["acc", "cy", "pc", "dcl", ...upTo(16).map((at) => `r${at}`), "rom.", "ram.", "st."];
 export const TRACED = [...POKED, "lamps", "ret", "src"];
 
@@ -80,7 +75,7 @@ function faultOfNumber(word, [first, last]) {
 }
 
 /**
- * The form of a place; null if none has it.
+ * Returns the form of a place; null if there is none.
  * @param {string} word
  * @param {PlaceForm[]} places
  */
@@ -89,7 +84,7 @@ function formOf(word, places) {
 }
 
 /**
- * Whether the numbers in the name of a place are in their ranges.
+ * Returns whether the numbers in the name of a place are in their ranges.
  * @param {string} word
  * @param {PlaceForm} found
  */
@@ -151,7 +146,7 @@ export function foreignIn(line) {
 }
 
 /**
- * Why the bench cannot read a line; null if it can. Whether it does what the line says is another question.
+ * Returns why the bench cannot read a line; null if it can. Whether the line can be carried out is another question.
  * @param {string} line without its end
  * @returns {LineFault | null}
  */

@@ -1,4 +1,4 @@
-// `@NAME` in lines stands for the value of a name of the program, and `set PLACE = VALUE` for the lines that do so; not inside texts.
+// `@NAME` in lines is replaced by the value of a name of the program, and `set PLACE = VALUE` by the lines that set it; not inside texts.
 
 import { readSetting } from "../conditions/setting.js";
 import { opensText, withoutReturn } from "./inputs.js";
@@ -9,7 +9,7 @@ import { inColumn } from "../../words/conditions.js";
 /**
  * @typedef {import("../machine/source_map.js").SourceMap} SourceMap
  *
- * The lines with numbers in the place of names; or why there are none, in words, and the line of that, 0 for none.
+ * The lines with numbers in place of names; or an error message, and its line, 0 for none.
  * @typedef {{ lines: string, words: string, line: number }} Put
  */
 
@@ -18,7 +18,7 @@ const SET = /^\s*set(?!\S)(.*)$/;
 
 /**
  * @param {string} lines
- * @param {SourceMap | null} map the program that stands in ROM
+ * @param {SourceMap | null} map the program in ROM
  * @returns {Put}
  */
 export function putNames(lines, map) {

@@ -1,9 +1,9 @@
-// Numbers as lines and answers write them.
+// Numbers in the spelling of lines and answers.
 
 export const LAST_ADDRESS = 4095;
 
 /**
- * A number in upper-case hexadecimal digits, at least so many.
+ * Returns a number in upper-case hexadecimal digits, at least this many.
  * @param {number} number
  * @param {number} digits
  */
@@ -12,7 +12,7 @@ export function hex(number, digits) {
 }
 
 /**
- * The number that a word of a line says, `12` or `0x0C`; NaN where it says none.
+ * Returns the number that a word of a line means, `12` or `0x0C`; NaN if it is no number.
  * @param {string} word
  */
 export function numberOf(word) {
@@ -20,7 +20,7 @@ export function numberOf(word) {
 }
 
 /**
- * The count that is written, perhaps with commas; 0 where it is none from 1 to the most.
+ * Returns the count that is written, perhaps with commas; 0 if it is not from 1 to the maximum.
  * @param {string} text
  * @param {number} most
  */
@@ -42,7 +42,7 @@ export function withTenths(value) {
 }
 
 /**
- * So many of something, in words: `1 line`, `1,543 cycles`.
+ * Returns a count with its noun: `1 line`, `1,543 cycles`.
  * @param {number} count
  * @param {string} one
  * @param {string} [several]

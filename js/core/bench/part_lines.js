@@ -1,59 +1,56 @@
-// Where the parts of a board stand in its text: `rom 1`, `ram 0` (a bank), `chain 0`, `keys`, `lamp 3`.
+// The positions of a board's parts in its text: `rom 1`, `ram 0` (a bank), `chain 0`, `keys`, `lamp 3`.
 
-import { BoardTextParts } from "./board_fault.js";
-import { numberOf } from "./numbers.js";
-
-/** @typedef {import("../text/text_fault.js").Lines} Lines */
+import { readBoardText } from "../text/board_reader.js";
 
 /**
- * The key whose value numbers a part; parts of another kind are counted by a key that each of them has.
- * @type {Record<string, RegExp>}
+ * @typedef {import("../text/board_reader.js").Entry} Entry
+ * @typedef {import("../text/text_fault.js").Lines} Lines
  */
-const NUMBERED = { rom: /\bchip\s*=\s*(\w+)/g, ram: /\bbank\s*=\s*(\w+)/g };
-/** @type {Record<string, RegExp>} */
-const COUNTED = { chain: /\bclock\s*=/g, lamp: /\bline\s*=/g };
 
 /**
- * The names of the parts that some lines of one kind tell.
- * @param {string} kind
- * @param {string} text
+ * The key whose value numbers a part; parts of another kind are counted.
+ * @type {Record<string, string>}
+ */
+const NUMBERED = { rom: "chip", ram: "bank" };
+const COUNTED = ["chain", "lamp"];
+
+/**
+ * Returns the name of a part; "" if it has none.
+ * @param {Entry} entry
  * @param {Record<string, number>} counts how many parts of each counted kind there were before
  */
-function namesOf(kind, text, counts) {
-  if (kind === "keys") return ["keys"];
-  if (kind in NUMBERED) return [...text.matchAll(NUMBERED[kind])].map((found) => `${kind} ${numberOf(found[1].replace(/_/g, ""))}`);
-  if (!(kind in COUNTED)) return [];
-  return [...text.matchAll(COUNTED[kind])].map(() => {
-    counts[kind] = (counts[kind] || 0) + 1;
-    return `${kind} ${counts[kind] - 1}`;
-  });
+function nameOf({ table, keys }, counts) {
+  const kind = table.replace(/[[\]]/g, "");
+  if (kind === "keys") return "keys";
+  if (kind in NUMBERED) {
+    const key = keys.find(({ name }) => name === NUMBERED[kind]);
+    return key && typeof key.value.inner === "number" ? `${kind} ${key.value.inner}` : "";
+  }
+  if (!COUNTED.includes(kind)) return "";
+  counts[kind] = (counts[kind] || 0) + 1;
+  return `${kind} ${counts[kind] - 1}`;
 }
 
 /**
- * The lines of each part of a board's text, as far as they can be told from lines; a text that is not finished has fewer.
+ * Returns the lines of each part of a board's text; a text that is not finished has fewer.
  * @param {string} text
  * @returns {Map<string, Lines>}
  */
 export function partLines(text) {
-  const lines = text.split("\n");
-  const { kind, partOf } = new BoardTextParts(lines);
-  /** @type {Map<number, number[]>} */
-  const own = new Map();
-  partOf.forEach((part, at) => own.set(part, [...(own.get(part) || []), at]));
+  /** @type {Map<string, Lines>} */
   const named = new Map();
   /** @type {Record<string, number>} */
   const counts = {};
-  for (const [part, at] of own) {
-    while (at.length > 1 && /^\s*(#.*)?$/.test(lines[at[at.length - 1]])) at.pop();
-    const bare = at.map((line) => lines[line].replace(/#.*$/, "")).join("\n");
-    const range = { from: at[0] + 1, to: at[at.length - 1] + 1 };
-    for (const name of namesOf(kind[part], bare, counts)) named.set(name, range);
+  for (const entry of readBoardText(text).entries) {
+    const name = nameOf(entry, counts);
+    const ends = entry.keys.map(({ value: { end } }) => end.line);
+    if (name !== "") named.set(name, { from: entry.line, to: Math.max(entry.line, entry.end ? entry.end.line : 0, ...ends) });
   }
   return named;
 }
 
 /**
- * The first part that a line of the text belongs to; "" where it belongs to none.
+ * Returns the first part that a line of the text belongs to; "" if it belongs to none.
  * @param {Map<string, Lines>} parts
  * @param {number} line
  */

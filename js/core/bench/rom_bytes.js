@@ -1,4 +1,4 @@
-// The bytes of ROM, by what `list` tells of them.
+// The bytes of ROM, from the answer to `list`.
 
 import { readListing } from "./answers.js";
 import { LAST_ADDRESS, hex, upTo } from "./numbers.js";
@@ -7,9 +7,9 @@ export const ADDRESSES = LAST_ADDRESS + 1;
 export const PAGE_BYTES = 256;
 /** The numbers of all ROMs. */
 export const PAGES = upTo(ADDRESSES / PAGE_BYTES);
-/** `list` gives so many lines at most. */
+/** The most lines that `list` reports. */
 export const MOST_LISTED = 256;
-/** What stands where no line tells a byte. */
+/** The value of an address without a byte in any line. */
 export const NONE = -1;
 
 /**
@@ -21,7 +21,7 @@ export function listsOf(pages) {
 }
 
 /**
- * The bytes that lists tell, by their addresses.
+ * The bytes that lists report, by their addresses.
  * @param {string[]} answers
  */
 export function bytesOf(answers) {

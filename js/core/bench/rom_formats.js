@@ -1,4 +1,5 @@
-// Images of ROM in S-records and in BNPF, in which Intel took the masks of 4001s; and the form of an image by its first bytes and its name.
+// ROM images as S-records and BNPF, the format in which Intel took the masks of 4001s; and the format of an image by its first bytes and
+// its name.
 
 import { hex } from "./numbers.js";
 import { ImageBytes, NotARecord, NotAnImage, readLines } from "./rom_image.js";
@@ -53,11 +54,11 @@ export function readSRecords(text, offset = 0) {
 // --- BNPF ---
 
 const WORD_LENGTH = 9;
-/** What follows the `B` of a word on its line: three of its letters, or the end of the line after fewer. */
+/** The rest of a line after the `B` of a word: three of its letters, or the end of the line after fewer. */
 const AFTER_B = /[ \t]*(?:[NP][ \t]*[NP][ \t]*[NP]|(?:[NP][ \t]*)?(?:[NP][ \t]*)?$)/iy;
 
 /**
- * Returns whether a word begins at a `B`. Those of remarks, as `BNPF` itself, begin none.
+ * Returns whether a word begins at a `B`. In a remark, such as `BNPF` itself, none does.
  * @param {string} line
  * @param {number} at
  */
@@ -68,8 +69,8 @@ function beginsWord(line, at) {
 }
 
 /**
- * Returns the bytes of an image in BNPF. A word is `B`, eight of `P` (1) and `N` (0), the highest bit first, and `F`; it may continue on
- * the next line. What is between words is ignored.
+ * Returns the bytes of a BNPF image. A word is `B`, eight of `P` (1) and `N` (0), the highest bit first, and `F`; it may continue on the
+ * next line. Anything between words is ignored.
  * @param {string} text
  * @param {number} [from] the address of the first word
  */
@@ -104,11 +105,11 @@ function wordOf(byte) {
   return `B${byte.toString(2).padStart(8, "0").replace(/1/g, "P").replace(/0/g, "N")}F`;
 }
 
-/** So many words are on a line. */
+/** The words on a line. */
 const WORDS_OF_LINE = 4;
 
 /**
- * Returns bytes in BNPF; the address of the first word of a line comes before it, as a remark.
+ * Returns bytes as BNPF; the address of the first word of a line is a remark before it.
  * @param {Int16Array} bytes of a range, by their addresses
  * @param {number} from
  * @param {number} count

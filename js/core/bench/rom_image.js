@@ -1,22 +1,22 @@
-// Images of ROM in files: bytes alone, and Intel HEX. (S-records and BNPF: rom_formats.js.)
+// Images of ROM in files: raw bytes, and Intel HEX. (S-records and BNPF: rom_formats.js.)
 
 import { ADDRESSES, NONE } from "./rom_bytes.js";
 import { hex } from "./numbers.js";
 import * as say from "../../words/bench.js";
 
-/** Why bytes are no image, in words. */
+/** Says why bytes are not an image, in words. */
 export class NotAnImage extends Error {}
 
 /** A line is no record: the file may be of another form. */
 export class NotARecord extends NotAnImage {}
 
-/** So many bytes stand in a record that is written. */
+/** The bytes in a record that is written. */
 const BYTES_OF_RECORD = 16;
 const DATA = 0;
 const LAST = 1;
-/** Where segments and upper halves of addresses begin: for a 4004 at 0. */
+/** The record types for segments and upper halves of addresses: for a 4004 they are 0. */
 const BASES = [2, 4];
-/** Where a program begins, as linkers tell it: the 4004 begins at 000. */
+/** The record types for a program's start, as linkers write them: the 4004 begins at 000. */
 const STARTS = [3, 5];
 
 /** The bytes of an image, as they are read. */
@@ -32,7 +32,7 @@ export class ImageBytes {
   }
 
   /**
-   * Puts bytes from an address on, where there are none yet.
+   * Puts bytes from an address on, unless bytes are there already.
    * @param {number} address
    * @param {ArrayLike<number>} data
    */
@@ -47,7 +47,7 @@ export class ImageBytes {
 }
 
 /**
- * The bytes of an image that is bytes alone.
+ * Returns the bytes of a raw image.
  * @param {Uint8Array} file
  * @param {number} [from] the address of the first one
  */
@@ -63,7 +63,7 @@ export function readBytes(file, from = 0) {
 }
 
 /**
- * Reads a text line by line; a fault gets the number of its line.
+ * Reads a text line by line; an error gets the number of its line.
  * @param {string} text
  * @param {(line: string) => void} read
  */
@@ -96,12 +96,12 @@ function readRecord(text) {
   return { address: high * 256 + low, type, data: bytes.slice(4, -1) };
 }
 
-/** How many bytes a record has by its type, where that is fixed. */
+/** The size of a record by its type, if it is fixed. */
 const SIZES = new Map([[LAST, 0], ...BASES.map((type) => /** @type {[number, number]} */ ([type, 2])),
   ...STARTS.map((type) => /** @type {[number, number]} */ ([type, 4]))]);
 
 /**
- * What a record does: puts its bytes, or nothing; any other is refused.
+ * Executes a record: puts its bytes, or does nothing; rejects any other type.
  * @param {{ address: number, type: number, data: number[] }} record
  * @param {ImageBytes} image
  */
@@ -147,7 +147,7 @@ function recordOf(address, type, data) {
 }
 
 /**
- * Bytes in Intel HEX, those that are there; a record has at most 16, and none goes over an address that has none.
+ * Returns bytes as Intel HEX, without gaps; a record has at most 16 bytes, and none spans a gap.
  * @param {Int16Array} bytes
  */
 export function hexOf(bytes) {

@@ -6,8 +6,8 @@ import { readRegisters } from "./answers.js";
  * @typedef {import("./answers.js").Ports} Ports
  * @typedef {import("./answers.js").Registers} Registers
  *
- * The parts of the line that are shown apart, each as it is written, so that one that stayed the same need not be read. The level of the
- * TEST pin is among the registers too, and the keys that are down among the ports.
+ * The parts of the line that are shown separately, each as it is written, so that an unchanged one need not be read. The level of the TEST
+ * pin is among the registers too, and the keys that are down among the ports.
  * @typedef {{ registers: string, test: string, ports: string, keys: string, lamps: string, breaks: string, watches: string }} StateParts
  */
 
@@ -25,7 +25,7 @@ export function partsOfState(answer) {
 }
 
 /**
- * The value behind a key of the line, as it is written.
+ * Returns the value of a key of the line, as it is written.
  * @param {string} answer
  * @param {string} key
  */
@@ -36,8 +36,8 @@ export function valueIn(answer, key) {
 }
 
 /**
- * What the line says but for how many commands were done: two sessions that are the same have the same.
- * @param {string} answer other answers may stand behind it
+ * Returns the line without its count of commands: two sessions that are the same have the same.
+ * @param {string} answer which other answers may follow
  */
 export function withoutSeq(answer) {
   return answer.replace(/^state seq \d+ /, "");

@@ -1,18 +1,18 @@
-// What is told to people: refusals, faults, times.
+// Texts for users: refusals, errors, times.
 
 import { BenchRefusal, BenchTrap, Cancelled, WorkerDied } from "./faults.js";
 import { counted } from "./numbers.js";
 import * as say from "../../words/bench.js";
 
-/** The words of refusals and of faults. */
+/** The messages of refusals and errors. */
 export class Words {
-  /** @param {Record<string, string>} refusals what each refusal means, by its number */
+  /** @param {Record<string, string>} refusals the meaning of each refusal, by its number */
   constructor(refusals) {
     this.refusals = refusals;
   }
 
   /**
-   * What a refusal means.
+   * Returns the meaning of a refusal.
    * @param {number} number
    */
   ofRefusal(number) {
@@ -20,7 +20,7 @@ export class Words {
   }
 
   /**
-   * A fault in words, with the number of a refusal.
+   * Returns an error in words, with the number of a refusal.
    * @param {unknown} fault
    */
   ofFault(fault) {
@@ -43,19 +43,19 @@ export class Words {
   }
 }
 
-/** @param {number} count of faults in a text */
+/** @param {number} count of errors in a text */
 export function countOfFaults(count) {
   return counted(count, "fault");
 }
 
 /**
- * A time in its two largest parts, as `1 hour 2 minutes`, from a second on.
+ * Returns a time in its two largest units, as `1 hour 2 minutes`, from a second on.
  * @param {number} milliseconds
  */
 export function wordsOfTime(milliseconds) {
   const seconds = Math.round(milliseconds / 1000);
   /** @type {[number, string][]} */
   const parts = [[Math.floor(seconds / 3600), "hour"], [Math.floor(seconds / 60) % 60, "minute"], [seconds % 60, "second"]];
-  const told = parts.filter(([count]) => count > 0).map(([count, word]) => counted(count, word));
-  return told.slice(0, 2).join(" ");
+  const units = parts.filter(([count]) => count > 0).map(([count, word]) => counted(count, word));
+  return units.slice(0, 2).join(" ");
 }

@@ -1,6 +1,6 @@
-// What is announced to those who do not see it: a text that has stood still for a while, and not each that came before.
+// Announcements for screen readers: a text that was still for a while, not each one before it.
 
-/** So many milliseconds a text has to stand still; nothing is announced more often. */
+/** The milliseconds that a text must be still; nothing is announced more often. */
 export const STILL_TIME = 1000;
 
 export class Announcer {
@@ -9,20 +9,20 @@ export class Announcer {
     this.say = say;
     this.text = "";
     this.said = "";
-    /** Whether the next text is what the page begins with, which is not announced. */
+    /** True if the next text is the page's first, which is not announced. */
     this.isFirst = true;
-    /** Whether the text stands still since the timer was set. */
+    /** True if the text has not changed since the timer was set. */
     this.isStill = true;
     this.timer = 0;
   }
 
-  /** Another board: what it shows first is not announced. */
+  /** Another board: its first text is not announced. */
   begin() {
     this.isFirst = true;
   }
 
   /** @param {string} text */
-  tell(text) {
+  announce(text) {
     if (this.isFirst) {
       this.isFirst = false;
       this.text = this.said = text;

@@ -1,4 +1,4 @@
-// The keys of a board: their places, their names, and what is typed for them.
+// The keys of a board: their places, their names, and the characters that press them.
 
 import { matrixKey, pinKey, textOfKey } from "./key_place.js";
 import * as say from "../../words/board.js";
@@ -9,14 +9,14 @@ import * as say from "../../words/board.js";
  *
  * @typedef {import("./key_place.js").Key} Key
  *
- * A key of the board, or what is at its TEST pin. `letter` is the character that is typed for it, "" for none.
+ * A key of the board, or the switch at its TEST pin. `letter` is the character that presses it, "" for none.
  * @typedef {{ key: Key, legend: string, words: string, isNamed: boolean, isSwitch: boolean, letter: string }} BoardKey
  */
 
 const LETTERS = "1234567890qwertyuiopasdfghjklzxcvbnm";
 
 /**
- * A character that is typed for a legend of several: one of its own, or the next that is free.
+ * Returns the character for one of several equal legends: its own, or the next free one.
  * @param {string} name
  * @param {Set<string>} taken
  */
@@ -25,7 +25,7 @@ function freeLetter(name, taken) {
 }
 
 /**
- * The keys of a board, row by row, and then what is at its TEST pin, if its face tells that.
+ * Returns the keys of a board, row by row, and then the switch at its TEST pin, if the front panel has one.
  * @param {Pick<Board, "rows" | "columns">} board
  * @param {Pick<Face, "keys" | "test">} face
  * @returns {BoardKey[]}
@@ -63,13 +63,13 @@ function keyOfTest({ kind, name, level }, take) {
 }
 
 /**
- * The legend that a key of the keyboard stands for: Enter is `=`, Escape clears.
+ * Returns the legend that a key of the keyboard presses: Enter is `=`, Escape clears.
  * @type {Record<string, string>}
  */
 const NAMED_KEYS = { Enter: "=", Escape: "C", Backspace: "CE", Delete: "CE", ",": "." };
 
 /**
- * Which key of the board is meant by a key of the keyboard; undefined where none is.
+ * Returns the board's key for a key of the keyboard; undefined if there is none.
  * @template {BoardKey} Shown
  * @param {Shown[]} keys
  * @param {string} typed
@@ -86,7 +86,7 @@ export function keyOfKeyboard(keys, typed) {
 }
 
 /**
- * What is told below the keys.
+ * Returns the hint below the keys.
  * @param {BoardKey[]} keys
  */
 export function hintOfKeys(keys) {

@@ -1,5 +1,5 @@
-// How bright the lamps of a board are to an eye: what stands still is seen at once; what flickers shines by the part of the time for which
-// it is lit, and what was seen before fades.
+// The perceived brightness of a board's lamps. A steady lamp is seen at once; a flickering lamp has the brightness of its duty cycle; what
+// was seen before fades.
 
 import { fittingGroups, isScanned } from "./face_board.js";
 import { NOT_LIT, isLit } from "./digit_patterns.js";
@@ -7,26 +7,26 @@ import { EYE_MS } from "../time/mcs4_time.js";
 
 /**
  * @typedef {import("./face.js").Face} Face
- * @typedef {import("../engine/shining.js").Moved} Moved
- * @typedef {import("../engine/shining.js").Shone} Shone
- * @typedef {import("../engine/shining.js").ShownDisplay} ShownDisplay
+ * @typedef {import("../engine/brightness_meter.js").Moved} Moved
+ * @typedef {import("../engine/brightness_meter.js").LitShares} LitShares
+ * @typedef {import("../engine/brightness_meter.js").ShownDisplay} ShownDisplay
  */
 
-/** From this part of the time on a lamp that flickers counts as lit. */
+/** From this duty cycle on a flickering lamp counts as on. */
 export const SEEN_PART = 0.5;
-/** What changes again within so many milliseconds does not stand still. */
+/** The milliseconds of rest: a display that changes again within them is not still. */
 const LEAST_REST = 2;
-/** An eye tells dark lamps apart better than bright ones. */
+/** The eye distinguishes dark lamps better than bright ones. */
 const GAMMA = 2.2;
-/** Where brightness has few levels, each begins at this part of the time: dim, half, full. */
+/** The duty cycle at which each level begins if brightness has few levels: dim, half, full. */
 const LEVELS = [0.01, 0.15, 0.6];
 export const FULL_LEVEL = LEVELS.length;
-/** What is seen less than this part of the time is forgotten. */
+/** The smallest share of the time that is remembered. */
 const LEAST_PART = 0.0001;
 const SEGMENTS = 8;
 
 /**
- * How bright a lamp looks that is lit for this part of the time, both from 0 to 1, in hundredths.
+ * Returns the perceived brightness, in hundredths, of a lamp with this duty cycle, both from 0 to 1.
  * @param {number} part
  */
 export function shineOf(part) {
@@ -34,7 +34,7 @@ export function shineOf(part) {
 }
 
 /**
- * Returns the level of a lamp that is lit for this part of the time, 0 for dark.
+ * Returns the level of a lamp with this duty cycle, 0 for dark.
  * @param {number} part
  */
 export function levelOf(part) {
@@ -42,13 +42,13 @@ export function levelOf(part) {
 }
 
 /**
- * Whether a lamp or a display stands still: it has rested for an eye's persistence, or since its last change for twice as long as it ever
- * did between changes since then. So one change is seen at once, one after the other that are shifted in once they are over, and what
- * comes and goes is none.
+ * Returns true if a lamp or a display is steady: it has rested for an eye's persistence, or since its last change for twice as long as it
+ * ever did between changes since then. So a single change is seen at once, changes that are shifted in one after the other once they are
+ * over, and flicker is never steady.
  */
 class Stillness {
   constructor() {
-    /** For how long it has rested, and the longest rest before since it stood still for the persistence, in milliseconds. */
+    /** How long it has rested, and the longest rest before since it was steady for the persistence, in milliseconds. */
     this.rest = Infinity;
     this.longest = 0;
   }
@@ -56,7 +56,7 @@ class Stillness {
   /**
    * @param {Moved} moved when it changed, in cycles
    * @param {number} cycles in all
-   * @param {number} time that they took, in milliseconds; Infinity where they do not follow those before
+   * @param {number} time that they took, in milliseconds; Infinity if they do not follow those before
    */
   add(moved, cycles, time) {
     if (time === Infinity) {
@@ -77,16 +77,16 @@ class Stillness {
   }
 }
 
-/** What is seen of a digit: the part of the time for each pattern, of that in which it could be seen. */
+/** A digit as perceived: for each pattern, its share of the time in which the digit was visible. */
 export class SeenDigit {
   constructor() {
     /** @type {Map<number, number>} */
     this.parts = new Map();
-    /** The pattern that alone is seen, as it stands still; NOT_LIT for none. */
+    /** The only pattern that is seen while it is steady; NOT_LIT for none. */
     this.whole = NOT_LIT;
   }
 
-  /** @param {number} pattern that alone is seen from here on */
+  /** @param {number} pattern the only one that is seen from now on */
   stand(pattern) {
     if (pattern === this.whole) return;
     this.whole = pattern;
@@ -94,7 +94,7 @@ export class SeenDigit {
     this.parts.set(pattern, 1);
   }
 
-  /** @param {number} kept the part of what was seen before that is still seen */
+  /** @param {number} kept the share of the former picture that is still seen */
   fade(kept) {
     this.whole = NOT_LIT;
     for (const [pattern, part] of this.parts) {
@@ -105,18 +105,18 @@ export class SeenDigit {
 
   /**
    * @param {number} pattern
-   * @param {number} part of what is seen
+   * @param {number} part its share of what is seen
    */
   add(pattern, part) {
     this.parts.set(pattern, (this.parts.get(pattern) || 0) + part);
   }
 
-  /** The pattern that is seen longest; dark where none is. */
+  /** Returns the pattern that is seen longest; dark if there is none. */
   get pattern() {
     return this.longest.pattern;
   }
 
-  /** Whether most of what is seen is something else than that. */
+  /** Returns whether most of what is seen differs from this pattern. */
   get isSmeared() {
     const all = [...this.parts.values()].reduce((sum, part) => sum + part, 0);
     return this.longest.part < SEEN_PART * all;
@@ -128,7 +128,7 @@ export class SeenDigit {
     return longest;
   }
 
-  /** The part of the time for which each segment is seen, and the point. */
+  /** Returns the duty cycle of each segment and of the point. */
   get segments() {
     const seen = new Array(SEGMENTS).fill(0);
     for (const [pattern, part] of this.parts) {
@@ -144,13 +144,13 @@ export class Brightness {
    * @param {number} count of the board's lamps
    */
   constructor(face, count) {
-    /** @type {number[]} the part of the time for which each lamp is lit */
+    /** @type {number[]} the duty cycle of each lamp */
     this.lamps = new Array(count).fill(0);
-    /** @type {boolean[]} whether each lamp counts as lit */
+    /** @type {boolean[]} whether each lamp counts as on */
     this.isOn = [];
     const groups = fittingGroups(face, count);
     this.displays = groups.filter(({ kind }) => kind === "display");
-    /** @type {number[][]} the part of the time for which each lamp of other groups that are scanned is lit, row by row */
+    /** @type {number[][]} the duty cycle of each lamp of other scanned groups, row by row */
     this.scanned = groups.filter((group) => isScanned(group) && group.kind !== "display")
       .map(({ rows, columns }) => new Array(rows * columns).fill(0));
     /** @type {SeenDigit[][]} */
@@ -163,8 +163,8 @@ export class Brightness {
   }
 
   /**
-   * From here on: what is lit at this instant was lit before.
-   * @param {string} marks a `*` for each lamp that is lit
+   * Starts here: the lamps of this instant count as the former picture.
+   * @param {string} marks a `*` for each lamp that is on
    */
   begin(marks) {
     this.isOn = this.lamps.map((_, at) => isLit(marks, at));
@@ -176,24 +176,24 @@ export class Brightness {
   }
 
   /**
-   * @param {Shone} shone
-   * @param {number} time that it took, in milliseconds; Infinity where it does not follow what was added before
+   * @param {LitShares} litShares
+   * @param {number} time that it took, in milliseconds; Infinity if it does not follow the last addition
    */
-  add(shone, time) {
-    const { cycles } = shone;
+  add(litShares, time) {
+    const { cycles } = litShares;
     if (cycles === 0) return;
     const kept = Math.exp(-time / EYE_MS);
-    this.fade(this.lamps, shone.lamps, cycles, kept);
+    this.fade(this.lamps, litShares.lamps, cycles, kept);
     this.stillness.forEach((stillness, at) => {
-      stillness.add(shone.moved[at], cycles, time);
+      stillness.add(litShares.moved[at], cycles, time);
       const { isStill } = stillness;
-      const isLitNow = isLit(shone.marks, at);
-      // What goes out fades: else what is lit for a moment alone would not be seen.
+      const isLitNow = isLit(litShares.marks, at);
+      // A lamp that goes off fades: otherwise a short flash would not be seen.
       if (isStill && isLitNow) this.lamps[at] = 1;
       this.isOn[at] = isStill ? isLitNow : this.lamps[at] >= SEEN_PART;
     });
-    this.scanned.forEach((parts, at) => this.fade(parts, shone.scanned[at], cycles, kept));
-    shone.displays.forEach((shown, at) => {
+    this.scanned.forEach((parts, at) => this.fade(parts, litShares.scanned[at], cycles, kept));
+    litShares.displays.forEach((shown, at) => {
       this.stillDisplays[at].add(shown.moved, cycles, time);
       this.addDisplay(at, shown, cycles, kept);
     });
@@ -201,7 +201,7 @@ export class Brightness {
 
   /**
    * @param {number[]} parts
-   * @param {number[]} lit how long each was lit
+   * @param {number[]} lit how long each was on
    * @param {number} cycles
    * @param {number} kept
    */

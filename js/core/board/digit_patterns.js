@@ -1,4 +1,4 @@
-// What is drawn of a display: a pattern for each digit, in which segment a is 1, b is 2, up to g, 64; the point is 128.
+// The drawing of a display: a pattern for each digit, in which segment a is 1, b is 2, up to g, 64; the decimal point is 128.
 
 import { SEGMENTS } from "./face_words.js";
 
@@ -6,7 +6,7 @@ import { SEGMENTS } from "./face_words.js";
 
 export const MINUS = 64;
 export const POINT = 128;
-/** A digit that is not lit at this instant, since its line is 0. */
+/** A digit that is off at this instant, because its line is 0. */
 export const NOT_LIT = -1;
 const LIT = "*".charCodeAt(0);
 
@@ -14,7 +14,7 @@ const LIT = "*".charCodeAt(0);
 const SIGNS = new Map([...SEGMENTS].map(([marks, sign]) => [segmentsAt(marks, 0), sign]));
 /** Four lamps that are no digit: a, b, e and g. */
 const NO_DIGIT = 1 + 2 + 16 + 64;
-/** What is lit for 0 to 9; the first form of a digit is that of a 7447. */
+/** The segments that are on for 0 to 9; the first form of a digit is that of a 7447. */
 const DIGITS = [..."0123456789"].map(patternOf);
 
 /**
@@ -27,7 +27,7 @@ export function patternOf(sign) {
 }
 
 /**
- * @param {string} marks a `*` for each lamp that is lit
+ * @param {string} marks a `*` for each lamp that is on
  * @param {number} at
  */
 export function isLit(marks, at) {
@@ -45,7 +45,7 @@ function segmentsAt(marks, at) {
 }
 
 /**
- * Whether digits of so many lamps have points.
+ * Returns whether digits of this many lamps have points.
  * @param {number} columns
  */
 export function hasPoints(columns) {
@@ -64,7 +64,7 @@ function valueAt(marks, at) {
 /**
  * The pattern of each digit at an instant. Of digits in BCD, leading zeros and a point after the last digit are dark.
  * @param {Group} display
- * @param {string} marks a `*` for each lamp that is lit
+ * @param {string} marks a `*` for each lamp that is on
  * @returns {number[]}
  */
 export function patternsAt(display, marks) {
@@ -72,7 +72,7 @@ export function patternsAt(display, marks) {
 }
 
 /**
- * Of digits that are lit by turns: all have the same lines, and no digit knows of another.
+ * Multiplexed digits: all have the same lines, and no digit knows of another.
  * @param {Group} display
  * @param {string} marks
  */
@@ -106,7 +106,8 @@ function patternsOfAll({ first, rows, columns }, marks) {
 }
 
 /**
- * The number that patterns show: without what is dark at the left, and without a point at the end. What is no digit is a `?`.
+ * Returns the number that patterns show, without leading dark digits and without a point at the end. A pattern that is not a digit is a
+ * `?`.
  * @param {number[]} patterns
  */
 export function numberOf(patterns) {

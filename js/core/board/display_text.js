@@ -1,4 +1,4 @@
-// What the displays of a board show in words, by the rule of mcs4 display.
+// The text of a board's displays, by the rule of mcs4 display.
 
 import { isLit, numberOf, patternsAt } from "./digit_patterns.js";
 
@@ -16,15 +16,15 @@ export class DisplayText {
   }
 
   /**
-   * A minus where the lamp `minus` is lit, and the number; and the names of the other lamps that are lit.
-   * @param {string} marks a `*` for each lamp that is lit
+   * Returns a minus if the lamp `minus` is on, and the number; and the names of the other lamps that are on.
+   * @param {string} marks a `*` for each lamp that is on
    */
   read(marks) {
     return this.words(this.displays.map((display) => patternsAt(display, marks)), (at) => isLit(marks, at));
   }
 
   /**
-   * The same of what is seen.
+   * Returns the same for the perceived picture.
    * @param {number[][]} patterns of the displays
    * @param {(lamp: number) => boolean} isSeen
    */

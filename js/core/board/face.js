@@ -1,44 +1,44 @@
-// The face of a board: what the comments of its text tell of names, colours and places. Its words stand in tools/lib/face.txt.
+// The front panel of a board: the names, colours and positions in the comments of its text. Its words are in tools/lib/face.txt.
 
 import { COLOURS, fitsHead, fitsWords, headOf, isNumber, limit, said, sizeOf, wordsOf } from "./face_words.js";
 import { matrixKey, textOfKey } from "./key_place.js";
 import * as say from "../../words/board.js";
 
 /**
- * A fault; `isRefused` where it is one of names or displays, on which tests hang.
+ * An error; `isRefused` if it is about names or displays, on which tests depend.
  * @typedef {{ line: number, words: string, isRefused: boolean }} Fault
  * @typedef {import("./face_words.js").Kind} Kind
  * @typedef {import("./key_place.js").MatrixKey} MatrixKey
- * @typedef {{ text: string, line: number }} Told a word or words, and the line that tells them
+ * @typedef {{ text: string, line: number }} FaceText a word or words, and their line
  * @typedef {{ row: number, column: number, lamp: number, line: number }} GridLamp
- * @typedef {{ kind: string, first: number, rows: number, columns: number, by: number, line: number }} Group so many rows of so many
- *   lamps; of a display the digits, and the lamps of each: four or seven, and one more with points. One that is scanned has one row of
- *   lamps alone, and from lamp `by` on, which is else -1, one for each row: what is in a row is lit where its lamp and its row's are
+ * @typedef {{ kind: string, first: number, rows: number, columns: number, by: number, line: number }} Group rows of lamps; of a display the
+ * digits, and the lamps of each: four or seven, and one more with points. A scanned group has one row of lamps only, and from lamp `by` (-1
+ * for others) one lamp per row: a lamp in a row is on if both its column's lamp and its row's lamp are on
  * @typedef {{ kind: string, name: string, level: number, line: number }} TestPin a `button` or a `switch`; TEST has this level while
  *   it is pressed
- * @typedef {{ name: string, kind: Kind, first: string, words: string, line: number }} Line with the word that begins it, the first
- *   word behind that, and what stands behind the colon
+ * @typedef {{ name: string, kind: Kind, first: string, words: string, line: number }} Line with the word that begins it, the first word
+ * after that, and the text after the colon
  */
 
 /**
- * Where the strobe goes up, what the word of the code at the port says is printed.
+ * A printer: at the rising edge of its strobe, it prints the word of the code at its port.
  * @typedef {{ strobe: string, port: string, words: string[], line: number }} Printer
  */
 
-/** So many words all lists of names, colours and places have together: several times what a board has use for. */
+/** The most words in all lists of names, colours and positions together: several times what a board needs. */
 const MOST_WORDS = limit("words");
 
 export class Face {
   /** @param {string} text of a board */
   constructor(text) {
     this.title = "";
-    /** @type {Map<string, Told & { key: MatrixKey }>} the names of the keys by `row column`, "" for a place without a key */
+    /** @type {Map<string, FaceText & { key: MatrixKey }>} the names of the keys by `row column`, "" for a place without a key */
     this.keys = new Map();
-    /** @type {Map<number, Told>} */
+    /** @type {Map<number, FaceText>} */
     this.lamps = new Map();
     /** @type {Map<string, number>} the lamps by their names */
     this.lampNumbers = new Map();
-    /** @type {Map<number, Told>} */
+    /** @type {Map<number, FaceText>} */
     this.colours = new Map();
     /** @type {GridLamp[]} */
     this.grid = [];
@@ -46,23 +46,23 @@ export class Face {
     this.groups = [];
     /** @type {TestPin | null} */
     this.test = null;
-    /** @type {{ place: string, name: string, line: number } | null} what sounds by the edges of a line */
+    /** @type {{ place: string, name: string, line: number } | null} the buzzer, which the edges of a line drive */
     this.buzzer = null;
     /** @type {Printer | null} */
     this.printer = null;
-    /** @type {Map<string, Told>} the names of ports and chains, by `rom0`, `ram0.0`, `chain0` */
+    /** @type {Map<string, FaceText>} the names of ports and chains, by `rom0`, `ram0.0`, `chain0` */
     this.ports = new Map();
     /** @type {Fault[]} */
     this.faults = [];
-    /** All that was read, by which one face is compared with another. */
-    this.told = "";
-    /** @type {Map<string, number>} the lines of what may be told once */
+    /** All that was read, for comparing two front panels. */
+    this.comments = "";
+    /** @type {Map<string, number>} the lines of what may be given once */
     this.lines = new Map();
     /** @type {{ row: number, column: number, word: string, line: number }[]} */
     this.gridWords = [];
-    /** Whether names or displays hang on the line that is read. */
+    /** True if names or displays hang on the line that is read. */
     this.isRefused = false;
-    /** How many words of lists were read; from the line on that has too many nothing is read. */
+    /** The number of words read from lists; no line is read after the limit is exceeded. */
     this.wordCount = 0;
     text.split("\n").forEach((line, at) => this.read(line.replace(/\r$/, ""), at + 1));
     for (const word of this.gridWords) this.putOnGrid(word);
@@ -77,10 +77,10 @@ export class Face {
   }
 
   /**
-   * Whether this is told for the first time; if not, that is a fault.
+   * Returns whether this is given for the first time; a second time is an error.
    * @param {string} name
    * @param {number} line
-   * @param {string} words the name of what is said then
+   * @param {string} words its name in the error message
    * @param {...(string | number)} about
    */
   isFirst(name, line, words, ...about) {
@@ -98,7 +98,7 @@ export class Face {
     const found = this.wordCount <= MOST_WORDS ? headOf(text) : null;
     if (!found) return;
     const { name, kind, first, last, words } = found;
-    this.told += `${text}\n`;
+    this.comments += `${text}\n`;
     this.isRefused = kind.isRefused;
     if (kind.counts) this.wordCount += wordsOf(words).filter((word) => word !== "_").length;
     if (this.wordCount > MOST_WORDS) this.fault(line, said("too many words"));
@@ -231,7 +231,7 @@ export class Face {
   }
 
   /**
-   * Whether what is scanned is not too large, and no lamp is named twice; else that is a fault.
+   * Returns whether the scanned group is not too large and names no lamp twice; otherwise reports an error.
    * @param {Group} group
    */
   canBeScanned({ kind, first, rows, columns, by, line }) {
@@ -298,7 +298,7 @@ function* repeated(word, count) {
 const readGroup = (face, line) => face.readGroup(line);
 
 /**
- * Who reads a line, by the word that begins it.
+ * The reader of each line, by the word that begins it.
  * @type {Record<string, (face: Face, line: Line) => void>}
  */
 const READERS = {
@@ -315,18 +315,18 @@ const READERS = {
 };
 
 /**
- * What in the comments of a board's text looks like a part of a face and is not understood, by rising line.
+ * Returns the errors in comments that look like a part of a front panel, by rising line.
  * @param {string} text
  * @returns {Fault[]}
  */
 export function faceFaults(text) {
-  return sorted(new Face(text).faults);
+  return byLine(new Face(text).faults);
 }
 
 /**
- * What is said in the place of faults that are not told.
+ * Returns the text that replaces the errors that are not listed.
  * @param {unknown[]} faults
- * @param {number} most so many are told
+ * @param {number} most errors are reported
  */
 export function moreThan(faults, most) {
   return faults.length > most ? say.andMore((faults.length - most).toLocaleString("en")) : "";
@@ -336,6 +336,6 @@ export function moreThan(faults, most) {
  * By rising line.
  * @param {Fault[]} faults
  */
-export function sorted(faults) {
+export function byLine(faults) {
   return [...faults].sort((one, other) => one.line - other.line);
 }

@@ -1,6 +1,6 @@
-// A face beside the board that it is told of: what the board has not, and which lamps stand where.
+// A front panel with the board that it belongs to: what the board lacks, and the positions of the lamps.
 
-import { sorted } from "./face.js";
+import { byLine } from "./face.js";
 import { KINDS, said } from "./face_words.js";
 import { BITS } from "../bench/board_form.js";
 import { upTo } from "../bench/numbers.js";
@@ -13,7 +13,7 @@ import { upTo } from "../bench/numbers.js";
  */
 
 /**
- * Whether the board has a ROM (`rom0`), a RAM chip (`ram0.0`) or a chain (`chain0`).
+ * Returns whether the board has a ROM (`rom0`), a RAM chip (`ram0.0`) or a chain (`chain0`).
  * @param {Board} board
  * @param {string} place
  */
@@ -25,7 +25,7 @@ function hasPlace(board, place) {
 }
 
 /**
- * Whether the board has an output line: `rom0.3`, `ram0.1.3` or `chain0.5`.
+ * Returns whether the board has an output line: `rom0.3`, `ram0.1.3` or `chain0.5`.
  * @param {Board} board
  * @param {string} line
  */
@@ -38,7 +38,7 @@ export function hasOutput(board, line) {
 }
 
 /**
- * The buzzer of a face, null where it has none at a line of the board.
+ * The buzzer of a front panel, null if it has none at a line of the board.
  * @param {Board} board
  * @param {Face} face
  */
@@ -47,7 +47,7 @@ export function buzzerOf(board, { buzzer }) {
 }
 
 /**
- * The printer of a face, null where it has none at lines of the board.
+ * The printer of a front panel, null if it has none at lines of the board.
  * @param {Board} board
  * @param {Face} face
  */
@@ -56,7 +56,7 @@ export function printerOf(board, { printer }) {
 }
 
 /**
- * The number behind that of the last lamp.
+ * The number after that of the last lamp.
  * @param {Group} group
  */
 export function endOf({ first, rows, columns, by }) {
@@ -76,7 +76,7 @@ export function lampsOf({ first, rows, columns, by }) {
 export const isScanned = ({ by }) => by >= 0;
 
 /**
- * The groups that a board of so many lamps has.
+ * Returns the groups on a board with this many lamps.
  * @param {Face} face
  * @param {number} count
  */
@@ -85,7 +85,7 @@ export function fittingGroups(face, count) {
 }
 
 /**
- * The lamp that is the minus of a display, -1 where there is none.
+ * Returns the lamp that is the minus of a display, -1 if there is none.
  * @param {Face} face
  */
 export function minusOf({ lampNumbers }) {
@@ -93,7 +93,7 @@ export function minusOf({ lampNumbers }) {
 }
 
 /**
- * Returns the lamps of so many that have no place: neither in a group nor on the grid.
+ * Returns the lamps without a position: neither in a group nor on the grid.
  * @param {Face} face
  * @param {number} count
  */
@@ -113,7 +113,7 @@ export function linesOfPrinter({ strobe, port }) {
 }
 
 /**
- * What the comments name and the board has not.
+ * Returns the parts that the comments name and the board lacks.
  * @param {Face} face
  * @param {Board} board
  * @returns {Fault[]}
@@ -142,7 +142,7 @@ export function missingOf(face, board) {
   const lacking = printer && linesOfPrinter(printer).find((line) => !hasOutput(board, line));
   if (printer && lacking) add("printer", printer.line, "no output line", lacking);
   for (const [place, { line }] of face.ports) if (!hasPlace(board, place)) add("port", line, "port not there", place);
-  return sorted(faults);
+  return byLine(faults);
 }
 
 /** @param {string} kind the word that begins a line */
@@ -152,7 +152,7 @@ function isRefused(kind) {
 }
 
 /**
- * The names of so many lamps, "" for one without.
+ * Returns the names of the first lamps, "" for one without.
  * @param {Face} face
  * @param {number} count
  */
@@ -161,7 +161,7 @@ export function lampNames(face, count) {
 }
 
 /**
- * The colours of so many lamps, "" for one that has none of its own.
+ * Returns the colours of the first lamps, "" for one without its own.
  * @param {Face} face
  * @param {number} count
  */
@@ -170,7 +170,7 @@ export function lampColours(face, count) {
 }
 
 /**
- * The last lamp that each line gives a colour.
+ * The last lamp for which each line sets a colour.
  * @param {Face} face
  */
 function lastColours(face) {

@@ -1,18 +1,18 @@
-// The words of a face, by the table tools/lib/face.txt, which says what its columns are: heads of lines, the words after them, and what a
-// line that is none is told.
+// The words of a front panel, from the table tools/lib/face.txt, which describes its columns: heads of lines, the words after them, and the
+// error of a line that is wrong.
 
 import table from "#face-table";
 
 /**
- * A word that begins a line: what follows it (`N`, `N to N`, `place`, or `-`), whether its words count towards the limit, whether names
- * or displays hang on it, what the numbers of its words are, which words it has, and what is said of others.
+ * A word that begins a line: what follows it (`N`, `N to N`, `place`, or `-`), whether its words count towards the limit, whether names or
+ * displays depend on it, the meaning of its numbers, its words, and the error for others.
  * @typedef {{ head: string, counts: boolean, isRefused: boolean, size: string, words: RegExp | null, form: string, other: string }} Kind
  */
 
 const rows = table.split("\n").filter((line) => line !== "" && !line.startsWith("#")).map((line) => line.split("\t"));
 
 /**
- * The rows that begin with a word, without it.
+ * The rows that begin with a word, without that word.
  * @param {string} word
  */
 const rowsOf = (word) => rows.filter((row) => row[0] === word).map((row) => row.slice(1));
@@ -35,7 +35,7 @@ export const COLOURS = new Set(rowsOf("colour").map(([word]) => word));
 export const SEGMENTS = new Map(rowsOf("digit").map(([marks, sign]) => [marks, sign === "_" ? " " : sign]));
 const LIMITS = new Map(rowsOf("limit").map(([name, number]) => [name, Number(number)]));
 const HEADS = new Map(rowsOf("head").map(([name, expression]) => [name, new RegExp(expression)]));
-/** Words that mean another one. */
+/** Synonyms. */
 const OTHERS = new Map(rowsOf("other").map(([word, meant]) => [word, meant]));
 const SAID = new Map(rowsOf("say").map(([name, words]) => [name, words]));
 const LINE = /^[ \t]*#[ \t]*([A-Za-z]+)(?:[ \t]+([^ \t:]+)(?:[ \t]+to[ \t]+([^ \t:]+))?)?[ \t]*:(.*)$/i;
@@ -44,7 +44,7 @@ const LINE = /^[ \t]*#[ \t]*([A-Za-z]+)(?:[ \t]+([^ \t:]+)(?:[ \t]+to[ \t]+([^ \
 export const limit = (name) => LIMITS.get(name) || 0;
 
 /**
- * What is said of a fault.
+ * Returns the message of an error.
  * @param {string} name
  * @param {...(string | number)} about
  */
@@ -59,7 +59,7 @@ export const wordsOf = (text) => text.split(/[ \t]+/).filter(Boolean);
 export const isNumber = (word) => isHead("N", word);
 
 /**
- * @param {string} name of what a head can have
+ * @param {string} name a head's name
  * @param {string | undefined} word
  */
 function isHead(name, word) {
@@ -68,7 +68,7 @@ function isHead(name, word) {
 }
 
 /**
- * Whether this can stand between the word of a line and its colon.
+ * Returns whether this can be between the word of a line and its colon.
  * @param {Kind} kind
  * @param {string | undefined} first
  * @param {string | undefined} last after `to`
@@ -80,7 +80,7 @@ export function fitsHead({ head }, first, last) {
 }
 
 /**
- * Whether a line of this kind has such words.
+ * Returns whether a line of this kind allows such words.
  * @param {Kind} kind
  * @param {string[]} words
  */
@@ -89,8 +89,7 @@ export function fitsWords({ words: expression }, words) {
 }
 
 /**
- * The rows and columns that the words of a group tell, and the lamp from which on it is scanned, -1 where it is not; null where they tell
- * none.
+ * Returns the rows and columns in the words of a group, and the first lamp that scans it, -1 if none does; null if the words give none.
  * @param {Kind} kind
  * @param {string[]} words
  */
@@ -107,7 +106,7 @@ export function sizeOf(kind, words) {
 }
 
 /**
- * The head of a line, and the words after it; null where it is no line of a face.
+ * Returns the head of a line, and the words after it; null if it is not a line of a front panel.
  * @param {string} text
  */
 export function headOf(text) {

@@ -1,4 +1,4 @@
-// A key of a board as a value: its row and column, or the TEST pin. The texts that stand for keys are made and read here alone.
+// A key of a board as a value: its row and column, or the TEST pin. Only this module converts keys to texts and back.
 
 /**
  * A key of the matrix, by its row and column from 0 on.

@@ -1,5 +1,5 @@
-// Where a wire runs in the picture of the wiring: straight to its pin, or, where a part would lie over it, through the gap above or below
-// that part, also where parts were dragged, so that it has to go back. Nothing here draws.
+// The route of a wire in the picture of the wiring: straight to its pin, or, if a part is in the way, through the gap above or below that
+// part; if parts were moved, it may have to run backwards. Nothing here draws.
 
 /**
  * @typedef {import("./wiring.js").Point} Point
@@ -9,15 +9,15 @@
  * @typedef {[Point, Point, Point, Point]} Curve from a point to the last one, as a cubic of Bezier has them
  */
 
-/** How far a wire between parts of one column goes out, and how far from a part one turns that goes round it. */
+/** The length of a wire's stub between parts of one column, and the distance at which a wire turns around a part. */
 const OUT = 12;
 const ASIDE = 8;
 /** The least that a curve is bent. */
 const BEND = 30;
-/** How far from a part a wire runs along it, and how far apart wires are that run there. */
+/** The distance of a wire from the part that it runs along, and between such wires. */
 const LANE = 5;
 const LANES = [0, -2, 2, -4, 4];
-/** So many points of a curve are looked at. */
+/** The points of a curve that are tried. */
 const LOOKS = 24;
 
 /**
@@ -64,7 +64,7 @@ function isIn({ x, y }, box) {
 }
 
 /**
- * Whether a curve runs below a part.
+ * Returns whether a curve runs below a part.
  * @param {Curve} curve
  * @param {Box} box
  */
@@ -73,7 +73,7 @@ export function isBelow(curve, box) {
 }
 
 /**
- * Above and below each part, those first that are the shortest way.
+ * Above and below each part, the shortest ways first.
  * @param {Ends} ends
  * @param {Box[]} boxes
  */
@@ -85,7 +85,7 @@ function lanesOf({ from, to }, boxes) {
 }
 
 /**
- * Where a wire can run along parts that stand between its ends, as near to both as can be.
+ * Returns the lane for a wire along the parts between its ends, as near to both as possible.
  * @param {Ends} ends
  * @param {Box[]} between
  */
@@ -110,10 +110,10 @@ function turning({ from, to }, y, left, right) {
 }
 
 /**
- * The curves of a wire that turns beside its pins: it leaves to the right, and comes from the left. Where its end lies before its
+ * Returns the curves of a wire that turns near its pins: it leaves to the right and arrives from the left. If its end is left of its
  * beginning, it runs back between them.
  * @param {Ends} ends
- * @param {number} y where it runs level
+ * @param {number} y of its horizontal part
  * @returns {Curve[]}
  */
 function detour(ends, y) {
@@ -136,7 +136,7 @@ function detour(ends, y) {
  */
 export function routeOf(ends, boxes, number) {
   const { from, to } = ends;
-  // What lies over a pin cannot be gone round.
+  // A part over a pin cannot be bypassed.
   const others = boxes.filter((box) => !isIn(from, box) && !isIn(to, box));
   /** @type {(route: Curve[]) => boolean} */
   const isFree = (route) => !route.some((curve) => others.some((box) => isBelow(curve, box)));
@@ -158,6 +158,6 @@ export function routeOf(ends, boxes, number) {
  */
 export function pathText(curves) {
   /** @type {(point: Point) => string} */
-  const told = ({ x, y }) => `${x} ${y}`;
-  return `M${told(curves[0][0])}${curves.map(([, ...points]) => `C${points.map(told).join(" ")}`).join("")}`;
+  const textOfPoint = ({ x, y }) => `${x} ${y}`;
+  return `M${textOfPoint(curves[0][0])}${curves.map(([, ...points]) => `C${points.map(textOfPoint).join(" ")}`).join("")}`;
 }

@@ -1,4 +1,4 @@
-// How the lamps of a board are seen: each at an instant, and by its brightness while time runs.
+// The lamps of a board as perceived: each at an instant, and by its brightness while time runs.
 
 import { SEEN_PART } from "./brightness.js";
 import { isLit } from "./digit_patterns.js";
@@ -6,8 +6,7 @@ import { isLit } from "./digit_patterns.js";
 /**
  * @typedef {import("./brightness.js").Brightness} Brightness
  *
- * A lamp: whether it is lit at an instant, by a `*` for each lamp that is; for which part of the time it is lit, and whether that counts
- * as lit.
+ * A lamp: whether it is on at an instant, as a text with a `*` for each lamp that is; its duty cycle, and whether that counts as on.
  * @typedef {{ isLit: (marks: string) => boolean, part: (brightness: Brightness) => number,
  *   isOn: (brightness: Brightness) => boolean }} SeenLamp
  */
@@ -22,7 +21,7 @@ export function lampAt(at) {
 }
 
 /**
- * Returns a lamp of a group whose rows are lit by turns: it can be lit for its part of the time only, which counts as all of it.
+ * Returns a lamp of a multiplexed group: it can be on for its part of the time only, which counts as all of it.
  * @param {import("./face.js").Group} group
  * @param {number} number of those groups that are scanned and no display
  * @param {number} at counts row by row

@@ -1,4 +1,5 @@
-// What a display shows by answers about its lamps: by `lamps`, and by `trace` of the lamps alone, which is what an eye sees in that time.
+// The text of a display, from answers about its lamps: to `lamps`, or to `trace` of the lamps alone, which gives the perceived picture of
+// that time.
 
 import { SeenText, hasScannedDisplay } from "../engine/seen_text.js";
 import { DisplayText, wholeText } from "./display_text.js";
@@ -9,7 +10,7 @@ import * as say from "../../words/board.js";
  * @typedef {import("../bench/answers.js").Board} Board
  * @typedef {import("./face.js").Face} Face
  *
- * A line for each of the answers; or what is wrong, in words.
+ * Returns a line for each of the answers; or the error, in words.
  * @typedef {{ lines: string[], words: string }} Shown
  */
 
@@ -46,7 +47,7 @@ class ShownAnswers {
    * Reads the answer that begins at a line.
    * @param {string[]} answers
    * @param {number} at
-   * @returns {{ text: string, words: string, count: number }} `count` is that of its lines, 0 if it is not about the lamps
+   * @returns {{ text: string, words: string, count: number }} `count` is the number of its lines, 0 if it is not about the lamps
    */
   read(answers, at) {
     const wrong = (/** @type {string} */ words) => ({ text: "", words, count: 1 });
@@ -68,7 +69,7 @@ class ShownAnswers {
 }
 
 /**
- * Returns what the display of a board shows by each answer about its lamps.
+ * Returns what the display of a board shows in each answer about its lamps.
  * @param {Face} face
  * @param {Board} board
  * @param {string} name of the board

@@ -3,7 +3,7 @@
 /** @typedef {import("../engine/sounding.js").Heard} Heard */
 
 /**
- * The samples of what a line was, 1 or -1.
+ * The samples of a line, 1 or -1.
  * @param {Heard} heard
  */
 export function samplesOf({ cycles, level, edges }) {
@@ -16,9 +16,9 @@ export function samplesOf({ cycles, level, edges }) {
   return samples;
 }
 
-/** Gathers what was heard in frames, until there is enough of it to be played at once. */
+/** Gathers the sound of frames until there is enough to play. */
 export class SoundPieces {
-  /** @param {number} least so many cycles are played at once */
+  /** @param {number} least the cycles that are played at once */
   constructor(least) {
     this.least = least;
     /** @type {Float32Array[]} */
@@ -32,7 +32,7 @@ export class SoundPieces {
   }
 
   /**
-   * All samples that were gathered, where they are enough; else null.
+   * Returns all samples if there are enough; otherwise null.
    * @param {Heard} heard
    */
   add(heard) {

@@ -1,11 +1,11 @@
-// The paper strip of a printer: the lines that come of what was sent to it.
+// The printout of a printer: the lines that result from the codes sent to it.
 
-/** The paper is so many characters wide; what comes behind them stands on a line of its own. */
+/** The printout is this wide, in characters; the rest continues on a line of its own. */
 const WIDTH = 24;
 const FEED = "feed";
 
 /**
- * What a code prints; `?` where the face does not say.
+ * Returns the text that a code prints; `?` if the front panel does not say.
  * @param {string | undefined} word
  */
 function printedBy(word) {
@@ -15,7 +15,7 @@ function printedBy(word) {
 /**
  * The lines of a strip; the last one has not ended.
  * @param {number[]} codes
- * @param {string[]} words what is printed for codes 0, 1 ..
+ * @param {string[]} words the text that is printed for codes 0, 1 ..
  */
 export function linesOf(codes, words) {
   const lines = [""];

@@ -1,15 +1,15 @@
-// The text of the board that is wired: it has the face, whatever is typed since. The bench keeps no text, so a session keeps it.
+// The text of the wired board: it has the front panel, whatever was typed since. The bench keeps no text, so a session keeps it.
 
 import { BoardDraft } from "../drawing/board_draft.js";
 import { sentText } from "../text/text_fault.js";
 
-/** @typedef {{ text: string, board: string }} WiredText a text, and the answer of the bench to `board` once it is wired */
+/** @typedef {{ text: string, board: string }} WiredText a text, and the bench's answer to `board` once it is wired */
 
-/** So many texts are kept: going back may lead to a board that was wired before. */
+/** The most texts that are kept: going back can lead to an earlier board. */
 const MOST_TEXTS = 4;
 
 /**
- * Whether a text is that of the board that is wired, perhaps with other comments.
+ * Returns whether a text is that of the wired board, perhaps with other comments.
  * @param {string} text
  * @param {WiredText} wired
  */
@@ -21,7 +21,7 @@ export function isTextOf(text, wired) {
  * Returns the text of the board that the bench has, which is "" for a board of unknown text.
  * @param {string[]} answers to `board`
  * @param {string} text in the editor
- * @param {WiredText[] | undefined} kept undefined in a session that has kept none so far: its text counts
+ * @param {WiredText[] | undefined} kept undefined in a session that has saved none so far: then its text counts
  * @returns {WiredText}
  */
 export function wiredOf(answers, text, kept) {
@@ -31,7 +31,7 @@ export function wiredOf(answers, text, kept) {
 }
 
 /**
- * Returns what a session keeps, the newest first.
+ * Returns the texts that a session keeps, the newest first.
  * @param {WiredText} wired
  * @param {WiredText[]} [kept]
  */

@@ -8,29 +8,28 @@ import * as say from "../../words/board.js";
  * @typedef {import("./face.js").TestPin} TestPin
  * @typedef {{ place: string, name: string }} Buzzer
  *
- * A pin of a part. `line` is the line of the board that it is at, as the board's text names it ("" for the TEST pin); a lamp has a colour.
- * Its own name is that line where the part drives it or reads it, else what it is: `clock 0`, `data 0`, `row 1`, `column 2`, `lamp 3`,
- * `buzzer 0`.
- * A pin of a chip has the number that it has on the package, of 16 pins.
+ * A pin of a part. `line` is the line of the board that it is connected to, as the board's text names it ("" for the TEST pin); a lamp has
+ * a colour. Its own name is that line if the part drives or reads it, otherwise its function: `clock 0`, `data 0`, `row 1`, `column 2`,
+ * `lamp 3`, `buzzer 0`. A pin of a chip has its number on the package, of 16 pins.
  * @typedef {{ id: string, line: string, label: string, colour?: string, number?: number, x: number, y: number }} Pin
  * @typedef {Omit<Pin, "x" | "y">} PinToPut
  *
- * A part: its name in the text (`rom 1`, `ram 0.2`, `chain 0`, `keys`, `lamps`, `test`, `buzzer`, `processor`), what it is called, and
- * where it stands.
+ * A part: its name in the text (`rom 1`, `ram 0.2`, `chain 0`, `keys`, `lamps`, `test`, `buzzer`, `processor`), its title, and its
+ * position.
  * @typedef {{ id: string, kind: string, title: string, x: number, y: number, width: number, height: number, pins: Pin[],
  *   says: string[] }} Part
  *
- * A wire from the pin that drives a line to a pin that takes it.
+ * A wire from the pin that drives a line to a pin that uses it.
  * @typedef {{ line: string, from: Pin, to: Pin }} Wire
  * @typedef {{ parts: Part[], wires: Wire[], width: number, height: number }} Picture
  *
- * What a face tells: what the lamps are called, "" for one without a name, their colours, "" for one that has none of its own, what is at
- * the TEST pin, and the buzzer at a line of the board.
+ * The information of a front panel: the names of the lamps, "" for one without, their colours, "" for one without its own, the switch at
+ * the TEST pin, and the line of the buzzer.
  * @typedef {{ names: string[], colours: string[], test: TestPin | null, buzzer: Buzzer | null }} Appearance
  *
  * @typedef {{ x: number, y: number }} Point
  *
- * Where parts stand that were dragged, by their names.
+ * The positions of parts that were dragged, by their names.
  * @typedef {Map<string, Point>} Moved
  */
 
@@ -38,17 +37,17 @@ export const PIN_STEP = 18;
 export const HEAD = 26;
 const GAP = 14;
 const EDGE = 10;
-/** So many bits of a chain that nothing uses are drawn, to be wired. */
+/** The unused bits of a chain that are drawn, to be wired. */
 const FREE_BITS = 6;
-/** The columns of parts: how wide their parts are, and how much room the wires have before them. */
+/** The columns of parts: the width of their parts, and the room for the wires before them. */
 const COLUMNS = [
   { room: 0, width: 84 },
-  { room: 16, width: 112 },
+  { room: 24, width: 112 },
   { room: 80, width: 138 },
   { room: 90, width: 150 },
 ];
 
-/** The longest name that a part of the first column has room for. */
+/** The longest name that fits a part of the first column. */
 const LONGEST_NAME = 11;
 
 /** The numbers of pins on the package: TEST of the 4004, lines 0 to 3 of the 4001 and the 4002, inputs and bits 0 to 9 of the 4003. */
@@ -88,7 +87,7 @@ class Column {
   }
 }
 
-/** Which line each pin of the board takes, with the words for it. */
+/** The line that each pin of the board uses, with the words for it. */
 class Uses {
   /**
    * @param {Board} board
@@ -124,7 +123,7 @@ class Uses {
   }
 
   /**
-   * How far down a line is used: rows come first, then columns, then lamps.
+   * Returns how far down a line is used: rows first, then columns, then lamps.
    * @param {string} line
    */
   orderOf(line) {
@@ -137,7 +136,7 @@ class Uses {
   }
 
   /**
-   * What a line does, in words.
+   * Returns the function of a line, in words.
    * @param {string} name
    * @param {string} line
    */
@@ -161,7 +160,7 @@ function linesOfPort(chip) {
  */
 function drawProcessor(column, test) {
   const says = [say.DOES_PROCESSOR,
-    test ? say.testIsAt(test.kind, nameOf(test)) : say.TEST_IS_OWN];
+    test ? say.testIsAt(test.kind, nameOf(test)) : say.TEST_IS_ONLY_INPUT];
   const pin = { id: "TEST", line: "", label: "TEST", number: TEST_NUMBER };
   return column.add({ id: "processor", kind: "processor", title: "4004", says }, [], [pin]);
 }
@@ -208,7 +207,7 @@ function drawRam(column, bank, chip, uses) {
 }
 
 /**
- * A chain with the bits that something uses, and some of the others.
+ * A chain with the bits that are used, and some of the others.
  * @param {Column} column
  * @param {Board["chains"][number]} chain
  * @param {number} at
@@ -259,7 +258,7 @@ function drawBuzzer(column, { place, name }) {
 }
 
 /**
- * The wires: a line goes from the pin of the chip or chain that has it to each other pin with its name.
+ * The wires: from the pin of the chip or chain that drives a line to each other pin of the line.
  * @param {Part[]} parts
  */
 function wiresOf(parts) {
@@ -282,7 +281,7 @@ function wiresOf(parts) {
 }
 
 /**
- * The columns, of which those that have no parts take no room.
+ * The columns; those without parts take no room.
  * @param {boolean[]} areUsed
  */
 function columnsOf(areUsed) {
@@ -295,7 +294,7 @@ function columnsOf(areUsed) {
 }
 
 /**
- * Puts parts where they were dragged to; their pins go with them.
+ * Puts parts where they were dragged to, with their pins.
  * @param {Part[]} parts
  * @param {Moved} moved
  */
@@ -339,8 +338,8 @@ export function drawBoard(board, look = { names: [], colours: [], test: null, bu
 }
 
 /**
- * Whether a line of a port is at 1.
- * @param {string} digit what the port has, as a hexadecimal digit
+ * Returns whether a line of a port is at 1.
+ * @param {string} digit the value of the port, as a hexadecimal digit
  * @param {number} line
  */
 export function isHigh(digit, line) {
@@ -348,11 +347,11 @@ export function isHigh(digit, line) {
 }
 
 /**
- * Whether a line of a ROM's port is at 1: an input line has what is read at it, an output line what the latch holds.
+ * Returns whether a line of a ROM's port is at 1: an input line has the level that is read at it, an output line the latch.
  * @param {string} mask the port in the board's text, line 3 first
- * @param {{ out: string, in: string }} told
+ * @param {{ out: string, in: string }} portLevels
  * @param {number} line
  */
-export function isHighAtRom(mask, told, line) {
-  return isHigh(mask[3 - line] === "i" ? told.in : told.out, line);
+export function isHighAtRom(mask, portLevels, line) {
+  return isHigh(mask[3 - line] === "i" ? portLevels.in : portLevels.out, line);
 }

@@ -1,15 +1,16 @@
-// The one language of conditions (docs/MANUAL.md, "Conditions"), read with the names of a board's face and of a program. A condition names
-// the places that it looks at, and says whether it holds by what the bench answers about them. Without a document.
+// The language of all conditions (docs/MANUAL.md, "Conditions"), read with the names of a board's front panel and of a program. A condition
+// lists the places that it depends on, and decides by the bench's answers about them whether it holds.
 //
 //     const { condition, fault } = conditionOf("lamp open on and (r9 >= 8 or cy = 1)", { face, board, map });
 //     if (condition) .. `trace 1000 ${condition.places.join(" ")}` ..; condition.holds(valuesOf(row))
 //
-// `places` are at most 16, each once: words of `trace`, and of STATE_PLACES, which `state` tells and only commands change (probes.js asks
-// for both); `values` are what is told of them, in that order. `fault` says in words what is wrong, and `column` where, from 0.
+// `places` are at most 16, each once: words of `trace`, and of STATE_PLACES, which `state` reports and only commands change (probes.js asks
+// for both); `values` are the reports on them, in that order. `fault` says in words what is wrong, and `column` where, from 0.
 //
-// conditionOf reads what a person writes at a breakpoint; tracedConditionOf the same where nothing but `trace` is asked; testConditionOf
-// the condition of a line of a test, which may ask for cycles, for what is printed and for what an eye sees as well.
+// conditionOf reads the condition of a breakpoint; tracedConditionOf the same if only `trace` is asked; testConditionOf the condition of a
+// line of a test, which may also ask for cycles, for the printout and for perceived lamps.
 
+import { MOST_PLACES } from "../bench/inputs.js";
 import { meaningOf } from "./meaning.js";
 import { isCondition, parse, parseCondition } from "./parser.js";
 import { Unreadable, fail } from "./scanner.js";
@@ -22,26 +23,23 @@ import * as say from "../../words/conditions.js";
  * @typedef {import("../machine/source_map.js").SourceMap} SourceMap
  * @typedef {import("./parser.js").ConditionNode} ConditionNode
  * @typedef {{ face: Face, board: Board, map: Pick<SourceMap, "names" | "nameOf"> | null, watched?: Map<string, string> }} Names the
- *   board's face, its parts as the query `board` tells them, the names of the program, and those of Watch with their expressions
- * @typedef {{ test: string, owed: string, keys: string, cycles: number, seen: string[], printed: string[] }} Beside what no trace tells of
- *   an instant: TEST, the owed cycle and the keys, as `state` tells them, the cycles since the mark of a test, the answer to what an eye
- *   sees, and the words that were printed
- * @typedef {{ text: string, negation: string, places: string[], holds: (values: string[], beside?: Beside) => boolean,
- *   tell: (values: string[], beside?: Beside) => string, needs: string[], address: number }} Condition `tell` says what is and what has
- *   to be where it does not hold, "" where it holds; `negation` is the text that holds where this one does not; `needs`
- *   are the parts of `Beside` that decide it; `address` is where the counter has to be, if the condition is that and no more, else -1
+ *   board's face, its parts as the query `board` reports them, the names of the program, and those of Watch with their expressions
+ * @typedef {{ test: string, owed: string, keys: string, cycles: number, seen: string[], printed: string[] }} Beside The values that no
+ * trace reports: TEST, the pending second cycle and the keys, as `state` reports them, the cycles since the mark of a test, the answer
+ * about the perceived lamps, and the words that were printed
+ * @typedef {{ text: string, negation: string, places: string[], holds: (values: string[], beside?: Beside) => boolean, explain: (values:
+ * string[], beside?: Beside) => string, needs: string[], address: number }} Condition `explain` says what is and what must be if the
+ * condition does not hold, "" if it holds; `negation` is the text of the opposite condition; `needs` are the parts of `Beside` that decide
+ * it; `address` is the counter that makes it true if the condition is that alone, otherwise -1
  * @typedef {{ condition: Condition, fault: "", column: -1 } | { condition: null, fault: string, column: number }} ReadCondition
  *
- * A value or a condition, told in words: a place as `trace` has it, another value as a decimal number, a condition as true or false.
- * @typedef {{ places: string[], told: (values: string[]) => string, number: ((values: string[]) => number) | null }} Expression `number` is
- *   null for a condition
+ * Describes a value or a condition in words: a place as `trace` has it, another value as a decimal number, a condition as true or false.
+ * @typedef {{ places: string[], textOf: (values: string[]) => string, number: ((values: string[]) => number) | null }} Expression `number`
+ *   is null for a condition
  * @typedef {{ expression: Expression, fault: "", column: -1 } | { expression: null, fault: string, column: number }} ReadExpression
  */
 
-/** So many places a query takes. */
-export const MOST_PLACES = 16;
-
-/** @type {Beside} at the end of an instruction, where nothing else is known */
+/** @type {Beside} at the end of an instruction, if nothing else is known */
 const NOTHING = { test: "", owed: "0", keys: "", cycles: 0, seen: [], printed: [] };
 
 /** @param {Names} names */
@@ -82,7 +80,7 @@ function conditionOrFault(read) {
 const withSingleBlanks = (text) => text.trim().replace(/\s+/g, " ");
 
 /**
- * Returns the text that holds where a condition does not.
+ * Returns the text of the opposite condition.
  * @param {ConditionNode} node
  * @param {string} text
  */
@@ -112,18 +110,18 @@ function meaningOfText(whole, names, looked) {
 export function conditionOf(whole, names) {
   return conditionOrFault(() => {
     const looked = new Looked();
-    const { text, negation, address, fits, tell } = meaningOfText(whole, names, looked);
+    const { text, negation, address, matches, explain } = meaningOfText(whole, names, looked);
     checkCount(looked.places);
     return {
       text, negation, places: looked.places, needs: [], address,
-      holds: (values, beside = NOTHING) => fits(values, beside),
-      tell: (values, beside = NOTHING) => (fits(values, beside) ? "" : tell(values, beside, false)),
+      holds: (values, beside = NOTHING) => matches(values, beside),
+      explain: (values, beside = NOTHING) => (matches(values, beside) ? "" : explain(values, beside, false)),
     };
   });
 }
 
 /**
- * Reads the condition of a line of a test: `trace` answers about its places, the test itself about all else, its needs.
+ * Reads the condition of a line of a test: `trace` answers about its places, and the test itself about the rest, its needs.
  * @param {string} whole
  * @param {Names} names
  * @returns {ReadCondition}
@@ -131,7 +129,7 @@ export function conditionOf(whole, names) {
 export function testConditionOf(whole, names) {
   return conditionOrFault(() => {
     const looked = new Looked(true);
-    const { text, negation, address, fits, tell } = meaningOfText(whole, names, looked);
+    const { text, negation, address, matches, explain } = meaningOfText(whole, names, looked);
     const { places: all } = looked;
     const others = all.filter(isOfState);
     const places = all.filter((place) => !isOfState(place));
@@ -144,17 +142,17 @@ export function testConditionOf(whole, names) {
     const valuesOf = others.length === 0 ? (/** @type {string[]} */ values) => values : whatIs;
     return {
       text, negation, places, needs: [...looked.needs, ...others], address,
-      holds: (values, beside = NOTHING) => fits(valuesOf(values, beside), beside),
-      tell: (values, beside = NOTHING) => {
-        const told = valuesOf(values, beside);
-        return fits(told, beside) ? "" : tell(told, beside, false);
+      holds: (values, beside = NOTHING) => matches(valuesOf(values, beside), beside),
+      explain: (values, beside = NOTHING) => {
+        const given = valuesOf(values, beside);
+        return matches(given, beside) ? "" : explain(given, beside, false);
       },
     };
   });
 }
 
 /**
- * The same where nothing but `trace` is asked.
+ * Reads a condition for which only `trace` is asked.
  * @param {string} text
  * @param {Names} names
  * @returns {ReadCondition}
@@ -162,7 +160,7 @@ export function testConditionOf(whole, names) {
 export function tracedConditionOf(text, names) {
   const read = conditionOf(text, names);
   const other = read.condition ? read.condition.places.find((place) => STATE_PLACES.has(place)) : undefined;
-  return other === undefined ? read : { condition: null, fault: say.noTraceTells(other), column: 0 };
+  return other === undefined ? read : { condition: null, fault: say.noTraceShows(other), column: 0 };
 }
 
 /**
@@ -176,13 +174,13 @@ export function expressionOf(text, names) {
     const looked = new Looked();
     const node = parse(text, isLampOf(names));
     if (isCondition(node)) {
-      const { fits } = meaningOf(node, names, looked);
+      const { matches } = meaningOf(node, names, looked);
       checkCount(looked.places);
-      return { places: looked.places, number: null, told: (/** @type {string[]} */ values) => String(fits(values, NOTHING)) };
+      return { places: looked.places, number: null, textOf: (/** @type {string[]} */ values) => String(matches(values, NOTHING)) };
     }
-    const { read, told } = valueIn(node, names, looked);
+    const { read, textOf } = valueIn(node, names, looked);
     checkCount(looked.places);
-    return { places: looked.places, number: read, told: told || ((/** @type {string[]} */ values) => String(read(values))) };
+    return { places: looked.places, number: read, textOf: textOf || ((/** @type {string[]} */ values) => String(read(values))) };
   });
   return /** @type {ReadExpression} */ ({ expression, ...wrong });
 }

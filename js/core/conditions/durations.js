@@ -1,18 +1,18 @@
-// Times as tests tell them: `538`, `538 cycles`, `54 us`, `20 ms`, `1.5 s`, with or without the blank.
+// Times as tests report them: `538`, `538 cycles`, `54 us`, `20 ms`, `1.5 s`, with or without the blank.
 
 import { cyclesOfMs } from "../time/mcs4_time.js";
 
-/** The longest time that a line may tell, three hours. */
+/** The longest time in a line, three hours. */
 const MOST_CYCLES = 1000000000;
 /** The milliseconds of a unit. */
 const UNITS = new Map([["us", 0.001], ["ms", 1], ["s", 1000]]);
 
 /**
- * @typedef {{ cycles: number, words: number }} Duration how many words tell it; no cycles where they tell none
+ * @typedef {{ cycles: number, words: number }} Duration the count of its words; no cycles if they are not a duration
  */
 
 /**
- * The time that words tell from one of them on.
+ * Returns the duration in words from one of them on.
  * @param {string[]} words
  * @param {number} from
  * @returns {Duration}
@@ -32,7 +32,7 @@ export function durationOf(words, from) {
 }
 
 /**
- * The cycles of a time that all these words are; 0 where they are none.
+ * Returns the cycles of a time that consists of all these words; 0 if they are not one.
  * @param {string[]} words
  */
 export function wholeDuration(words) {

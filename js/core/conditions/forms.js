@@ -1,5 +1,5 @@
 // The forms of conditions that name what the front panel shows: `lamps`, `display`, `printed`; and `cycles`, the bits of a chain, the
-// counter at an address. The parser has split them into words; here is what these mean on a board.
+// counter at an address. The parser has split them into words; this module gives these a meaning on a board.
 
 import { hex, upTo } from "../bench/numbers.js";
 import { DisplayText } from "../board/display_text.js";
@@ -17,21 +17,21 @@ import * as say from "../../words/conditions.js";
  * @typedef {import("./meaning.js").Meaning} Meaning
  * @typedef {import("./values.js").Looked} Looked
  *
- * What a form asks: `want` is what it has to be, in words; `measure` returns what it is, in words that `fits` judges, and that `remark`
+ * The meaning of a form: `want` says in words what it must be; `measure` returns what it is, in words that `fits` judges and `remark`
  * follows.
  * @typedef {{ what: string, want: string, isMany?: boolean, measure: (values: string[], beside: Beside) => string,
- *   fits: (is: string, beside: Beside) => boolean, remark?: (is: string) => string, address?: number }} Asked
+ *   matches: (is: string, beside: Beside) => boolean, remark?: (is: string) => string, address?: number }} Asked
  */
 
 /**
  * @param {Asked} asked
  * @returns {Meaning}
  */
-function meaningOfAsked({ what, want, isMany = false, measure, fits, remark, address = -1 }) {
+function meaningOfAsked({ what, want, isMany = false, measure, matches, remark, address = -1 }) {
   return {
     address,
-    fits: (values, beside) => fits(measure(values, beside), beside),
-    tell: (values, beside, isNot) => {
+    matches: (values, beside) => matches(measure(values, beside), beside),
+    explain: (values, beside, isNot) => {
       const is = measure(values, beside);
       return say.hasToBe(what, is, want + (remark ? remark(is) : ""), isMany, isNot);
     },
@@ -39,7 +39,7 @@ function meaningOfAsked({ what, want, isMany = false, measure, fits, remark, add
 }
 
 /**
- * Whether a text is as a pattern, in which `?` is any character.
+ * Returns whether a text matches a pattern, in which `?` is any character.
  * @param {string} text
  * @param {string} pattern
  */
@@ -51,7 +51,7 @@ function fitsPattern(text, pattern) {
 const marksOf = (value) => (value === "-" ? "" : value);
 
 /**
- * Whether a lamp belongs to a display, and has no name of its own.
+ * Returns whether a lamp belongs to a display, and has no name of its own.
  * @param {number} at
  * @param {Names} names
  */
@@ -83,13 +83,13 @@ export function lampsMeaning(words, names, looked) {
     return lit.length === 0 ? "" : say.litLamps(lit.map(([, { text }]) => text).join(" "));
   };
   return meaningOfAsked({
-    what: "lamps", isMany: true, want, remark, measure: (values) => marksOf(values[place]), fits: (is) => fitsPattern(is, want),
+    what: "lamps", isMany: true, want, remark, measure: (values) => marksOf(values[place]), matches: (is) => fitsPattern(is, want),
   });
 }
 
 /**
- * Returns the meaning of `display 42`: the number that is shown; or of `display 0 overflow`, with the names of the lamps behind it, as
- * mcs4 display prints both. Digits that are lit by turns are as an eye sees them.
+ * Returns the meaning of `display 42`: the number that is shown; or of `display 0 overflow`, with the names of the lamps after it, as mcs4
+ * display prints both. Multiplexed digits are as perceived.
  * @param {string[]} words
  * @param {Names} names
  * @param {Looked} looked
@@ -102,15 +102,15 @@ export function displayMeaning(words, names, looked) {
   const want = words.join(" ");
   /** @type {(shown: { number: string, names: string }) => string} */
   const wordsOf = ({ number, names: lit }) => (lit === "" || number === want ? number : `${number} ${lit}`);
-  const fits = (/** @type {string} */ is) => is === want;
+  const matches = (/** @type {string} */ is) => is === want;
   if (hasScannedDisplay(face)) {
     looked.need("seen", say.LIT_BY_TURNS);
     const seen = new SeenText(face, board.lamps.length);
-    return meaningOfAsked({ what: "display", want, fits, measure: (_, beside) => wordsOf(seen.read(beside.seen)) });
+    return meaningOfAsked({ what: "display", want, matches, measure: (_, beside) => wordsOf(seen.read(beside.seen)) });
   }
   const reader = new DisplayText(displays, [...face.lamps].map(([at, { text }]) => ({ at, text })));
   const place = looked.at("lamps");
-  return meaningOfAsked({ what: "display", want, fits, measure: (values) => wordsOf(reader.read(marksOf(values[place]))) });
+  return meaningOfAsked({ what: "display", want, matches, measure: (values) => wordsOf(reader.read(marksOf(values[place]))) });
 }
 
 /**
@@ -125,7 +125,7 @@ export function printedMeaning(words, { face, board }, looked) {
   looked.need("printed", say.LINE_BY_LINE);
   const want = words.join(" ");
   return meaningOfAsked({
-    what: "printed", want, fits: (is) => is === want, measure: (_, { printed }) => printed.slice(-words.length).join(" ") || "nothing",
+    what: "printed", want, matches: (is) => is === want, measure: (_, { printed }) => printed.slice(-words.length).join(" ") || "nothing",
   });
 }
 
@@ -141,9 +141,9 @@ export function cyclesMeaning(words, names, looked) {
   if (cycles < 1 || !/^(|at most|at least)$/.test(bound)) fail(say.CYCLES_FORM);
   looked.need("cycles", say.onlyInTests("cycles"));
   /** @type {(is: number) => boolean} */
-  const fits = (is) => (bound === "" ? is === cycles : bound === "at most" ? is <= cycles : is >= cycles);
+  const matches = (is) => (bound === "" ? is === cycles : bound === "at most" ? is <= cycles : is >= cycles);
   return meaningOfAsked({
-    what: "cycles", isMany: true, want: `${bound && `${bound} `}${cycles}`, fits: (is) => fits(Number(is)),
+    what: "cycles", isMany: true, want: `${bound && `${bound} `}${cycles}`, matches: (is) => matches(Number(is)),
     measure: (_, beside) => String(beside.cycles),
   });
 }
@@ -162,7 +162,7 @@ export function chainMeaning(name, words, { board }, looked) {
   const want = words.join("");
   if (!/^[01?]+$/.test(want) || want.length !== bits) fail(say.chainBits(name.slice("chain".length), bits));
   const at = looked.at(name);
-  return meaningOfAsked({ what: name, want, measure: (values) => values[at], fits: (is) => fitsPattern(is, want) });
+  return meaningOfAsked({ what: name, want, measure: (values) => values[at], matches: (is) => fitsPattern(is, want) });
 }
 
 /**
@@ -188,6 +188,6 @@ export function counterMeaning(address, want, names, looked) {
   return meaningOfAsked({
     what: "pc", want, address,
     measure: (values, { owed }) => `${namedAddress(parseInt(values[at], 16), names)}${owed === "1" ? say.WITHIN_INSTRUCTION : ""}`,
-    fits: (is, { owed }) => is.slice(0, 3) === digits && owed !== "1",
+    matches: (is, { owed }) => is.slice(0, 3) === digits && owed !== "1",
   });
 }

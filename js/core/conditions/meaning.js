@@ -1,5 +1,5 @@
-// What the tree of a condition means on a board with a program: which places it looks at, and whether it holds by what the bench answers
-// about them. The machine is not computed here.
+// The meaning of a condition's tree on a board with a program: the places that it depends on, and whether it holds for the bench's answers
+// about them. Nothing here computes the machine.
 
 import { chainMeaning, counterMeaning, cyclesMeaning, displayMeaning, lampsMeaning, printedMeaning } from "./forms.js";
 import { fail } from "./scanner.js";
@@ -18,10 +18,10 @@ import * as say from "../../words/conditions.js";
  * @typedef {import("./values.js").Looked} Looked
  * @typedef {import("./values.js").Value} Value
  *
- * `tell` says what is and what has to be, or, with `isNot`, what has not to be; `address` is where the counter has to be, if it is that and
- * no more, else -1.
- * @typedef {{ fits: (values: string[], beside: Beside) => boolean,
- *   tell: (values: string[], beside: Beside, isNot: boolean) => string, address: number }} Meaning
+ * `explain` says what is and what must be, or, with `isNot`, what must not be; `address` is the counter that makes it true if the condition
+ * is that alone, otherwise -1.
+ * @typedef {{ matches: (values: string[], beside: Beside) => boolean,
+ *   explain: (values: string[], beside: Beside, isNot: boolean) => string, address: number }} Meaning
  */
 
 /** @type {Record<CompareNode["sign"], (is: number, than: number) => boolean>} */
@@ -43,8 +43,8 @@ function comparedMeaning(value, sign, wanted) {
   const compare = COMPARISONS[sign];
   return {
     address: -1,
-    fits: (values) => compare(value.read(values), wanted.read(values)),
-    tell: (values, _, isNot) => {
+    matches: (values) => compare(value.read(values), wanted.read(values)),
+    explain: (values, _, isNot) => {
       const number = wanted.read(values);
       const than = wanted.isConstant ? String(number) : say.valueIs(wanted.name, number);
       return say.hasToBe(value.name, String(value.read(values)), sign === "=" ? than : `${sign} ${than}`, false, isNot);
@@ -53,7 +53,7 @@ function comparedMeaning(value, sign, wanted) {
 }
 
 /**
- * Rejects a number that a place can never be.
+ * Rejects a number that a place can never have.
  * @param {Value} value
  * @param {ValueNode} node
  * @param {Value} wanted
@@ -98,12 +98,12 @@ function holdsMeaning({ place, values, text, column }, names, looked) {
     checkRange(all[at], value, each);
     return each;
   });
-  /** @type {(each: Value[], told: string[]) => string} */
-  const joined = (each, told) => each.map((value) => value.read(told)).join(" ");
+  /** @type {(each: Value[], given: string[]) => string} */
+  const joined = (each, given) => each.map((value) => value.read(given)).join(" ");
   return {
     address: -1,
-    fits: (told) => all.every((value, at) => value.read(told) === wanted[at].read(told)),
-    tell: (told, _, isNot) => say.hasToBe(all[0].name, joined(all, told), joined(wanted, told), false, isNot),
+    matches: (given) => all.every((value, at) => value.read(given) === wanted[at].read(given)),
+    explain: (given, _, isNot) => say.hasToBe(all[0].name, joined(all, given), joined(wanted, given), false, isNot),
   };
 }
 
@@ -129,21 +129,22 @@ function panelMeaning({ what, name, isOn }, names, looked) {
   const words = what === "lamp" ? ["off", "on"] : ["up", "down"];
   return {
     address: -1,
-    fits: (values) => value.read(values) === Number(isOn),
-    tell: (values, _, isNot) => say.hasToBe(`${what} ${name}`, words[value.read(values)], words[Number(isOn)], false, isNot),
+    matches: (values) => value.read(values) === Number(isOn),
+    explain: (values, _, isNot) => say.hasToBe(`${what} ${name}`, words[value.read(values)], words[Number(isOn)], false, isNot),
   };
 }
 
 /**
  * @param {Meaning} meaning
- * @param {string} text "" for one that stands alone
+ * @param {string} text "" for a condition of its own
  * @returns {Meaning}
  */
 function notMeaning(meaning, text) {
   return {
     address: -1,
-    fits: (values, beside) => !meaning.fits(values, beside),
-    tell: (values, beside, isNot) => (text === "" ? meaning.tell(values, beside, !isNot) : isNot ? meaning.tell(values, beside, false)
+    matches: (values, beside) => !meaning.matches(values, beside),
+    explain: (values, beside, isNot) => (text === "" ? meaning.explain(values, beside, !isNot)
+      : isNot ? meaning.explain(values, beside, false)
       : say.holdsAndMayNot(text)),
   };
 }
@@ -158,20 +159,22 @@ function joinedMeaning(by, parts, text) {
   const isAnd = by === "and";
   return {
     address: -1,
-    fits: (values, beside) => (isAnd ? parts.every(({ fits }) => fits(values, beside)) : parts.some(({ fits }) => fits(values, beside))),
-    tell: (values, beside, isNot) => {
+    matches: (values, beside) => (
+      isAnd ? parts.every((part) => part.matches(values, beside)) : parts.some((part) => part.matches(values, beside))
+    ),
+    explain: (values, beside, isNot) => {
       if (isNot) return say.holdsAndMayNot(text);
-      const failing = parts.filter(({ fits }) => !fits(values, beside)).map(({ tell }) => tell(values, beside, false));
+      const failing = parts.filter(({ matches }) => !matches(values, beside)).map(({ explain }) => explain(values, beside, false));
       return isAnd ? failing[0] : failing.join("; ");
     },
   };
 }
 
 /**
- * What a condition means.
+ * Returns the meaning of a condition.
  * @param {ConditionNode} node
  * @param {Names} names
- * @param {Looked} looked gets the places that it looks at
+ * @param {Looked} looked receives the places that it depends on
  * @returns {Meaning}
  */
 export function meaningOf(node, names, looked) {

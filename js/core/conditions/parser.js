@@ -1,5 +1,5 @@
-// The grammar of conditions (docs/MANUAL.md, "Conditions"): a text becomes a tree, whose nodes know their columns. What a name means is not
-// looked at here, but for names of lamps and keys, in which any sign may be a letter.
+// The grammar of conditions (docs/MANUAL.md, "Conditions"): a text becomes a tree, whose nodes know their columns. The meaning of
+// names is not decided here, except for names of lamps and keys, in which any sign may be a letter.
 //
 //     condition  = and { or and }      and = not { and not }      not = { "not" } ( lamps | .. | value [ sign value ] )
 //     value      = operand { ("+" | "-" | "&") operand }          operand = number | name | place | "(" value ")"
@@ -18,7 +18,7 @@ import * as say from "../../words/conditions.js";
  * @typedef {{ kind: "sum", sign: "+" | "-" | "&", left: ValueNode, right: ValueNode, text: string, column: number }} SumNode
  * @typedef {NumberNode | NameNode | PanelNode | SumNode} ValueNode
  *
- * A condition. `form` is one in the words of tests: a place with its values, or `lamps`, `display`, `printed`, `cycles` with what follows.
+ * A condition. `form` is a place with values in the words of tests, or `lamps`, `display`, `printed`, `cycles` with the rest.
  * @typedef {{ kind: "or" | "and", parts: ConditionNode[], text: string, column: number }} JoinedNode
  * @typedef {{ kind: "not", part: ConditionNode, text: string, column: number }} NotNode
  * @typedef {{ kind: "compare", sign: Sign, left: ValueNode, right: ValueNode, text: string, column: number }} CompareNode
@@ -34,7 +34,7 @@ import * as say from "../../words/conditions.js";
 export const WORDS = new Set(["or", "and", "not", "lamps", "lamp", "key", "display", "printed", "cycles", "at", "most", "least", "on",
   "off", "down", "up", "none", "in", "out"]);
 
-/** A condition has so many characters, and so many parentheses inside each other. */
+/** The most characters of a condition, and its deepest nesting of parentheses. */
 export const LONGEST = 2000;
 export const MOST_DEPTH = 30;
 
@@ -43,9 +43,9 @@ const SIGNS = { "=": "=", "==": "=", "!=": "!=", "<": "<", "<=": "<=", ">": ">",
 const JOINS = new Map([["or", "or"], ["||", "or"], ["and", "and"], ["&&", "and"]]);
 const PORT = /^(rom\d+|ram\d+\.\d+)$/i;
 const CONDITIONS = new Set(["or", "and", "not", "compare", "form", "holds", "panel", "at"]);
-/** How many numbers follow the first word of a place that has blanks in it. */
+/** The number of numerals after the first word of a place that has blanks in it. */
 const SPACED = new Map([["ram", 2], ["st", 3]]);
-/** What is the same with parentheses, as its text is a name. */
+/** The kinds of nodes that need no parentheses, because their text is a name. */
 const BARE = new Set(["number", "name", "lamp", "key"]);
 const FORMS = { lamp: say.LAMP_FORM, key: say.KEY_FORM };
 const STATES = new Map([["on", true], ["off", false], ["down", true], ["up", false]]);
@@ -78,7 +78,7 @@ class Parser {
   }
 
   /**
-   * What a token joins, "" where it joins nothing.
+   * Returns the operator that a token is, or "" if it is none.
    * @param {Token} token
    */
   joinOf({ kind, text }) {
@@ -100,12 +100,12 @@ class Parser {
   whole() {
     const node = this.joined("or");
     const token = this.scanner.peek();
-    if (token.kind !== "end") fail(say.notExpected(this.told(token)), token.column);
+    if (token.kind !== "end") fail(say.notExpected(this.textOf(token)), token.column);
     return node;
   }
 
   /** @param {Token} token */
-  told({ kind, text }) {
+  textOf({ kind, text }) {
     return kind === "text" ? `"${text}"` : text;
   }
 
@@ -195,13 +195,13 @@ class Parser {
     return { kind: "holds", place, values, text: this.textFrom(place.column), column: place.column };
   }
 
-  /** Whether a value follows, where another one has just ended. */
+  /** Returns whether a value follows directly after another one. */
   isValueNext() {
     const token = this.scanner.peek();
     return token.kind === "number" || (token.kind === "word" && this.joinOf(token) === "" && !this.isNot(token));
   }
 
-  /** The values that follow each other. */
+  /** Reads consecutive values. */
   values() {
     /** @type {ValueNode[]} */
     const values = [];
@@ -225,7 +225,7 @@ class Parser {
     }
   }
 
-  /** @param {string} sign behind which something has to stand */
+  /** @param {string} sign that must be followed by something */
   needMore(sign) {
     if (this.scanner.peek().kind === "end") fail(say.missingBehind(sign), this.last);
   }
@@ -240,7 +240,7 @@ class Parser {
       return { kind: "number", value: numeralOf(text), text, column };
     }
     if (kind !== "word" || this.joinOf(token) !== "" || this.isNot(token)) {
-      return fail(kind === "end" ? say.NO_CONDITION : say.missingBefore(this.told(token)), Math.min(column, this.last));
+      return fail(kind === "end" ? say.NO_CONDITION : say.missingBefore(this.textOf(token)), Math.min(column, this.last));
     }
     return this.named(token);
   }
@@ -250,7 +250,7 @@ class Parser {
     return Math.max(0, this.text.length - 1);
   }
 
-  /** @returns {Node} what stands in parentheses */
+  /** @returns {Node} the contents of parentheses */
   inside() {
     const { column } = this.scanner.next();
     this.depth += 1;
@@ -258,7 +258,7 @@ class Parser {
     const node = this.joined("or");
     const token = this.scanner.peek();
     if (token.text !== ")" || token.kind !== "sign") {
-      fail(token.kind === "end" ? say.NOT_CLOSED : say.notExpected(this.told(token)), token.kind === "end" ? column : token.column);
+      fail(token.kind === "end" ? say.NOT_CLOSED : say.notExpected(this.textOf(token)), token.kind === "end" ? column : token.column);
     }
     this.depth -= 1;
     this.scanner.next();
@@ -266,7 +266,7 @@ class Parser {
   }
 
   /**
-   * What begins with a word.
+   * Parses a form that begins with a word.
    * @param {Token} token
    * @returns {Node}
    */
@@ -293,7 +293,7 @@ class Parser {
   }
 
   /**
-   * The way of a port, which may stand behind it.
+   * Reads the direction that may follow a port.
    * @param {string} word
    * @returns {"" | "in" | "out"}
    */
@@ -320,7 +320,7 @@ class Parser {
   // --- forms whose words are names ---
 
   /**
-   * `lamp NAME on`, `key NAME down`, or the value of that; null where it is a name of the source that is compared.
+   * Reads `lamp NAME on`, `key NAME down`, or such a value; null if the word is a name of the source in a comparison.
    * @param {Token} token
    * @param {"lamp" | "key"} what
    * @returns {Node | null}
@@ -345,7 +345,7 @@ class Parser {
   }
 
   /**
-   * The lamps that are lit, by their names or marks; or all as one number, which is compared.
+   * Reads the lamps that are on, by their names or marks; or all as one number, which is compared.
    * @param {Token} token
    * @returns {Node}
    */
@@ -371,14 +371,14 @@ class Parser {
     return isNot ? { kind: "not", part: form, text: form.text, column: head.column } : form;
   }
 
-  /** Takes a sign that says that two are the same, or are not; returns whether they are not. */
+  /** Reads a sign of equality or inequality; returns whether it is inequality. */
   equality() {
     const { text } = this.peekLoosely();
     if (text === "=" || text === "==" || text === "!=") this.scanner.next();
     return text === "!=";
   }
 
-  /** The next token, where a sign that belongs to no condition is a word. */
+  /** Returns the next token; a sign that is not part of the language is a word. */
   peekLoosely() {
     const { scanner } = this;
     const { place } = scanner;
@@ -390,9 +390,9 @@ class Parser {
   }
 
   /**
-   * Returns the words up to what joins conditions.
+   * Returns the words up to the next `and`, `or` or parenthesis.
    * @param {boolean} isText whether they may be a text in quotes
-   * @param {boolean} [hasLamps] whether they may be names of lamps, of which one may be called `or`
+   * @param {boolean} [hasLamps] whether they may be names of lamps; a lamp may be called `or`
    */
   following(isText, hasLamps = false) {
     const { scanner } = this;
@@ -417,7 +417,7 @@ class Parser {
   }
 
   /**
-   * Whether all words from a column to the end are names of lamps.
+   * Returns whether all words from a column to the end are names of lamps.
    * @param {number} column
    */
   isLampsFrom(column) {
@@ -465,7 +465,7 @@ class Parser {
 }
 
 /**
- * The tree of a text; where it is none, `Unreadable` is thrown.
+ * Returns the tree of a text; throws `Unreadable` if it has none.
  * @param {string} text
  * @param {(name: string) => boolean} [isOfPanel] whether a lamp has this name
  * @returns {Node}

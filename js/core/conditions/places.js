@@ -1,26 +1,26 @@
 // The places of the machine by their names: a register, a pair, a RAM character, a line, a port, a chain, lamps. Each place has one
-// spelling that is shown, that of `trace`; others are read as well. A place knows which places of `trace` give its value on a board.
+// displayed spelling, that of `trace`; others are read as well. A place knows which places of `trace` give its value on a board.
 
 import { BITS } from "../bench/board_form.js";
 import { LAST_ADDRESS, hex, numberOf, upTo } from "../bench/numbers.js";
 
 /**
  * @typedef {import("../bench/answers.js").Board} Board
- * @typedef {{ name: string, most: (board: Board) => number, probesOn: (board: Board) => string[], value: (told: string[]) => string,
- *   number: (told: string[]) => number }} Place `name` is the spelling that is shown; `probesOn` gives no place where the board lacks it;
- *   `value` is as `trace` writes it, `number` what it counts as; `most` is the largest number, -1 for what is no number
+ * @typedef {{ name: string, most: (board: Board) => number, probesOn: (board: Board) => string[], value: (answers: string[]) => string,
+ * number: (answers: string[]) => number }} Place `name` is the spelling that is shown; `probesOn` returns no place if the board lacks it;
+ * `value` is as `trace` writes it, `number` its number; `most` is the largest number, -1 for a value that is not a number
  */
 
 /** Manuals of other processors call the accumulator A. */
 const ACCUMULATOR = "a";
-/** A register of a RAM chip has so many characters, and so many status characters. */
+/** The characters in a register of a RAM chip, and its status characters. */
 export const CHARACTERS = 16;
 export const STATUS = 4;
-/** The largest value of a place, but for one of a register or of RAM. */
+/** The largest value of a place, except for a register or RAM. */
 const LARGEST = new Map([["cy", 1], ["test", 1], ["owed", 1], ["pc", LAST_ADDRESS], ["dcl", 7], ["src", 255], ["ret", -1]]);
 const LARGEST_BYTE = 255;
 const LARGEST_DIGIT = 15;
-/** A number has one bit for each lamp, and is exact up to so many. */
+/** A number has one bit for each lamp, and is exact up to this many. */
 const MOST_LAMPS = 52;
 
 /** Names of places that each board has, for completion. */
@@ -30,14 +30,14 @@ export const PLACE_WORDS = [
 /** @param {string} place */
 export const largestOf = (place) => LARGEST.get(place) ?? (/^(p\d$|rom\.)/.test(place) ? LARGEST_BYTE : LARGEST_DIGIT);
 
-/** @param {string[]} told */
-const first = ([told]) => told;
+/** @param {string[]} answers */
+const first = ([answer]) => answer;
 
 /**
- * The digits of a place, the highest first, as a number.
- * @param {string[]} told
+ * Returns the digits of a place, the highest first, as a number.
+ * @param {string[]} answers
  */
-const asNumber = (told) => parseInt(told.join(""), 16);
+const asNumber = (answers) => parseInt(answers.join(""), 16);
 
 /**
  * A place that `trace` has by one name.
@@ -60,7 +60,7 @@ function lineOf(name, isOn) {
 }
 
 /**
- * Whether a bank of the board has a chip.
+ * Returns whether a bank of the board has a chip.
  * @param {Board} board
  * @param {number} bank
  * @param {number} chip
@@ -78,7 +78,7 @@ function registerPlace(name) {
   const pair = /^p([0-7])$/.exec(name);
   if (!pair) return null;
   const halves = [0, 1].map((half) => `r${2 * Number(pair[1]) + half}`);
-  return { ...single(name), probesOn: () => halves, value: (told) => told.join("") };
+  return { ...single(name), probesOn: () => halves, value: (answers) => answers.join("") };
 }
 
 /**
@@ -112,8 +112,8 @@ function portPlace(name) {
 }
 
 /**
- * The number of lamps that are lit: lamp k is its bit k.
- * @param {string[]} told
+ * The lamps that are on as a number: lamp k is its bit k.
+ * @param {string[]} answers
  */
 function lampsNumber([marks]) {
   return [...marks].reduce((sum, mark, at) => sum + (mark === "*" ? 2 ** at : 0), 0);
@@ -133,9 +133,10 @@ function lampPlace(name) {
   const lamp = /^lamp[ .]?(\d+)$/.exec(name);
   if (lamp) {
     const at = Number(lamp[1]);
-    // It is what its line is.
+    // A value as its line reports it.
     return {
-      ...lineOf(`lamp ${at}`, () => true), probesOn: ({ lamps }) => lamps.slice(at, at + 1), value: ([told]) => (told === "1" ? "*" : "."),
+      ...lineOf(`lamp ${at}`, () => true), probesOn: ({ lamps }) => lamps.slice(at, at + 1),
+      value: ([answer]) => (answer === "1" ? "*" : "."),
     };
   }
   const chain = /^chain([0-3])(?:\.(\d+))?$/.exec(name);
@@ -146,7 +147,7 @@ function lampPlace(name) {
 }
 
 /**
- * The place of a name; null where there is none of this name.
+ * Returns the place of a name; null if there is none of this name.
  * @param {string} text
  * @returns {Place | null}
  */

@@ -1,8 +1,8 @@
-// What is asked of the bench about places of conditions: `trace` tells most of them, `state` what only commands change.
+// The queries to the bench about places of conditions: `trace` reports most of them, `state` those that only commands change.
 
+import { MOST_PLACES } from "../bench/inputs.js";
 import { valueIn } from "../bench/state_line.js";
 import { valuesOf } from "../engine/tracing.js";
-import { MOST_PLACES } from "./condition_language.js";
 import { STATE_PLACES } from "./values.js";
 
 /** @typedef {import("../engine/tracing.js").Answers} Answers */
@@ -15,12 +15,12 @@ export class Probes {
     this.groups = [];
     for (let from = 0; from < traced.length; from += MOST_PLACES) this.groups.push(traced.slice(from, from + MOST_PLACES));
     this.asksState = traced.length < places.length;
-    /** What is asked. */
+    /** The queries. */
     this.lines = this.groups.map((group) => `trace 1 ${group.join(" ")}\n`).join("") + (this.asksState ? "state\n" : "");
   }
 
   /**
-   * What is told of the places now, in their order.
+   * Returns the current answers for the places, in their order.
    * @param {Answers} answers to the lines
    * @returns {string[]}
    */

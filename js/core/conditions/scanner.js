@@ -4,11 +4,11 @@ import * as say from "../../words/conditions.js";
 
 /**
  * @typedef {"number" | "word" | "sign" | "text" | "end"} TokenKind
- * @typedef {{ kind: TokenKind, text: string, column: number, end: number }} Token `column` counts from 0, `end` is behind its last
+ * @typedef {{ kind: TokenKind, text: string, column: number, end: number }} Token `column` counts from 0, `end` is after its last
  *   character
  */
 
-/** What is wrong with a condition, and in which column, from 0; -1 where nobody knows yet. */
+/** An error in a condition, or in a line of properties, with its column, from 0; -1 if it is not known yet. */
 export class Unreadable extends Error {
   /**
    * @param {string} words
@@ -37,7 +37,7 @@ const NUMBER = /\d\w*/y;
 const RAW = /\S+/y;
 
 /**
- * The number of a numeral: `10`, `0xA`, `0b1010`; NaN where it is none.
+ * Returns the number of a numeral: `10`, `0xA`, `0b1010`; NaN if it is none.
  * @param {string} text
  */
 export function numeralOf(text) {
@@ -49,7 +49,7 @@ export class Scanner {
   constructor(text) {
     this.text = text;
     this.at = 0;
-    /** @type {Token | null} the next token, where it was looked at */
+    /** @type {Token | null} the next token, if it was peeked at */
     this.seen = null;
   }
 
@@ -64,7 +64,7 @@ export class Scanner {
     return found;
   }
 
-  /** The next token, which stays to be taken. */
+  /** Returns the next token without consuming it. */
   peek() {
     if (!this.seen) this.seen = this.scan();
     return this.seen;
@@ -99,8 +99,8 @@ export class Scanner {
   }
 
   /**
-   * The next word whatever its characters are, as names of the front panel may have any; null at the end.
-   * @param {boolean} isInside whether a parenthesis is open, which the word may end with
+   * Returns the next word with any characters, because names of the front panel may have any; null at the end.
+   * @param {boolean} isInside whether a parenthesis is open, with which the word may end
    * @returns {Token | null}
    */
   raw(isInside) {
@@ -114,14 +114,14 @@ export class Scanner {
     return { kind: "word", text, column, end: this.at };
   }
 
-  /** The token that was looked at is to be read anew. */
+  /** Reads the token that was peeked at again. */
   back() {
     if (this.seen) this.at = this.seen.column;
     this.seen = null;
   }
 
   /**
-   * Where the scanner is, to come back to.
+   * Returns the scanner's position, for a later return.
    * @returns {number}
    */
   get place() {

@@ -12,7 +12,7 @@ import * as say from "../../words/conditions.js";
  * @typedef {import("./parser.js").ValueNode} ValueNode
  * @typedef {{ place: string, value: ValueNode }} Setting `place` is spelled as `trace` has it
  *
- * The lines of the bench, or the fault and its column in the text that follows `set`.
+ * The lines of the bench, or the error and its column in the text after `set`.
  * @typedef {{ place: string, lines: string, fault: string, column: number }} ReadSetting
  */
 
@@ -33,7 +33,7 @@ export function settablePlace(text) {
 
 /**
  * Returns the lines that set a place.
- * @param {string} place as `settablePlace` gives it
+ * @param {string} place as `settablePlace` returns it
  * @param {number} value that it can hold
  */
 export function linesOfSetting(place, value) {
@@ -45,7 +45,7 @@ export function linesOfSetting(place, value) {
 }
 
 /**
- * Reads what follows `set`; an error is thrown as `Unreadable`.
+ * Reads the text after `set`; throws `Unreadable` for an error.
  * @param {string} text
  * @returns {Setting}
  */
@@ -68,10 +68,10 @@ function settingOfParts({ text, column }, value) {
 }
 
 /**
- * Reads what follows `set`, where VALUE is a number or a name of the program.
+ * Reads the text after `set`, in which VALUE is a number or a name of the program.
  * @param {string} text
  * @param {Names["map"]} map
- * @param {import("./condition_language.js").Board | null} [board] which has the place, if it is known
+ * @param {import("./condition_language.js").Board | null} [board] that has the place, if it is known
  * @returns {ReadSetting}
  */
 export function readSetting(text, map, board = null) {

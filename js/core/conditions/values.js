@@ -1,5 +1,5 @@
 // The values in a condition: numbers, names of the source, of Watch and of the front panel, places, and sums of them. Each value is
-// computed from what the bench answers about its places.
+// computed from the bench's answers about its places.
 
 import { keysOf, pinOf } from "../explore/explored_inputs.js";
 import { mostAlike } from "../text/alike.js";
@@ -14,33 +14,33 @@ import * as say from "../../words/conditions.js";
  * @typedef {import("./parser.js").NameNode} NameNode
  * @typedef {import("./parser.js").SumNode} SumNode
  *
- * `name` is the spelling that is shown; `most` is the largest number, Infinity if unknown; `isConstant`: it depends on no place; `told` is
- * how a place shows it.
- * @typedef {{ name: string, most: number, isConstant: boolean, read: (values: string[]) => number, told?: (values: string[]) => string }}
+ * `name` is the displayed spelling; `most` is the largest number, Infinity if unknown; `isConstant`: it depends on no place; `textOf` is
+ * the displayed text of its value.
+ * @typedef {{ name: string, most: number, isConstant: boolean, read: (values: string[]) => number, textOf?: (values: string[]) => string }}
  *   Value
  *
- * What an answer of the bench about a place cannot give; a test keeps it.
+ * A value that no answer of the bench about a place contains; a test keeps it.
  * @typedef {"cycles" | "seen" | "printed"} Need
  */
 
-/** What no trace tells, but the answer to `state`; only commands change it. */
+/** The places that `state` has and no trace; only commands change them. */
 export const STATE_PLACES = new Set(["test", "owed", "keys"]);
-/** So many names of Watch lead from one to the next. */
+/** The most names of Watch that lead from one to the next. */
 const MOST_NAMES_DEEP = 3;
-/** A bank has so many characters of RAM, by the byte that SRC sends. */
+/** The characters of a RAM bank, as many as SRC bytes. */
 const LAST_CHARACTER = 255;
-/** What is meant by a word that others have for a place. */
-const MEANT = new Map([["a", say.ACCUMULATOR_IS], ["accu", say.ACCUMULATOR_IS], ["accumulator", say.ACCUMULATOR_IS], ["c", say.CARRY_IS],
-  ["carry", say.CARRY_IS], ["ip", say.COUNTER_IS], ["bank", say.BANK_IS]]);
+/** Returns the place for another program's word for it. */
+const MEANT = new Map([["a", say.ACCUMULATOR_HINT], ["accu", say.ACCUMULATOR_HINT], ["accumulator", say.ACCUMULATOR_HINT],
+  ["c", say.CARRY_HINT], ["carry", say.CARRY_HINT], ["ip", say.COUNTER_HINT], ["bank", say.BANK_HINT]]);
 /** Numbers are exact up to 53 bits; the signs of numbers with bits have 32. */
 const HALF = 2 ** 26;
 
-/** The places that a condition looks at, each once, and what a test has to know besides. */
+/** The places that a condition depends on, each once, and what else a test must know. */
 export class Looked {
   /** @param {boolean} [isTest] whether the condition is one of a test */
   constructor(isTest = false) {
     this.isTest = isTest;
-    /** How many names of Watch are inside each other. */
+    /** The present nesting depth of names of Watch. */
     this.depth = 0;
     /** @type {string[]} */
     this.places = [];
@@ -58,7 +58,7 @@ export class Looked {
   }
 
   /**
-   * Notes what a test has to know; elsewhere that is an error.
+   * Notes what a test must know; elsewhere it is an error.
    * @param {Need} need
    * @param {string} fault
    */
@@ -92,7 +92,7 @@ const SUMS = { "+": (one, other) => one + other, "-": (one, other) => one - othe
  * Returns a value of 0 or 1.
  * @param {string} name
  * @param {number} at
- * @param {(told: string) => number} read
+ * @param {(answer: string) => number} read
  * @returns {Value}
  */
 function bitValue(name, at, read) {
@@ -137,13 +137,13 @@ export function keyValue(name, { face }, looked) {
     return fail(say.noKeyOfPanel(name, there.join(" ")));
   }
   const [word, ...numbers] = key.down.split(" ");
-  if (word === "test") return bitValue(`key ${name}`, looked.at("test"), (told) => Number(told === numbers[0]));
+  if (word === "test") return bitValue(`key ${name}`, looked.at("test"), (answer) => Number(answer === numbers[0]));
   const item = numbers.join(".");
-  return bitValue(`key ${name}`, looked.at("keys"), (told) => Number(told.split(",").includes(item)));
+  return bitValue(`key ${name}`, looked.at("keys"), (answer) => Number(answer.split(",").includes(item)));
 }
 
 /**
- * A name of the source, in any case where that is one name alone.
+ * Returns a name of the source; its case is ignored if only one name matches.
  * @param {string} name
  * @param {Names["map"]} map
  */
@@ -167,7 +167,7 @@ export function labelIn(name, names) {
  * @param {import("./places.js").Place | null} place
  * @param {Names} names
  * @param {Looked} looked
- * @returns {Value | null} null where it is no place
+ * @returns {Value | null} null if it is no place
  */
 function placeValue(place, { board }, looked) {
   if (!place) return null;
@@ -177,13 +177,14 @@ function placeValue(place, { board }, looked) {
   const most = place.most(board);
   if (most < 0) fail(say.isNoNumber(name));
   const looks = probes.map((probe) => looked.at(probe));
-  const toldOf = (/** @type {string[]} */ values) => looks.map((at) => values[at]);
-  return { name, most, isConstant: false, read: (values) => place.number(toldOf(values)), told: (values) => place.value(toldOf(values)) };
+  const answersOf = (/** @type {string[]} */ values) => looks.map((at) => values[at]);
+  return { name, most, isConstant: false, read: (values) => place.number(answersOf(values)),
+    textOf: (values) => place.value(answersOf(values)) };
 }
 
 /**
- * Returns `rom1 in`, what RDR reads there: an output line as its mask says; or `rom1 out`, `ram0.1 out`, what the port's latch holds, in
- * which an input line is 0.
+ * Returns `rom1 in`, the value that RDR reads there: an output line has the value that its mask gives; or `rom1 out`, `ram0.1 out`, the
+ * port's latch, in which an input line is 0.
  * @param {NameNode} node
  * @param {Names} names
  * @param {Looked} looked
@@ -207,7 +208,7 @@ function portValue({ text, way }, { board }, looked) {
 }
 
 /**
- * Returns what a word that is no place is likely to mean, by its form; "" if nobody knows.
+ * Returns what a word that is no place is likely to mean, by its form; "" if unknown.
  * @param {string} text
  */
 export function meantBy(text) {
@@ -238,7 +239,7 @@ function noPlace(text, names) {
 }
 
 /**
- * Returns what a name of Watch stands for; it may name others, up to some depth.
+ * Returns the meaning of a name of Watch; it may name others, up to a limited depth.
  * @param {string} name
  * @param {string} text its expression
  * @param {Names} names
@@ -253,7 +254,7 @@ function watchedValue(name, text, names, looked) {
   try {
     return { ...valueIn(node, names, looked), name };
   } catch (fault) {
-    // The column is one of another text.
+    // The column belongs to another text.
     throw fault instanceof Unreadable ? new Unreadable(say.inName(name, fault.message)) : fault;
   } finally {
     looked.depth -= 1;
@@ -332,7 +333,7 @@ export function constantIn(node, map) {
 }
 
 /**
- * What a value in a condition means.
+ * Returns the meaning of a value in a condition.
  * @param {ValueNode} node
  * @param {Names} names
  * @param {Looked} looked
@@ -348,7 +349,7 @@ export function valueIn(node, names, looked) {
 }
 
 /**
- * What is wrong with something is wrong in its column, where no other one is known.
+ * Returns what `read` returns; an error without a column gets this one.
  * @template Result
  * @param {number} column
  * @param {() => Result} read

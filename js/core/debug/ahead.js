@@ -1,5 +1,5 @@
-// Looking ahead: after how many cycles a goal is reached. It is found out by questions, or on a copy of the session that is thrown away, so
-// that nothing of it is ever in the session, not even where all ends in the middle of it. The session itself then runs for so many cycles.
+// Looking ahead: the cycles until a goal is reached. They are found by queries, or on a copy of the session that is thrown away, so the
+// session itself is never disturbed, even if the page ends in the middle. The session itself then runs for that time.
 
 import { Cancelled } from "../bench/faults.js";
 import { LONGEST_RUN } from "../engine/key_queue.js";
@@ -30,7 +30,7 @@ function linesOf(watcher, cycles) {
 }
 
 /**
- * Goes through the answers of a piece; null where neither the goal nor a stop is among them.
+ * Searches the answers of a piece; returns null if neither the goal nor a stop is among them.
  * @param {Answers} answers
  * @param {Watcher} watcher
  * @returns {Found | null} its cycles are those of this piece
@@ -46,13 +46,14 @@ function foundIn(answers, watcher) {
 }
 
 /**
- * Looks for a goal from here on, with the keys as they are.
+ * Searches for a goal from now on, with the keys as they are.
  * @param {Engine} engine
- * @param {Uint8Array} file is left as it is
+ * @param {Uint8Array} file is not changed
  * @param {Goal} goal
- * @param {(done: number) => Promise<boolean>} goesOn is told after each piece how many cycles were tried, and says whether to go on
- * @param {number} most so many cycles are tried
- * @param {() => Uint8Array} [codes] gives what stands in ROM
+ * @param {(done: number) => Promise<boolean>} goesOn receives, after each piece, how many cycles were tried, and returns whether to
+ * continue
+ * @param {number} most the cycles that are tried
+ * @param {() => Uint8Array} [codes] returns the contents of ROM
  * @returns {Promise<Found>}
  */
 export async function seek(engine, file, goal, goesOn, most, codes) {
@@ -72,7 +73,7 @@ export async function seek(engine, file, goal, goesOn, most, codes) {
 }
 
 /**
- * How many cycles the run of a line would do, 0 for any other line.
+ * Returns how many cycles the run of a line would do, 0 for any other line.
  * @param {import("../engine/asking.js").SentLine} planned
  */
 export function cyclesOfLine({ line, change }) {
@@ -80,9 +81,9 @@ export function cyclesOfLine({ line, change }) {
 }
 
 /**
- * After how many cycles of the lines that come next a goal is reached; -1 where it is not, or where something else stops them before.
+ * Returns the cycles until the next lines reach the goal; -1 if they do not, or stop earlier.
  * @param {Engine} engine
- * @param {Uint8Array} file is left as it is
+ * @param {Uint8Array} file is not changed
  * @param {PlannedLine[]} planned
  * @param {Watcher} watcher has seen all runs up to here
  */
@@ -106,7 +107,7 @@ export function cyclesToGoal(engine, file, planned, watcher) {
 }
 
 /**
- * The lines up to so many cycles.
+ * Returns the first lines, up to this many cycles.
  * @param {PlannedLine[]} planned
  * @param {number} cycles
  * @returns {PlannedLine[]}

@@ -1,5 +1,5 @@
-// Breakpoints that do not stop each time: with a condition, from some hit on, or with a note that is logged in place of a stop. They are
-// found ahead, on a copy that has them as breakpoints, and that tells at each arrival what stands at the places they ask for.
+// Breakpoints that do not stop each time: with a condition, with a hit count, or with a note that is logged instead of a stop. They are
+// found ahead, on a copy that has them as breakpoints, and that reports at each arrival the values of the places in their conditions.
 
 import { Probes } from "../conditions/probes.js";
 import { Answers } from "../engine/tracing.js";
@@ -9,22 +9,22 @@ import { cyclesOfLine } from "./ahead.js";
  * @typedef {import("../engine/engine_host.js").EngineHost} Engine
  * @typedef {import("../engine/key_queue.js").PlannedLine} PlannedLine
  *
- * `from`: it stops from this hit on; `holds` and `words` get what stands at its places; `words` is null where it stops.
+ * `from`: the first hit that stops; `holds` and `words` receive the values of its places; `words` is null for a breakpoint that stops.
  * @typedef {{ id: number, address: number, from: number, hits: number, places: string[], holds: (values: string[]) => boolean,
  *   words: ((values: string[]) => string) | null }} SoftBreakpoint
  *
- * @typedef {{ id: number, cycles: number, words: string }} Logged a note, after so many cycles
+ * @typedef {{ id: number, cycles: number, words: string }} Logged a note, after this many cycles
  *
- * What was seen ahead: after how many cycles a breakpoint stops, and which one; -1 where none does. The hits of each breakpoint, the
- * notes, at most the last ones, and how many there were. `why` is "watch" where a change of a place stops, which `change` has in words;
- * `changes` counts the changes of each (data_watches.js).
+ * The result of looking ahead: after how many cycles a breakpoint stops (-1 if none does), and which one. The hits of each breakpoint, the
+ * last notes up to a limit, and how many there were. `why` is "watch" if a change of a place stops, which `change` has in words; `changes`
+ * counts the changes of each (data_watches.js).
  * @typedef {{ cycles: number, id: number, hits: Map<number, number>, notes: Logged[], noted: number, why: "break" | "watch",
  *   change: string, changes: Map<number, number> }} Seen
  */
 
-/** So many runs are asked for at once. */
+/** The most runs that are queried at once. */
 const MOST_RUNS = 400;
-/** So many notes are told of a look. */
+/** The most notes that are reported at once. */
 export const MOST_NOTES = 200;
 
 /** @returns {Seen} */
@@ -40,9 +40,9 @@ export class Arrivals {
     this.places = ["pc", ...new Set(breakpoints.flatMap(({ places }) => places))];
     this.looks = new Map(breakpoints.map(({ id, places }) => [id, places.map((place) => this.places.indexOf(place))]));
     this.first = breakpoints.map(({ address }) => `break ${address}\n`).join("");
-    /** What is asked at an arrival. */
+    /** The queries at an arrival. */
     this.probes = new Probes(this.places);
-    /** How many arrivals there were in a cycle, of late. */
+    /** The recent number of arrivals per cycle. */
     this.density = 0;
     this.copy = new Uint8Array(0);
   }
@@ -52,9 +52,9 @@ export class Arrivals {
   }
 
   /**
-   * Looks through the lines that come next.
+   * Searches the next lines.
    * @param {Engine} engine
-   * @param {Uint8Array} file is left as it is
+   * @param {Uint8Array} file is not changed
    * @param {PlannedLine[]} planned
    * @returns {Seen}
    */
@@ -82,7 +82,7 @@ export class Arrivals {
   }
 
   /**
-   * Whether there is no arrival at all: one question tells.
+   * Returns whether there is no arrival at all: one query shows that.
    * @param {Engine} engine
    * @param {Uint8Array} file
    * @param {PlannedLine[]} planned
@@ -93,12 +93,12 @@ export class Arrivals {
   }
 
   /**
-   * Goes through a run on a file that has the breakpoints; gives its cycles, -1 where a visit ends it.
+   * Makes a run on a file that has the breakpoints; returns its cycles, -1 if a visit ends it.
    * @param {Engine} engine
    * @param {Uint8Array} file
-   * @param {{ lines: string, count: number, cycles: number }} run lines before it, how many answers they have, how many cycles it has
-   * @param {(end: string, row: string[], ran: number) => boolean} visit is told of each stop, by the word of its answer, what stands at
-   *   `places` there, and how many cycles of the run were done; it says whether that is the end
+   * @param {{ lines: string, count: number, cycles: number }} run the lines before it, the number of their answers, and its cycles
+   * @param {(end: string, row: string[], ran: number) => boolean} visit receives each stop, by the word of its answer, the values of
+   * `places` there, and the cycles of the run so far; it returns whether that is the end
    */
   run(engine, file, { lines, count, cycles }, visit) {
     let [before, skipped, ran, arrivals] = [lines, count, 0, 0];
@@ -123,8 +123,8 @@ export class Arrivals {
   }
 
   /**
-   * The breakpoint at which time has arrived, where its condition holds; null where there is none.
-   * @param {string[]} row what stands at `places`
+   * Returns the breakpoint that time has reached, if its condition holds; otherwise null.
+   * @param {string[]} row the values of `places`
    */
   heldAt(row) {
     const found = this.at.get(parseInt(row[0], 16));
@@ -140,14 +140,14 @@ export class Arrivals {
   }
 
   /**
-   * Whether time stops at an arrival.
+   * Returns whether time stops at an arrival.
    * @param {string[]} row
    * @param {number} cycles
    * @param {Seen} seen
    */
   isStop(row, cycles, seen) {
     const found = this.at.get(parseInt(row[0], 16));
-    // One that always stops; the session has it itself.
+    // A breakpoint that always stops is in the session itself.
     if (!found) return true;
     const { id, holds, words, from } = found;
     const values = this.valuesFor(found, row);
@@ -166,12 +166,12 @@ export class Arrivals {
     return true;
   }
 
-  /** How many hits there were of each, in their order. */
+  /** Returns how many hits there were of each, in their order. */
   get hits() {
     return this.breakpoints.map(({ hits }) => hits);
   }
 
-  /** @param {number[]} hits those of before, since what was counted did not come about */
+  /** @param {number[]} hits the hits before, because the counted ones did not happen */
   takeBack(hits) {
     this.breakpoints.forEach((breakpoint, at) => {
       breakpoint.hits = hits[at];
@@ -179,7 +179,7 @@ export class Arrivals {
   }
 
   /**
-   * What was seen has come about.
+   * Counts the arrivals that were seen, as they have happened.
    * @param {Seen} seen
    */
   count({ hits }) {

@@ -1,4 +1,4 @@
-// A condition that is looked for, on or back: it is reached where it becomes true.
+// A condition that is searched for, forward or back: it is reached when it becomes true.
 
 import { expressionOf, tracedConditionOf } from "../conditions/condition_language.js";
 import { placeOf } from "../conditions/places.js";
@@ -12,7 +12,7 @@ import * as say from "../../words/debug.js";
  */
 
 /**
- * Reads a condition to look for; `fault` says what is wrong with it, and in which column.
+ * Reads a condition to search for; `fault` says what is wrong with it, and in which column.
  * @param {string} text
  * @param {Names} names
  * @returns {{ asked: Asked | null, fault: string }}
@@ -20,7 +20,7 @@ import * as say from "../../words/debug.js";
 export function askedOf(text, names) {
   const { condition, ...wrong } = tracedConditionOf(text, names);
   if (!condition) {
-    // Of a lone name that is none, that is what is wrong.
+    // If a lone name is unknown, that is the error.
     const value = expressionOf(text, names);
     const { fault, column } = value.expression ? wrong : value;
     return { asked: null, fault: inColumn(fault, column) };
@@ -29,7 +29,7 @@ export function askedOf(text, names) {
 }
 
 /**
- * Reads what is looked for: a place, of which each change counts, or a condition.
+ * Reads the text of a search: a place, each change of which counts, or a condition.
  * @param {string} text
  * @param {Names} names
  * @returns {{ goal: { kind: "change", place: string } | { kind: "when", condition: string } | null, fault: string }}
@@ -43,7 +43,7 @@ export function goalOfText(text, names) {
 }
 
 /**
- * Whether a condition becomes true by a change.
+ * Returns whether a condition becomes true by a change.
  * @param {Asked} asked
  * @param {string} before the row of its places
  * @param {string} after

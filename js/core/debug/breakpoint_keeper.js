@@ -1,5 +1,5 @@
-// The breakpoints of the session that is shown: a list that moves with the source, and the bench, which has what the list has. Where the
-// bench tells of others (a line `break` that was typed, a session of mcs4) the list takes them.
+// The breakpoints of the session that is shown: a list that moves with the source, and the bench, whose breakpoints follow the list. If the
+// bench reports others (a line `break` that was typed, a session of mcs4) the list takes them over.
 
 import { BreakpointList, MOST_BREAKPOINTS, MOST_ON, instructionOfAddress, instructionOfLine } from "./breakpoints.js";
 import { isSoft } from "./soft_breakpoints.js";
@@ -15,19 +15,19 @@ import * as say from "../../words/debug.js";
  */
 
 /**
- * What the list of breakpoints calls.
+ * The calls that the list of breakpoints makes.
  * @typedef {object} KeeperCalls
- * @property {(placed: Placed[]) => Promise<[number, string][]>} set Gives the bench these breakpoints in place of all others. Resolves to
- *   the ids of those that cannot be read, each with the reason.
+ * @property {(placed: Placed[]) => Promise<[number, string][]>} set Replaces all breakpoints of the bench by these. Resolves to the ids of
+ * those that cannot be read, each with the reason.
  * @property {() => void} changed The list, or an error of one of its breakpoints, has changed.
  * @property {() => void} counted Only the hits have changed.
- * @property {() => void} touched The user has changed the list, so it is to be kept.
- * @property {(words: string) => void} tell Shows a message where the user has just worked.
+ * @property {() => void} touched The user has changed the list, so it must be saved.
+ * @property {(words: string) => void} showMessage Shows a message near the user's last action.
  * @property {(fault: unknown) => void} failed Reports an error that `set` threw.
  */
 
 const TOO_MANY = say.tooManyOn(MOST_ON);
-/** How many sessions have their lists remembered. */
+/** The number of sessions whose lists are remembered. */
 const MOST_LISTS = 30;
 
 export class BreakpointKeeper {
@@ -37,35 +37,35 @@ export class BreakpointKeeper {
     this.list = new BreakpointList();
     /** @type {Map<string, BreakpointList>} the lists of sessions that were shown, the last one last */
     this.lists = new Map();
-    /** @type {SourceMap | null} the program that stands in ROM, where the source is that program */
+    /** @type {SourceMap | null} the program in ROM, if the source is that program */
     this.map = null;
-    /** Why it is not. */
+    /** The reason. */
     this.words = "";
     /** @type {string[]} the values that are watched, whose names conditions may have */
     this.watched = [];
     /** @type {Map<number, string>} why one cannot be read, by its id */
     this.faults = new Map();
-    /** @type {Set<number> | null} the addresses that the bench has; null until it has told of a session */
-    this.told = null;
-    /** @type {string[] | null} what the bench has told while it was asked to have the list: it is taken once that is done */
+    /** @type {Set<number> | null} the addresses that the bench has; null until it has reported a session */
+    this.onBench = null;
+    /** @type {string[] | null} the bench's report while it was being sent the list: it is applied once that is done */
     this.waiting = null;
-    /** Whether the list of a session is one that was kept. */
+    /** True if the list of a session was restored. */
     this.isKept = false;
-    /** How many answers of the bench are yet to come, and what it was asked last. */
+    /** The number of answers that are still expected from the bench, and what it was asked last. */
     this.asked = 0;
     this.last = "";
-    /** @type {Promise<void>} all that was asked for is done */
+    /** @type {Promise<void>} all requests are done */
     this.settled = Promise.resolve();
     /** @type {{ id: number, some: Partial<KeptBreakpoint> } | null} words of a breakpoint that are typed and not entered yet */
     this.typed = null;
   }
 
-  // --- what others tell ---
+  // --- reports of others ---
 
   /**
-   * Another session is shown. Its list is the one that it had here before, where that is what was kept: it knows what an undo brings back.
+   * Another session is shown. It gets the list that it had here before, if that is what was kept: that list knows what an undo restores.
    * @param {string} id of the session
-   * @param {KeptBreakpoint[] | undefined} kept undefined where none were kept: those of its file count
+   * @param {KeptBreakpoint[] | undefined} kept undefined if none were kept: then those of its file count
    */
   open(id, kept) {
     const old = this.lists.get(id);
@@ -77,7 +77,7 @@ export class BreakpointKeeper {
     this.isKept = kept !== undefined;
     this.map = null;
     this.words = "";
-    this.told = null;
+    this.onBench = null;
     this.waiting = null;
     this.last = "";
     this.typed = null;
@@ -85,13 +85,13 @@ export class BreakpointKeeper {
     this.calls.changed();
   }
 
-  /** @param {string[]} texts of the values that are watched from here on */
+  /** @param {string[]} texts of the values that are watched from now on */
   takeWatched(texts) {
     this.watched = texts;
-    if (this.told) this.apply();
+    if (this.onBench) this.apply();
   }
 
-  /** The bench was begun anew: it knows of none. */
+  /** The bench was restarted, and has no breakpoints. */
   again() {
     this.last = "";
     this.apply();
@@ -101,38 +101,38 @@ export class BreakpointKeeper {
   edited(edits) {
     const moved = edits.filter((edit) => this.list.edit(edit));
     if (moved.length === 0) return;
-    if (this.told) this.apply();
+    if (this.onBench) this.apply();
     else this.calls.changed();
   }
 
   /**
-   * Whether the source is what stands in ROM, and which lines are where.
+   * Takes the map of the source: whether ROM has its bytes, and the address of each line.
    * @param {SourceMap | null} map
-   * @param {string} words why it is not
+   * @param {string} words the reason
    */
   takeMap(map, words) {
     this.map = map;
     this.words = words;
-    if (!this.told) return;
+    if (!this.onBench) return;
     const moved = map ? this.list.locate(map) : [];
-    if (moved.length > 0) this.calls.tell(moved.join(" "));
+    if (moved.length > 0) this.calls.showMessage(moved.join(" "));
     this.apply();
   }
 
   /**
-   * The breakpoints that the bench has, by a look.
+   * Takes the breakpoints of the bench from a snapshot.
    * @param {string[]} breaks as answers write them
    */
   take(breaks) {
     const addresses = breaks.map((address) => parseInt(address, 16));
-    const before = this.told;
+    const before = this.onBench;
     if (before && this.isApplying) {
       this.waiting = breaks;
       return;
     }
-    this.told = new Set(addresses);
+    this.onBench = new Set(addresses);
     if (!before) {
-      // The session was just opened. What its file has beside the list was put there by another program.
+      // The session was just opened. Breakpoints of its file that the list lacks were set by another program.
       if (!this.isKept) for (const address of addresses) this.adopt(address);
       this.calls.changed();
       return;
@@ -143,7 +143,7 @@ export class BreakpointKeeper {
     this.apply();
   }
 
-  /** The addresses of those that always stop. */
+  /** Returns the addresses of the breakpoints that always stop. */
   get hard() {
     return this.list.placed.filter((each) => !isSoft(each)).map(({ address }) => address);
   }
@@ -157,7 +157,7 @@ export class BreakpointKeeper {
     }
     const { map } = this;
     const instruction = map ? instructionOfAddress(address, map) : { line: 0, address, words: "" };
-    if (instruction.words) this.calls.tell(instruction.words);
+    if (instruction.words) this.calls.showMessage(instruction.words);
     if (instruction.line > 0 && this.list.atLine(instruction.line)) return;
     this.list.add({ line: instruction.line, address: instruction.address });
   }
@@ -168,17 +168,17 @@ export class BreakpointKeeper {
     if (found) this.list.remove(found.id);
   }
 
-  /** @param {Tally} tally what breakpoints did */
+  /** @param {Tally} tally the work of breakpoints */
   count({ hits }) {
     if (hits.length === 0) return;
     this.list.count(hits);
     this.calls.counted();
   }
 
-  // --- what a user does ---
+  // --- actions of the user ---
 
   /**
-   * Sets the breakpoint of a line, or takes it away.
+   * Toggles the breakpoint of a line.
    * @param {number} line
    */
   toggleLine(line) {
@@ -188,14 +188,14 @@ export class BreakpointKeeper {
       return;
     }
     const instruction = this.map ? instructionOfLine(line, this.map) : { line, address: -1, words: this.wordsOfLater() };
-    if (instruction.words) this.calls.tell(instruction.words);
+    if (instruction.words) this.calls.showMessage(instruction.words);
     if (instruction.line !== line && this.list.atLine(instruction.line)) return;
     if (this.map && instruction.address < 0) return;
     this.add({ line: instruction.line, address: instruction.address });
   }
 
   /**
-   * The breakpoint of a line, which is set where there is none; undefined where there can be none.
+   * Returns the breakpoint of a line, after setting it if there is none; undefined if there can be none.
    * @param {number} line
    */
   ofLine(line) {
@@ -209,7 +209,7 @@ export class BreakpointKeeper {
   }
 
   /**
-   * Sets the breakpoint of an address, or takes it away.
+   * Toggles the breakpoint of an address.
    * @param {number} address
    */
   toggleAddress(address) {
@@ -219,18 +219,18 @@ export class BreakpointKeeper {
       return;
     }
     const instruction = this.map ? instructionOfAddress(address, this.map) : { line: 0, address, words: "" };
-    if (instruction.words) this.calls.tell(instruction.words);
+    if (instruction.words) this.calls.showMessage(instruction.words);
     this.add({ line: instruction.line, address: instruction.address });
   }
 
   /** @param {Partial<KeptBreakpoint>} some */
   add(some) {
     if (this.list.all.length >= MOST_BREAKPOINTS) {
-      this.calls.tell(say.mostBreakpoints(MOST_BREAKPOINTS));
+      this.calls.showMessage(say.mostBreakpoints(MOST_BREAKPOINTS));
       return;
     }
     const isFull = this.list.countOn >= MOST_ON;
-    if (isFull) this.calls.tell(TOO_MANY);
+    if (isFull) this.calls.showMessage(TOO_MANY);
     this.list.add({ ...some, isOn: !isFull });
     this.acted();
   }
@@ -242,7 +242,7 @@ export class BreakpointKeeper {
   }
 
   /**
-   * Keeps the words of a breakpoint as they are typed. The bench gets them once they are entered.
+   * Saves the words of a breakpoint while they are typed. The bench receives them once they are entered.
    * @param {number} id
    * @param {Partial<KeptBreakpoint>} some
    */
@@ -253,7 +253,7 @@ export class BreakpointKeeper {
   }
 
   /**
-   * Returns the breakpoints as the session keeps them, with what is typed.
+   * Returns the breakpoints as the session keeps them, including what is being typed.
    * @returns {KeptBreakpoint[]}
    */
   get kept() {
@@ -262,7 +262,7 @@ export class BreakpointKeeper {
   }
 
   /**
-   * Other words, or on or off.
+   * Changes the words, or switches on or off.
    * @param {number} id
    * @param {Partial<KeptBreakpoint>} some
    */
@@ -272,7 +272,7 @@ export class BreakpointKeeper {
     if (this.typed && this.typed.id === id) this.typed = null;
     else if (JSON.stringify({ ...found, ...some }) === JSON.stringify(found)) return;
     if (some.isOn && !found.isOn && this.list.countOn >= MOST_ON) {
-      this.calls.tell(TOO_MANY);
+      this.calls.showMessage(TOO_MANY);
       this.calls.changed();
       return;
     }
@@ -295,7 +295,7 @@ export class BreakpointKeeper {
     this.acted();
   }
 
-  /** Hits are counted anew. */
+  /** Resets the hit counts. */
   forgetHits() {
     this.list.forgetHits();
     this.last = "";
@@ -313,21 +313,21 @@ export class BreakpointKeeper {
     this.apply();
   }
 
-  /** The bench has what the list has, once `settled` is kept. */
+  /** Gives the bench the list; done once `settled` resolves. */
   apply() {
     this.calls.changed();
     const { placed } = this.list;
     // Names in conditions may mean something else in another text.
     const names = placed.some(isSoft) ? [this.map ? this.map.text : "", this.watched] : [];
     const next = JSON.stringify([names, placed.map((each) => ({ ...each, line: 0, hits: 0 }))]);
-    const isNone = placed.length === 0 && this.told !== null && this.told.size === 0;
+    const isNone = placed.length === 0 && this.onBench !== null && this.onBench.size === 0;
     if (next === this.last || (this.last === "" && isNone)) return;
     this.last = next;
     this.send(placed);
   }
 
   /**
-   * Sends the list at once, so that nothing that the bench is asked for later overtakes it. Answers are taken in the order of the lists.
+   * Sends the list at once, so that no later request to the bench overtakes it. Answers are handled in the order of the lists.
    * @param {Placed[]} placed
    */
   send(placed) {
@@ -350,12 +350,12 @@ export class BreakpointKeeper {
   sent(list, hard, faults) {
     if (list !== this.list) return;
     this.faults = new Map(faults);
-    this.told = new Set(hard);
+    this.onBench = new Set(hard);
     this.calls.changed();
     this.takeWaiting();
   }
 
-  /** A line that was typed meanwhile may have set or taken away some. */
+  /** A line that was typed meanwhile may have set or deleted some. */
   takeWaiting() {
     const { waiting } = this;
     if (this.isApplying || !waiting) return;

@@ -1,4 +1,4 @@
-// Breakpoints as lines of a project: `break line 14 at 0x00F off from 5 if "r4 = 7" log "R4 is {r4}"`, without what is as usual.
+// Breakpoints as lines of a project: `break line 14 at 0x00F off from 5 if "r4 = 7" log "R4 is {r4}"`; defaults are left out.
 
 import { hex } from "../bench/numbers.js";
 import { MOST_BREAKPOINTS } from "./breakpoints.js";
@@ -8,7 +8,7 @@ import { MOST_BREAKPOINTS } from "./breakpoints.js";
 const TEXT = '"((?:[^"\\\\]|\\\\.)*)"';
 const LINE = new RegExp("^break(?: line (\\d{1,5}))?(?: at 0x([0-9A-F]{3}))?( off)?(?: from (\\d{1,9}))?"
   + `(?: if ${TEXT})?(?: log ${TEXT})?$`);
-/** A condition and a note have at most so many characters. */
+/** The most characters of a condition or a note. */
 export const LONGEST_WORDS = 250;
 
 /** @param {string} text */
@@ -30,7 +30,7 @@ export function linesOfBreakpoints(breakpoints) {
 }
 
 /**
- * The breakpoint of such a line; null for any other line, and for one without a place.
+ * Reads the breakpoint of such a line; null for any other line, and for one without a place.
  * @param {string} line
  * @returns {KeptBreakpoint | null}
  */
@@ -45,7 +45,7 @@ export function breakpointOfLine(line) {
 }
 
 /**
- * Those that a session keeps, of lines from elsewhere.
+ * Returns the breakpoints of lines from elsewhere, at most as many as a session keeps.
  * @param {KeptBreakpoint[]} breakpoints
  */
 export function mostBreakpoints(breakpoints) {

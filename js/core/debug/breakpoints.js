@@ -1,5 +1,5 @@
-// Breakpoints as lines of a program's text: they move with the text, and where the text is what stands in ROM each has an address. One that
-// has no line of the text stands at an address alone.
+// Breakpoints as lines of a program's text: they move with the text, and if the text is the program in ROM each has an address. A
+// breakpoint without a line of the text has an address only.
 
 import * as say from "../../words/debug.js";
 
@@ -7,24 +7,23 @@ import * as say from "../../words/debug.js";
  * @typedef {import("../machine/source_map.js").SourceMap} SourceMap
  * @typedef {import("./soft_breakpoints.js").Placed} Placed
  *
- * `line` from 1, 0 where it stands at an address alone; `address` where it was put last, -1 for nowhere yet; `isOn`: it stops; the rest as
- * in Placed.
+ * `line` from 1, 0 if it has an address only; `address`: its last address, -1 if it never had one; `isOn`: it stops; the rest as in Placed.
  * @typedef {{ id: number, line: number, address: number, isOn: boolean, condition: string, from: number, note: string, hits: number }}
  *   Breakpoint
  * @typedef {Omit<Breakpoint, "id" | "hits">} KeptBreakpoint as a session and a project keep it
  *
- * An edit of the text: the lines between two positions (lines count from 0) were replaced by others. `isWhole`: all of the text was.
+ * An edit of the text: the lines between two positions (lines count from 0) were replaced. `isWhole`: all of the text was.
  * @typedef {{ from: { line: number, ch: number }, to: { line: number, ch: number }, text: string[], removed?: string[],
  *   origin?: string, isWhole?: boolean }} Edit
  */
 
-/** The bench has so many that always stop, and a copy of it as many again with the others. */
+/** The most breakpoints of the bench, which always stop; a copy of it can have as many again with the others. */
 export const MOST_ON = 32;
-/** So many are kept. */
+/** The most breakpoints in a list. */
 export const MOST_BREAKPOINTS = 256;
-/** So many that went with their lines come back with them, when that is undone. */
+/** The most deleted breakpoints that come back with their lines on undo. */
 const MOST_GONE = 256;
-/** How many replaced texts have their breakpoints remembered. */
+/** The number of replaced texts whose breakpoints are remembered. */
 const MOST_TEXTS = 30;
 
 /** @type {Omit<Breakpoint, "id" | "line" | "address">} */
@@ -34,9 +33,9 @@ export class BreakpointList {
   /** @param {Partial<KeptBreakpoint>[]} [kept] */
   constructor(kept = []) {
     this.made = 0;
-    /** @type {Breakpoint[]} in the order of their lines, those at an address alone last */
+    /** @type {Breakpoint[]} in the order of their lines, those without a line last */
     this.all = kept.map((each) => this.make(each));
-    /** @type {{ text: string, breakpoint: Breakpoint }[]} those that went with their lines, the last one last */
+    /** @type {{ text: string, breakpoint: Breakpoint }[]} those that were deleted with their lines, the last one last */
     this.gone = [];
     /** @type {Map<string, Breakpoint[]>} those of texts that were replaced as a whole, the last one last */
     this.ofTexts = new Map();
@@ -72,7 +71,7 @@ export class BreakpointList {
   }
 
   /**
-   * Other words, or on or off.
+   * Changes the words, or switches on or off.
    * @param {number} id
    * @param {Partial<KeptBreakpoint>} some
    */
@@ -104,13 +103,13 @@ export class BreakpointList {
     return this.all.find((each) => each.address === address);
   }
 
-  /** How many are on. */
+  /** Returns how many are on. */
   get countOn() {
     return this.all.filter(({ isOn }) => isOn).length;
   }
 
   /**
-   * The text was edited. Gives whether a breakpoint has another place.
+   * The text was edited. Returns whether a breakpoint has moved.
    * @param {Edit} edit
    */
   edit(edit) {
@@ -118,8 +117,8 @@ export class BreakpointList {
   }
 
   /**
-   * All of the text is replaced: its breakpoints are remembered. A text that was here before gets back those that it had. Gives whether
-   * it was here before.
+   * All of the text is replaced: its breakpoints are remembered. A text that was here before gets back its breakpoints. Returns whether it
+   * was here before.
    * @param {Edit} edit
    */
   exchange({ removed = [], text }) {
@@ -127,7 +126,7 @@ export class BreakpointList {
     const known = this.ofTexts.get(text.join("\n"));
     if (!known) return false;
     const ids = new Set(known.map(({ id }) => id));
-    // What was changed of a breakpoint meanwhile stays changed; and one that has no line belongs to ROM, not to the text.
+    // A breakpoint that was changed meanwhile stays changed; and one that has no line belongs to ROM, not to the text.
     const back = known.filter(({ id, line }) => line > 0 || this.get(id))
       .map((each) => ({ ...(this.get(each.id) || each), line: each.line, address: each.address }));
     const ofRom = this.all.filter(({ id, line, address }) => !ids.has(id) && line === 0 && !back.some((each) => each.address === address));
@@ -138,14 +137,14 @@ export class BreakpointList {
     return true;
   }
 
-  /** @param {string} text whose breakpoints are those that are here */
+  /** @param {string} text whose breakpoints are the current ones */
   remember(text) {
     this.ofTexts.delete(text);
     this.ofTexts.set(text, [...this.all]);
     for (const oldest of [...this.ofTexts.keys()].slice(0, -MOST_TEXTS)) this.ofTexts.delete(oldest);
   }
 
-  /** No more are kept, and no more are on, than there can be. */
+  /** There are never more than the maximum, nor more enabled ones than the maximum. */
   limit() {
     let count = 0;
     this.all = this.all.slice(0, MOST_BREAKPOINTS).map((each) => {
@@ -155,7 +154,7 @@ export class BreakpointList {
   }
 
   /**
-   * A breakpoint moves with its line; one whose whole line is gone goes with it. Gives whether one has another place.
+   * A breakpoint moves with its line; one whose whole line is deleted is deleted with it. Returns whether one has moved.
    * @param {Edit} edit
    */
   move(edit) {
@@ -167,7 +166,7 @@ export class BreakpointList {
     this.all = this.all.flatMap((each) => {
       if (each.line < first) return [each];
       if (each.line > last) return [{ ...each, line: each.line + more }];
-      // A line that was replaced by others is the one at its place among them.
+      // A line that was replaced by others becomes the one at its place among them.
       if (each.line < first + count) return [each];
       this.leave(each, edit);
       return [];
@@ -176,7 +175,7 @@ export class BreakpointList {
     return (isUndone && this.bringBack(edit, first, count)) || isMoved;
   }
 
-  /** All of the text is another one: what is known of breakpoints are their addresses, where they have some. */
+  /** The whole text is replaced: of the breakpoints only the addresses remain known, if they have any. */
   leaveText() {
     this.all = this.all.map((each) => (each.address >= 0 ? { ...each, line: 0 } : each));
     this.sort();
@@ -184,7 +183,7 @@ export class BreakpointList {
   }
 
   /**
-   * A breakpoint goes with its line.
+   * A breakpoint moves with its line.
    * @param {Breakpoint} breakpoint
    * @param {Edit} edit
    */
@@ -194,7 +193,7 @@ export class BreakpointList {
   }
 
   /**
-   * Lines came back, and with them the breakpoints that went with them; gives whether there are any.
+   * Lines were restored, and with them the breakpoints that were deleted with them; returns whether there are any.
    * @param {Edit} edit
    * @param {number} first
    * @param {number} count
@@ -213,7 +212,7 @@ export class BreakpointList {
   }
 
   /**
-   * The text is what stands in ROM: each breakpoint has an address. Gives words of those that moved.
+   * The text is now the program in ROM: each breakpoint gets an address. Returns words about those that moved.
    * @param {SourceMap} map
    */
   locate(map) {
@@ -225,7 +224,7 @@ export class BreakpointList {
       const found = each.line > 0 ? instructionOfLine(each.line, map) : instructionOfAddress(each.address, map);
       if (found.words) words.push(found.words);
       const { line, address } = found;
-      // Two that have come to one place are one.
+      // Two breakpoints at the same place become one.
       if (address >= 0 && placed.has(address)) continue;
       placed.set(address >= 0 ? address : -1 - each.id, { ...each, line, address });
     }
@@ -235,7 +234,7 @@ export class BreakpointList {
   }
 
   /**
-   * Those that are on, where they have an address.
+   * Returns the enabled breakpoints that have an address.
    * @returns {Placed[]}
    */
   get placed() {
@@ -250,7 +249,7 @@ export class BreakpointList {
     }
   }
 
-  /** Hits are counted anew. */
+  /** Resets the hit counts. */
   forgetHits() {
     this.all = this.all.map((each) => ({ ...each, hits: 0 }));
   }
@@ -262,7 +261,7 @@ export class BreakpointList {
 }
 
 /**
- * How many lines are the same at the beginning of both, or at the end.
+ * Returns how many lines are the same at the beginning of both, or at the end.
  * @param {string[]} olds
  * @param {string[]} news
  * @param {number} most
@@ -277,8 +276,8 @@ function sameLines(olds, news, most, isAtEnd) {
 }
 
 /**
- * The lines that an edit replaces, from 1, and by how many: those at its beginning and its end that stay are none of them. What is put in
- * at the beginning of a line stands before the line. `isOther`: all of the text is another one, from its first line to its last.
+ * The lines that an edit replaces, from 1, and by how many; lines that stay at its beginning and end are excluded. Text inserted at the
+ * beginning of a line is before that line. `isOther`: the edit replaces the whole text, from its first line to its last.
  * @param {Edit} edit
  */
 function replacedLines({ from, to, text, removed = Array(to.line - from.line + 1).fill("\n"), isWhole = false }) {
@@ -293,7 +292,7 @@ function replacedLines({ from, to, text, removed = Array(to.line - from.line + 1
 }
 
 /**
- * The instruction that a line, or the next one that has one, begins.
+ * Returns the instruction that a line begins, or the next one with an instruction.
  * @param {number} line
  * @param {SourceMap} map
  */
@@ -311,7 +310,7 @@ export function instructionOfLine(line, map) {
 }
 
 /**
- * The line of an address, or of the next instruction where it is inside one.
+ * Returns the line of an address, or of the next instruction if the address is inside one.
  * @param {number} address
  * @param {SourceMap} map
  */

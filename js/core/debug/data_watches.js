@@ -1,8 +1,9 @@
-// Places whose changes stop time: a register, a port, lamps, a chain, and characters of RAM with a condition or beyond those that the bench
-// watches. They are found ahead, by questions, so that nothing of them is ever in the session.
+// Places whose changes stop time: a register, a port, lamps, a chain, and RAM characters with a condition or beyond those that the bench
+// can watch. Their changes are found ahead, by queries, so the session never contains anything of them.
 
 import { readBoard } from "../bench/answers.js";
-import { MOST_PLACES, tracedConditionOf } from "../conditions/condition_language.js";
+import { MOST_PLACES } from "../bench/inputs.js";
+import { tracedConditionOf } from "../conditions/condition_language.js";
 import { placeOf } from "../conditions/places.js";
 import { LastChange } from "../engine/going_back.js";
 import { cyclesOf } from "../engine/rom_codes.js";
@@ -18,26 +19,26 @@ import { changedFrom, CHANGES_ALWAYS } from "../../words/debug.js";
  * @typedef {import("../engine/engine_host.js").EngineHost} Engine
  * @typedef {import("../engine/key_queue.js").PlannedLine} PlannedLine
  *
- * What is wanted: a place by its name, the condition under which a change counts ("" for none), and from which one on it stops.
+ * A requested watch: the name of a place, the condition under which a change counts ("" for none), and the first change that stops.
  * @typedef {{ id: number, name: string, condition: string, from: number }} WantedWatch
  *
- * One that is read on a board: the places of `trace` that give its value, and those of its condition.
+ * A watch on a board: the places of `trace` that give its value, and those of its condition.
  * @typedef {{ id: number, place: Place, probes: string[], condition: Condition | null, from: number, hits: number }} DataWatch
  *
- * The first change that stops: after how many cycles, -1 for none, by which watch, and what changed, in words; and how often each counted.
+ * The first change that stops: after how many cycles, -1 for none, of which watch, and the change in words; and the count of each watch.
  * @typedef {{ cycles: number, id: number, change: string, hits: Map<number, number> }} SeenChange
  */
 
 /** The counter changes with each instruction. */
 const ALWAYS = "pc";
-/** So many cycles are asked about at once. */
+/** The cycles of one query. */
 const ASKED_CYCLES = 50000;
 
 /** @returns {SeenChange} */
 const nothingSeen = () => ({ cycles: -1, id: 0, change: "", hits: new Map() });
 
 /**
- * Reads what is wanted; `faults` has why one cannot be watched, by its id.
+ * Reads requested watches; `faults` says why some cannot be watched, by their ids.
  * @param {WantedWatch[]} wanted
  * @param {Names} names
  * @returns {{ watches: DataWatch[], faults: Map<number, string> }}
@@ -62,11 +63,11 @@ export function readWatches(wanted, names) {
 }
 
 export class DataWatches {
-  /** @param {DataWatch[]} watches whose places are as many together as `trace` takes */
+  /** @param {DataWatch[]} watches with at most as many places together as `trace` accepts */
   constructor(watches) {
     this.watches = watches;
     this.places = [...new Set(watches.flatMap(({ probes, condition }) => [...probes, ...(condition ? condition.places : [])]))];
-    /** Where the values of each are in a row: of its place, and of its condition. */
+    /** The columns of each watch in a row: of its place, and of its condition. */
     this.columns = new Map(watches.map(({ id, probes, condition }) => (
       [id, [probes, condition ? condition.places : []].map((places) => places.map((place) => this.places.indexOf(place)))])));
   }
@@ -76,11 +77,11 @@ export class DataWatches {
   }
 
   /**
-   * Looks through the lines that come next.
+   * Searches the next lines.
    * @param {Engine} engine
-   * @param {Uint8Array} file is left as it is
+   * @param {Uint8Array} file is not changed
    * @param {PlannedLine[]} planned
-   * @param {() => Uint8Array} codes gives what is in ROM
+   * @param {() => Uint8Array} codes returns the contents of ROM
    * @returns {SeenChange}
    */
   look(engine, file, planned, codes) {
@@ -109,7 +110,7 @@ export class DataWatches {
    * The instruction that makes the first change that stops; null for none.
    * @param {string} row before the run
    * @param {string[]} lines
-   * @param {SeenChange} seen takes what is seen
+   * @param {SeenChange} seen receives what is seen
    */
   stopIn(row, lines, seen) {
     let before = valuesOf(row);
@@ -143,7 +144,7 @@ export class DataWatches {
   }
 
   /**
-   * Whether a place changes where the condition holds after it.
+   * Returns whether a place changes and the condition holds after it.
    * @param {DataWatch} watch
    * @param {string[]} before the values of all places
    * @param {string[]} after
@@ -164,7 +165,7 @@ export class DataWatches {
   }
 
   /**
-   * What was seen has come about.
+   * Counts the changes that were seen, as they have happened.
    * @param {Map<number, number>} hits
    */
   count(hits) {
@@ -172,7 +173,7 @@ export class DataWatches {
   }
 
   /**
-   * What finds the last change of each in the past; how many changes it is to have is not asked.
+   * Returns the finders of each watch's last change in the past, whatever its hit count.
    * @param {Engine} engine
    */
   finders(engine) {
@@ -197,7 +198,7 @@ class LastWatched extends LastChange {
    * @param {string} before the rows of the places
    * @param {string} after
    */
-  told(before, after) {
+  changeBetween(before, after) {
     const { watch, watches } = this;
     const [from, to] = [before, after].map(valuesOf);
     if (!watches.changes(watch, from, to)) return null;
@@ -206,7 +207,7 @@ class LastWatched extends LastChange {
 }
 
 /**
- * A line in parts that are asked about at once.
+ * Splits a line into parts that are queried at once.
  * @param {PlannedLine} planned
  */
 function partsOf(planned) {
@@ -221,14 +222,14 @@ function partsOf(planned) {
 }
 
 /**
- * Breakpoints that are found ahead, at addresses (arrivals.js) and at changes of places: what comes first stops time. It is used as
- * Arrivals are.
+ * Breakpoints that are found ahead, at addresses (arrivals.js) and at changes of places: the earliest stops time. It has the interface of
+ * Arrivals.
  */
 export class SoftStops {
   /**
    * @param {import("./arrivals.js").Arrivals} arrivals
    * @param {DataWatches} changes
-   * @param {() => Uint8Array} codes gives what is in ROM
+   * @param {() => Uint8Array} codes returns the contents of ROM
    */
   constructor(arrivals, changes, codes) {
     this.arrivals = arrivals;
@@ -241,9 +242,9 @@ export class SoftStops {
   }
 
   /**
-   * Looks through the lines that come next.
+   * Searches the next lines.
    * @param {Engine} engine
-   * @param {Uint8Array} file is left as it is
+   * @param {Uint8Array} file is not changed
    * @param {PlannedLine[]} planned
    * @returns {import("./arrivals.js").Seen}
    */
@@ -256,18 +257,18 @@ export class SoftStops {
     return { ...this.arrivals.look(engine, file, linesUpTo(planned, changed.cycles)), ...changed, why: "watch", changes: hits };
   }
 
-  /** @param {import("./arrivals.js").Seen} seen what has come about */
+  /** @param {import("./arrivals.js").Seen} seen what has happened */
   count(seen) {
     this.arrivals.count(seen);
     this.changes.count(seen.changes);
   }
 
-  /** How many hits there were of each, in their order. */
+  /** Returns how many hits there were of each, in their order. */
   get hits() {
     return [...this.arrivals.hits, ...this.changes.watches.map(({ hits }) => hits)];
   }
 
-  /** @param {number[]} hits those of before, since what was counted did not come about */
+  /** @param {number[]} hits the hits before, because the counted ones did not happen */
   takeBack(hits) {
     const { length } = this.arrivals.hits;
     this.arrivals.takeBack(hits.slice(0, length));
@@ -278,7 +279,7 @@ export class SoftStops {
 }
 
 /**
- * The names of places that can be watched on a board: those that `trace` has, but for the counter.
+ * Returns the names of the places that can be watched on a board: those of `trace`, except the counter.
  * @param {string} name
  * @param {string[]} board the answer to `board`
  */

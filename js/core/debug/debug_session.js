@@ -1,16 +1,16 @@
-// A session in memory with its debugger, the program's lines, and breakpoints at these: what an editor, a prompt or a test in node opens.
+// A session in memory with its debugger, the program's lines, and breakpoints at these: an editor, a prompt or a test in node opens it.
 //
 //     const engine = await Engine.load(bytes of the module);         (engine/engine.js)
 //     const session = new DebugSession(engine, { board, program });  texts; or { file, board, program } for the bytes of a .mcs
-//     session.refused;                                               what was refused of them
+//     session.refused;                                               the errors of the texts
 //     session.breakpoints.add({ line: 12, condition: "r9 = 9" }); await session.applyBreakpoints();
 //     const stop = await session.go();                               runs up to a stop; go({ kind: "over" | "out" | "here" | "change" .. })
 //     stop.why, stop.words, session.line, session.values(["r4", "pc", "lamps"]), session.returns;
 //     await session.into(); await session.back({ kind: "instruction" }); session.forward();
-//     await session.setProgram(text);                                assembled anew: breakpoints move to where their lines are now
+//     await session.setProgram(text);                                assembled again: breakpoints move with their lines
 //
-// Time has no clock here: `go` runs as fast as the module can, in pieces, and `goesOn` is asked between them whether to go on. Nothing is
-// written: `session.file` has the bytes, in which no breakpoint with a condition and no move ever stands.
+// Time has no clock here: `go` runs as fast as the module can, in pieces, and `goesOn` is asked between them whether to continue. Nothing
+// is written: `session.file` has the bytes, which never contain a breakpoint with a condition or a move.
 
 import { readBoard, readRegisters, readRun, refusalOf } from "../bench/answers.js";
 import { Face } from "../board/face.js";
@@ -33,11 +33,11 @@ import * as say from "../../words/debug.js";
  * @typedef {import("./debugger.js").Tally} Tally
  * @typedef {import("./goals.js").Goal} Goal
  * @typedef {{ file?: Uint8Array, board?: string, program?: string }} Opened
- * @typedef {Stop & { words: string, tally: Tally }} Stopped `why` is "pause" where `goesOn` ended it, "lacks" where the board lacks a place
+ * @typedef {Stop & { words: string, tally: Tally }} Stopped `why` is "pause" if `goesOn` ended it, "lacks" if the board lacks a place
  */
 
 const FIRST_PIECE = 50000;
-/** What is done again for a step back is no more than a piece (engine/timeline.js). */
+/** The most cycles that a step back replays: one piece (engine/timeline.js). */
 export const LARGEST_PIECE = 500000;
 
 /** @type {GoesOn} */
@@ -50,11 +50,11 @@ export class DebugSession {
    */
   constructor(engine, { file, board = "", program = "" }) {
     const own = file ? file.slice() : engine.begin();
-    /** @type {{ word: "wire" | "asm", refusal: Refusal }[]} the texts that the bench refused */
+    /** @type {{ word: "wire" | "asm", refusal: Refusal }[]} the texts that the bench rejected */
     this.refused = [];
     this.boardText = board;
     this.program = program;
-    /** So many cycles of time that runs are done at once. */
+    /** The cycles that running time does at once. */
     this.largestPiece = LARGEST_PIECE;
     if (!file) {
       this.put(engine, own, "wire", sentText(board, "#"));
@@ -92,11 +92,11 @@ export class DebugSession {
 
   /** The names that conditions may have. */
   get names() {
-    return { face: new Face(this.boardText), board: readBoard(this.debugger.session.lookQuestions.board), map: this.map };
+    return { face: new Face(this.boardText), board: readBoard(this.debugger.session.statusQueries.board), map: this.map };
   }
 
   /**
-   * Assembles another text; the machine stays where it is. Gives why it is refused, or null.
+   * Assembles another text; the machine is unchanged. Returns why it is rejected, or null.
    * @param {string} program
    * @returns {Promise<Refusal | null>}
    */
@@ -111,8 +111,8 @@ export class DebugSession {
   }
 
   /**
-   * The breakpoints of the list, as they are now, are those that stop. Gives words of those that moved to an instruction, and of each that
-   * cannot be read, by its id, why.
+   * Applies the list of breakpoints. Returns words about those that moved to an instruction, and for each that cannot be read the reason,
+   * by its id.
    */
   async applyBreakpoints() {
     const { session } = this.debugger;
@@ -146,7 +146,7 @@ export class DebugSession {
   }
 
   /**
-   * Lets so many cycles pass, or fewer up to a stop; `why` is "passed" where they did.
+   * Runs for this many cycles, or up to an earlier stop; `why` is "passed" if they passed.
    * @param {number} cycles
    * @param {GoesOn} [goesOn]
    * @returns {Promise<Stopped>}
@@ -159,7 +159,7 @@ export class DebugSession {
   /**
    * @param {Goal | null} goal
    * @param {GoesOn} goesOn
-   * @param {number} [most] so many cycles
+   * @param {number} [most] the cycles at most
    * @returns {Promise<Stopped>}
    */
   async runOn(goal, goesOn, most = Infinity) {
@@ -193,7 +193,7 @@ export class DebugSession {
   }
 
   /**
-   * When the breakpoint stops that stopped time.
+   * Returns the condition of the breakpoint that stopped time, in words.
    * @param {number} id
    */
   wordsOfBreakpoint(id) {
@@ -228,25 +228,26 @@ export class DebugSession {
   }
 
   /**
-   * Serves lines that were typed; a run among them ends at each breakpoint that it comes to. `words` say so where one ended the last line.
+   * Serves typed lines; a run among them ends at each breakpoint that it reaches. `words` say so if one ended the last line.
    * @param {string} lines
-   * @param {(done: number) => Promise<boolean>} [goesOn] is told how many characters are done, and says whether to go on: else nothing is
+   * @param {(done: number) => Promise<boolean>} [goesOn] receives how many characters are done, and returns whether to continue; if not,
+   * nothing is done
    */
   async serve(lines, goesOn = always) {
-    const { told, typed: { id, why, change, cut, cycles, tally } } = await this.debugger.serveTyped(lines, goesOn);
+    const { result, typed: { id, why, change, cut, cycles, tally } } = await this.debugger.serveTyped(lines, goesOn);
     this.breakpoints.count(tally.hits);
-    if (id === 0) return { ...told, tally, words: "" };
+    if (id === 0) return { ...result, tally, words: "" };
     const { words } = this.stopped(null, { why, id, cycles, returns: false, change }, tally);
-    return { ...told, tally, words: say.lineEnded(words, cut) };
+    return { ...result, tally, words: say.lineEnded(words, cut) };
   }
 
-  // --- where it stands ---
+  // --- the position ---
 
   get registers() {
     return readRegisters(this.debugger.session.ask("regs\n")[0]);
   }
 
-  /** The address of the instruction that comes next. */
+  /** The address of the next instruction. */
   get address() {
     return parseInt(this.registers.counter, 16);
   }
@@ -266,7 +267,7 @@ export class DebugSession {
   }
 
   /**
-   * What stands at places, by the names of conditions/places.js.
+   * Returns the values of places, by the names of conditions/places.js.
    * @param {string[]} names
    */
   values(names) {

@@ -1,5 +1,5 @@
-// The debugger of a session: breakpoints, moves up to a goal, why time stops, values, going back. It touches no document: it is in the
-// page's worker as in node. All that it tells comes from answers of the bench, and all that it leaves in the session are runs.
+// The debugger of a session: breakpoints, moves up to a goal, why time stops, values, going back. It needs no DOM: it runs in the
+// page's worker as in node. All its reports are answers of the bench, and it leaves only runs in the session.
 //
 //     const session = new WorkerSession(engine, file);               (debug_session.js does this, and keeps the program's lines, too)
 //     const debug = new Debugger(session);
@@ -8,15 +8,15 @@
 //     while (debug.isMoving) { const { stop } = debug.advance(FRAME_CYCLES); if (stop) .. }    farther goals need time, with its keys
 //     debug.values(["r4", "lamps"]); await debug.goBack({ kind: "instruction" }, goesOn); debug.goForward();
 //
-// A move has a goal (goals.js). One that comes near is reached at once; any other is `isMoving` until `advance` tells a stop or `drop` is
+// A move has a goal (goals.js). A near one is reached at once; any other is `isMoving` until `advance` reports a stop or `drop` is
 // called. A breakpoint that always stops is one of the bench (`break`). One with a condition, a count or a note is found ahead
-// (arrivals.js), and no file ever has it.
+// (arrivals.js), and no file ever contains it.
 
 import { readBoard, readRun } from "../bench/answers.js";
 import { hex } from "../bench/numbers.js";
 import { placeOf } from "../conditions/places.js";
 import { Probes } from "../conditions/probes.js";
-import { NOTHING_TOLD, aimBack } from "../engine/going_back.js";
+import { EMPTY_REPORT, aimBack } from "../engine/going_back.js";
 import { runLines } from "../engine/key_queue.js";
 import { LOOKED_CYCLES } from "../engine/pieces.js";
 import { Answers } from "../engine/tracing.js";
@@ -29,7 +29,7 @@ import { counterOf, watcherOf } from "./goals.js";
 import { lastArrival, lastCall } from "./last_arrival.js";
 import { isSoft, softBreakpointOf } from "./soft_breakpoints.js";
 import { planTyped } from "./typed_lines.js";
-import { UsualFaults } from "./usual_faults.js";
+import { CommonMistakes } from "./common_mistakes.js";
 
 /**
  * @typedef {import("./arrivals.js").Logged} Logged
@@ -41,36 +41,35 @@ import { UsualFaults } from "./usual_faults.js";
  * @typedef {import("./goals.js").Goal} Goal
  * @typedef {import("./goals.js").Watcher} Watcher
  * @typedef {import("./soft_breakpoints.js").Placed} Placed
- * @typedef {import("./usual_faults.js").UsualFault} UsualFault
+ * @typedef {import("./common_mistakes.js").CommonMistake} UsualFault
  * @typedef {import("../engine/going_back.js").Aim} Aim
  * @typedef {import("../engine/going_back.js").BackGoal} BackGoal
  * @typedef {import("../engine/timeline.js").Present} Present
  * @typedef {import("../engine/worker_session.js").Frame} Frame
- * @typedef {import("../engine/worker_session.js").Told} Told
+ * @typedef {import("../engine/worker_session.js").LinesResult} LinesResult
  * @typedef {import("../engine/worker_session.js").WorkerSession} WorkerSession
- * @typedef {(done: number, tally?: Tally) => Promise<boolean>} GoesOn is told how many cycles were looked through, or, of time that runs,
- *   passed, with what breakpoints did in the last of them; it says whether to go on
+ * @typedef {(done: number, tally?: Tally) => Promise<boolean>} GoesOn receives how many cycles were searched, or, of running time, passed,
+ * with the work of breakpoints in the last of them; it returns whether to continue
  *
  * Why time stopped: at its goal, or by the word of an answer ("break", "watch", "code", a refusal). `id`: of the breakpoint, or of the
- * watched place, 0 for none; `change`: what changed there, in words; `cycles`: since the move began, or since time runs.
+ * watched place, 0 for none; `change`: its change, in words; `cycles`: since the move began, or since time runs.
  * @typedef {{ why: string, id: number, cycles: number, returns: boolean, change?: string }} Stop
  *
- * What breakpoints did: hits by their ids since it was told last, notes, and how many notes there were; and faults that everyone makes
- * once, as they happened (usual_faults.js).
- * @typedef {{ hits: [number, number][], notes: Logged[], noted: number, usual: UsualFault[] }} Tally
- * Of lines that were typed: where a breakpoint ended the last one, its id and the line, else 0 and "", with what Stop has of it; the
- * cycles, what breakpoints did.
+ * The work of breakpoints: hits by their ids since the last report, notes, and how many notes there were; and common mistakes, as they
+ * happened (common_mistakes.js).
+ * @typedef {{ hits: [number, number][], notes: Logged[], noted: number, usual: UsualFault[] }} Tally Of typed lines: if a breakpoint ended
+ * the last one, its id and the line, otherwise 0 and "", with its Stop; the cycles, and the work of breakpoints.
  * @typedef {{ id: number, why: string, change: string, cut: string, cycles: number, tally: Tally }} Typed
  * @typedef {Frame & { stop: Stop | null, tally: Tally }} DebugFrame
- * @typedef {{ found: Found & { id: number, returns: boolean, change?: string }, told: (Told & { look: string[] }) | null,
- *   tally: Tally }} Went nothing was told where nothing was done
+ * @typedef {{ found: Found & { id: number, returns: boolean, change?: string }, result: (LinesResult & { snapshot: string[] }) | null,
+ *   tally: Tally }} Travelled no result if nothing was done
  * @typedef {Omit<Aim, "moment" | "present"> & { isDone: boolean, wires: boolean, cycles: number }} WentBack
  * @typedef {Omit<Aim, "moment" | "present"> & { isFound: boolean, cycles: number, address: number }} LastChange
  */
 
-/** A goal that comes within a second of a real 4004 is reached at once. */
+/** A goal within a second of a real 4004 is reached at once. */
 export const NEAR_CYCLES = CYCLES_PER_SECOND;
-/** A change that needs no key, so many; of instructions that are counted, all. */
+/** The cycles that are searched at once for a change that needs no key; counted instructions are all done at once. */
 const NEAR_CHANGE = 10000000;
 const ALL = 100000000;
 
@@ -79,7 +78,7 @@ export const NO_TALLY = { hits: [], notes: [], noted: 0, usual: [] };
 
 /**
  * @param {Tally} one
- * @param {Tally} other what came after it
+ * @param {Tally} other the tally that follows it
  * @returns {Tally}
  */
 export function bothTallies(one, other) {
@@ -92,7 +91,7 @@ export function bothTallies(one, other) {
 }
 
 /**
- * How many cycles are looked through for a goal at once.
+ * Returns how many cycles are searched for a goal at once.
  * @param {Goal} goal
  */
 export function nearOf({ kind }) {
@@ -106,22 +105,22 @@ export class Debugger {
     this.session = session;
     this.watches = new DataWatches([]);
     this.arrivals = this.softStops([]);
-    this.usual = new UsualFaults(session);
-    /** @type {import("../engine/key_queue.js").PlannedLine[] | null} those that are done, and not looked at for faults yet */
+    this.usual = new CommonMistakes(session);
+    /** @type {import("../engine/key_queue.js").PlannedLine[] | null} those that are done, but not yet checked for mistakes */
     this.unlooked = null;
-    /** @type {import("./usual_faults.js").UsualFault[]} that were found there, and are not told yet */
+    /** @type {import("./common_mistakes.js").CommonMistake[]} those that were found there, and are not reported yet */
     this.late = [];
     /** @type {Map<number, number> | null} the ids of the breakpoints that always stop, by their addresses; null until some are set */
     this.hard = null;
-    /** @type {import("../conditions/condition_language.js").Names | null} that conditions may have, null until somebody says */
+    /** @type {import("../conditions/condition_language.js").Names | null} the names for conditions, null until they are set */
     this.names = null;
-    /** @type {Watcher | null} of the move that is under way */
+    /** @type {Watcher | null} of the present move */
     this.watcher = null;
-    /** The cycles that were counted where the move began, or where time began to run. */
+    /** The cycle count at the beginning of the move, or when time began to run. */
     this.begun = session.count.total;
   }
 
-  /** Whether a move is under way whose goal did not come yet. */
+  /** Returns whether a move is under way whose goal is not reached yet. */
   get isMoving() {
     return this.watcher !== null;
   }
@@ -129,9 +128,9 @@ export class Debugger {
   // --- breakpoints ---
 
   /**
-   * The breakpoints from here on, each at an address of its own. Gives the lines that make the bench have those that always stop, which
-   * are not sent here; and of each that cannot be read, and so stops at each arrival, by its id, why.
-   * @param {Placed[]} placed those that are on
+   * Sets the breakpoints, each at an address of its own. Returns the lines that set those that always stop in the bench, which are not sent
+   * here; and for each that cannot be read, and so stops at each arrival, the reason, by its id.
+   * @param {Placed[]} placed the enabled ones
    * @param {Names} names
    * @returns {{ lines: string, faults: [number, string][] }}
    */
@@ -155,7 +154,7 @@ export class Debugger {
   }
 
   /**
-   * The places whose changes stop time from here on, beside the characters that the bench watches; gives why some do not, by their ids.
+   * Sets the places whose changes stop time, in addition to the characters that the bench watches; returns why some do not, by their ids.
    * @param {WantedWatch[]} wanted
    * @param {Names} names
    */
@@ -167,7 +166,7 @@ export class Debugger {
     return faults;
   }
 
-  /** The lines by which the bench has the breakpoints that always stop, and no other. */
+  /** Returns the lines that give the bench exactly the breakpoints that always stop. */
   breakLines() {
     const { hard } = this;
     if (!hard) return "";
@@ -179,7 +178,7 @@ export class Debugger {
 
   // --- time ---
 
-  /** Time begins to run, or goes on to another goal: cycles are counted from here on. */
+  /** Time begins to run, or continues to another goal: cycles are counted from now on. */
   begin() {
     this.watcher = null;
     this.begun = this.session.count.total;
@@ -193,9 +192,9 @@ export class Debugger {
   }
 
   /**
-   * Lets so many cycles pass, as the session does, up to the goal of the move or a breakpoint.
+   * Runs for this many cycles, up to the goal of the move or a breakpoint, as the session does.
    * @param {number} cycles
-   * @param {boolean} [isHurried] whether lamps wait for it: then faults that nothing stops at are looked for by `lookBack`
+   * @param {boolean} [isHurried] whether lamps wait for it: then mistakes at which nothing stops are found by `lookBack`
    * @returns {DebugFrame}
    */
   advance(cycles, isHurried = false) {
@@ -218,20 +217,20 @@ export class Debugger {
     return { ...frame, stop, tally: { ...this.tallyOf(seen, stop, before), usual: [...this.takeLate(), ...usual.faults] } };
   }
 
-  /** Looks for faults in what was done last, where that is yet to be done: the session's other file is as it was before. */
+  /** Checks what was done last for mistakes, if that is still to be done: the session's other file is as it was before. */
   lookBack() {
     const { unlooked } = this;
     this.unlooked = null;
     if (unlooked) this.late.push(...this.usual.look(unlooked, this.session.next).faults);
   }
 
-  /** Takes out what was found late. */
+  /** Removes what was found late. */
   takeLate() {
     return this.late.splice(0);
   }
 
   /**
-   * What stops time beside goals and breakpoints: a fault that is told, or the end of a recording.
+   * Returns the stop that is neither a goal nor a breakpoint: a mistake that is reported, or the end of a recording.
    * @param {Frame} frame
    * @param {number} usual after how many cycles, -1 for none
    */
@@ -291,7 +290,7 @@ export class Debugger {
   /**
    * @param {Seen} seen
    * @param {{ why: string, id: number } | null} stop
-   * @param {number} before the cycles that were counted by then
+   * @param {number} before the cycle count then
    * @returns {Tally}
    */
   tallyOf({ hits, notes, noted, id }, stop, before) {
@@ -304,12 +303,12 @@ export class Debugger {
   // --- moves ---
 
   /**
-   * Goes on to a goal, or to what stops time before, where one of them comes within so many cycles. Where neither does, nothing is done,
-   * and the move is under way: `advance` goes on with it.
+   * Moves to a goal, or to an earlier stop, if one of them is within this many cycles. Otherwise nothing is done, and the move is under
+   * way: `advance` continues it.
    * @param {Goal} wanted
    * @param {number} near
    * @param {GoesOn} goesOn
-   * @returns {Promise<Went>}
+   * @returns {Promise<Travelled>}
    */
   async goOn(wanted, near, goesOn) {
     this.begin();
@@ -319,22 +318,22 @@ export class Debugger {
     const watcher = watcherOf(session.engine, session.file, goal, codes);
     const returns = watcher !== null && watcher.returns;
     const sought = { ...await seek(session.engine, session.file, goal, goesOn, near, codes), id: 0, returns };
-    if (!watcher) return { found: sought, told: null, tally: NO_TALLY };
+    if (!watcher) return { found: sought, result: null, tally: NO_TALLY };
     const seen = await this.seenIn(sought.cycles, goesOn);
     if (sought.end === "bound" && seen.cycles < 0) {
       this.watcher = watcher;
-      return { found: sought, told: null, tally: NO_TALLY };
+      return { found: sought, result: null, tally: NO_TALLY };
     }
     const { cycles, id, change } = seen;
     const found = cycles < 0 ? { ...sought, change: "" } : { cycles, isReached: false, end: seen.why, id, returns, change };
-    const told = await session.serve(runLines(Math.max(1, found.cycles)), async () => true);
+    const result = await session.serve(runLines(Math.max(1, found.cycles)), async () => true);
     this.arrivals.count(seen);
     if (!found.isReached && found.id === 0) found.id = this.idOfStop(found.end);
-    return { found, told, tally: this.tallyOf(seen, { why: found.end, id: found.id }, this.begun) };
+    return { found, result, tally: this.tallyOf(seen, { why: found.end, id: found.id }, this.begun) };
   }
 
   /**
-   * What breakpoints do in so many cycles from here on, with the keys as they are.
+   * Resolves to the effects of breakpoints in the next cycles, with the keys as they are.
    * @param {number} cycles
    * @param {GoesOn} goesOn
    */
@@ -360,10 +359,10 @@ export class Debugger {
   }
 
   /**
-   * Serves lines that were typed, all of them or none. A run among them ends at each breakpoint that it comes to.
+   * Serves typed lines, all of them or none. A run among them ends at each breakpoint that it reaches.
    * @param {string} lines
-   * @param {(done: number) => Promise<boolean>} goesOn is told how many characters are done
-   * @returns {Promise<{ told: Told & { look: string[] }, typed: Typed }>}
+   * @param {(done: number) => Promise<boolean>} goesOn receives how many characters are done
+   * @returns {Promise<{ result: LinesResult & { snapshot: string[] }, typed: Typed }>}
    */
   async serveTyped(lines, goesOn) {
     const { session, arrivals } = this;
@@ -371,10 +370,10 @@ export class Debugger {
     const hits = arrivals.hits;
     try {
       const { lines: served, runs, ...stop } = await planTyped(session.engine, session.file, arrivals, lines, goesOn);
-      const told = await session.serve(served, goesOn);
+      const result = await session.serve(served, goesOn);
       this.usual.forget();
       const tallies = runs.map(({ seen, done }) => this.tallyOf(seen, null, before + done));
-      return { told, typed: { ...stop, cycles: session.count.total - before, tally: tallies.reduce(bothTallies, NO_TALLY) } };
+      return { result, typed: { ...stop, cycles: session.count.total - before, tally: tallies.reduce(bothTallies, NO_TALLY) } };
     } catch (fault) {
       arrivals.takeBack(hits);
       throw fault;
@@ -382,7 +381,7 @@ export class Debugger {
   }
 
   /**
-   * The goal, with its condition read. It was found right where it was asked for.
+   * Returns the goal with its condition read, which was correct when the goal was set.
    * @template {Goal | BackGoal} Wanted
    * @param {Wanted} goal
    * @returns {Wanted}
@@ -397,7 +396,7 @@ export class Debugger {
   // --- the past ---
 
   /**
-   * Goes back. The breakpoints are no part of the past: they stay.
+   * Goes back. The breakpoints are not part of the past: they stay.
    * @param {BackGoal} goal
    * @param {(done?: number) => Promise<boolean>} goesOn
    * @returns {Promise<WentBack>}
@@ -405,11 +404,11 @@ export class Debugger {
   async goBack(goal, goesOn) {
     this.begin();
     const { session } = this;
-    const { moment, present: found, ...told } = await this.aimBack(goal, goesOn);
-    if (!moment) return { ...told, isDone: false, wires: false, cycles: 0 };
+    const { moment, present: found, ...report } = await this.aimBack(goal, goesOn);
+    if (!moment) return { ...report, isDone: false, wires: false, cycles: 0 };
     const present = found || await session.timeline.at(session.engine, moment, goesOn);
     session.timeline.goBack(moment, session);
-    return { ...told, ...this.become(present) };
+    return { ...report, ...this.become(present) };
   }
 
   /**
@@ -425,7 +424,7 @@ export class Debugger {
   }
 
   /**
-   * The breakpoints that stop time, as those with a condition: the bench's own where none were set.
+   * Returns the breakpoints that stop time, in the form of those with a condition: the bench's own if none were set.
    * @returns {SoftBreakpoint[]}
    */
   stopping() {
@@ -436,28 +435,29 @@ export class Debugger {
   }
 
   /**
-   * When a place changed last, without going there: how many cycles ago, and at which address an instruction did it, -1 where none did.
+   * Resolves to the last change of a place, without going there: how many cycles ago, and the address of the instruction that made it, -1
+   * if none did.
    * @param {string} place
    * @param {(done?: number) => Promise<boolean>} goesOn
    * @returns {Promise<LastChange>}
    */
   async lastChange(place, goesOn) {
     const { session } = this;
-    const { moment, present, ...told } = await aimBack(session.engine, session, { kind: "change", place }, goesOn);
-    if (!moment) return { ...told, isFound: false, cycles: 0, address: -1 };
+    const { moment, present, ...report } = await aimBack(session.engine, session, { kind: "change", place }, goesOn);
+    if (!moment) return { ...report, isFound: false, cycles: 0, address: -1 };
     const { file, count } = present || await session.timeline.at(session.engine, moment, goesOn);
     const { counter } = counterOf(session.engine.ask(file, "regs\n").answers[0]);
-    return { ...told, isFound: true, cycles: session.count.total - count.total, address: told.line ? -1 : counter };
+    return { ...report, isFound: true, cycles: session.count.total - count.total, address: report.line ? -1 : counter };
   }
 
   /**
-   * Goes where the last going back came from.
+   * Returns to where the last move back began.
    * @returns {WentBack}
    */
   goForward() {
     this.begin();
     const present = this.session.timeline.goForward();
-    return present ? { ...NOTHING_TOLD, ...this.become(present) } : { ...NOTHING_TOLD, isDone: false, wires: false, cycles: 0 };
+    return present ? { ...EMPTY_REPORT, ...this.become(present) } : { ...EMPTY_REPORT, isDone: false, wires: false, cycles: 0 };
   }
 
   /** @param {Present} present */
@@ -475,27 +475,27 @@ export class Debugger {
   // --- values ---
 
   /**
-   * What stands at places now, by the names that places.js has; "" for one that there is none of.
+   * Returns the current value of each place (names as in places.js); "" if the board lacks it.
    * @param {string[]} names
    * @returns {string[]}
    */
   values(names) {
-    const board = readBoard(this.session.lookQuestions.board);
+    const board = readBoard(this.session.statusQueries.board);
     const places = names.map((name) => placeOf(name));
     const probes = places.map((place) => (place ? place.probesOn(board) : []));
-    const told = this.told(probes.flat());
+    const answers = this.readPlaces(probes.flat());
     let from = 0;
     return places.map((place, at) => {
-      const values = told.slice(from, from += probes[at].length);
+      const values = answers.slice(from, from += probes[at].length);
       return place && values.length > 0 ? place.value(values) : "";
     });
   }
 
   /**
-   * What the bench tells of places of conditions now.
+   * Returns the bench's current answers for places of conditions.
    * @param {string[]} places
    */
-  told(places) {
+  readPlaces(places) {
     if (places.length === 0) return [];
     const probes = new Probes(places);
     return probes.take(new Answers(this.session.ask(probes.lines)));

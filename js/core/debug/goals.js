@@ -1,4 +1,4 @@
-// Goals of time that passes: what is watched for each, run by run. The bench is asked before each run what it would do, and does it not.
+// Goals of running time: what each one watches, run by run. The bench is asked before each run what it would do, and does not do it.
 
 import { readBoard, readCounter, readRegisters } from "../bench/answers.js";
 import { placeOf } from "../conditions/places.js";
@@ -13,16 +13,16 @@ import { becomesTrue } from "./becoming.js";
  * @typedef {import("../engine/tracing.js").Answers} Answers
  * @typedef {import("../engine/tracing.js").Traced} Traced
  * @typedef {import("./becoming.js").Asked} Asked
- * @typedef {{ kind: "over" } | { kind: "out" } | { kind: "here", address: number } | { kind: "count", count: number }
- *   | { kind: "change", place: string } | { kind: "when", condition: string, asked?: Asked }} Goal past the subroutine that is called
- *   here, out of the one that this is, to an address, so many instructions, until the value of a place is another one, or until a
- *   condition becomes true, which `asked` is once the debugger has read it
+ * @typedef {{ kind: "over" } | { kind: "out" } | { kind: "here", address: number } | { kind: "count", count: number } | { kind: "change",
+ * place: string } | { kind: "when", condition: string, asked?: Asked }} Goal past the subroutine that is called here, out of the current
+ * one, to an address, a count of instructions, until the value of a place changes, or until a condition becomes true, which `asked` is once
+ * the debugger has read it
  * @typedef {{ cycles: number, isReached: boolean, end: string }} Found the cycles up to the goal, or up to an earlier stop, and what
- *   stopped it: a word of the answer to a run; "bound" where neither came. Where there is no such goal nothing is tried: "lacks" if the
- *   board has no such place, "outside" if no subroutine is open
+ * stopped it: a word of the answer to a run; "bound" if neither was reached. If there is no such goal nothing is tried: "lacks" if the
+ * board has no such place, "outside" if no subroutine is open
  *
- * Watches for a goal: how many cycles can be run at most without going past it; lines that come first, once, and how many answers they
- * have; what is asked before and after a run of so many cycles, and what came of that run. `returns`: it is reached by a return.
+ * The watcher of a goal: how many cycles can run at most without passing it; lines that are sent first, once, and how many answers they
+ * have; the queries before and after a run, and the result of that run. `returns`: a return reaches it.
  * @typedef {{ first: string, most: () => number, before: (cycles: number) => string, after: string,
  *   take: (answers: Answers) => Found, returns: boolean }} Watcher
  */
@@ -30,7 +30,7 @@ import { becomesTrue } from "./becoming.js";
 export const LARGEST_PIECE = 4 * LONGEST_RUN;
 
 /**
- * The counter and the owed cycle of an answer to `regs`.
+ * Reads the counter and the pending second cycle from an answer to `regs`.
  * @param {string} regs
  */
 export function counterOf(regs) {
@@ -40,8 +40,8 @@ export function counterOf(regs) {
 
 /**
  * Watches for an instruction.
- * @param {string} places what `trace` looks at
- * @param {(traced: Traced) => number} goal after how many cycles an instruction that is told has reached it, -1 where it has not
+ * @param {string} places the places of `trace`
+ * @param {(traced: Traced) => number} goal returns after how many cycles a reported instruction has reached it, -1 if it has not
  * @returns {Watcher}
  */
 function traced(places, goal) {
@@ -89,9 +89,9 @@ function becoming(asked) {
 }
 
 /**
- * Reached when the return is done that leaves so many calls fewer open than there are here: each JMS is one more, each BBL one less.
+ * Reached when the return is done that leaves this many fewer calls open than there are now: each JMS is one more, each BBL one less.
  * @param {Uint8Array} codes
- * @param {number} level 0 for the call that is about to be done, -1 for the one that this is in
+ * @param {number} level 0 for the call that is about to be done, -1 for the current subroutine
  * @returns {Watcher}
  */
 function returned(codes, level) {
@@ -106,7 +106,7 @@ function returned(codes, level) {
 }
 
 /**
- * Reached when so many instructions are done. No cycle does more than one.
+ * Reached when this many instructions are done. No cycle does more than one.
  * @param {number} count
  * @param {boolean} isOwed whether this is the middle of one
  * @returns {Watcher}
@@ -132,7 +132,7 @@ function counted(count, isOwed) {
 }
 
 /**
- * Reached at an address. What is asked has a breakpoint there, unless all breakpoints are taken.
+ * Reached at an address. The queried copy has a breakpoint there, unless all breakpoints are in use.
  * @param {Engine} engine
  * @param {Uint8Array} file
  * @param {number} address
@@ -157,7 +157,7 @@ function arrived(engine, file, address) {
 }
 
 /**
- * The same by the instructions that are begun; one that begins at once is where this is.
+ * The same by the instructions that are begun; an instruction that begins at once is the current position.
  * @param {number} address
  */
 function beginning(address) {
@@ -170,7 +170,7 @@ function beginning(address) {
 }
 
 /**
- * Whether a subroutine is open: the newest return address is behind a JMS.
+ * Returns whether a subroutine is open: the newest return address follows a JMS.
  * @param {string} regs
  * @param {Uint8Array} codes
  */
@@ -179,7 +179,7 @@ function isInSubroutine(regs, codes) {
 }
 
 /**
- * What a search for a goal that is not there ends with.
+ * Returns the end word of a search for a goal that does not exist.
  * @param {Goal} goal
  */
 export function endWithout(goal) {
@@ -188,10 +188,10 @@ export function endWithout(goal) {
 
 /**
  * @param {Engine} engine
- * @param {Uint8Array} file the session, which stays as it is
+ * @param {Uint8Array} file the session, which is not changed
  * @param {Goal} goal
- * @param {() => Uint8Array} [codes] gives what stands in ROM
- * @returns {Watcher | null} null where there is no such goal
+ * @param {() => Uint8Array} [codes] returns the contents of ROM
+ * @returns {Watcher | null} null if there is no such goal
  */
 export function watcherOf(engine, file, goal, codes = () => romCodes(engine, file)) {
   if (goal.kind === "here") return arrived(engine, file, goal.address);

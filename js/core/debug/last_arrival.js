@@ -1,6 +1,6 @@
-// The last arrival at a breakpoint before the present, or the last change of what is watched: the past is done again, block by block, on a
-// copy that has the breakpoints of now. A breakpoint with a note stops nothing; how many hits it is to have is not asked. Likewise the last
-// call of a subroutine that is open.
+// The last arrival at a breakpoint before the present, or the last change of a watched place. The past is done again, block by block, on a
+// copy that has the present breakpoints. A breakpoint with a note stops nothing, and hit counts are ignored. Likewise the last call of a
+// subroutine that is open.
 
 import { readMarks, watchedPlaces } from "../bench/answers.js";
 import { aim, changeFinder, lastInPast } from "../engine/going_back.js";
@@ -19,7 +19,7 @@ import { counterOf } from "./goals.js";
  */
 
 const MARKS = /^(un)?(break|watch) /;
-/** A JMS takes so many cycles. */
+/** The cycles of a JMS. */
 const JMS_CYCLES = 2;
 
 /** Finds the last arrival at a breakpoint whose condition holds. */
@@ -31,11 +31,11 @@ class LastArrival {
   constructor(session, breakpoints) {
     this.engine = session.engine;
     this.arrivals = new Arrivals(breakpoints);
-    /** Where time stands now is no arrival before now. */
+    /** The present, which is no arrival before now. */
     this.now = { total: session.count.total, counter: counterOf(session.ask("regs\n")[0]).counter };
     this.copy = new Uint8Array(0);
     this.total = 0;
-    /** How many cycles were counted where it found something last. */
+    /** The cycle count at the last match. */
     this.foundAt = 0;
   }
 
@@ -60,7 +60,7 @@ class LastArrival {
     let [lines, count] = ["", 0];
     for (const { line, cycles, moment } of units) {
       if (cycles === 0) {
-        // Breakpoints of then are not those of now; and a run of no cycle did nothing.
+        // The breakpoints then are not the present ones; and a run of no cycle did nothing.
         if (MARKS.test(line) || /^(run|step)\b/.test(line)) continue;
         [lines, count] = [`${lines}${line}\n`, count + 1];
         continue;
@@ -84,7 +84,7 @@ class LastArrival {
 }
 
 /**
- * The later of two moments; the first one where they are the same.
+ * Returns the later of two moments; the first one if they are the same.
  * @param {Aim | null} one
  * @param {Aim | null} other
  */
@@ -96,7 +96,7 @@ function laterOf(one, other) {
 }
 
 /**
- * Finds the last of what several find.
+ * Finds the last of several aims.
  * @param {Finder[]} finders
  * @returns {Finder}
  */
@@ -108,7 +108,7 @@ function lastOf(finders) {
 }
 
 /**
- * What is watched beside what the bench watches: a place, "" for none, and those of data_watches.js.
+ * The places that are watched in addition to those that the bench watches: a place, "" for none, and those of data_watches.js.
  * @typedef {{ place: string, watches?: import("./data_watches.js").DataWatches }} Beside
  */
 
@@ -117,7 +117,7 @@ function lastOf(finders) {
  * @param {SoftBreakpoint[]} breakpoints those that stop
  * @param {Beside} beside
  * @param {GoesOn} goesOn
- * @returns {Promise<Aim>} the beginning of what is remembered, where nothing else is before now
+ * @returns {Promise<Aim>} the beginning of the remembered past, if nothing else is before now
  */
 export async function lastArrival(session, breakpoints, { place, watches }, goesOn) {
   const { engine, file, timeline } = session;
@@ -134,7 +134,7 @@ export async function lastArrival(session, breakpoints, { place, watches }, goes
 }
 
 /**
- * The moment after the JMS that called a subroutine which is open, so that its first instruction comes next.
+ * Finds the moment after the JMS that called an open subroutine: its first instruction is the next one.
  * @param {WorkerSession} session
  * @param {number} call the address of the JMS
  * @param {string[]} returns the return addresses that waited when it was done, the newest first
@@ -142,7 +142,7 @@ export async function lastArrival(session, breakpoints, { place, watches }, goes
  * @returns {Promise<Aim>}
  */
 export async function lastCall(session, call, returns, goesOn) {
-  const holds = (/** @type {string[]} */ [told]) => returns.every((each, at) => told.split(",")[at] === each);
+  const holds = (/** @type {string[]} */ [answer]) => returns.every((each, at) => answer.split(",")[at] === each);
   const finder = new LastArrival(session, [{ id: 0, address: call, from: 1, hits: 0, places: ["ret"], holds, words: null }]);
   const { found } = await lastInPast(session.engine, session.timeline, finder, goesOn);
   const back = session.count.total - finder.foundAt - JMS_CYCLES;

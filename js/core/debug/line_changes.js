@@ -1,8 +1,8 @@
-// What the lines that were done last have changed, each by one instruction, or by a call that was stepped over: told of one standstill
-// after another. Without a document.
+// The changes by the lines that ran last, each by one instruction, or by a call that was stepped over: reported at one pause after the
+// other.
 //
 //     const changes = new LineChanges();
-//     changes.stand(standing, cycles, map);      time stands still here, after so many cycles in all
+//     changes.stand(standing, cycles, map);      time is paused here, after this many cycles in all
 //     changes.lines                              Map { 12 => "acc 5 cy 1" }, the last one last
 
 import { partsOf } from "../text/assembly.js";
@@ -13,12 +13,12 @@ import * as say from "../../words/debug.js";
  * @typedef {import("./standing.js").Standing} Standing
  */
 
-/** Of so many lines it is told, and of each so many changes. */
+/** The most lines that are reported, and the most changes of each. */
 const MOST_LINES = 8;
 const MOST_CHANGES = 6;
 
 /**
- * What is another value in the second standstill, in words.
+ * Returns the values that differ in the second pause, in words.
  * @param {Standing} before
  * @param {Standing} after
  */
@@ -30,7 +30,7 @@ export function wordsOfChanges(before, after) {
 }
 
 /**
- * The line whose instruction alone was done in so many cycles, with all that it called; 0 for none.
+ * Returns the line whose only instruction was done in these cycles, with all that it called; 0 for none.
  * @param {Standing} before
  * @param {Standing} after
  * @param {number} cycles
@@ -44,17 +44,17 @@ function lineDone({ registers: before }, { registers: after }, cycles, map) {
   const name = head ? head.text.toUpperCase() : "";
   const size = map.sizes[line];
   if (cycles === (name === "FIN" ? 2 : size)) return line;
-  // The address that was popped stands last in the stack; calls inside it may have left more there.
+  // The address that was popped is last in the stack; calls inside may have left more there.
   const isBack = parseInt(after.counter, 16) === address + size && before.returns[0] === after.returns[0];
   return name === "JMS" && isBack ? line : 0;
 }
 
 export class LineChanges {
   constructor() {
-    /** @type {Standing | null} where time stood still last, after so many cycles */
+    /** @type {Standing | null} where time was paused last, and after how many cycles */
     this.before = null;
     this.cycles = 0;
-    /** @type {Map<number, string>} by line what it has changed */
+    /** @type {Map<number, string>} by line the changes that it made */
     this.lines = new Map();
   }
 
@@ -66,7 +66,7 @@ export class LineChanges {
   /**
    * @param {Standing} standing
    * @param {number} cycles
-   * @param {SourceMap | null} map the program that stands in ROM
+   * @param {SourceMap | null} map the program in ROM
    */
   stand(standing, cycles, map) {
     const { before } = this;

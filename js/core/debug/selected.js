@@ -1,19 +1,18 @@
-// What SRC has selected, and what is wrong with an instruction that uses it: it reads or writes where the board has nothing, or where
-// another SRC was meant.
+// The selection of SRC, and the mistakes of an instruction that uses it: it reads or writes where the board has nothing, or where another
+// SRC was meant.
 
 import { hex, numberOf } from "../bench/numbers.js";
 import { itemsOf, valueIn } from "../bench/state_line.js";
+import { RDR, WRR } from "../engine/rom_codes.js";
 import * as say from "../../words/debug.js";
 
 /**
  * @typedef {import("../bench/answers.js").Board} Board
- * @typedef {import("./usual_faults.js").Kind} Kind
+ * @typedef {import("./common_mistakes.js").Kind} Kind
  * @typedef {{ kind: Kind, words: string }} Fault
  */
 
-const WRR = 0xE2;
-const RDR = 0xEA;
-/** Those that use a bank of RAM, with their names: they write, or they read. */
+/** The instructions that use a bank of RAM, with their names: they write, or they read. */
 const WRITES = new Map([[0xE0, "WRM"], [0xE1, "WMP"], [0xE4, "WR0"], [0xE5, "WR1"], [0xE6, "WR2"], [0xE7, "WR3"]]);
 const READS = new Set([0xE8, 0xE9, 0xEB, 0xEC, 0xED, 0xEE, 0xEF]);
 
@@ -23,7 +22,7 @@ function isSource(code) {
 }
 
 /**
- * Whether an instruction selects, or uses what is selected.
+ * Returns whether an instruction selects, or uses the selection.
  * @param {number} code
  */
 export function usesSelected(code) {
@@ -39,7 +38,7 @@ export class Selected {
     this.chips = new Map(board.banks.map(({ bank, chips }) => [Number(bank), Number(chips)]));
     /** @type {Map<number, number>} the SRC byte that each bank keeps */
     this.kept = new Map();
-    /** Where the last SRC stands (-1 for not seen yet), and what has used it since. */
+    /** The address of the last SRC (-1 for none yet), and the instructions that have used it since. */
     this.source = -1;
     /** @type {Set<string>} */
     this.users = new Set();
@@ -58,7 +57,7 @@ export class Selected {
   /**
    * @param {number} code
    * @param {number} address
-   * @param {string[]} values what src, dcl and ret are after it
+   * @param {string[]} values the values of src, dcl and ret after it
    */
   follow(code, address, [source, bank]) {
     if (isSource(code)) {
@@ -73,9 +72,9 @@ export class Selected {
   }
 
   /**
-   * @param {number} code of the instruction that comes next
+   * @param {number} code of the next instruction
    * @param {number} address
-   * @param {string[]} values what src, dcl and ret are before it
+   * @param {string[]} values the values of src, dcl and ret before it
    * @returns {Fault | null}
    */
   faultOf(code, address, [source, bank]) {
@@ -94,9 +93,9 @@ export class Selected {
     const port = this.ports.get(chip);
     const isWrite = name === "WRR";
     const what = say.usesRom(name, isWrite, chip);
-    if (port === undefined) return isWrite ? { kind: "chip", words: say.whichLacks(what, this.told) } : null;
-    if (isWrite && !/[01]/.test(port)) return { kind: "lines", words: say.noOutputs(what, this.told) };
-    if (!isWrite && !port.includes("i")) return { kind: "lines", words: say.noInputs(what, this.told) };
+    if (port === undefined) return isWrite ? { kind: "chip", words: say.whichLacks(what, this.description) } : null;
+    if (isWrite && !/[01]/.test(port)) return { kind: "lines", words: say.noOutputs(what, this.description) };
+    if (!isWrite && !port.includes("i")) return { kind: "lines", words: say.noInputs(what, this.description) };
     const before = this.used.get(address);
     const user = [...this.users].find((each) => each !== name);
     if (user === undefined || before === undefined || before === chip) return null;
@@ -104,8 +103,8 @@ export class Selected {
     return { kind: "source", words: say.sourceWasFor(words, user) };
   }
 
-  /** Where the last SRC stands, if it was seen. */
-  get told() {
+  /** Returns the place of the last SRC, in words, if it was seen. */
+  get description() {
     return this.source < 0 ? "" : say.lastSource(hex(this.source, 3));
   }
 
@@ -119,6 +118,6 @@ export class Selected {
     const chip = (this.kept.get(bank) || 0) >> 6;
     if (chip < chips) return null;
     const words = chips === 0 ? say.bankWithoutRam(bank) : say.chipOf(chip, bank, chips);
-    return { kind: "chip", words: say.writesTo(name, words, this.told) };
+    return { kind: "chip", words: say.writesTo(name, words, this.description) };
   }
 }

@@ -1,4 +1,4 @@
-// What a breakpoint's condition, count and note mean on a board with a program: read once, before time runs.
+// The meaning of a breakpoint's condition, count and note on a board with a program: read once, before time runs.
 
 import { conditionOf, expressionOf } from "../conditions/condition_language.js";
 import { placeOf } from "../conditions/places.js";
@@ -9,8 +9,8 @@ import * as say from "../../words/debug.js";
  * @typedef {import("./arrivals.js").SoftBreakpoint} SoftBreakpoint
  * @typedef {import("../conditions/condition_language.js").Names} Names
  *
- * A breakpoint at an address. `condition`: a text of the language of conditions, "" for none; `from`: it stops from this hit on, 1
- * for each; `note`: a text that is logged in place of a stop, with places in braces, "" for none; `hits`: how many there were.
+ * A breakpoint at an address. `condition`: a text of the language of conditions, "" for none; `from`: the first hit that stops, 1 for each;
+ * `note`: a text that is logged instead of a stop, with places in braces, "" for none; `hits`: the hit count.
  * @typedef {{ id: number, address: number, condition: string, from: number, note: string, hits: number }} Placed
  * @typedef {{ places: string[], words: (values: string[]) => string }} Note
  */
@@ -21,7 +21,7 @@ export function isSoft({ condition, from, note }) {
 }
 
 /**
- * Reads what stands in braces: a place, as `trace` writes it, another value, a condition.
+ * Reads the contents of braces: a place, as `trace` writes it, another value, a condition.
  * @param {string} text
  * @param {Names} names
  * @returns {{ note: Note, fault: "", column: -1 } | { note: null, fault: string, column: number }}
@@ -33,12 +33,12 @@ function partOf(text, names) {
   if (place && probes.length > 0) return { note: { places: probes, words: place.value }, fault: "", column: -1 };
   if (place) return { note: null, fault: boardLacks(place.name), column: 0 };
   const { expression, fault, column } = expressionOf(text, names);
-  return expression ? { note: { places: expression.places, words: expression.told }, fault: "", column: -1 }
+  return expression ? { note: { places: expression.places, words: expression.textOf }, fault: "", column: -1 }
     : { note: null, fault, column };
 }
 
 /**
- * A note: `digit {r4}, lamps {lamps}, next {r4 + 1}`. What stands in braces is told as its value; its fault, with its column in the note.
+ * Reads a note: `digit {r4}, lamps {lamps}, next {r4 + 1}`. Braces are replaced by the value in them; an error has its column in the note.
  * @param {string} text
  * @param {Names} names
  * @returns {{ note: Note, fault: string }}
@@ -68,17 +68,18 @@ export function noteOf(text, names) {
 /**
  * @param {Placed} placed
  * @param {Names} names
- * @returns {{ soft: SoftBreakpoint, fault: string }} one with a fault, in words, stops at each arrival, as nobody knows when it should not
+ * @returns {{ soft: SoftBreakpoint, fault: string }} a breakpoint with an error, in words, stops at each arrival, because nobody knows when
+ * it should not
  */
 export function softBreakpointOf(placed, names) {
   const { id, address, from, hits } = placed;
   const isAlways = placed.condition.trim() === "";
   const { condition, fault, column } = isAlways ? { condition: null, fault: "", column: -1 } : conditionOf(placed.condition, names);
-  const told = placed.note.trim() === "" ? null : noteOf(placed.note, names);
-  const wrong = fault ? inColumn(fault, column) : told ? told.fault : "";
+  const readNote = placed.note.trim() === "" ? null : noteOf(placed.note, names);
+  const wrong = fault ? inColumn(fault, column) : readNote ? readNote.fault : "";
   if (wrong) return { soft: { id, address, from: 1, hits, places: [], holds: () => true, words: null }, fault: wrong };
   const own = condition ? condition.places : [];
-  const note = told && told.note;
+  const note = readNote && readNote.note;
   const soft = {
     id, address, from, hits,
     places: [...own, ...(note ? note.places : [])],

@@ -1,5 +1,5 @@
-// What stands in the machine at a look: registers, RAM, ports, and what SRC has selected. It is read from the answers to `state` and to
-// `ram B` of each bank, and only what is asked for. Without a document.
+// The state of the machine in a snapshot: registers, RAM, ports, and the selection of SRC. It is read from the answers to `state` and to
+// `ram B` of each bank, and only as far as it is asked for.
 
 import { readRam } from "../bench/answers.js";
 import { hex } from "../bench/numbers.js";
@@ -53,7 +53,7 @@ export class Standing {
   }
 
   /**
-   * The SRC byte that a bank keeps; undefined where the board has no such bank.
+   * Returns the SRC byte that a bank keeps; undefined if the board has no such bank.
    * @param {number} [bank]
    */
   sourceOf(bank = this.bank) {
@@ -81,7 +81,7 @@ export class Standing {
   }
 
   /**
-   * What a character holds; "" where the board has none there.
+   * Returns the value of a RAM nibble; "" if the board lacks it.
    * @param {number} bank
    * @param {number} byte
    */
@@ -91,7 +91,7 @@ export class Standing {
   }
 
   /**
-   * What a status character holds; "" where the board has none there.
+   * Returns the value of a status nibble; "" if the board lacks it.
    * @param {number} bank
    * @param {number} register 0 to 15, through all chips of the bank
    * @param {number} number
@@ -102,7 +102,7 @@ export class Standing {
   }
 
   /**
-   * The port of a ROM; undefined where the board has none.
+   * Returns the port of a ROM; undefined if the board has none.
    * @param {number} chip
    * @returns {RomPort | undefined}
    */
@@ -111,7 +111,7 @@ export class Standing {
   }
 
   /**
-   * What the port of a RAM chip puts out; "" where the board has none.
+   * Returns the output of a RAM chip's port; "" if the board lacks it.
    * @param {number} bank
    * @param {number} chip
    */
@@ -120,7 +120,7 @@ export class Standing {
     return (ram && ram.ports.get(`${bank}.${chip}`)) || "";
   }
   /**
-   * All that an instruction can change, by its name, in the order in which it is told.
+   * Returns all that an instruction can change, by its name, in the order of reports.
    * @returns {Map<string, string>}
    */
   all() {

@@ -1,4 +1,4 @@
-// What `trace` and `state` answer about a place of a condition, by a look at the machine that is known already: so an expression is
+// The answers of `trace` and `state` about a place of a condition, from a snapshot that is known already: so an expression is
 // computed without a question to the bench.
 
 import { itemsOf } from "../bench/state_line.js";
@@ -13,7 +13,7 @@ import { hex, numberOf, upTo } from "../bench/numbers.js";
 const bitOf = (bits, line) => String((bits >> line) & 1);
 
 /**
- * The levels of the lines of a ROM's port: an output line has what its latch holds, an input line what RDR reads.
+ * Returns the levels of the lines of a ROM's port: an output line has the level of its latch, an input line the level that RDR reads.
  * @param {number} chip
  * @param {Standing} standing
  * @param {Board} board
@@ -51,7 +51,7 @@ function registerAnswer(place, standing) {
 }
 
 /**
- * Returns the answer about a place; "0" for what the board lacks, as `trace` has it.
+ * Returns the answer about a place; "0" for a place that the board lacks, as `trace` has it.
  * @param {string} place of `trace`, or one of those that only commands change
  * @param {Standing} standing
  * @param {Board} board

@@ -1,5 +1,5 @@
-// Lines that were typed, before they are served: a `run` among them ends at a breakpoint with a condition or a count as it does at one that
-// always stops. So all of them are done on a copy first, and such a run becomes one of as many cycles as it is to do.
+// Typed lines, before they are served: a `run` among them ends at a breakpoint with a condition or a count as it does at one that always
+// stops. So all of them are done on a copy first, and such a run is replaced by one of the right number of cycles.
 
 import { readRun } from "../bench/answers.js";
 import { Cancelled } from "../bench/faults.js";
@@ -13,13 +13,13 @@ import { LONGEST_RUN } from "../engine/key_queue.js";
  * @typedef {import("./data_watches.js").SoftStops} SoftStops
  * @typedef {import("./arrivals.js").Seen} Seen
  *
- * The lines as they are to be served; what breakpoints do in each run, and how many cycles are done before it; and where a breakpoint ends
- * the last line, the id of that and the line as it was typed, else 0 and "", with what Seen has of it.
+ * The lines to serve; the work of breakpoints in each run, and the cycles before it; and if a breakpoint ends the last line, its id and the
+ * line as it was typed, otherwise 0 and "", with its Seen.
  * @typedef {{ lines: string, runs: { seen: Seen, done: number }[], id: number, cut: string, why: string, change: string }} Planned
  */
 
 /**
- * How many cycles a line runs for; 0 for any other line, and for one that the bench refuses.
+ * Returns how many cycles a line runs for; 0 for any other line, and for one that the bench rejects.
  * @param {Input | undefined} input
  */
 function cyclesOf(input) {
@@ -29,10 +29,10 @@ function cyclesOf(input) {
 
 /**
  * @param {Engine} engine
- * @param {Uint8Array} file is left as it is
+ * @param {Uint8Array} file is not changed
  * @param {SoftStops} arrivals count what they see
  * @param {string} lines
- * @param {(done: number) => Promise<boolean>} goesOn is told how many characters are looked through, and says whether to go on
+ * @param {(done: number) => Promise<boolean>} goesOn receives how many characters are searched, and returns whether to continue
  * @returns {Promise<Planned>}
  */
 export async function planTyped(engine, file, arrivals, lines, goesOn) {

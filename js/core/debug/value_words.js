@@ -1,5 +1,5 @@
-// What a word of a program's text stands for now: a register, a pair, what an instruction reads or writes by SRC, a number, a label. It is
-// told in pieces: words, and between them values, each with the place by which it can be poked. Without a document.
+// The current value of a word of a program's text: a register, a pair, the character that SRC selects for an instruction, a number, a
+// label. It is reported in pieces: words, and between them values, each with the place by which it can be poked.
 //
 //     pieces(valuesAt("        SRC P2", 13, standing, names))     "P2 = 60: R4 6, R5 0; selects ROM 6, and of bank 0 chip 1, .."
 
@@ -12,16 +12,16 @@ import * as say from "../../words/debug.js";
  * @typedef {import("./standing.js").Standing} Standing
  * @typedef {import("../text/assembly.js").Parts} Parts
  *
- * A value that can be edited: what `poke` calls its place, and what it is called here.
+ * A value that can be edited: its place for `poke`, and its title here.
  * @typedef {{ place: string, name: string, value: string }} Value
  * @typedef {string | Value} Piece
  *
- * The program that stands in ROM: what a name of it stands for, with words about it; what an instruction does, "" for a word that is none.
+ * The program in ROM: the meaning of its names, with words about them; the effect of an instruction, "" for a word that is none.
  * @typedef {{ value: number, isLabel: boolean, words: string }} Named
  * @typedef {{ nameOf: (name: string) => Named | undefined, doesOf: (word: string) => string }} Program
  */
 
-/** Which of a register's status characters an instruction uses, and those that use its characters. */
+/** The instructions on status nibbles, with the number of the nibble, and those on a register's nibbles. */
 const STATUS = /^(?:RD|WR)([0-3])$/;
 const ACCUMULATOR = /\b(ACC|CY|carry|borrow)\b/;
 const CHARACTER = new Set(["WRM", "RDM", "ADM", "SBM"]);
@@ -54,7 +54,7 @@ function machineValue(place, name, { registers }) {
 }
 
 /**
- * The character that a byte selects in a bank, and what it holds.
+ * Returns the character that a byte selects in a bank, and its contents.
  * @param {number} bank
  * @param {number} byte
  * @param {Standing} standing
@@ -68,7 +68,7 @@ function characterPieces(bank, byte, standing) {
 }
 
 /**
- * What a byte selects, sent by SRC: a ROM's port, and a character of the bank.
+ * Returns the selection of a byte sent by SRC: a ROM's port, and a character of the bank.
  * @param {number} byte
  * @param {Standing} standing
  * @returns {Piece[]}
@@ -99,7 +99,7 @@ function registerPieces(word, { head }, standing) {
 }
 
 /**
- * What an instruction reads or writes by what SRC has selected; none for one that does not.
+ * Returns the value that an instruction reads or writes by SRC's selection; none if it uses no selection.
  * @param {string} name in upper case
  * @param {Standing} standing
  * @returns {Piece[]}
@@ -128,7 +128,7 @@ function portPieces(name, standing) {
 }
 
 /**
- * What an instruction uses beside its operands.
+ * Returns the values that an instruction uses in addition to its operands.
  * @param {string} name in upper case
  * @param {string} does
  * @param {Parts} parts
@@ -146,8 +146,8 @@ function instructionPieces(name, does, parts, standing) {
 }
 
 /**
- * A number in binary, too; of FIM also what it selects, once SRC sends it.
- * @param {string} written in the other ways
+ * Returns a number, also in binary; of FIM also what it selects, once SRC sends it.
+ * @param {string} written in the other bases
  * @param {number} value
  * @param {Parts} parts
  * @param {Standing} standing
@@ -161,7 +161,7 @@ function numberPieces(written, value, { head }, standing) {
 }
 
 /**
- * What the word at a place of a line stands for now; none where there is nothing to say.
+ * Returns the current value of the word at a position of a line; none if there is nothing to say.
  * @param {string} text the line
  * @param {number} at
  * @param {Standing} standing

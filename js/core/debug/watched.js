@@ -1,7 +1,7 @@
-// Watched expressions, with names of the user's own: `count = R5`, `digit = ram 0 0x12`, `r5 + 1 > limit`. Without a document.
+// Watched expressions, with names of the user's own: `count = R5`, `digit = ram 0 0x12`, `r5 + 1 > limit`.
 //
 //     const { watched, fault } = readWatched("digit = ram 0 0x12", names);
-//     watched.pieces(standing, names)    what it is now, in pieces (value_words.js)
+//     watched.pieces(standing, names)    its current value, in pieces (value_words.js)
 
 import { expressionOf } from "../conditions/condition_language.js";
 import { WORDS, parse } from "../conditions/parser.js";
@@ -15,21 +15,20 @@ import * as say from "../../words/debug.js";
 /**
  * @typedef {import("./standing.js").Standing} Standing
  * @typedef {import("./value_words.js").Piece} Piece
- * @typedef {import("../conditions/condition_language.js").Names} Names
- * `text` is as it is kept; `place` is what `poke` calls a character of RAM, "" for what is none; `value` is the expression that the name
- * stands for.
+ * @typedef {import("../conditions/condition_language.js").Names} Names `text` is as it is saved; `place` is the place of a RAM character
+ * for `poke`, "" for others; `value` is the expression that the name means.
  * @typedef {{ name: string, text: string, place: string, value: string, pieces: Reader }} Watched
  * @typedef {(standing: Standing, names: Names) => Piece[]} Reader
  */
 
-/** So many are watched, and a text of one has so many characters. */
+/** The most expressions that are watched, and the most characters of one. */
 export const MOST_WATCHED = 40;
 const LONGEST = 200;
 /** A number above it shows its hexadecimal digits, too. */
 const LAST_PLAIN = 9;
 
 /**
- * A value that `poke` knows by a place; words where the board has none.
+ * Returns a value that `poke` can set by a place; words if the board has none.
  * @param {string} place
  * @param {(standing: Standing) => string} value
  * @returns {Reader}
@@ -91,7 +90,7 @@ function portReader(place) {
 }
 
 /**
- * A place that is shown, and cannot be edited.
+ * A place that is shown and cannot be edited.
  * @param {import("../conditions/places.js").Place} place
  * @returns {Reader}
  */
@@ -113,13 +112,13 @@ function expressionReader(text) {
     if (!expression) return [fault];
     const answers = expression.places.map((place) => answerAt(place, standing, names.board));
     const number = expression.number ? expression.number(answers) : 0;
-    const told = expression.told(answers);
-    return [number > LAST_PLAIN && /^\d+$/.test(told) ? say.withHex(told, number.toString(16).toUpperCase()) : told];
+    const value = expression.textOf(answers);
+    return [number > LAST_PLAIN && /^\d+$/.test(value) ? say.withHex(value, number.toString(16).toUpperCase()) : value];
   };
 }
 
 /**
- * The name and the expression of a text: `count = R5` gives a name, `r5 = 10` compares.
+ * Returns the name and the expression of a text: `count = R5` has a name, `r5 = 10` compares.
  * @param {string} text
  */
 function partsOfWatched(text) {
@@ -132,7 +131,7 @@ function partsOfWatched(text) {
 }
 
 /**
- * What is wrong with an expression, with its column; "" for nothing. Without names its form alone is judged.
+ * Returns the error of an expression, with its column; "" if there is none. Without names its form alone is judged.
  * @param {string} value
  * @param {number} begin its column in the text
  * @param {Names | null} names
@@ -152,7 +151,7 @@ function faultOf(value, begin, names) {
 }
 
 /**
- * Reads one; where it cannot be read, why.
+ * Reads a watched expression, or returns why it cannot be read.
  * @param {string} text
  * @param {Names | null} [names] of the board and the program, if they are known
  * @returns {{ watched: Watched | null, fault: string }}
@@ -173,7 +172,7 @@ export function readWatched(text, names = null) {
 }
 
 /**
- * Reads the texts that were kept, which may be anything. `fault` says what is wrong with the first one that cannot be read.
+ * Reads the texts that were saved, which may be anything. `fault` says what is wrong with the first one that cannot be read.
  * @param {unknown} texts
  * @returns {{ all: Watched[], fault: string }}
  */
@@ -185,7 +184,7 @@ export function readAllWatched(texts) {
 }
 
 /**
- * The names of the user's own, which conditions may have, with their expressions.
+ * Returns the user's own names, which conditions may contain, with their expressions.
  * @param {unknown} texts
  * @returns {Map<string, string>}
  */

@@ -1,5 +1,5 @@
-// What is done to a board that is drawn, as edits of its text: (text, act) -> edits, or a refusal in words. Nothing here touches a
-// document, and whether the text that comes of it is right the bench alone says.
+// The edits of a drawn board's text for an action: (text, action) -> edits, or a refusal in words. Nothing here touches the DOM; only the
+// bench decides whether the resulting text is right.
 
 import { linesOf } from "../bench/board_form.js";
 import { readBoard } from "../bench/answers.js";
@@ -19,14 +19,14 @@ import * as say from "../../words/drawing.js";
 /**
  * @typedef {import("./text_edits.js").TextEdit} TextEdit
  *
- * What is done:
- * - `add`: a part of the shelf comes, a lamp or a buzzer at a line that may be told, a display of so many digits
- * - `wire`: a line is wired to what takes one
+ * The actions:
+ * - `add`: adds a part of the shelf: a lamp or a buzzer at a line that can be given, a display with a number of digits
+ * - `wire`: wires a line to an input
  * - `port`: a line of a ROM is an input (`i`), or an output that reads as `0` or `1`
- * - `chips`, `rows`: a chain has so many chips, the keys so many rows
+ * - `chips`, `rows`: sets the chips of a chain, the rows of the keys
  * - `column`: the keys get another column
- * - `delete`, `copy`: a part goes, or another one like it comes
- * - `name`: a part, `key ROW COLUMN`, `title` or `test` is called so; "" for no name
+ * - `delete`, `copy`: deletes a part, or adds another one like it
+ * - `name`: names a part, `key ROW COLUMN`, `title` or `test`; "" for no name
  * - `colour`: a lamp has this colour, "" for the usual one
  * @typedef {{ kind: "add", part: Shelved, line?: string, digits?: number } | { kind: "wire", line: string, target: string }
  *   | { kind: "port", line: string, as: string } | { kind: "chips", chain: number, chips: number } | { kind: "rows", rows: number }
@@ -35,8 +35,8 @@ import * as say from "../../words/drawing.js";
  * @typedef {"rom" | "inputs" | "ram" | "chain" | "keys" | "lamp" | "digit" | "segments" | "scanned" | "button" | "switch"
  *   | "buzzer"} Shelved
  *
- * What came of it: the edits, one after the other, the part that it is about, in words what was done, and the chains that have gone; or
- * why nothing was.
+ * The result: the edits, one after the other, the part that it is about, a message in words, and the deleted chains; or why nothing was
+ * done.
  * @typedef {{ edits: TextEdit[], text: string, part: string, words: string, goneChains: number[], refusal: string }} Result
  */
 
@@ -46,7 +46,7 @@ export const SHELF = ["rom", "inputs", "ram", "chain", "keys", "lamp", "button",
 /**
  * @param {Sketch} sketch
  * @param {Extract<Act, { kind: "add" }>} act
- * @returns {string} the part that has come
+ * @returns {string} the part that was added
  */
 function addFromShelf(sketch, { part, line, digits = 1 }) {
   switch (part) {
@@ -70,7 +70,7 @@ function addFromShelf(sketch, { part, line, digits = 1 }) {
  * @param {"button" | "switch"} kind
  */
 function addTest(sketch, kind) {
-  if (new Face(sketch.text).test) throw new ActRefusal(say.TEST_TAKEN);
+  if (new Face(sketch.text).test) throw new ActRefusal(say.TEST_IN_USE);
   needRom(sketch);
   sketch.edit(setWhole(sketch.draft, "test", "", `${kind} ${kind === "button" ? "PUSH" : "RUN"}`));
   return "test";
@@ -102,7 +102,7 @@ function wire(sketch, name, target) {
 }
 
 /**
- * Why a line cannot be wired to what takes one.
+ * Returns why a line cannot be wired to an input.
  * @param {import("../bench/board_form.js").BoardLine} line
  * @param {string} target
  */
@@ -134,7 +134,7 @@ function setPort(sketch, line, as) {
 }
 
 /**
- * Another part like one that is there.
+ * Adds a part like an existing one.
  * @param {Sketch} sketch
  * @param {string} part
  */
@@ -154,7 +154,7 @@ function copy(sketch, part) {
 
 
 /**
- * A lamp that is called otherwise stays at its place of the grid.
+ * A renamed lamp stays at its place of the grid.
  * @param {Sketch} sketch
  * @param {number} lamp
  * @param {string} name
@@ -213,7 +213,7 @@ function capital(words) {
 }
 
 /**
- * Does it; gives the part that it is about, and in words what was done.
+ * Does the action; returns the part that it is about, and a message in words.
  * @param {Sketch} sketch
  * @param {Act} act
  * @returns {[string, string]}
@@ -258,7 +258,7 @@ function perform(sketch, act) {
 }
 
 /**
- * A fault of the face that was not there before; "" for none.
+ * Returns an error of the front panel that is new; "" for none.
  * @param {string} before
  * @param {string} after
  */
@@ -271,7 +271,7 @@ function newFault(before, after) {
 }
 
 /**
- * What an act does to a board's text.
+ * Returns the effect of an act on a board's text.
  * @param {string} text
  * @param {Act} act
  * @returns {Result}
@@ -279,7 +279,7 @@ function newFault(before, after) {
 export function actOn(text, act) {
   const nothing = { edits: [], text, part: "", words: "", goneChains: [] };
   const sketch = new Sketch(text);
-  if (!sketch.draft.isToml || !sketch.draft.told) return { ...nothing, refusal: say.TEXT_HAS_FAULTS };
+  if (!sketch.draft.isToml || !sketch.draft.boardAnswers) return { ...nothing, refusal: say.TEXT_HAS_ERRORS };
   try {
     const [part, words] = perform(sketch, act);
     const fault = newFault(text, sketch.text);
@@ -293,7 +293,7 @@ export function actOn(text, act) {
 }
 
 /**
- * Why a part of the shelf cannot be added; "" where it can.
+ * Returns why a part of the shelf cannot be added; "" if it can.
  * @param {string} text
  * @param {Shelved} part
  */
@@ -302,7 +302,7 @@ export function whyNotAdded(text, part) {
 }
 
 /**
- * Whether a text is read here as the bench reads it, so that it can be edited.
+ * Returns whether a text is read here as the bench reads it, so that it can be edited.
  * @param {string} text
  * @param {string[]} answers to `board`, once the text is wired
  */

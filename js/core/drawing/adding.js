@@ -1,4 +1,4 @@
-// Parts that come to a board, each at lines that nothing takes yet. Where these are too few, the chips come with it that have them.
+// Parts that are added to a board, each at free lines. If these are too few, chips that have them are added too.
 
 import { counted, upTo } from "../bench/numbers.js";
 import { Face } from "../board/face.js";
@@ -21,7 +21,7 @@ export const INPUTS = "iiii";
 const LINES_OF_DIGIT = { digit: 4, segments: 7 };
 
 /**
- * The lowest number that no part has.
+ * Returns the lowest unused number.
  * @param {number[]} taken
  * @param {number} most
  */
@@ -56,7 +56,7 @@ export function addRam(sketch) {
 }
 
 /**
- * A part comes, since another one needs it.
+ * Adds a part because another one needs it.
  * @param {Sketch} sketch
  * @param {() => string} add
  */
@@ -67,7 +67,7 @@ function alsoAdd(sketch, add) {
 }
 
 /**
- * What a part is called in words: `ROM 0`, `RAM 0.1`, `chain 0`, `lamp 3`, `the keys`.
+ * Returns the name of a part: `ROM 0`, `RAM 0.1`, `chain 0`, `lamp 3`, `the keys`.
  * @param {string} part
  */
 export function nameOfPart(part) {
@@ -79,7 +79,7 @@ export function nameOfPart(part) {
 }
 
 /**
- * A board without a ROM gets the one that its program will stand in.
+ * A board without a ROM gets the one for its program.
  * @param {Sketch} sketch
  */
 export function needRom(sketch) {
@@ -87,7 +87,7 @@ export function needRom(sketch) {
 }
 
 /**
- * The free lines that fit, and those of parts that are added until there are so many.
+ * Returns the free lines that fit, and those of parts that are added until there are enough.
  * @param {Sketch} sketch
  * @param {number} count
  * @param {(board: Board) => string[]} find
@@ -99,7 +99,7 @@ function need(sketch, count, find, add) {
 }
 
 /**
- * Output lines of ports that nothing takes: those of ROMs first.
+ * Returns the free output lines of ports: those of ROMs first.
  * @param {Board} board
  */
 function freeOutputs(board) {
@@ -133,7 +133,7 @@ export function addChain(sketch, chips = 1) {
 }
 
 /**
- * The first so many bits of a chain, one behind the other, that nothing takes; null where no chain has them.
+ * Returns the first free bits of a chain, consecutive and this many; null if no chain has them.
  * @param {Board} board
  * @param {number} count
  */
@@ -172,7 +172,7 @@ export function addKeys(sketch) {
 
 /**
  * @param {Sketch} sketch
- * @param {number} rows so many the keys have then
+ * @param {number} rows the rows of the keys afterwards
  */
 export function setRows(sketch, rows) {
   const { matrix, chains } = sketch.board;
@@ -199,7 +199,7 @@ export function addColumn(sketch) {
 }
 
 /**
- * Whether there is room for so many lamps more.
+ * Throws if `count` more lamps do not fit.
  * @param {Sketch} sketch
  * @param {number} count
  */
@@ -216,7 +216,7 @@ function putLamps(sketch, lines) {
 }
 
 /**
- * A lamp at a line, else at the next one that is free.
+ * Adds a lamp at a line, or at the next free one.
  * @param {Sketch} sketch
  * @param {string} [line]
  * @param {string} [colour] "" for the usual one
@@ -234,7 +234,7 @@ export function addLamp(sketch, line = "", colour = "") {
 }
 
 /**
- * A buzzer at a line, else at the next one of a port that is free.
+ * Adds a buzzer at a line, or at the next free line of a port.
  * @param {Sketch} sketch
  * @param {string} [line]
  */
@@ -267,7 +267,7 @@ export function addDisplay(sketch, kind, digits) {
 }
 
 /**
- * A display whose digits are lit by turns: seven lines for the segments of all of them, and a line for each.
+ * Adds a multiplexed display: seven lines for the segments of all digits, and a line for each digit.
  * @param {Sketch} sketch
  * @param {number} digits
  */
@@ -289,7 +289,7 @@ export function addScanned(sketch, digits) {
 }
 
 /**
- * The lines of a RAM chip's port that nothing takes, line 3 first.
+ * Returns the free lines of a RAM chip's port, line 3 first.
  * @param {Sketch} sketch
  */
 function portOfDigit(sketch) {
@@ -316,7 +316,7 @@ function bitsOfSegments(sketch, count) {
 /**
  * The lines of a buzzer and of a printer stay output lines of the board.
  * @param {Sketch} sketch
- * @param {(line: string) => boolean} goes whether a line does not, after what is to be done
+ * @param {(line: string) => boolean} goes whether a line is unusable after the action
  */
 export function keepOutputs({ text }, goes) {
   const { buzzer, printer } = new Face(text);

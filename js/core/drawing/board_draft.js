@@ -1,5 +1,5 @@
-// A board's text as it stands in the editor: its parts, each with its place in the text, and the board that the text tells. The bench
-// alone says whether that is right: what it answers to `board` is compared with `told`, and a text that is read otherwise is not edited.
+// A board's text in the editor: its parts, each with its place in the text, and the board that the text describes. Only the bench decides
+// whether that is right: its answer to `board` is compared with `boardAnswers`, and a text that is read differently is not edited.
 
 import { readBoard } from "../bench/answers.js";
 import { KEYS, KINDS } from "../bench/board_form.js";
@@ -15,7 +15,7 @@ import { readBoardText } from "../text/board_reader.js";
  */
 
 /**
- * What a value says, as the bench writes it.
+ * Returns a value as the bench writes it.
  * @param {Value} value
  * @returns {string}
  */
@@ -29,7 +29,7 @@ export class BoardDraft {
   constructor(text) {
     this.text = text;
     this.lines = text.split("\n");
-    /** Where each line begins. */
+    /** The offset of each line. */
     this.starts = [0];
     for (const line of this.lines) this.starts.push(this.starts[this.starts.length - 1] + line.length + 1);
     const { entries, keys, faults } = readBoardText(text);
@@ -40,7 +40,7 @@ export class BoardDraft {
   }
 
   /**
-   * The parts of a kind, in the order of the text.
+   * Returns the parts of a kind, in the order of the text.
    * @param {Kind} kind
    */
   of(kind) {
@@ -48,7 +48,7 @@ export class BoardDraft {
   }
 
   /**
-   * A part by its place among those of its kind.
+   * Returns a part by its index among those of its kind.
    * @param {Kind} kind
    * @param {number} at
    */
@@ -70,7 +70,7 @@ export class BoardDraft {
   }
 
   /**
-   * The part whose number is this: of ROMs the chip, of RAM the bank.
+   * Returns the part with this number: of ROMs the chip, of RAM the bank.
    * @param {"rom" | "ram"} kind
    * @param {number} number
    */
@@ -88,13 +88,13 @@ export class BoardDraft {
     return this.starts[line - 1] + column;
   }
 
-  /** @param {Value | Key | Entry} from whose first character stands there */
+  /** @param {Value | Key | Entry} from whose first character is there */
   startOf({ line, from }) {
     return this.offset(line, from);
   }
 
   /**
-   * Where a value ends.
+   * Returns the end of a value.
    * @param {{ end?: End, line: number, to: number }} value
    */
   endOf({ end, line, to }) {
@@ -109,8 +109,8 @@ export class BoardDraft {
     return end ? end.line : Math.max(line, ...keys.map(({ value }) => value.end.line));
   }
 
-  /** The board that the text tells, in the lines in which the bench answers `board`; null where a part cannot be read. */
-  get told() {
+  /** Returns the board that the text describes, in the lines in which the bench answers `board`; null if a part cannot be read. */
+  get boardAnswers() {
     /** @type {string[]} */
     const lines = ["board"];
     for (const kind of KINDS) {
@@ -132,16 +132,16 @@ export class BoardDraft {
 
   /** @returns {Board} */
   get board() {
-    const { told } = this;
-    if (!told) throw new Error("the text is no board");
-    return readBoard(told);
+    const { boardAnswers } = this;
+    if (!boardAnswers) throw new Error("the text is no board");
+    return readBoard(boardAnswers);
   }
 
   /**
-   * Whether the text is read here as the bench reads it.
+   * Returns whether the text is read here as the bench reads it.
    * @param {string[]} answers to `board`, once the text is wired
    */
   isAsBench(answers) {
-    return this.isToml && this.told !== null && this.told.join("\n") === answers.join("\n");
+    return this.isToml && this.boardAnswers !== null && this.boardAnswers.join("\n") === answers.join("\n");
   }
 }

@@ -1,5 +1,5 @@
-// A board that is drawn, without a document: what of it is chosen, which wire is begun, and what is done. Each act is tried on the bench
-// before it is an edit of the board's text; the picture is of what the bench answers.
+// A board that is drawn, without the DOM: the selection, the wire that is begun, and the actions. Each action is tried on the bench before
+// it edits the board's text; the picture shows the bench's answer.
 
 import { readBoard, refusalOf } from "../bench/answers.js";
 import { linesOf } from "../bench/board_form.js";
@@ -18,22 +18,22 @@ import * as say from "../../words/drawing.js";
  * @typedef {import("./acts.js").Shelved} Shelved
  * @typedef {import("./text_edits.js").TextEdit} TextEdit
  *
- * What shows it: the board of the text with its face, whether it is the one that is wired; why nothing can be drawn, "" where it can; what
- * the shelf has, with why something of it cannot be added; what is chosen, and what can be set of it; the pin that a wire begins at, and
- * those where it can end; and what was said last.
+ * The view: the board of the text with its front panel, whether it is the wired one; why nothing can be drawn, "" if it can; the contents
+ * of the shelf, with the reason if a part cannot be added; the selection, and its fields; the pin where a wire begins, and those where it
+ * can end; and the last message.
  * @typedef {{ board: Board, face: Face, isWired: boolean, fault: string, shelf: Map<Shelved, string>, chosen: string,
  *   fields: import("./fields.js").Fields, begun: string, ends: Set<string>, said: string }} Shown
  */
 
 /**
- * What a drawing calls of the editor of its text and of the bench.
+ * The calls that a drawing makes to the editor of its text and of the bench.
  * @typedef {object} DrawingCalls
  * @property {() => string} text Returns the board's text as it is in the editor.
  * @property {(lines: string) => Promise<string[]>} ask Resolves to the bench's answers to lines, which change no session.
  * @property {(edits: TextEdit[]) => void} edit Edits the text in one step that can be undone.
  * @property {() => boolean} undo Undoes the last step; returns false if there is none.
  * @property {() => boolean} redo Repeats the step that was undone last; returns false if there is none.
- * @property {(number: number) => string} wordsOfRefusal Returns what the number of a refusal means.
+ * @property {(number: number) => string} wordsOfRefusal Returns the message of a refusal.
  */
 
 
@@ -45,7 +45,7 @@ export class Drawing {
   constructor(calls, show) {
     this.calls = calls;
     this.show = show;
-    /** What the bench answers to `board`: of the session, and of the text. */
+    /** The bench's answers to `board`: for the session, and for the text. */
     this.wired = "";
     this.answers = ["board"];
     /** @type {Board} */
@@ -54,14 +54,14 @@ export class Drawing {
     this.fault = "";
     /** @type {Map<Shelved, string>} */
     this.shelf = new Map();
-    /** The text that was read last; null where none was. */
+    /** The text that was read last; null if none was. */
     this.text = /** @type {string | null} */ (null);
     this.chosen = "";
     this.begun = "";
     this.said = "";
-    /** Where parts stand that were dragged. */
+    /** The positions of dragged parts. */
     this.movedParts = new MovedParts();
-    /** @type {Promise<void>} what is under way */
+    /** @type {Promise<void>} the action in progress */
     this.turn = Promise.resolve();
   }
 
@@ -82,7 +82,7 @@ export class Drawing {
   }
 
   /**
-   * One thing after the other.
+   * Actions are done one after the other.
    * @param {() => Promise<void>} act
    */
   inTurn(act) {
@@ -91,7 +91,7 @@ export class Drawing {
     return done;
   }
 
-  /** Reads the text where it is another one, and shows the board. */
+  /** Reads the text if it has changed, and shows the board. */
   look() {
     return this.inTurn(() => this.readText());
   }
@@ -103,7 +103,7 @@ export class Drawing {
       if (refused || isReadAlike(text, answers)) this.take(text, refused ? this.answers : answers, refused);
       else this.take(text, answers, say.CANNOT_READ);
     }
-    this.tell();
+    this.reportChange();
   }
 
   /**
@@ -124,7 +124,7 @@ export class Drawing {
   }
 
   /**
-   * What the bench answers to a text: its board, or how it is refused, in words.
+   * Resolves to the bench's answer to a text: its board, or the reason for the refusal.
    * @param {string} text
    */
   async ask(text) {
@@ -135,7 +135,7 @@ export class Drawing {
   }
 
   /**
-   * Whether a part or a pin is on the board.
+   * Returns whether a part or a pin is on the board.
    * @param {string} name
    */
   isThere(name) {
@@ -151,7 +151,7 @@ export class Drawing {
     return wiringOf(board).has(name) || linesOf(board).some((line) => line.name === name);
   }
 
-  /** The pins where the wire that is begun can end. */
+  /** Returns the pins where the begun wire can end. */
   get ends() {
     const { board, begun } = this;
     if (begun === "" || this.fault) return new Set(/** @type {string[]} */ ([]));
@@ -159,7 +159,7 @@ export class Drawing {
     return new Set(now === undefined ? targetsOf(board, begun) : sourcesOf(board, begun).filter((line) => line !== now));
   }
 
-  tell() {
+  reportChange() {
     const { board, face, fault, shelf, chosen, begun, ends, said } = this;
     const isWired = this.answers.join("\n") === this.wired;
     this.show({ board, face, isWired, fault, shelf, chosen, fields: fieldsOf(board, face, chosen), begun, ends, said });
@@ -170,12 +170,12 @@ export class Drawing {
    */
   say(words) {
     this.said = words;
-    this.tell();
+    this.reportChange();
   }
 
   /**
-   * A part or a pin is clicked, tapped, or Enter is pressed at it: a wire that is begun ends there, where it can; else it is chosen, and
-   * at a pin a wire begins.
+   * Handles a click, a tap or Enter at a part or a pin. A begun wire ends there if it can; otherwise the part is selected, and a wire
+   * begins at a pin.
    * @param {string} name
    */
   pressed(name) {
@@ -220,7 +220,7 @@ export class Drawing {
     const text = this.calls.text();
     const done = actOn(text, act);
     if (done.refusal) return this.say(done.refusal);
-    if (done.edits.length === 0) return this.say(say.ALREADY_SO);
+    if (done.edits.length === 0) return this.say(say.NO_CHANGE);
     const { refused, answers } = await this.ask(done.text);
     if (refused || !isReadAlike(done.text, answers)) return this.say(say.notDone(refused || say.CANNOT_READ));
     // The text may have been edited while the bench was asked.
@@ -233,7 +233,7 @@ export class Drawing {
   }
 
   /**
-   * A step of the text is undone, or done again.
+   * A step of the text was undone or redone.
    * @param {"undo" | "redo"} which
    */
   undoOrRedo(which) {

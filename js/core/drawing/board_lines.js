@@ -1,5 +1,5 @@
-// The lines of a board, what is at each of them, and which may be wired to what. What may be is what the bench takes: the unit test asks it
-// about each pair. A buzzer is of the face alone; it takes a line as a lamp does.
+// The lines of a board, the parts at each of them, and the allowed wires. The bench decides what is allowed: the unit test asks it about
+// each pair. A buzzer is only in the front panel; it takes a line as a lamp does.
 
 import { BITS, linesOf } from "../bench/board_form.js";
 import { upTo } from "../bench/numbers.js";
@@ -10,7 +10,7 @@ import * as say from "../../words/drawing.js";
  * @typedef {import("../bench/answers.js").Board & { buzzer?: string }} Board with the line of its buzzer, "" for none
  * @typedef {import("../bench/board_form.js").BoardLine} BoardLine
  *
- * What takes a line: `clock 0` and `data 0` of a chain, `row 1` and `column 2` of the keys, `lamp 3`, `buzzer 0`.
+ * An input that takes a line: `clock 0` and `data 0` of a chain, `row 1` and `column 2` of the keys, `lamp 3`, `buzzer 0`.
  * @typedef {string} Target
  */
 
@@ -28,7 +28,7 @@ export function withBuzzer(board, face) {
 }
 
 /**
- * All that takes a line, with the line that it takes.
+ * Returns all inputs, each with its line.
  * @param {Board} board
  * @returns {Map<Target, string>}
  */
@@ -56,7 +56,7 @@ export function readTarget(target) {
 }
 
 /**
- * What takes a line, in words.
+ * Returns the name of the part that uses a line.
  * @param {Target} target
  */
 export function nameOfTarget(target) {
@@ -76,7 +76,7 @@ export function bitOf(line) {
 }
 
 /**
- * Whether a line may be wired to what takes one.
+ * Returns whether a line may be wired to an input.
  * @param {Board} board
  * @param {BoardLine} line
  * @param {Target} target
@@ -93,7 +93,7 @@ export function mayWire({ chains, matrix }, { name, kind, isInput }, target) {
 }
 
 /**
- * What a line may be wired to, other than what it is wired to now.
+ * Returns the parts that a line can be wired to, without the one that it is wired to now.
  * @param {Board} board
  * @param {string} name
  * @returns {Target[]}
@@ -105,7 +105,7 @@ export function targetsOf(board, name) {
 }
 
 /**
- * The lines that may be wired to what takes one, with the one that is.
+ * Returns the lines that may be wired to an input, including the present one.
  * @param {Board} board
  * @param {Target} target
  */
@@ -114,7 +114,7 @@ export function sourcesOf(board, target) {
 }
 
 /**
- * The lines that nothing takes.
+ * Returns the free lines.
  * @param {Board} board
  */
 export function freeLines(board) {

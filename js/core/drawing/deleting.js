@@ -1,4 +1,5 @@
-// Parts that go from a board, and with each what hangs on it alone: a lamp without a line is none. The others keep their wires.
+// Parts that are deleted from a board, and with each all that depends on it alone: a lamp without a line is not a lamp. The others keep
+// their wires.
 
 import { counted } from "../bench/numbers.js";
 import { Face } from "../board/face.js";
@@ -15,7 +16,7 @@ import * as say from "../../words/drawing.js";
  * @typedef {import("./sketch.js").Sketch} Sketch
  * @typedef {import("../text/board_reader.js").Value} Value
  *
- * What goes: ROMs by number, RAM chips as `bank.chip`, chains, columns and lamps.
+ * The deleted parts: ROMs by number, RAM chips as `bank.chip`, chains, columns and lamps.
  * @typedef {{ roms: Set<number>, rams: Set<string>, chains: Set<number>, keys: boolean, columns: Set<number>, lamps: Set<number> }} Gone
  */
 
@@ -35,7 +36,7 @@ function isLineGone({ roms, rams, chains }, line) {
 }
 
 /**
- * The lamps of the display, the bar and so on that a lamp belongs to; the lamp alone where it belongs to none.
+ * Returns the lamps of the display or bar that a lamp belongs to; the lamp alone if it belongs to none.
  * @param {Face} face
  * @param {number} lamp
  */
@@ -45,7 +46,7 @@ export function lampsWith(face, lamp) {
 }
 
 /**
- * The display whose first lamp this is, where another one like it can come from the shelf; undefined for none.
+ * Returns the display whose first lamp this is, if the shelf can add another one like it; undefined for none.
  * @param {Face} face
  * @param {number} lamp
  */
@@ -55,7 +56,7 @@ export function displayAt(face, lamp) {
 }
 
 /**
- * Adds to what goes all that hangs on it.
+ * Adds all that depends on the deleted parts.
  * @param {Board} board
  * @param {Face} face
  * @param {Gone} gone
@@ -70,7 +71,7 @@ function spread(board, face, gone) {
     gone.keys = gone.keys || gone.chains.has(matrix.chain) || gone.columns.size === matrix.columns.length;
   }
   board.lamps.forEach((line, at) => isLineGone(gone, line) && gone.lamps.add(at));
-  // Lamps of a set, to which others are added that may be of another one.
+  // Adds lamps to a set, each with the group that it belongs to.
   for (const at of gone.lamps) {
     const groups = face.groups.map(lampsOf).filter((lamps) => lamps.includes(at));
     for (const lamp of groups.flat()) if (lamp < board.lamps.length) gone.lamps.add(lamp);
@@ -125,7 +126,7 @@ function takeColumns(sketch, columns) {
 }
 
 /**
- * The chains behind it have other numbers from then on, and so have their bits.
+ * The chains after it are renumbered, and so are their bits.
  * @param {Sketch} sketch
  * @param {number} chain
  */
@@ -168,7 +169,7 @@ function removeRam(sketch, ram) {
 }
 
 /**
- * What goes with a part that is named.
+ * Marks what is deleted together with a named part.
  * @param {Board} board
  * @param {Gone} gone
  * @param {string} part
@@ -186,7 +187,7 @@ function mark(board, gone, part) {
 }
 
 /**
- * What is no part of its own.
+ * Returns why something cannot be deleted alone.
  * @param {string} part
  */
 function whyItStays(part) {
@@ -208,8 +209,8 @@ function markRam({ banks }, gone, ram) {
 }
 
 /**
- * Takes a part away: `rom 1`, `ram 0.1`, `chain 0`, `keys`, `row 1` (the last one), `column 2`, `lamp 3`, `lamps`, `test`, `buzzer`;
- * gives in words what went with it.
+ * Deletes a part: `rom 1`, `ram 0.1`, `chain 0`, `keys`, `row 1` (the last one), `column 2`, `lamp 3`, `lamps`, `test`, `buzzer`; returns
+ * in words what was deleted with it.
  * @param {Sketch} sketch
  * @param {string} part
  */
@@ -226,7 +227,7 @@ export function deletePart(sketch, part) {
   if (part.startsWith("row ")) return deleteRow(sketch, Number(part.slice(4)));
   const gone = nothing();
   mark(board, gone, part);
-  // Chains hang on ROMs, keys and lamps on chains: the second time nothing new comes.
+  // Chains depend on ROMs, keys and lamps on chains: the second pass adds nothing new.
   const face = new Face(sketch.text);
   for (let times = 0; times < 2; times++) spread(board, face, gone);
   const words = wordsOfGone(board, gone, part);
@@ -247,7 +248,7 @@ function deleteRow(sketch, row) {
 }
 
 /**
- * What goes with a part that is deleted.
+ * Returns the names of what is deleted together with a part.
  * @param {Board} board
  * @param {Gone} gone
  * @param {string} part

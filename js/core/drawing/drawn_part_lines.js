@@ -1,10 +1,10 @@
-// Where the parts that a board's picture shows stand in its text.
+// The lines in a board's text of the parts that its picture shows.
 
 import { partLines } from "../bench/part_lines.js";
 import { Face } from "../board/face.js";
 
 /**
- * The lines of each part; of what is at TEST, and of a buzzer, the comment that says so.
+ * Returns the lines of each part; of the switch at TEST and of a buzzer the comment that declares it.
  * @param {string} text
  */
 export function linesOfParts(text) {

@@ -1,5 +1,5 @@
-// Names and colours of a board's parts as its face tells them: what changes them in the board's text, and what keeps them right when lamps,
-// keys or chains go.
+// Names and colours of a board's parts in its front panel: how to change them in the board's text, and how to keep them right when lamps,
+// keys or chains are deleted.
 
 import { COLOURS, KINDS } from "../board/face_words.js";
 import { addFaceLine, faceLines, numberOfLine, removeFaceLine, removeWords, setWord } from "./face_lines.js";
@@ -14,12 +14,12 @@ export { COLOURS };
 /** Kinds whose head has the number of a row, of keys or of a grid; other numbers there are those of lamps. */
 const OF_ROWS = ["row", "grid"];
 const OF_LAMPS = new Set([...KINDS].filter(([name, { head }]) => head.startsWith("N") && !OF_ROWS.includes(name)).map(([name]) => name));
-/** Those that name a port, or a line of one. */
+/** The lines that name a port, or a line of one. */
 const OF_PORTS = ["port", "buzzer", "printer"];
 const NONE = "_";
 
 /**
- * A name as a face has it: one word.
+ * Returns a name in the form of the front panel: one word.
  * @param {string} name
  */
 export function wordOf(name) {
@@ -27,8 +27,8 @@ export function wordOf(name) {
 }
 
 /**
- * A word of a list that is numbered from the number in its head on: where it stands, else behind the list that ends there, else in a line
- * of its own.
+ * Sets a word in a list that is numbered from the number in its head on: at its place, or after the list that ends there, or in a line of
+ * its own.
  * @param {BoardDraft} draft
  * @param {"lamp" | "colour"} kind
  * @param {number} lamp
@@ -84,7 +84,7 @@ export function colourLamp(draft, lamp, colour) {
 }
 
 /**
- * The name of a key; keys of its row that have none yet get the one that they are shown with.
+ * Sets the name of a key; unnamed keys of its row get the name that they are shown with.
  * @param {BoardDraft} draft
  * @param {{ row: number, column: number }} key
  * @param {string} name "" for a place without a key
@@ -101,7 +101,7 @@ export function nameKey(draft, { row, column }, name) {
 }
 
 /**
- * A line that tells its words whole, as `# port rom0: keys` and `# title: Lock`.
+ * A line with a single text, as `# port rom0: keys` and `# title: Lock`.
  * @param {BoardDraft} draft
  * @param {"title" | "test" | "port" | "buzzer"} kind
  * @param {string} head "" for none
@@ -123,8 +123,8 @@ export function setWhole(draft, kind, head, words) {
  * @param {string} line
  */
 export function moveBuzzer(draft, line) {
-  const told = faceLines(draft).find(({ kind }) => kind === "buzzer");
-  return told && told.first ? setWord(told.first, line) : [];
+  const buzzerLine = faceLines(draft).find(({ kind }) => kind === "buzzer");
+  return buzzerLine && buzzerLine.first ? setWord(buzzerLine.first, line) : [];
 }
 
 /**
@@ -139,7 +139,7 @@ export function addGroup(draft, kind, first, words) {
 }
 
 /**
- * Lamps have gone: the others have other numbers.
+ * Renumbers lamps after some were deleted.
  * @param {BoardDraft} draft
  * @param {Set<number>} gone
  * @returns {TextEdit[]}
@@ -170,7 +170,7 @@ function renumberList(draft, line, gone, numberOf) {
   if (kept.length === 0) return [removeFaceLine(draft, line)];
   const head = setWord(/** @type {import("./face_lines.js").FaceWord} */ (line.first), String(numberOf(kept[0])));
   if (!isGroup) return [...head, ...removeWords(line, (at) => gone.has(first + at))];
-  // `scanned by N`: the lamp from which on the digits or the rows are.
+  // `scanned by N`: the first lamp that scans the digits or the rows.
   const by = line.words[line.words.findIndex(({ text }) => text === "scanned") + 2];
   return line.words.some(({ text }) => text === "scanned") && by ? [...head, ...setWord(by, String(numberOf(Number(by.text))))] : head;
 }
@@ -212,15 +212,15 @@ function renumberGrid(draft, line, gone, numberOf) {
 }
 
 /**
- * Ports and chains have gone, or have other numbers.
+ * Ports and chains were deleted or renumbered.
  * @param {BoardDraft} draft
- * @param {(port: string) => string} newPortOf the port that one is from now on, "" for one that has gone
+ * @param {(port: string) => string} newPortOf returns the new name of a port, "" for a deleted one
  * @returns {TextEdit[]}
  */
 export function renamePorts(draft, newPortOf) {
   return faceLines(draft).flatMap((line) => {
     if (!line.first || !OF_PORTS.includes(line.kind)) return [];
-    // A printer has the port of its code behind its strobe.
+    // A printer has the port of its code after its strobe.
     const words = [line.first, ...(line.kind === "printer" ? line.words.slice(0, 1) : [])];
     const renamed = words.map(({ text }, at) => renamedPort(text, line.kind !== "port" && at === 0, newPortOf));
     if (renamed.includes("")) return [removeFaceLine(draft, line)];
@@ -240,16 +240,16 @@ function renamedPort(text, isLine, newPortOf) {
 }
 
 /**
- * Rows of keys have gone.
+ * Rows of keys were deleted.
  * @param {BoardDraft} draft
- * @param {number} left so many are left
+ * @param {number} left the number that remains
  */
 export function removeRows(draft, left) {
   return faceLines(draft).filter((line) => line.kind === "row" && numberOfLine(line) >= left).map((line) => removeFaceLine(draft, line));
 }
 
 /**
- * Columns of keys have gone.
+ * Columns of keys were deleted.
  * @param {BoardDraft} draft
  * @param {Set<number>} gone
  */

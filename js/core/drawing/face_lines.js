@@ -1,4 +1,4 @@
-// The lines of a face in a board's text with the offsets of their words, and what changes one of them.
+// The lines of a front panel in a board's text with the offsets of their words, and the edits of such a line.
 
 import { headOf } from "../board/face_words.js";
 import { removeLines } from "./part_edits.js";
@@ -8,8 +8,8 @@ import { removeLines } from "./part_edits.js";
  * @typedef {import("./text_edits.js").TextEdit} TextEdit
  * @typedef {{ text: string, from: number, to: number }} FaceWord
  *
- * A line of a face: its number in the text, what it tells, the first word of its head and the last one of a range, where it has
- * them, and its words; offsets are those of the text.
+ * A line of a front panel: its number in the text, its meaning, the first word of its head and the last one of a range, if it has them, and
+ * its words; offsets are those of the text.
  * @typedef {{ line: number, kind: string, first: FaceWord | null, last: FaceWord | null, words: FaceWord[], end: number }} FaceLine
  */
 
@@ -46,7 +46,7 @@ export function faceLines(draft) {
 }
 
 /**
- * The number in the head of a line; NaN where it has none.
+ * Returns the number in the head of a line; NaN if it has none.
  * @param {FaceLine} line
  */
 export function numberOfLine({ first }) {
@@ -54,7 +54,7 @@ export function numberOfLine({ first }) {
 }
 
 /**
- * A new line, behind the last one of its kind, else behind the last line of the face; without any, behind the comment at the top.
+ * Adds a line, after the last one of its kind, or after the last line of the front panel; without any, after the comment at the top.
  * @param {BoardDraft} draft
  * @param {string} kind
  * @param {string} text
@@ -71,7 +71,7 @@ export function addFaceLine(draft, kind, text) {
 }
 
 /**
- * Takes a line of the face away.
+ * Deletes a line of the front panel.
  * @param {BoardDraft} draft
  * @param {FaceLine} line
  */
@@ -80,7 +80,7 @@ export function removeFaceLine(draft, { line }) {
 }
 
 /**
- * Another word in the place of one.
+ * Replaces a word.
  * @param {FaceWord} word
  * @param {string} text
  * @returns {TextEdit[]}
@@ -90,7 +90,7 @@ export function setWord(word, text) {
 }
 
 /**
- * Takes words of a line away, each with the blanks before it.
+ * Deletes words of a line, each with the blanks before it.
  * @param {FaceLine} line
  * @param {(at: number) => boolean} goes
  * @returns {TextEdit[]}
@@ -100,7 +100,7 @@ export function removeWords({ words, first, last }, goes) {
   return words.flatMap(({ from, to }, at) => {
     if (!goes(at)) return [];
     const before = words[at - 1] ? words[at - 1].to : from;
-    // The first word keeps the blank behind the colon for the one that follows it.
+    // The first word keeps the blank after the colon for the next one.
     const next = words[at + 1];
     if (at === 0 || words.slice(0, at).every((_, each) => goes(each))) return [{ from, to: next ? next.from : to, insert: "" }];
     return head ? [{ from: before, to, insert: "" }] : [];

@@ -1,5 +1,4 @@
-// What can be set of a part or a pin that is chosen: its name, its colour, where it is wired to, how many chips it has. Each field says
-// what act another value is.
+// The fields of a selected part or pin: its name, its colour, its wires, its number of chips. Each field knows the action for a new value.
 
 import { upTo } from "../bench/numbers.js";
 import { COLOURS } from "../board/face_words.js";
@@ -13,14 +12,13 @@ import * as say from "../../words/drawing.js";
  * @typedef {import("../board/face.js").Face} Face
  * @typedef {import("./acts.js").Act} Act
  *
- * A field: its label, its value, the values that it may have with what they are called, where it is not a text of any words; and the act
- * that another value is.
+ * A field: its label, its value, its possible values with their titles unless it is free text; and the action for a new value.
  * @typedef {{ label: string, value: string, options: { value: string, words: string }[] | null, act: (value: string) => Act }} Field
  *
- * A button: its word, and its act.
+ * A button: its word, and its action.
  * @typedef {{ word: string, act: Act }} Button
  *
- * What is chosen, in words, and the part whose lines in the board's text it is in, "" for none.
+ * The selection in words, and the part whose lines in the board's text it is in, "" for none.
  * @typedef {{ title: string, part: string, fields: Field[], buttons: Button[] }} Fields
  */
 
@@ -54,7 +52,7 @@ function numbers({ from, to }) {
 }
 
 /**
- * The line that something takes.
+ * Returns the line of an input.
  * @param {Board} board
  * @param {string} target
  * @param {string} [label]
@@ -65,13 +63,13 @@ function lineField(board, target, label = nameOfTarget(target)) {
 }
 
 /**
- * The words of a port or a chain, by its place in the face.
+ * Returns the words of a port or a chain, by its place in the front panel.
  * @param {Face} face
  * @param {string} part
  */
 function portField(face, part) {
-  const told = face.ports.get(part.replace(" ", ""));
-  return text(say.WHAT_IS_THERE, told ? told.text : "", (name) => ({ kind: "name", part, name }));
+  const faceText = face.ports.get(part.replace(" ", ""));
+  return text(say.WHAT_IS_THERE, faceText ? faceText.text : "", (name) => ({ kind: "name", part, name }));
 }
 
 /**
@@ -129,8 +127,8 @@ function ofKeys(board, face) {
   const rows = choice("rows", String(board.rows), numbers(RANGES["keys.rows"]), (value) => ({ kind: "rows", rows: Number(value) }));
   const columns = upTo(board.columns).map((at) => lineField(board, `column ${at}`, `column ${at}`));
   const names = upTo(board.rows).flatMap((row) => upTo(board.columns).map((column) => {
-    const told = face.keys.get(`${row} ${column}`);
-    return text(`key ${row}.${column}`, told ? told.text : "", (name) => ({ kind: "name", part: `key ${row} ${column}`, name }));
+    const faceText = face.keys.get(`${row} ${column}`);
+    return text(`key ${row}.${column}`, faceText ? faceText.text : "", (name) => ({ kind: "name", part: `key ${row} ${column}`, name }));
   }));
   const more = { word: say.ANOTHER_COLUMN, act: /** @type {Act} */ ({ kind: "column" }) };
   const fields = [rows, lineField(board, "row 0", "row 0"), ...columns, ...names];
@@ -212,7 +210,7 @@ function ofTarget(board, target) {
 }
 
 /**
- * What can be set of what is chosen; of the whole board where nothing is.
+ * Returns the fields of the selection, or of the whole board if nothing is selected.
  * @param {Board} board
  * @param {Face} face
  * @param {string} chosen a part or a pin

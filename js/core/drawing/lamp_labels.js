@@ -1,4 +1,4 @@
-// What lamps are called in the picture: by their names, those of displays by their digit and what they are in it.
+// The labels of lamps in the picture: their names; of the lamps of a display the digit and the segment.
 
 import { isScanned, lampNames, lampsOf } from "../board/face_board.js";
 import { upTo } from "../bench/numbers.js";
@@ -11,7 +11,7 @@ const SEGMENTS = ["a", "b", "c", "d", "e", "f", "g"];
 const POINT = "point";
 
 /**
- * The labels of so many lamps, "" for one that has none.
+ * Returns the labels of the first lamps, "" for one that has none.
  * @param {Face} face
  * @param {number} count
  */

@@ -1,11 +1,11 @@
-// Where the parts of a picture stand that were dragged. Once a chain is deleted, those behind it have other numbers: the points follow
-// them, and go back with the text.
+// The positions of dragged parts of a picture. Once a chain is deleted, those after it are renumbered: the positions follow them, and are
+// restored with the text.
 
 /**
  * @typedef {import("../board/wiring.js").Moved} Moved
  * @typedef {import("../board/wiring.js").Point} Point
  *
- * Chains that went with an edit of the text, by their numbers before it, and where they stood.
+ * The chains that an edit of the text deleted, by their numbers before it, and their positions.
  * @typedef {{ before: string, after: string, gone: number[], points: Moved }} Deletion
  */
 
@@ -17,7 +17,7 @@ export class MovedParts {
     this.moved = new Map();
     /** @type {Deletion[]} */
     this.deletions = [];
-    /** Whether parts stand elsewhere since this was asked last. */
+    /** True if parts have moved since the last query. */
     this.hasNews = false;
   }
 
@@ -39,7 +39,7 @@ export class MovedParts {
   }
 
   /**
-   * The text is another one: by such an edit, or it is undone or done again.
+   * The text has changed, by such an edit, by undo or by redo.
    * @param {string | null} from
    * @param {string} to
    */
@@ -73,7 +73,7 @@ export class MovedParts {
     for (const [part, point] of points) this.moved.set(part, point);
   }
 
-  /** Where all chains stand, by their numbers; they stand nowhere then. */
+  /** Returns the positions of all chains by number, and forgets them. */
   takeChains() {
     /** @type {[number, Point][]} */
     const chains = [];

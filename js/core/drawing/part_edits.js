@@ -1,4 +1,4 @@
-// How a part comes into a board's text, and goes from it: comments stay, and what is added is written as what stands there is.
+// Adds a part to a board's text, and removes it: comments stay, and new parts are written in the style of the existing ones.
 
 import { tomlWords } from "../text/toml_words.js";
 import { KEYS } from "../bench/board_form.js";
@@ -39,7 +39,7 @@ function isBlank(line) {
 }
 
 /**
- * Whether tables follow one another without a blank line.
+ * Returns whether tables follow one another without a blank line.
  * @param {BoardDraft} draft
  */
 function isCompact({ entries, lines }) {
@@ -48,7 +48,7 @@ function isCompact({ entries, lines }) {
 }
 
 /**
- * Another part of a kind, behind the last one.
+ * Adds a part of a kind, after the last one.
  * @param {BoardDraft} draft
  * @param {Kind} kind
  * @param {PartValues} values
@@ -81,7 +81,7 @@ function atEnd({ text, lines }, gap, block) {
 }
 
 /**
- * The word behind an offset, and the one before it, with their offsets; ends of lines are none.
+ * Returns the word after an offset, and the one before it, with their offsets; ends of lines do not count.
  * @param {BoardDraft} draft
  * @param {number} from
  * @param {number} to
@@ -97,7 +97,7 @@ function around(draft, from, to) {
 }
 
 /**
- * Another element of an array, behind the last one: in its line where that has room, and none of the others has a line of its own.
+ * Adds an element to an array, after the last one: in its line if that has room and no other element has a line of its own.
  * @param {BoardDraft} draft
  * @param {Value} array
  * @param {string} element
@@ -116,14 +116,14 @@ export function appendElement(draft, array, element) {
   const { next } = around(draft, at, at);
   const hasComma = next !== null && next.text === ",";
   const indent = last.line > array.line ? (/^[ \t]*/.exec(line) || [""])[0] : INDENT;
-  // What closes the array goes on behind the new element.
+  // The end of the array continues after the new element.
   const end = next && next.text === "]" && array.end.line === last.end.line ? at : draft.offset(last.end.line, line.length);
   const comma = { from: at, to: at, insert: "," };
   return [{ from: end, to: end, insert: `\n${indent}${element}${hasComma ? "," : ""}` }, ...(hasComma ? [] : [comma])];
 }
 
 /**
- * Takes whole lines away, and with them one of two blank lines that would follow one another.
+ * Deletes whole lines, and with them one of two blank lines that would be adjacent.
  * @param {BoardDraft} draft
  * @param {number} first
  * @param {number} last
@@ -140,7 +140,7 @@ export function removeLines({ lines, starts, text }, first, last) {
 }
 
 /**
- * Takes a stretch of a line away; a line that is blank then goes, too.
+ * Deletes a stretch of a line; if the line is blank then, deletes it too.
  * @param {BoardDraft} draft
  * @param {number} from
  * @param {number} to
@@ -156,7 +156,7 @@ function removeStretch({ text }, from, to) {
 }
 
 /**
- * Takes an element of an array away, and its comma.
+ * Deletes an element of an array, and its comma.
  * @param {BoardDraft} draft
  * @param {Value} array
  * @param {number} at
@@ -173,10 +173,10 @@ export function removeElement(draft, array, at) {
 }
 
 /**
- * Takes a part away.
+ * Deletes a part.
  * @param {BoardDraft} draft
  * @param {Kind} kind
- * @param {number} at its place among those of its kind
+ * @param {number} at its index among those of its kind
  * @returns {TextEdit[]}
  */
 export function removePart(draft, kind, at) {
@@ -189,7 +189,7 @@ export function removePart(draft, kind, at) {
 }
 
 /**
- * Another value of a part.
+ * Changes a value of a part.
  * @param {BoardDraft} draft
  * @param {Entry} entry
  * @param {string} name of its key

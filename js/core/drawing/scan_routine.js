@@ -1,4 +1,4 @@
-// A routine that scans the key matrix of a board: source text for the board as it is wired.
+// A routine that scans the key matrix of a board: source text for the wired board.
 
 import { upTo } from "../bench/numbers.js";
 import * as say from "../../words/key_scan.js";
@@ -7,8 +7,8 @@ import * as say from "../../words/key_scan.js";
  * @typedef {import("../bench/answers.js").Board} Board
  * @typedef {import("../bench/answers.js").Matrix} Matrix
  *
- * A port that is written or read: the bank that has to be designated (-1 for a ROM), the SRC byte that selects it, the instruction that
- * writes it, and what it is called. `bit` is the line there, as its value.
+ * A port that is written or read: the bank that must be designated (-1 for a ROM), the SRC byte that selects it, the instruction that
+ * writes it, and its name. `bit` is the value of the line there.
  * @typedef {{ bank: number, source: number, write: string, title: string, bit: number }} Port
  *
  * A line of source: its label, its instruction with operands, its comment.
@@ -17,7 +17,7 @@ import * as say from "../../words/key_scan.js";
 
 const LABEL_WIDTH = 12;
 const COMMENT_COLUMN = 32;
-/** A counter of ISZ goes up to so much. */
+/** The limit of a counter of ISZ. */
 const TURNS = 16;
 
 /**
@@ -54,7 +54,7 @@ function textOf([label, instruction, comment = ""]) {
   return comment === "" ? code : `${code.padEnd(COMMENT_COLUMN)}; ${comment}`;
 }
 
-/** The labels of a routine, none of which a text has already. */
+/** Returns the labels of a routine, none of which the text has already. */
 class Labels {
   /** @param {string} text */
   constructor(text) {
@@ -69,7 +69,7 @@ class Labels {
 }
 
 /**
- * The 1 that drives row 0 goes on to the bit of that row.
+ * Moves the 1 that drives row 0 to the bit of the row.
  * @param {number} first that bit
  * @param {Labels} labels
  * @returns {Line[]}
@@ -87,7 +87,7 @@ function toFirstRow(first, labels) {
 }
 
 /**
- * Reads the columns: at the first one that is at 1 it jumps.
+ * Reads the columns: jumps at the first one that is at 1.
  * @param {string[]} columns
  * @param {Labels} labels
  * @returns {Line[]}
@@ -110,7 +110,7 @@ function readColumns(columns, labels) {
 }
 
 /**
- * Shifts the bit that the accumulator has, as the value of the data line, into the chain.
+ * Shifts the bit in the accumulator, as the value of the data line, into the chain.
  * @param {Port} clock
  * @param {Port} data
  * @param {Labels} labels
@@ -123,14 +123,14 @@ function shiftLines(clock, data, labels) {
   /** @type {Line[]} */
   const both = isOne ? [["", ["CLC"]], ["", ["ADD", "R6"]]] : [];
   return [
-    [labels.of("shift"), ["XCH", "R6"], say.BIT_COMES], ...selected(data), ["", ["LD", "R6"]],
+    [labels.of("shift"), ["XCH", "R6"], say.BIT_ENTERS], ...selected(data), ["", ["LD", "R6"]],
     ["", [data.write], isOne ? say.CLOCK_LOW : say.DATA], ...other,
     ["", ["LDM", String(clock.bit)]], ...both, ["", [clock.write], say.CLOCK_RISES], ["", ["BBL", "0"]],
   ];
 }
 
 /**
- * What the comment before the routine says.
+ * Returns the comment before the routine.
  * @param {Matrix} matrix
  * @param {Port} clock
  * @param {Port} data
@@ -149,7 +149,7 @@ function headOf({ chain, first, rows, columns }, clock, data, labels) {
 /**
  * Returns the routine, and for a text without instructions a program that calls it; "" for a board without keys.
  * @param {Board} board
- * @param {string} text of the source that it comes into
+ * @param {string} text of the source that it is inserted into
  */
 export function keyScanOf({ matrix, chains }, text) {
   if (!matrix) return "";
@@ -163,7 +163,7 @@ export function keyScanOf({ matrix, chains }, text) {
   const lines = [
     [scan, ["LDM", "0"]], ["", ["XCH", "R4"], say.FIRST_ROW],
     ["", ["LDM", String(TURNS - rows)]], ["", ["XCH", "R7"], say.counts(rows)],
-    ["", ["LDM", String(data.bit)]], ["", ["JMS", shift], say.ONE_COMES_IN], ...toFirstRow(first, labels),
+    ["", ["LDM", String(data.bit)]], ["", ["JMS", shift], say.ONE_ENTERS], ...toFirstRow(first, labels),
     ...readColumns(columns, labels).map((line, at) => /** @type {Line} */ (at === 0 ? [row, line[1], line[2]] : line)),
     ["", ["LDM", "0"]], ["", ["JMS", shift], say.NEXT_ROW], ["", ["INC", "R4"]], ["", ["ISZ", "R7,", row]], ["", ["BBL", "0"], say.NO_KEY],
     ...columns.flatMap((_, column) => /** @type {Line[]} */ ([
@@ -176,11 +176,11 @@ export function keyScanOf({ matrix, chains }, text) {
 }
 
 /**
- * Where a routine comes into a text: behind the line of the caret, or at the end if no caret was set. Blank lines are around it.
+ * Returns the place for a routine in a text: after the line of the caret, or at the end if no caret was set. Blank lines are around it.
  * @param {string} text
  * @param {number} line of the caret, 0 for none
  * @param {string} code whole lines
- * @returns {{ edit: import("./text_edits.js").TextEdit, first: number, isEnd: boolean }} `first`: the line at which the routine begins
+ * @returns {{ edit: import("./text_edits.js").TextEdit, first: number, isEnd: boolean }} `first`: the first line of the routine
  */
 export function placeOfRoutine(text, line, code) {
   const lines = text.split("\n");

@@ -1,4 +1,4 @@
-// A board's text while something is done to it: the edits so far, and the board that the text tells by now.
+// A board's text during an action: the edits so far, and the board that the text describes by now.
 
 import { Face } from "../board/face.js";
 import { BoardDraft } from "./board_draft.js";
@@ -9,7 +9,7 @@ import { edited, fromLast } from "./text_edits.js";
  * @typedef {import("./text_edits.js").TextEdit} TextEdit
  */
 
-/** What is wanted cannot be done; its message says why, and what to do. */
+/** An action that cannot be done; its message says why, and what to do. */
 export class ActRefusal extends Error {}
 
 export class Sketch {
@@ -20,12 +20,12 @@ export class Sketch {
     this.edits = [];
     /** @type {string[]} the parts that were added because others need them, in words */
     this.added = [];
-    /** @type {number[]} the chains that have gone, by the numbers that they had at first */
+    /** @type {number[]} the deleted chains, by their original numbers */
     this.goneChains = [];
   }
 
   /**
-   * Edits that do not overlap, told by places in the text as it is.
+   * Makes edits that do not overlap, given by places in the present text.
    * @param {TextEdit[]} edits
    */
   edit(edits) {

@@ -1,13 +1,13 @@
-// Edits of a text: each takes characters away at a place and puts others there. Those of a list are done one after the other, each in the
-// text that the ones before it have made.
+// Edits of a text: each replaces the characters at a place. Those of a list are done one after the other, each in the text that the former
+// ones have made.
 
 /**
- * The characters from `from` to `to` give way to `insert`.
+ * The characters from `from` to `to` are replaced by `insert`.
  * @typedef {{ from: number, to: number, insert: string }} TextEdit
  */
 
 /**
- * The text that comes of it.
+ * Returns the text after the edits.
  * @param {string} text
  * @param {TextEdit[]} edits
  */
@@ -16,7 +16,7 @@ export function edited(text, edits) {
 }
 
 /**
- * The edits that bring a text back from what these made of it.
+ * Returns the edits that undo these.
  * @param {string} text
  * @param {TextEdit[]} edits
  * @returns {TextEdit[]}
@@ -34,8 +34,8 @@ export function inverseOf(text, edits) {
 }
 
 /**
- * The same edits, told by places in one text, as edits in turn: the last place first, so that no place moves. Where two take the same
- * characters away, the later one takes those that are left.
+ * Converts edits that are given by places in one text into successive edits: the last place first, so that no place moves. If two delete
+ * the same characters, the later one deletes those that are left.
  * @param {TextEdit[]} edits
  * @returns {TextEdit[]}
  */

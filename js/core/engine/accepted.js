@@ -1,12 +1,12 @@
-// The commands among lines that were accepted: what each one was, and how many cycles it did. Cycles are counted from them, and what was
-// done is done again by them.
+// The commands among accepted lines: each command, and how many cycles it did. Cycles are counted from them, and the past is repeated by
+// them.
 
 import { readRun } from "../bench/answers.js";
 
 /**
  * @typedef {import("../bench/inputs.js").Input} Input
- * @typedef {{ line: string, cycles: number, resets: boolean }} Accepted a command with its text, the cycles that it did, and whether it
- *   put the machine back to where a power cycle puts it
+ * @typedef {{ line: string, cycles: number, resets: boolean }} Accepted a command with its text, the cycles that it did, and whether it put
+ * the machine into the state after a power cycle
  */
 
 /** @type {Record<string, true>} */

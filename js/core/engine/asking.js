@@ -1,4 +1,4 @@
-// Lines with questions before each run, in the same call: what the bench tells that the run will do.
+// Lines with queries before each run, in the same call: what the bench forecasts of the run.
 
 import { cyclesOfLine } from "../debug/ahead.js";
 import { Answers } from "./tracing.js";
@@ -6,11 +6,11 @@ import { Answers } from "./tracing.js";
 /**
  * @typedef {import("./accepted.js").Accepted} Accepted
  *
- * A line that is sent: `change` is null for a run, and what the line changes for any other one.
+ * A line to send: `change` is null for a run; for any other line it is the effect.
  * @typedef {{ line: string, change: object | null }} SentLine
  *
- * Who asks: so many questions before a run of so many cycles, as lines, each answered as `trace` is; `seesChanges`: and for the state after
- * each change of a key.
+ * An asker: its queries before a run of this many cycles, as lines, each answered like `trace`; `seesChanges`: also queries of the state
+ * after each change of a key.
  * @typedef {{ questions: (cycles: number) => string, count: number, seesChanges: boolean }} Asker
  */
 
@@ -28,34 +28,34 @@ export function askedLines(planned, askers) {
 }
 
 /**
- * Parts the answers: those to the lines and to all that comes after them; and of each asker, line by line, those to its questions.
+ * Splits the answers: those to the lines and to all that comes after them; and for each asker, line by line, those to its queries.
  * @param {SentLine[]} planned
  * @param {Asker[]} askers
  * @param {string[]} all
- * @returns {{ answers: string[], told: string[][][] }}
+ * @returns {{ answers: string[], askerAnswers: string[][][] }}
  */
 export function partedAnswers(planned, askers, all) {
   const answers = new Answers(all);
   /** @type {string[]} */
   const own = [];
   /** @type {string[][][]} */
-  const told = askers.map(() => []);
+  const askerAnswers = askers.map(() => []);
   const seesChanges = askers.some((asker) => asker.seesChanges);
   for (const { change } of planned) {
     if (change) {
       own.push(answers.take());
       const state = seesChanges ? [answers.take()] : [];
-      askers.forEach((asker, at) => told[at].push(asker.seesChanges ? state : []));
+      askers.forEach((asker, at) => askerAnswers[at].push(asker.seesChanges ? state : []));
       continue;
     }
     askers.forEach(({ count }, at) => {
       const from = answers.at;
       for (let question = 0; question < count; question++) answers.takeTrace();
-      told[at].push(all.slice(from, answers.at));
+      askerAnswers[at].push(all.slice(from, answers.at));
     });
     own.push(answers.take());
   }
-  return { answers: [...own, ...all.slice(answers.at)], told };
+  return { answers: [...own, ...all.slice(answers.at)], askerAnswers };
 }
 
 const OTHER_CHANGE = {};

@@ -1,5 +1,5 @@
-// What the page can ask of the worker: requests by their names, each in the part that it is of. Each is done whole, or it throws and has
-// changed nothing.
+// The requests of the page to the worker: requests by their names, each in its part. Each is done whole, or it throws and has changed
+// nothing.
 
 import { BreakpointRequests } from "./breakpoint_requests.js";
 import { FileRequests } from "./file_requests.js";

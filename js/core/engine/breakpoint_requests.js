@@ -1,4 +1,4 @@
-// Requests that set what stops time: breakpoints, and common mistakes.
+// Requests that set the stops: breakpoints, and common mistakes.
 
 import { readBoard } from "../bench/answers.js";
 import { Face } from "../board/face.js";
@@ -9,7 +9,7 @@ import { SourceMap } from "../machine/source_map.js";
  * @typedef {import("./open_bench.js").OpenBench} OpenBench
  * @typedef {import("../bench/protocol.js").BrokenLines} BrokenLines
  * @typedef {import("../debug/soft_breakpoints.js").Placed} Placed
- * @typedef {import("../debug/usual_faults.js").Kind} Kind
+ * @typedef {import("../debug/common_mistakes.js").Kind} Kind
  */
 
 export class BreakpointRequests {
@@ -19,22 +19,22 @@ export class BreakpointRequests {
   }
 
   /**
-   * The breakpoints from here on: those that always stop are the bench's own, and are served to it.
+   * Sets the breakpoints: those that always stop are the bench's own, and are served to it.
    * @param {Placed[]} placed
-   * @param {{ board: string, program: string, watched?: string[] }} texts those that have the names
+   * @param {{ board: string, program: string, watched?: string[] }} texts the texts with the names
    * @returns {Promise<BrokenLines>}
    */
   async setBreakpoints(placed, texts) {
     const { session } = this.bench;
     const { map } = this.bench.checkProgram(texts.program);
-    const names = { face: new Face(texts.board), board: readBoard(session.lookQuestions.board), map: new SourceMap(map, texts.program),
+    const names = { face: new Face(texts.board), board: readBoard(session.statusQueries.board), map: new SourceMap(map, texts.program),
       watched: namesOfWatched(texts.watched) };
     const { lines, faults } = this.bench.debugger.setBreakpoints(placed, names);
     return { ...(lines ? await this.bench.serve(lines) : this.bench.nothingServed()), faults };
   }
 
   /**
-   * At which faults that everyone makes once time stops.
+   * Sets the common mistakes at which time stops.
    * @param {Kind[]} kinds
    */
   stopAtFaults(kinds) {

@@ -1,24 +1,23 @@
-// The proved module and its calls: bytes of a session file and lines in, answers and bytes out. It keeps no session; whoever calls
-// has the bytes of the file, and they stay as they were unless a call gives new ones.
+// The proved module and its calls: bytes of a session file and lines in, answers and bytes out. It keeps no session: the caller has the
+// bytes of the file, and they stay as they were unless a call returns new ones.
 
 import { BenchRefusal, BenchTrap, NO_MEMORY } from "../bench/faults.js";
 
 /**
- * What came of lines: the status of the shell's end, its first line, `session N`, and the answers after that.
+ * The result of lines: the status of the shell's end, its first line, `session N`, and the answers after that.
  * @typedef {{ status: number, opened: string, answers: string[] }} Served
  * @typedef {{ offset: bigint, room: number }} Stretch a stretch of the module's memory
- * @typedef {"page_serve_and_settle" | "page_ask"} ServingCall
- * @typedef {(file: bigint, fileSize: bigint, input: bigint, inputSize: bigint, answers: bigint, room: bigint, told: bigint) => number}
+ * @typedef {"bench_serve_and_settle" | "bench_ask"} ServingCall
+ * @typedef {(file: bigint, fileSize: bigint, input: bigint, inputSize: bigint, answers: bigint, room: bigint, report: bigint) => number}
  *   Serving
- * @typedef {{ memory: WebAssembly.Memory, page_file_size: () => bigint, page_buffer: (count: bigint) => bigint,
- *   page_buffer_back: (offset: bigint) => void, page_begin: (file: bigint, size: bigint) => number,
- *   page_serve_and_settle: Serving, page_ask: Serving,
- *   page_prove: (question: bigint, size: bigint, answers: bigint, room: bigint, told: bigint) => number }} Calls what the module exports
+ * @typedef {{ memory: WebAssembly.Memory, bench_file_size: () => bigint, bench_buffer: (count: bigint) => bigint, bench_buffer_back:
+ * (offset: bigint) => void, bench_begin: (file: bigint, size: bigint) => number, bench_serve_and_settle: Serving, bench_ask: Serving,
+ * bench_prove: (question: bigint, size: bigint, answers: bigint, room: bigint, report: bigint) => number }} Calls the exports of the module
  */
 
 const ROOM_AT_FIRST = 1 << 20;
 /** A number of 32 bits, and a count of 64 at its eighth byte. */
-const TOLD_SIZE = 16;
+const REPORT_SIZE = 16;
 const COUNT_AT = 8;
 
 /** The module at work, with the stretches of its memory that are lent to its calls. */
@@ -26,14 +25,14 @@ class Instance {
   /** @param {WebAssembly.Module} module */
   constructor(module) {
     this.calls = callsOf(module);
-    /** How many bytes a session file has. */
-    this.size = Number(this.calls.page_file_size());
+    /** The size of a session file in bytes. */
+    this.size = Number(this.calls.bench_file_size());
     this.bytes = new Uint8Array(this.calls.memory.buffer);
     // One byte more, so that a file that is too long is seen to be so.
     this.file = this.stretch(this.size + 1);
     this.input = this.stretch(ROOM_AT_FIRST);
     this.answers = this.stretch(ROOM_AT_FIRST);
-    this.told = this.stretch(TOLD_SIZE);
+    this.report = this.stretch(REPORT_SIZE);
   }
 
   /**
@@ -41,25 +40,25 @@ class Instance {
    * @returns {Stretch}
    */
   stretch(room) {
-    const offset = this.calls.page_buffer(BigInt(room));
+    const offset = this.calls.bench_buffer(BigInt(room));
     if (offset === BigInt(0)) throw new BenchRefusal(NO_MEMORY);
     return { offset, room };
   }
 
   /**
-   * A stretch that has room for so many bytes: the one that is there, or a larger one in its place.
+   * Returns a buffer with room for this many bytes: the present one, or a larger one in its place.
    * @param {Stretch} stretch
    * @param {number} room
    */
   larger(stretch, room) {
     if (room <= stretch.room) return stretch;
     const found = this.stretch(room);
-    this.calls.page_buffer_back(stretch.offset);
+    this.calls.bench_buffer_back(stretch.offset);
     return found;
   }
 
   /**
-   * The bytes of a stretch, as they lie now: growing memory takes the old ones away.
+   * Returns the bytes of a buffer at its present location: growing memory detaches the old ones.
    * @param {Stretch} stretch
    * @param {number} count
    */
@@ -70,12 +69,12 @@ class Instance {
   }
 
   /**
-   * Puts lines into memory; gives how many bytes they have.
+   * Puts lines into memory; returns how many bytes they have.
    * @param {string} lines
    * @param {TextEncoder} encoder
    */
   takeLines(lines, encoder) {
-    // No letter needs more than three bytes.
+    // No character needs more than three bytes.
     if (lines.length * 3 <= this.input.room) {
       return encoder.encodeInto(lines, this.view(this.input, this.input.room)).written || 0;
     }
@@ -91,9 +90,9 @@ class Instance {
     this.view(this.file, file.length).set(file);
   }
 
-  /** What a call has told: a number, and a count. */
-  readTold() {
-    const words = new DataView(this.calls.memory.buffer, Number(this.told.offset), TOLD_SIZE);
+  /** Returns a call's report: a number, and a count. */
+  readReport() {
+    const words = new DataView(this.calls.memory.buffer, Number(this.report.offset), REPORT_SIZE);
     return { number: words.getUint32(0, true), count: Number(words.getBigUint64(COUNT_AT, true)) };
   }
 }
@@ -121,9 +120,9 @@ export class Engine {
     this.module = module;
     this.encoder = new TextEncoder();
     this.decoder = new TextDecoder();
-    /** @type {Instance | null} null where there was no memory to start it anew: the next call tries again */
+    /** @type {Instance | null} null if there was no memory to restart it: the next call tries again */
     this.started = new Instance(module);
-    /** How many bytes a session file has. */
+    /** The size of a session file in bytes. */
     this.size = this.started.size;
   }
 
@@ -152,32 +151,32 @@ export class Engine {
    */
   begin(into = new Uint8Array(this.size)) {
     const { instance } = this;
-    if (!this.call((calls) => calls.page_begin(instance.file.offset, BigInt(this.size)))) throw new BenchRefusal(NO_MEMORY);
+    if (!this.call((calls) => calls.bench_begin(instance.file.offset, BigInt(this.size)))) throw new BenchRefusal(NO_MEMORY);
     into.set(instance.view(instance.file, this.size));
     return into;
   }
 
   /**
-   * Serves lines on the session of a file, and puts a snapshot in the place of its log.
+   * Serves lines on the session of a file, and replaces its log by a snapshot.
    * @param {Uint8Array} file
    * @param {string} lines
-   * @param {Uint8Array} into takes the new file; it may be the old one
+   * @param {Uint8Array} into receives the new file; it may be the old one
    * @returns {Served}
    */
   serve(file, lines, into) {
-    const served = this.answersOf("page_serve_and_settle", file, lines);
+    const served = this.callForAnswers("bench_serve_and_settle", file, lines);
     into.set(this.instance.view(this.instance.file, file.length));
     return served;
   }
 
   /**
-   * Answers lines as `serve` would; the session is as it was.
+   * Answers lines as `serve` would; the session is unchanged.
    * @param {Uint8Array} file
    * @param {string} lines
    * @returns {Served}
    */
   ask(file, lines) {
-    return this.answersOf("page_ask", file, lines);
+    return this.callForAnswers("bench_ask", file, lines);
   }
 
   /**
@@ -196,17 +195,17 @@ export class Engine {
   }
 
   /**
-   * One call. If the answer has no room, the number is 0, and the count is that of the bytes that it needs.
+   * Makes one call. If the answer has no room, the number is 0, and the count is the number of bytes needed.
    * @param {number} size of the question
    */
   tryToProve(size) {
     const { instance } = this;
-    const { input, answers, told } = instance;
-    const isDone = this.call((calls) => calls.page_prove(input.offset, BigInt(size), answers.offset, BigInt(answers.room), told.offset));
-    return { isDone, ...instance.readTold() };
+    const { input, answers, report } = instance;
+    const isDone = this.call((calls) => calls.bench_prove(input.offset, BigInt(size), answers.offset, BigInt(answers.room), report.offset));
+    return { isDone, ...instance.readReport() };
   }
 
-  /** A call takes the bytes of a state as fast as any other one. */
+  /** A call accepts the bytes of a state as fast as any other one. */
   keep() {
     // Nothing is to be prepared.
   }
@@ -233,22 +232,22 @@ export class Engine {
    * @param {string} lines
    * @returns {Served}
    */
-  answersOf(name, file, lines) {
+  callForAnswers(name, file, lines) {
     const { instance } = this;
     const inputSize = instance.takeLines(lines, this.encoder);
-    let told = this.tryToServe(name, file, inputSize);
-    if (told.answersNeed > 0) {
-      instance.answers = instance.larger(instance.answers, told.answersNeed);
-      told = this.tryToServe(name, file, inputSize);
+    let report = this.tryToServe(name, file, inputSize);
+    if (report.answersNeed > 0) {
+      instance.answers = instance.larger(instance.answers, report.answersNeed);
+      report = this.tryToServe(name, file, inputSize);
     }
-    const answers = this.decoder.decode(instance.view(instance.answers, told.count)).split("\n");
+    const answers = this.decoder.decode(instance.view(instance.answers, report.count)).split("\n");
     answers.pop();
     const [opened] = answers.splice(0, 1);
-    return { status: told.number, opened, answers };
+    return { status: report.number, opened, answers };
   }
 
   /**
-   * One call. Where the answers have no room, it tells how many bytes they need, and nothing was done.
+   * Makes one call. If the answers have no room, it returns how many bytes they need, and nothing was done.
    * @param {ServingCall} name
    * @param {Uint8Array} file
    * @param {number} inputSize
@@ -256,10 +255,10 @@ export class Engine {
   tryToServe(name, file, inputSize) {
     const { instance } = this;
     instance.takeFile(file);
-    const { file: bytes, input, answers, told } = instance;
+    const { file: bytes, input, answers, report } = instance;
     const isServed = this.call((calls) => calls[name](bytes.offset, BigInt(file.length), input.offset, BigInt(inputSize),
-      answers.offset, BigInt(answers.room), told.offset));
-    const { number, count } = instance.readTold();
+      answers.offset, BigInt(answers.room), report.offset));
+    const { number, count } = instance.readReport();
     if (!isServed && number !== 0) throw new BenchRefusal(number);
     return { number, count, answersNeed: isServed ? 0 : count };
   }

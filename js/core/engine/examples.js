@@ -3,15 +3,15 @@
 import { sentText } from "../text/text_fault.js";
 
 /**
- * `lines` are for the user to send; where there are none, time runs at once. `tests` and `properties` are those of the program. An
- * example that is a project has its text in `project` ("" in any other): its session is the one in there, and stands still. Some have a
- * story, which help/story.js reads.
+ * `lines` are for the user to send; if there are none, time runs at once. `tests` and `properties` are those of the program. An example
+ * that is a project has its text in `project` ("" in any other): its session is the one in there, and is paused. Some have a story, which
+ * help/story.js reads.
  * @typedef {{ name: string, title: string, board: string, program: string, tests: string, properties: string, lines: string,
  *   project: string, story?: string }} Example
  */
 
 /**
- * The lines that put an example's board and program into a session.
+ * Returns the lines that load an example's board and program into a session.
  * @param {Example} example
  */
 export function linesOfExample({ board, program }) {
@@ -19,7 +19,7 @@ export function linesOfExample({ board, program }) {
 }
 
 /**
- * Whether time runs at once in a new session of an example.
+ * Returns whether time runs at once in a new session of an example.
  * @param {Example} example
  */
 export function runsAtOnce({ program, lines }) {

@@ -1,11 +1,10 @@
 // Requests about the module, and about files and texts that are not the session's.
 
-import { refusalOf } from "../bench/answers.js";
-import { findBoardFault } from "../bench/board_fault.js";
+import { readErrors, readWiring } from "../bench/text_judgement.js";
 import { Engine } from "./engine.js";
 import { linesOfExample } from "./examples.js";
 import { textsOfFile } from "./texts_of_file.js";
-import { tryTexts } from "./trying.js";
+import { dryRun } from "./dry_run.js";
 
 /**
  * @typedef {import("./open_bench.js").OpenBench} OpenBench
@@ -19,7 +18,7 @@ export class FileRequests {
   }
 
   /**
-   * Gives how many bytes a session file has.
+   * Returns how many bytes a session file has.
    * @param {ArrayBuffer} module
    * @param {Example[]} examples
    */
@@ -30,7 +29,7 @@ export class FileRequests {
   }
 
   /**
-   * The same session as this bench writes it, by a snapshot without records; throws where bytes hold no session.
+   * Returns the same session as this bench writes it, by a snapshot without records; throws if bytes are not a session.
    * @param {Uint8Array} file
    */
   settled(file) {
@@ -58,23 +57,28 @@ export class FileRequests {
   }
 
   /**
-   * The file of a new session with texts from elsewhere, and what is refused of them.
-   * @param {import("./trying.js").Texts} texts
+   * Returns the file of a new session with texts from elsewhere, and their refusals.
+   * @param {import("./dry_run.js").Texts} texts
    */
-  tryTexts(texts) {
-    return tryTexts(this.bench.engine, texts);
+  dryRun(texts) {
+    return dryRun(this.bench.engine, texts);
   }
 
   /**
-   * The lines of a board's text that make it refused by this number, or null.
-   * @param {string} text
-   * @param {number} number
+   * Returns what is wrong with a board's text; null if nothing is.
+   * @param {string} sent
    */
-  boardFault(text, number) {
-    const empty = this.bench.engine.begin();
-    return findBoardFault(text, number, (part) => {
-      const refusal = refusalOf(this.bench.engine.ask(empty, `wire\n${part}.\n`).answers[0]);
-      return refusal ? refusal.number : 0;
-    });
+  wiring(sent) {
+    const { engine } = this.bench;
+    return readWiring(engine.ask(engine.begin(), `wiring\n${sent}.\n`).answers[0]);
+  }
+
+  /**
+   * Returns the errors of a program's lines.
+   * @param {string} sent
+   */
+  errors(sent) {
+    const { engine } = this.bench;
+    return readErrors(engine.ask(engine.begin(), `errors\n${sent}.\n`).answers);
   }
 }

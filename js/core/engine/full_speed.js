@@ -1,6 +1,6 @@
-// Full speed, in the worker: batches of cycles one after the other, and when they are told.
+// Full speed, in the worker: batches of cycles one after the other, and when they are reported.
 
-import { Ran } from "../bench/ran.js";
+import { RunLog } from "../bench/run_log.js";
 import { NO_TALLY, bothTallies } from "../debug/debugger.js";
 
 /**
@@ -8,20 +8,20 @@ import { NO_TALLY, bothTallies } from "../debug/debugger.js";
  * @typedef {{ advance: (cycles: number) => DebugFrame }} Machine
  */
 
-/** A batch takes about so many milliseconds. */
+/** The duration of a batch, in milliseconds. */
 const BATCH_TIME = 50;
 const FIRST_BATCH = 50000;
 const LARGEST_BATCH = 8000000;
-/** A page that is hidden is told once in so many milliseconds, for it to keep the session. */
+/** The milliseconds between reports to a hidden page, which saves the session then. */
 const HIDDEN_TIME = 1000;
 
 /**
- * Nothing done yet: the cycles, the answer that ended the run early, why time stopped, what breakpoints did, whether a key was changed, the
- * answers of the last look, and what was lit, heard and warmed, which is not asked for here.
+ * The empty report: the cycles, the answer that ended the run early, why time stopped, the work of breakpoints, whether a key was changed,
+ * the answers of the last snapshot; and light, sound and changes of RAM, which are not asked for here.
  * @returns {Omit<DebugFrame, "ran">}
  */
 function nothing() {
-  return { cycles: 0, end: "", stop: null, tally: NO_TALLY, changesKeys: false, look: [], shone: null, heard: null, warmed: null };
+  return { cycles: 0, end: "", stop: null, tally: NO_TALLY, changesKeys: false, snapshot: [], litShares: null, heard: null, warmed: null };
 }
 
 export class FullSpeed {
@@ -29,8 +29,8 @@ export class FullSpeed {
     this.isOn = false;
     this.isHidden = false;
     this.size = FIRST_BATCH;
-    this.told = 0;
-    this.ran = new Ran();
+    this.lastReport = 0;
+    this.ran = new RunLog();
     this.since = nothing();
   }
 
@@ -52,10 +52,11 @@ export class FullSpeed {
     const time = performance.now() - begun;
     this.ran.add(frame.ran);
     const { cycles, changesKeys, tally } = this.since;
-    const { end, stop, look } = frame;
+    const { end, stop, snapshot } = frame;
     this.since = {
-      cycles: cycles + frame.cycles, end, stop, look, tally: bothTallies(tally, frame.tally), changesKeys: changesKeys || frame.changesKeys,
-      shone: null,
+      cycles: cycles + frame.cycles, end, stop, snapshot, tally: bothTallies(tally, frame.tally),
+      changesKeys: changesKeys || frame.changesKeys,
+      litShares: null,
       heard: null,
       warmed: null,
     };
@@ -64,18 +65,18 @@ export class FullSpeed {
     this.size = Math.round(Math.min(LARGEST_BATCH, Math.max(FIRST_BATCH, wanted)));
   }
 
-  /** @param {boolean} isAwaited whether the page has taken what was told before */
-  isToBeTold(isAwaited) {
+  /** @param {boolean} isAwaited whether the page has accepted the former report */
+  isReportDue(isAwaited) {
     if (!this.isOn) return true;
-    return isAwaited && (!this.isHidden || this.since.changesKeys || performance.now() - this.told >= HIDDEN_TIME);
+    return isAwaited && (!this.isHidden || this.since.changesKeys || performance.now() - this.lastReport >= HIDDEN_TIME);
   }
 
   /**
-   * What was done since this was told last.
+   * Returns what was done since the last report.
    * @returns {DebugFrame}
    */
   take() {
-    this.told = performance.now();
+    this.lastReport = performance.now();
     const { since } = this;
     this.since = nothing();
     return { ...since, ran: this.ran.take() };

@@ -1,5 +1,5 @@
-// Where going back leads to: the last stop, the beginning of the last instruction, before the last change of a place, or the last arrival
-// at a breakpoint (last_arrival.js).
+// The moments that going back leads to: the last stop, the beginning of the last instruction, before the last change of a place, or the
+// last arrival at a breakpoint (last_arrival.js).
 
 import { readBoard, readCounter } from "../bench/answers.js";
 import { Cancelled } from "../bench/faults.js";
@@ -17,42 +17,41 @@ import { cyclesOf, piecesOf, unitsBetween } from "./units.js";
  * @typedef {import("./timeline.js").Moment} Moment
  * @typedef {import("./timeline.js").Timeline} Timeline
  * @typedef {import("./units.js").Unit} Unit
- * @typedef {{ kind: "stop" } | { kind: "instruction" } | { kind: "change", place: string } | { kind: "arrival", place: string }
- *   | { kind: "when", condition: string, asked?: import("../debug/becoming.js").Asked }
- *   | { kind: "call", call: number, returns: string[] }} BackGoal an arrival at a breakpoint, or before a change of what is watched,
- *   `place` too, "" for none; before a condition becomes true, which the debugger has read as `asked`; or the beginning of a subroutine
- *   that is open, by the address of its JMS and the return addresses that waited then
+ * @typedef {{ kind: "stop" } | { kind: "instruction" } | { kind: "change", place: string } | { kind: "arrival", place: string } | { kind:
+ * "when", condition: string, asked?: import("../debug/becoming.js").Asked } | { kind: "call", call: number, returns: string[] }} BackGoal
+ * an arrival at a breakpoint, or before a change of what is watched, including `place`, "" for none; before a condition becomes true, which
+ * the debugger has read as `asked`; or the beginning of an open subroutine, by the address of its JMS and the return addresses then
  *
- * The moment, or null and why there is none: the past does not reach so far, or the board lacks the place. Of a change, its place, what it
- * was from and to, and the command that made it, "" where an instruction did. Of an arrival, what is there: a breakpoint, with its id, a
- * change, or nothing but the beginning of what is remembered.
- * @typedef {{ moment: Moment | null, why: "" | "short" | "lacks", place: string, from: string, to: string, line: string,
- *   end: "" | "break" | "change" | "beginning", id: number, present: import("./timeline.js").Present | null }} Aim `present` is what the
- *   session was then, where that is known
+ * The moment, or null and why there is none: the past does not reach that far, or the board lacks the place. For a change, its place, its
+ * old and new value, and the command that made it, "" if an instruction did. For an arrival, its kind: a breakpoint, with its id, a change,
+ * or only the beginning of the remembered past.
+ * @typedef {{ moment: Moment | null, why: "" | "short" | "lacks", place: string, from: string, to: string, line: string, end: "" | "break"
+ * | "change" | "beginning", id: number, present: import("./timeline.js").Present | null }} Aim `present` is the session at that moment, if
+ * it is known
  *
- * Looks for something in the past: it begins at a moment, which is the session then; it gives the last that it finds among some units,
- * which follow each other, and does them on that session's file.
+ * A search of the past. It begins at a moment, with the session of that time. It returns the last match among some consecutive units, and
+ * does them on that session's file.
  * @typedef {{ begin: (present: import("./timeline.js").Present) => void, among: (units: Unit[]) => Aim | null }} Finder
  */
 
-/** The cycles before the present that are looked through first; each further stretch is so many times as long. */
+/** The cycles before the present that are searched first; each further stretch is this many times as long. */
 const FIRST_BLOCK = 500;
 const LONGER = 8;
 const LARGEST_BLOCK = 4000000;
 
-/** @type {Omit<Aim, "moment" | "present">} what is told where nothing was looked for */
-export const NOTHING_TOLD = { why: "", place: "", from: "", to: "", line: "", end: "", id: 0 };
+/** @type {Omit<Aim, "moment" | "present">} the report if nothing was searched for */
+export const EMPTY_REPORT = { why: "", place: "", from: "", to: "", line: "", end: "", id: 0 };
 
 /**
  * @param {Partial<Aim>} some
  * @returns {Aim}
  */
 export function aim(some) {
-  return { moment: null, present: null, ...NOTHING_TOLD, ...some };
+  return { moment: null, present: null, ...EMPTY_REPORT, ...some };
 }
 
 /**
- * The beginning of the last instruction: one or two cycles ago, where none is owed.
+ * Returns the beginning of the last instruction: one or two cycles ago, unless a second cycle is pending.
  * @param {Engine} engine
  * @param {Timeline} timeline
  * @param {GoesOn} goesOn
@@ -86,26 +85,26 @@ export class LastChange {
     this.file = file;
   }
 
-  /** @param {Unit[]} units which are asked about ahead */
+  /** @param {Unit[]} units which are queried before they are done */
   among(units) {
     const { engine, file, probes } = this;
     /** @type {Aim | null} */
     let found = null;
     changesIn(engine, file, units, [probes], ({ before, after, unit, cycles, line }) => {
       const moment = { ...unit.moment, cycles: unit.moment.cycles + cycles };
-      const told = this.told(before, after);
-      if (told) found = aim({ moment, line, ...told, end: "change" });
+      const change = this.changeBetween(before, after);
+      if (change) found = aim({ moment, line, ...change, end: "change" });
     });
     return found;
   }
 
   /**
-   * What is told of a change; null where it is none that is looked for.
+   * Returns the report of a change, or null if it is not the wanted one.
    * @param {string} before the rows of the places
    * @param {string} after
    * @returns {Partial<Aim> | null}
    */
-  told(before, after) {
+  changeBetween(before, after) {
     const { place } = this;
     if (!place) return null;
     const [from, to] = [before, after].map((row) => place.value(valuesOf(row)));
@@ -113,7 +112,7 @@ export class LastChange {
   }
 }
 
-/** Finds where a condition became true last. */
+/** Finds the last time that a condition became true. */
 class LastBecoming extends LastChange {
   /**
    * @param {Engine} engine
@@ -128,23 +127,23 @@ class LastBecoming extends LastChange {
    * @param {string} before
    * @param {string} after
    */
-  told(before, after) {
+  changeBetween(before, after) {
     return becomesTrue(this.asked, before, after) ? {} : null;
   }
 }
 
 /**
- * What was last in the past: it is looked for block by block from the present on.
+ * Resolves to the last match in the past, searched block by block from the present.
  * @param {Engine} engine
  * @param {Timeline} timeline
  * @param {Finder} finder
  * @param {GoesOn} goesOn
- * @returns {Promise<{ found: Aim | null, beginning: Moment }>} `beginning` of what is remembered, where nothing was found
+ * @returns {Promise<{ found: Aim | null, beginning: Moment }>} `beginning` of the remembered past, if nothing was found
  */
 export async function lastInPast(engine, timeline, finder, goesOn) {
   let to = timeline.end;
   for (let size = FIRST_BLOCK; ; size = Math.min(LARGEST_BLOCK, size * LONGER)) {
-    // At the beginning of a segment goes on at the end of the one before it.
+    // At the beginning of a segment, continues at the end of the one before it.
     if (to.entry === 0 && to.cycles === 0) {
       if (!timeline.segments[to.segment].follows) return { found: null, beginning: to };
       const { entries } = timeline.segments[to.segment - 1];
@@ -165,7 +164,7 @@ export async function lastInPast(engine, timeline, finder, goesOn) {
 }
 
 /**
- * What finds the last change of a place; null where the board lacks it.
+ * Returns the finder of a place's last change, or null if the board lacks the place.
  * @param {Engine} engine
  * @param {Uint8Array} file
  * @param {string} name

@@ -1,5 +1,5 @@
-// How often each character of RAM has changed lately, and when and by what it did last: the past is done again on a copy, and the bench
-// tells ahead what each unit of it changes. A write of the same value is no change.
+// Recent changes of RAM: how often each character has changed, and when and by what last. The past is done again on a copy, and the bench
+// forecasts the changes of each unit of it. A write of the same value is not a change.
 
 import { Cancelled } from "../bench/faults.js";
 import { hex, upTo } from "../bench/numbers.js";
@@ -18,18 +18,18 @@ import { cyclesOf, piecesOf, shortUnits, unitsBetween } from "./units.js";
  * @typedef {import("./timeline.js").Timeline} Timeline
  * @typedef {import("./units.js").Unit} Unit
  *
- * A place that has changed, as `poke` calls it: how often; of the last time how many cycles ago, and the address of the instruction that
- * did it, or -1 and the command.
+ * A changed place, by its name for `poke`: how often; and for the last change how many cycles ago, and the address of the instruction that
+ * made it, or -1 and the command.
  * @typedef {{ place: string, count: number, ago: number, address: number, line: string }} Heated
- * @typedef {{ cycles: number, cells: Heated[] }} Heat over so many cycles, fewer than wanted where the past does not reach so far
+ * @typedef {{ cycles: number, cells: Heated[] }} Heat over this many cycles, fewer than wanted if the past does not reach that far
  */
 
 const REGISTERS = 4;
-/** The characters of a register are as many places as `trace` takes: those of a chip are as many groups, and its status is one. */
+/** The characters of a register are as many places as `trace` accepts: those of a chip are as many groups, and its status is one. */
 export const GROUPS_OF_CHIP = REGISTERS + 1;
 
 /**
- * The places of `trace` for all characters of a board's RAM, as many together as it takes.
+ * Returns the places of `trace` for all characters of a board's RAM, in groups as large as it accepts.
  * @param {Board} board
  */
 export function charactersOf({ banks }) {
@@ -41,7 +41,7 @@ export function charactersOf({ banks }) {
 }
 
 /**
- * Where so many cycles back is; where the past does not reach so far, its beginning.
+ * Returns the moment this many cycles ago, or the beginning of the past if it is shorter.
  * @param {Timeline} timeline
  * @param {number} cycles
  * @returns {Moment}
@@ -54,12 +54,12 @@ function beginOf(timeline, cycles) {
   return { segment, entry: 0, cycles: 0 };
 }
 
-/** Gathers changes into what is told of each place. */
+/** Collects changes by place. */
 export class Counting {
   /** @param {string[][]} groups */
   constructor(groups) {
     this.groups = groups;
-    /** How many cycles are done. */
+    /** The number of cycles done. */
     this.cycles = 0;
     /** @type {Map<string, Heated & { at: number }>} */
     this.cells = new Map();
@@ -102,7 +102,7 @@ export class Counting {
 }
 
 /**
- * Looks through the past up to here.
+ * Searches the past up to now.
  * @param {Engine} engine
  * @param {Timeline} timeline
  * @param {Board} board

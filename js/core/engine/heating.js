@@ -1,5 +1,5 @@
-// Which characters of RAM change while time runs, by the answers to `trace` before each run: of one chip after the other, so that a frame
-// takes as long on a board of many.
+// The RAM nibbles that change while time runs, from the answers to `trace` before each run: one chip after the other, so that a frame takes
+// no longer on a board of many.
 
 import { Counting, GROUPS_OF_CHIP, charactersOf } from "./heat.js";
 import { Answers, readTraced } from "./tracing.js";
@@ -7,7 +7,7 @@ import { Answers, readTraced } from "./tracing.js";
 /**
  * @typedef {import("../bench/answers.js").Board} Board
  * @typedef {import("./heat.js").Heat} Heat
- * @typedef {Heat & { chips: number }} PassedHeat of the cycles that were looked at, in one of so many chips
+ * @typedef {Heat & { chips: number }} PassedHeat of the cycles that were examined, in one of this many chips
  */
 
 export class Heating {
@@ -16,7 +16,7 @@ export class Heating {
     const groups = charactersOf(board);
     this.chips = groups.length / GROUPS_OF_CHIP;
     this.all = groups;
-    /** The chip that is looked at now. */
+    /** The chip that is watched now. */
     this.chip = 0;
   }
 
@@ -40,13 +40,13 @@ export class Heating {
   }
 
   /**
-   * What changed by the answers to the questions before runs; the next chip comes then.
-   * @param {string[][]} told line by line
+   * Returns the changes, from the answers to the queries before runs, and moves to the next chip.
+   * @param {string[][]} answerLists line by line
    * @returns {PassedHeat}
    */
-  take(told) {
+  take(answerLists) {
     const counting = new Counting(this.groups);
-    for (const answers of told) if (answers.length > 0) this.add(counting, new Answers(answers));
+    for (const answers of answerLists) if (answers.length > 0) this.add(counting, new Answers(answers));
     this.chip = (this.chip + 1) % this.chips;
     return { ...counting.heat, chips: this.chips };
   }

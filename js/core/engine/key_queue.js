@@ -1,5 +1,5 @@
-// Changes of keys that wait for their time. A program reads the keys only now and then, so that a key has to stay down, and then up,
-// for some time to be seen, however short the press was.
+// Changes of keys that wait for their time. A program reads the keys only from time to time, so a key must stay down, and then up, long
+// enough to be seen, however short the press was.
 
 import { isSameKey, lineOfKey } from "../board/key_place.js";
 import { KEY_DOWN_CYCLES, KEY_UP_CYCLES } from "../time/mcs4_time.js";
@@ -8,7 +8,7 @@ import { KEY_DOWN_CYCLES, KEY_UP_CYCLES } from "../time/mcs4_time.js";
 export const LONGEST_RUN = 100000;
 
 /**
- * A run of any length, in runs that the bench takes.
+ * Returns a run of any length as runs that the bench accepts.
  * @param {number} cycles
  */
 export function runLines(cycles) {
@@ -24,7 +24,7 @@ export function runLines(cycles) {
  */
 
 /**
- * How many cycles have to pass after a change.
+ * Returns how many cycles must pass after a change.
  * @param {Change} change
  */
 function cyclesAfter(change) {
@@ -35,7 +35,7 @@ export class KeyQueue {
   constructor() {
     /** @type {Change[]} */
     this.changes = [];
-    /** How many cycles have to pass before the next change. */
+    /** The cycles that must pass before the next change. */
     this.wait = 0;
   }
 
@@ -63,7 +63,7 @@ export class KeyQueue {
   }
 
   /**
-   * The lines of so many cycles: those of runs, and between them the changes of keys that are due.
+   * Returns the lines for this many cycles: those of runs, and between them the changes of keys that are due.
    * @param {number} cycles
    * @returns {PlannedLine[]}
    */
@@ -90,9 +90,9 @@ export class KeyQueue {
   }
 
   /**
-   * Takes note of lines that were done; the last run may have been shorter.
+   * Notes lines that were done; the last run may have been shorter.
    * @param {PlannedLine[]} planned
-   * @param {(at: number) => number} cyclesOf how many cycles a run took
+   * @param {(at: number) => number} cyclesOf the cycles of a run
    */
   done(planned, cyclesOf) {
     planned.forEach(({ change }, at) => {

@@ -1,5 +1,5 @@
-// Records while time runs: before each run the bench is asked what it will do, in the same call. Nothing else of what time does is changed,
-// but where it is to stop at the end of a recording with a trigger. What was recorded is taken part by part.
+// The recorder of running time: before each run the bench is asked what it will do, in the same call. Time is not affected otherwise,
+// unless it is to stop at the end of a recording with a trigger. The recording is fetched part by part.
 
 import { readBoard, readRun } from "../bench/answers.js";
 import { ADDRESSES } from "../bench/rom_bytes.js";
@@ -19,11 +19,11 @@ import { RECORDED_CYCLES, RECORDED_UNITS } from "./pieces.js";
  * @typedef {import("./wave_recorder.js").Texts} Texts
  * @typedef {import("../waves/trigger.js").Trigger} Trigger
  *
- * What is wanted: how many cycles behind the trigger, and whether time stops at its end.
+ * The settings: how many cycles follow the trigger, and whether time stops at the end.
  * @typedef {{ behind: number, stopsTime: boolean }} LiveWanted
  *
- * A part of a recording. `triggered`: the moment of the trigger, -1 for none yet; `over`: why nothing more is recorded, "" where it goes
- * on: "trigger", "board", "program", "back", "lines", "long".
+ * A part of a recording. `triggered`: the moment of the trigger, -1 for none yet; `over`: why recording ended, "" if it continues:
+ * "trigger", "board", "program", "back", "lines", "long".
  * @typedef {RecordedPart & { triggered: number, over: string }} LivePart
  */
 
@@ -33,7 +33,7 @@ const LONGEST = 4000000000;
 export class LiveRecorder {
   /**
    * @param {Engine} engine
-   * @param {Uint8Array} file the session from here on
+   * @param {Uint8Array} file the session from now on
    * @param {Texts} texts
    */
   constructor(engine, file, texts) {
@@ -49,7 +49,7 @@ export class LiveRecorder {
     this.triggered = -1;
     this.over = "";
     this.held = true;
-    /** Whether time is to stop, since all is recorded. */
+    /** True if time is to stop, since all is recorded. */
     this.stops = false;
     this.listed = new Uint8Array(ADDRESSES);
     this.places = "";
@@ -69,13 +69,13 @@ export class LiveRecorder {
     return this.over === "";
   }
 
-  /** The moment where it ends, once its trigger came. */
+  /** The moment of its end, once the trigger has come. */
   get end() {
     return this.triggered < 0 ? Infinity : this.triggered + this.wanted.behind;
   }
 
   /**
-   * What it holds, as a recording that goes on.
+   * Returns its content as a recording in progress.
    * @param {Uint8Array} file
    * @returns {Recorded}
    */
@@ -84,7 +84,7 @@ export class LiveRecorder {
   }
 
   /**
-   * What was recorded since this was called last.
+   * Returns what was recorded since the last call.
    * @param {Uint8Array} file
    * @returns {LivePart}
    */
@@ -103,7 +103,7 @@ export class LiveRecorder {
   // --- time that runs ---
 
   /**
-   * What is asked before a run of so many cycles.
+   * Returns the queries before a run of this many cycles.
    * @param {number} cycles
    */
   questions(cycles) {
@@ -119,10 +119,10 @@ export class LiveRecorder {
   }
 
   /**
-   * Takes what lines did; gives after how many of their cycles time stops, -1 where it goes on.
+   * Records the effect of lines; returns after how many of their cycles time stops, -1 if it continues.
    * @param {SentLine[]} planned
    * @param {string[][]} traced
-   * @param {string[]} answers of the lines, and behind them that to `state`
+   * @param {string[]} answers of the lines, and after them that to `state`
    */
   take(planned, traced, answers) {
     const { taking, trigger } = this;
@@ -130,14 +130,14 @@ export class LiveRecorder {
     const counted = taking.moments.count;
     const counts = trigger ? trigger.members.map((member) => taking.tracks[member].moments.count) : [];
     planned.forEach(({ change }, at) => {
-      const told = new Answers(traced[at]);
+      const traceAnswers = new Answers(traced[at]);
       if (change) {
-        taking.takeState(told.take());
+        taking.takeState(traceAnswers.take());
         return;
       }
       const from = taking.elapsed;
-      taking.takeQuestions(told);
-      if (this.places) this.takeCondition(told, from);
+      taking.takeQuestions(traceAnswers);
+      if (this.places) this.takeCondition(traceAnswers, from);
       taking.takeEnd(readRun(answers[at]) || { cycles: 0, end: answers[at] });
     });
     taking.takeState(answers[planned.length]);
@@ -147,12 +147,12 @@ export class LiveRecorder {
   }
 
   /**
-   * The first moment at which a condition becomes true.
-   * @param {Answers} told
+   * Returns the first moment at which a condition becomes true.
+   * @param {Answers} answers
    * @param {number} from the moment before the run
    */
-  takeCondition(told, from) {
-    const { row, lines } = told.takeTrace();
+  takeCondition(answers, from) {
+    const { row, lines } = answers.takeTrace();
     this.look(valuesOf(row), from);
     for (const line of lines) {
       const traced = readTraced(line);
@@ -171,7 +171,7 @@ export class LiveRecorder {
   }
 
   /**
-   * The first edge that is wanted behind so many changes of each line.
+   * Returns the first matching edge after this many changes of each line.
    * @param {Trigger} trigger
    * @param {number[]} counts
    */
@@ -187,7 +187,7 @@ export class LiveRecorder {
   }
 
   /**
-   * The first instruction at an address, behind so many that were begun; where it stood when recording began is none.
+   * Returns the first instruction at an address, after this many that were begun; the instruction at which recording began does not count.
    * @param {number} address
    * @param {number} counted
    */
@@ -199,9 +199,9 @@ export class LiveRecorder {
   }
 
   /**
-   * Whether all is recorded; gives after how many cycles since a moment time stops: where the next instruction begins.
+   * Returns whether all is recorded; and after how many cycles since a moment time stops: at the next instruction.
    * @param {number} begun
-   * @param {number} counted how many instructions were begun by then
+   * @param {number} counted how many instructions were begun so far
    */
   ended(begun, counted) {
     const { taking, end, wanted } = this;
@@ -215,11 +215,11 @@ export class LiveRecorder {
     return (next === undefined ? taking.elapsed : next) - begun;
   }
 
-  // --- what is done while time stands still ---
+  // --- while time is paused ---
 
   /**
-   * Follows what was done by lines: it is done again on a copy.
-   * @param {Uint8Array} file as it was before; it is changed
+   * Follows lines that were served: they are done again on a copy.
+   * @param {Uint8Array} file the former state; it is changed
    * @param {Accepted[]} accepted
    */
   follow(file, accepted) {
@@ -232,7 +232,7 @@ export class LiveRecorder {
       for (let cycles = 0; at < end && cycles < RECORDED_CYCLES; at++) cycles += accepted[at].cycles;
       const planned = accepted.slice(begun, at).map(sentAgain);
       const served = engine.serve(file, `${askedLines(planned, [this])}state\n`, file);
-      const { told: [traced], answers } = partedAnswers(planned, [this], served.answers);
+      const { askerAnswers: [traced], answers } = partedAnswers(planned, [this], served.answers);
       this.take(planned, traced, answers);
       this.stops = false;
     }

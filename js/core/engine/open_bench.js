@@ -1,4 +1,4 @@
-// What all requests work on: the module, the session that is open with its debugger, and what is shown of it.
+// The state that all requests share: the module, the open session with its debugger, and its snapshot.
 
 import { readBoard } from "../bench/answers.js";
 import { Face } from "../board/face.js";
@@ -15,21 +15,21 @@ import { differenceOf, readProgram } from "./program_check.js";
  * @typedef {import("./program_check.js").Checked} Checked
  * @typedef {import("./program_check.js").Program} Program
  * @typedef {import("../bench/protocol.js").Frame} Frame
- * @typedef {import("../debug/usual_faults.js").Kind} Kind
+ * @typedef {import("../debug/common_mistakes.js").Kind} Kind
  * @typedef {import("../bench/protocol.js").ServedLines} ServedLines
  * @typedef {import("../bench/protocol.js").Shown} Shown
  * @typedef {import("../debug/debugger.js").Debugger} Debugger
  * @typedef {import("./engine.js").Engine} Engine
- * @typedef {{ board: string, program: string, values?: string[], watched?: string[] }} WaveTexts the texts that have the names of a
- *   recording's lines, what is recorded beside the lines of the board, by its names, and the values that are watched
- * @typedef {(done: number, total: number) => Promise<boolean>} GoesOn is told how far long work is, and says whether to go on
+ * @typedef {{ board: string, program: string, values?: string[], watched?: string[] }} WaveTexts the texts with the names of a recording's
+ * lines, the values that are recorded in addition to the lines of the board, by their names, and the watched values
+ * @typedef {(done: number, total: number) => Promise<boolean>} GoesOn receives the progress of long work, and returns whether to continue
  */
 
 export class OpenBench {
   /** @param {GoesOn} goesOn */
   constructor(goesOn) {
     this.goesOn = goesOn;
-    /** @type {ArrayBuffer[]} arrays that a file can go to the page in; the page gives each one back */
+    /** @type {ArrayBuffer[]} arrays in which a file can be sent to the page, which returns each one */
     this.spare = [];
     this.fullSpeed = new FullSpeed();
     /** @type {Engine | null} */
@@ -59,24 +59,24 @@ export class OpenBench {
   }
 
   /**
-   * What the session is now; its file is copied into an array that goes to the page.
-   * @param {string[]} look
-   * @param {boolean} tellsBoard
+   * Returns the present state of the session, with its file in an array that is sent to the page.
+   * @param {string[]} snapshot
+   * @param {boolean} showsBoard
    * @returns {Shown}
    */
-  shown(look, tellsBoard) {
-    const { file, lookQuestions, count, timeline, printing, queue } = this.session;
+  shown(snapshot, showsBoard) {
+    const { file, statusQueries, count, timeline, printing, queue } = this.session;
     const buffer = this.spare.pop() || new ArrayBuffer(file.length);
     new Uint8Array(buffer).set(file);
-    const board = tellsBoard ? lookQuestions.board : null;
+    const board = showsBoard ? statusQueries.board : null;
     const waves = this.recordedPart();
     const past = timeline.takeNews();
     const printed = printing && printing.takeNews(count.total);
     const { total, reset } = count;
-    return { look, file: buffer, board, total, reset, future: timeline.future.length, past, waves, printed, waiting: queue.changes };
+    return { snapshot, file: buffer, board, total, reset, future: timeline.future.length, past, waves, printed, waiting: queue.changes };
   }
 
-  /** What was recorded since it was told last; null where nothing is recorded. */
+  /** Returns what was recorded since the last report, or null if nothing is recorded. */
   recordedPart() {
     const { session } = this;
     const { recorder, file } = session;
@@ -95,37 +95,37 @@ export class OpenBench {
   }
 
   /**
-   * What came of lines, and what is shown then.
-   * @param {() => Promise<import("./worker_session.js").ToldAndSeen>} serve
+   * Resolves to the result of lines, and the state to show.
+   * @param {() => Promise<import("./worker_session.js").ResultAndSnapshot>} serve
    * @returns {Promise<ServedLines>}
    */
   async served(serve) {
     const { reset } = this.session.count;
-    const { look, ...told } = await serve();
+    const { snapshot, ...result } = await serve();
     this.debugger.usual.forget();
     // After a reset no subroutine returns.
     if (this.session.count.reset !== reset) this.debugger.begin();
-    return { ...told, ...this.shown(look, told.wires) };
+    return { ...result, ...this.shown(snapshot, result.wires) };
   }
 
   /**
-   * Where there are no lines to serve.
+   * Returns the state to show without serving lines.
    * @returns {ServedLines}
    */
   nothingServed() {
-    return { entries: [], first: "", status: 0, touchesRom: false, wires: false, ...this.shown(this.session.look(), false) };
+    return { entries: [], first: "", status: 0, touchesRom: false, wires: false, ...this.shown(this.session.takeSnapshot(), false) };
   }
 
   /**
-   * Where a program's lines and names are, and whether it is what stands in ROM.
+   * Returns the map of a program, and whether ROM has its bytes.
    * @param {string} text as it is sent
    * @returns {Checked}
    */
   checkProgram(text) {
     if (!this.program || this.program.text !== text) this.program = readProgram(this.engine, text);
     const { map, refusal } = this.program;
-    const { file, lookQuestions } = this.session;
-    const difference = differenceOf(this.engine, file, lookQuestions.board, this.program);
+    const { file, statusQueries } = this.session;
+    const difference = differenceOf(this.engine, file, statusQueries.board, this.program);
     const isInRom = refusal === null && difference === null && map.length > 0;
     this.debugger.usual.map = isInRom ? new SourceMap(map, text) : null;
     return { map, refusal, difference };
@@ -138,12 +138,12 @@ export class OpenBench {
   namesOf({ board, program, watched }) {
     const sent = sentText(program, ";");
     const { map } = this.checkProgram(sent);
-    return { face: new Face(board), board: readBoard(this.session.lookQuestions.board), map: new SourceMap(map, sent),
+    return { face: new Face(board), board: readBoard(this.session.statusQueries.board), map: new SourceMap(map, sent),
       watched: namesOfWatched(watched) };
   }
 
   /**
-   * What is known of a recording's lines.
+   * Returns the names and labels for a recording's lines.
    * @param {WaveTexts} texts
    */
   knownOf({ board, program, values = [] }) {
@@ -151,29 +151,29 @@ export class OpenBench {
   }
 
   /**
-   * What time at full speed has done since it was told last.
+   * Returns what full speed has done since the last report.
    * @returns {Frame}
    */
-  untold() {
-    const { tally, ...told } = this.fullSpeed.take();
+  takeUnreported() {
+    const { tally, ...result } = this.fullSpeed.take();
     const late = { ...NO_TALLY, usual: this.debugger.takeLate() };
-    return { ...told, tally: bothTallies(late, tally), ...this.shown(this.session.look(), false) };
+    return { ...result, tally: bothTallies(late, tally), ...this.shown(this.session.takeSnapshot(), false) };
   }
 
-  /** What lamps did not wait for is done, once they are told. */
+  /** Does the work that the lamps did not wait for, after they were reported. */
   lookBack() {
     if (this.opened) this.opened.lookBack();
   }
 
   /**
-   * A batch at full speed; null where it is not told now. It is told where the page has given an array back, so that it is never
+   * Reports a batch at full speed; null if it is not reported now. A report needs an array that the page has returned, so the page is never
    * flooded.
    * @returns {Frame | null}
    */
   batch() {
     this.fullSpeed.batch(this.debugger);
-    if (!this.fullSpeed.isToBeTold(this.spare.length > 0)) return null;
-    const { look, ...told } = this.fullSpeed.take();
-    return { ...told, ...this.session.senseAhead(), ...this.shown(look, false) };
+    if (!this.fullSpeed.isReportDue(this.spare.length > 0)) return null;
+    const { snapshot, ...result } = this.fullSpeed.take();
+    return { ...result, ...this.session.senseAhead(), ...this.shown(snapshot, false) };
   }
 }

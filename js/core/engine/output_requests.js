@@ -1,10 +1,10 @@
-// Requests for what time does to lamps, RAM, the buzzer and the printer; the frames have the answers.
+// Requests for the effect of time on lamps, RAM, the buzzer and the printer; the frames contain the answers.
 
 import { readBoard } from "../bench/answers.js";
 import { Face } from "../board/face.js";
 import { Heating } from "./heating.js";
 import { Printing } from "./printing.js";
-import { Shining } from "./shining.js";
+import { BrightnessMeter } from "./brightness_meter.js";
 import { Sounding } from "./sounding.js";
 
 /**
@@ -18,28 +18,28 @@ export class OutputRequests {
   }
 
   /**
-   * From here on, while time runs, it is told how long lamps are lit; where the board has any.
+   * Starts the reports, while time runs, of how long lamps are on; if the board has any.
    * @param {string} boardText has the face
-   * @param {number} number of the face, which is told again
+   * @param {number} number of the face, which is reported again
    */
   watchLamps(boardText, number) {
     if (!this.bench.opened) return;
-    const { lamps } = readBoard(this.bench.session.lookQuestions.board);
-    this.bench.session.shining = lamps.length > 0 ? new Shining(new Face(boardText), lamps.length, number) : null;
+    const { lamps } = readBoard(this.bench.session.statusQueries.board);
+    this.bench.session.brightnessMeter = lamps.length > 0 ? new BrightnessMeter(new Face(boardText), lamps.length, number) : null;
   }
 
   /**
-   * From here on, while time runs, it is told which characters of RAM change; where the board has any.
+   * Starts the reports, while time runs, of the RAM characters that change; if the board has any.
    * @param {boolean} isOn
    */
   watchRam(isOn) {
     if (!this.bench.opened) return;
-    const board = readBoard(this.bench.session.lookQuestions.board);
+    const board = readBoard(this.bench.session.statusQueries.board);
     this.bench.session.heating = isOn && board.banks.length > 0 ? new Heating(board) : null;
   }
 
   /**
-   * From here on, while time runs, the edges of a line are told.
+   * From here on, while time runs, the edges of a line are reported.
    * @param {string} line "" for none
    */
   listenTo(line) {
@@ -47,7 +47,7 @@ export class OutputRequests {
   }
 
   /**
-   * From here on it is told what is sent to a printer; where it is another one than before, its paper is new.
+   * Starts the reports of what is sent to a printer; a different printer has a new printout.
    * @param {{ strobe: string, port: string } | null} printer
    */
   printOn(printer) {
@@ -57,8 +57,8 @@ export class OutputRequests {
     else if (!printing || !printing.isOf(printer)) this.bench.session.printing = new Printing({ ...printer, codes: [] });
   }
 
-  /** What was printed is torn off. */
-  tearPaper() {
-    if (this.bench.session.printing) this.bench.session.printing.tear();
+  /** Clears the printout. */
+  clearPrintout() {
+    if (this.bench.session.printing) this.bench.session.printing.clear();
   }
 }

@@ -1,4 +1,4 @@
-// What changed in a stretch of the past: its units are done again on a copy of the session, and what each will change is asked ahead.
+// The changes in a stretch of the past: its units are done again on a copy of the session, and the bench forecasts the changes of each.
 
 import { Answers, readTraced } from "./tracing.js";
 
@@ -7,15 +7,15 @@ import { Answers, readTraced } from "./tracing.js";
  * @typedef {import("./tracing.js").Trace} Trace
  * @typedef {import("./units.js").Unit} Unit
  *
- * A change: of which group, the rows of what is looked at before and after it, in which unit, how many cycles of that are done before it,
- * and the address of the instruction that made it, or -1 and the command that did.
+ * A change: its group, the rows of the group's values before and after it, its unit, the cycles of the unit before it, and the address of
+ * the instruction that made it, or -1 and the command that did.
  * @typedef {{ group: number, before: string, after: string, unit: Unit, cycles: number, address: number, line: string }} PastChange
  */
 
 /**
- * What the bench tells ahead of each unit, by group, and what stands at the places behind the last one.
+ * Returns the traces ahead of each unit, by group, and the values after the last one.
  * @param {Engine} engine
- * @param {Uint8Array} file is what it is behind the units afterwards
+ * @param {Uint8Array} file is the state after the units afterwards
  * @param {Unit[]} units
  * @param {string[][]} groups
  * @returns {Trace[][]}
@@ -33,12 +33,12 @@ function tracesOf(engine, file, units, groups) {
 }
 
 /**
- * Does units of the past on a file, and tells each change of what is looked at.
+ * Repeats units of the past on a file, and reports each change of the watched values.
  * @param {Engine} engine
  * @param {Uint8Array} file
  * @param {Unit[]} units
- * @param {string[][]} groups places of `trace`, as many together as it takes
- * @param {(change: PastChange) => void} see is told those of the first group first, each group's in their order
+ * @param {string[][]} groups places of `trace`, in groups as large as it accepts
+ * @param {(change: PastChange) => void} see receives those of the first group first, each group's in their order
  */
 export function changesIn(engine, file, units, groups, see) {
   const traces = tracesOf(engine, file, units, groups);

@@ -1,13 +1,13 @@
-// Long work is done in pieces, so that it can tell how far it is, and be cancelled.
+// Long work is done in pieces, so that it can report progress, and be cancelled.
 
-/** A piece takes about so many milliseconds. */
+/** The duration of a piece, in milliseconds. */
 const PIECE_TIME = 40;
-/** The first piece where cycles are gone through one by one. */
+/** The first piece if cycles are searched one by one. */
 export const FIRST_CYCLES = 1000;
-/** So many cycles, and so many units, are looked through at once, of the past or ahead. */
+/** The cycles, and the units, that are searched at once, in the past or ahead. */
 export const LOOKED_CYCLES = 400000;
 export const LOOKED_UNITS = 500;
-/** And so many are recorded. */
+/** The first piece of a recording. */
 export const RECORDED_CYCLES = 50000;
 export const RECORDED_UNITS = 50;
 
@@ -24,7 +24,7 @@ export class PieceSize {
   }
 
   /**
-   * Does a piece, and finds the size of the next one by the time that it takes.
+   * Does a piece, and computes the size of the next one from its duration.
    * @template Result
    * @param {() => Result} act
    * @returns {Result}

@@ -1,5 +1,5 @@
-// What a program sends to the board's printer, by the answers to `trace` before each run. Each code is kept with the cycle at which it
-// came: so what is printed is a function of the run, and after going back only what had come by then is there.
+// The codes that a program sends to the board's printer, from the answers to `trace` before each run. Each code is kept with the cycle at
+// which it came. So the printout depends on the run alone, and after going back only the codes up to then remain.
 
 import { askedLines, partedAnswers, sentAgain } from "./asking.js";
 import { RECORDED_CYCLES, RECORDED_UNITS } from "./pieces.js";
@@ -9,11 +9,11 @@ import { Answers, readTraced, valuesOf } from "./tracing.js";
  * @typedef {import("./accepted.js").Accepted} Accepted
  * @typedef {import("./engine_host.js").EngineHost} Engine
  *
- * The lines of a printer, its strobe and the port of its code, and what was sent: each code with the cycles that were counted when it came.
+ * The lines of a printer, its strobe and the port of its code, and the codes: each with the cycle count when it came.
  * @typedef {{ strobe: string, port: string, codes: [number, number][] }} Printed
  */
 
-/** So many codes are kept: some hundred lines. */
+/** The most codes that are stored: some hundred lines. */
 const MOST_CODES = 4000;
 
 export class Printing {
@@ -22,8 +22,8 @@ export class Printing {
     this.strobe = strobe;
     this.port = port;
     this.codes = [...codes];
-    /** What was told last: how many codes, and when the last one came. */
-    this.told = "";
+    /** The last report: the number of codes, and the time of the last one. */
+    this.lastNews = "";
   }
 
   copy() {
@@ -36,20 +36,20 @@ export class Printing {
   }
 
   /** The paper is torn off. */
-  tear() {
+  clear() {
     this.codes = [];
   }
 
   /**
-   * What has come up to here, where that is another than was told last; else null.
+   * Returns the printout if it differs from the last report; otherwise null.
    * @param {number} total the cycles that were counted up to here
    * @returns {Printed | null}
    */
   takeNews(total) {
     const count = this.countAt(total);
-    const told = `${count} ${count > 0 ? this.codes[count - 1][0] : ""}`;
-    if (told === this.told) return null;
-    this.told = told;
+    const news = `${count} ${count > 0 ? this.codes[count - 1][0] : ""}`;
+    if (news === this.lastNews) return null;
+    this.lastNews = news;
     return { strobe: this.strobe, port: this.port, codes: this.codes.slice(0, count) };
   }
 
@@ -76,14 +76,14 @@ export class Printing {
   }
 
   /**
-   * Takes what was sent, by the answers to the questions before runs; what an instruction changes is there once its first cycle is over.
-   * @param {string[][]} told line by line
+   * Reads the codes from the answers to the queries before runs; the effect of an instruction is there once its first cycle is over.
+   * @param {string[][]} answerLists line by line
    * @param {number} total the cycles that were counted before them
    */
-  take(told, total) {
+  take(answerLists, total) {
     this.codes.length = this.countAt(total);
     let before = total;
-    for (const answers of told) {
+    for (const answers of answerLists) {
       if (answers.length === 0) continue;
       const { row, lines, cycles } = new Answers(answers).takeTrace();
       let [level] = valuesOf(row);
@@ -99,9 +99,9 @@ export class Printing {
   }
 
   /**
-   * Follows what was done by lines: it is done again on a copy.
+   * Follows lines that were served: they are done again on a copy.
    * @param {Engine} engine
-   * @param {Uint8Array} file as it was before; it is changed
+   * @param {Uint8Array} file the former state; it is changed
    * @param {Accepted[]} accepted
    * @param {number} total the cycles that were counted before them
    */
@@ -113,8 +113,8 @@ export class Printing {
       let cycles = 0;
       for (; at < end && cycles < RECORDED_CYCLES; at++) cycles += accepted[at].cycles;
       const planned = accepted.slice(begun, at).map(sentAgain);
-      const { told: [told] } = partedAnswers(planned, [this], engine.serve(file, askedLines(planned, [this]), file).answers);
-      this.take(told, before);
+      const { askerAnswers: [answerLists] } = partedAnswers(planned, [this], engine.serve(file, askedLines(planned, [this]), file).answers);
+      this.take(answerLists, before);
       before += cycles;
     }
   }

@@ -1,4 +1,4 @@
-// Whether a program's text is what stands in ROM: the text is assembled on a session of its own, which has all ROMs, and the bytes are
+// Compares a program's text with ROM: the text is assembled on a session of its own, which has all ROMs, and the bytes are
 // compared.
 
 import { readBoard, readMap, refusalOf } from "../bench/answers.js";
@@ -11,10 +11,10 @@ import { LONGEST_TEXT, TEXT_TOO_LONG } from "../text/text_fault.js";
  * @typedef {import("../bench/answers.js").Refusal} Refusal
  * @typedef {import("./engine_host.js").EngineHost} Engine
  *
- * A program: the answers to `map`, or why the text is refused; and the byte that it puts at each address, -1 where it puts none.
+ * A program: the answers to `map`, or why the text is rejected; and its byte at each address, -1 if it has none.
  * @typedef {{ text: string, map: string[], refusal: Refusal | null, bytes: Int16Array }} Program
  *
- * The first address where ROM has another byte than the program; `hasRom` is false where the board has no ROM there.
+ * The first address at which ROM differs from the program; `hasRom` is false if the board has no ROM there.
  * @typedef {{ address: number, hasRom: boolean }} Difference
  * @typedef {{ map: string[], refusal: Refusal | null, difference: Difference | null }} Checked
  */
@@ -23,7 +23,7 @@ import { LONGEST_TEXT, TEXT_TOO_LONG } from "../text/text_fault.js";
 export const ALL_ROMS = `wire\n${PAGES.map((chip) => `[[rom]]\nchip = ${chip}\nport = "0000"\n`).join("")}.\n`;
 
 /**
- * Why a text cannot even be asked about: it is too long for the bench, or a line that is a dot alone would end it. That has no number.
+ * Says why a text cannot be sent at all: it is too long for the bench, or a line with only a dot would end it. That has no number.
  * @param {string} text
  * @returns {Refusal | null}
  */
@@ -34,7 +34,7 @@ export function faultOfText(text) {
 }
 
 /**
- * What the bench makes of a program's text.
+ * Returns the bench's map of a program's text.
  * @param {Engine} engine
  * @param {string} text
  * @returns {Program}
@@ -52,7 +52,7 @@ export function readProgram(engine, text) {
 }
 
 /**
- * Whether a program puts a byte at each address, by the answers to `map`.
+ * Returns whether a program puts a byte at each address, by the answers to `map`.
  * @param {string[]} map
  */
 function putBy(map) {
@@ -62,7 +62,7 @@ function putBy(map) {
 }
 
 /**
- * How many bytes a program puts, and the addresses where ROM has a byte beside it that is not 0.
+ * Returns how many bytes a program has, and the addresses outside the program at which ROM is not 0.
  * @param {Engine} engine
  * @param {Uint8Array} file
  * @param {Program} program
@@ -75,7 +75,7 @@ export function leftoversOf(engine, file, program) {
 }
 
 /**
- * Where ROM differs first from a program; null where all its bytes stand there.
+ * Returns the first difference between ROM and a program, or null if ROM has all its bytes.
  * @param {Engine} engine
  * @param {Uint8Array} file
  * @param {string[]} board the answers to `board`

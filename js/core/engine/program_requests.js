@@ -22,7 +22,7 @@ export class ProgramRequests {
   }
 
   /**
-   * What stands in ROM beside a program.
+   * Returns the bytes in ROM that are not the program's.
    * @param {string} text
    */
   leftovers(text) {

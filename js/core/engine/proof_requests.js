@@ -10,12 +10,12 @@ export class ProofRequests {
   /** @param {OpenBench} bench */
   constructor(bench) {
     this.bench = bench;
-    /** @type {import("../prove/judging.js").Judging | null} the judgement that goes on */
+    /** @type {import("../prove/judging.js").Judging | null} the judgement in progress */
     this.proving = null;
   }
 
   /**
-   * Begins to prove properties; returns the errors of the texts, and the number of properties.
+   * Begins to prove properties; returns the errors of the texts, and the number of all that is judged.
    * @param {import("../explore/exploring.js").ExploredTexts} texts
    * @param {number} most states that a question searches
    */
@@ -25,12 +25,12 @@ export class ProofRequests {
       seen: async (states) => {
         await bench.goesOn(states, most);
       },
-      breathe: async () => {
+      yieldToMessages: async () => {
         await bench.goesOn(0, most);
       },
     });
     this.proving = proving;
-    return { faults, count: proving ? proving.all.length : 0 };
+    return { faults, count: proving ? proving.total : 0 };
   }
 
   /** Judges the next property; returns null if all are judged. */

@@ -18,7 +18,7 @@ export class RecordingRequests {
   }
 
   /**
-   * The lines of the board over so many cycles, from here on or up to here; the session is as it was.
+   * Records the lines of the board for this many cycles, from now on or up to now; the session is unchanged.
    * @param {number} cycles
    * @param {boolean} isBefore
    * @param {WaveTexts} texts
@@ -33,8 +33,8 @@ export class RecordingRequests {
   }
 
   /**
-   * Records from here on whatever is done, until it is ended; `part` of what is shown has it. Where the trigger cannot be read, nothing is
-   * recorded, and words tell why.
+   * Starts a recording of all that is done, until it is ended; `part` of the snapshot contains it. If the trigger cannot be read, nothing
+   * is recorded, and words say why.
    * @param {WaveTexts} texts
    * @param {{ trigger: string } & LiveWanted} wanted
    * @returns {{ recorded: Recorded | null, fault: string }}
@@ -50,7 +50,7 @@ export class RecordingRequests {
     return { recorded: recorder.recorded(session.file), fault: "" };
   }
 
-  /** The recording ends; gives the rest of it. */
+  /** Ends the recording; returns the rest of it. */
   endRecording() {
     if (this.bench.session.recorder) this.bench.session.recorder.stop("hand");
     return this.bench.recordedPart();

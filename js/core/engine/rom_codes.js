@@ -1,11 +1,15 @@
-// The bytes in ROM, as the bench lists them.
+// The bytes in ROM, from the bench's listing.
 
 import { ADDRESSES, PAGES, PAGE_BYTES, bytesOf, listsOf } from "../bench/rom_bytes.js";
+
+/** The codes of the instructions that use the port of a ROM: WRR writes it, RDR reads it. */
+export const WRR = 0xE2;
+export const RDR = 0xEA;
 
 /** @typedef {import("./engine_host.js").EngineHost} Engine */
 
 /**
- * The bytes at the addresses 000 to FFF; 0 where the board has no ROM.
+ * Returns the bytes at the addresses 000 to FFF; 0 if the board has no ROM.
  * @param {Engine} engine
  * @param {Uint8Array} file
  */
@@ -14,7 +18,7 @@ export function romCodes(engine, file) {
 }
 
 /**
- * Returns these bytes by the answers to the questions for all of them.
+ * Returns these bytes from the answers to the queries for all of them.
  * @param {string[]} answers
  */
 export function codesOf(answers) {
@@ -32,7 +36,7 @@ export function isReturn(code) {
 }
 
 /**
- * The address that the JMS or JUN at an address goes to.
+ * Returns the target of the JMS or JUN at an address.
  * @param {Uint8Array} codes
  * @param {number} address
  */
@@ -41,7 +45,7 @@ export function targetOf(codes, address) {
 }
 
 /**
- * Whether an instruction goes on at one of two places: JCN and ISZ do.
+ * Returns whether an instruction has two possible successors, as JCN and ISZ have.
  * @param {number} code
  */
 export function hasWays(code) {
@@ -49,7 +53,7 @@ export function hasWays(code) {
 }
 
 /**
- * Whether an instruction surely goes on elsewhere: JUN, BBL and JIN do.
+ * Returns whether an instruction always continues elsewhere: JUN, BBL and JIN do.
  * @param {number} code
  */
 export function neverContinues(code) {
@@ -66,7 +70,7 @@ export function wordsOf(code) {
 }
 
 /**
- * How many cycles an instruction takes: two have those of two words, and FIN.
+ * Returns how many cycles an instruction takes: instructions of two words, and FIN, take two.
  * @param {number} code
  */
 export function cyclesOf(code) {

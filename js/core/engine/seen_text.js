@@ -1,11 +1,10 @@
-// What an eye sees of a board in the 30 ms that come next, if nothing is pressed: the brightness of its lamps, and what its displays show
-// in words.
+// The board as perceived in the next 30 ms if nothing is pressed: the brightness of its lamps, and the text of its displays.
 
 import { Brightness } from "../board/brightness.js";
 import { DisplayText } from "../board/display_text.js";
 import { isScanned } from "../board/face_board.js";
 import { EYE_CYCLES } from "../time/mcs4_time.js";
-import { Shining } from "./shining.js";
+import { BrightnessMeter } from "./brightness_meter.js";
 
 /**
  * @typedef {import("../board/face.js").Face} Face
@@ -15,7 +14,7 @@ import { Shining } from "./shining.js";
 export const SEEN_QUESTION = `trace ${EYE_CYCLES} lamps\n`;
 
 /**
- * Whether some digits are lit by turns, so that no instant shows a number.
+ * Returns whether some digits are multiplexed, so that no instant shows a number.
  * @param {Face} face
  */
 export function hasScannedDisplay(face) {
@@ -23,14 +22,14 @@ export function hasScannedDisplay(face) {
 }
 
 /**
- * Returns how bright lamps are in the time of the question alone.
+ * Returns how bright lamps are in the time of the query alone.
  * @param {Face} face
  * @param {number} count of the board's lamps
  * @param {string[]} answers to the question
  */
 export function seenBrightness(face, count, answers) {
   const brightness = new Brightness(face, count);
-  brightness.add(new Shining(face, count, 0).take([answers]), Infinity);
+  brightness.add(new BrightnessMeter(face, count, 0).take([answers]), Infinity);
   return brightness;
 }
 

@@ -10,17 +10,17 @@ import { readProgram } from "./program_check.js";
  * @typedef {import("./engine_host.js").EngineHost} EngineHost
  * @typedef {import("../testing/prepared.js").TextFault} TextFault
  *
- * Where ROM has another byte than the program: the address, the byte there, the line and the byte that it makes.
+ * The first difference between ROM and the program: the address, the byte there, the line and the line's byte.
  * @typedef {{ address: string, is: string, line: number, makes: string }} OtherByte
  *
- * Why the text is not the program of a session: it has faults, or ROM has another byte. With neither, `map` is the program's.
+ * Why the text is not the program of a session: it has errors, or ROM has another byte. With neither, `map` is the program's.
  * @typedef {{ faults: TextFault[], other: OtherByte | null, map: SourceMap }} SessionProgram
  */
 
 /**
- * Returns the first byte of ROM that is another one than the program makes; null if there is none.
+ * Returns the first byte of ROM that differs from the program's; null if there is none.
  * @param {Uint8Array} codes
- * @param {Int16Array} bytes of the program, negative where it has none
+ * @param {Int16Array} bytes of the program, negative if it has none
  * @param {SourceMap} map
  * @returns {OtherByte | null}
  */
@@ -30,7 +30,7 @@ function otherByte(codes, bytes, map) {
 }
 
 /**
- * Reads a program's text alone; returns its map, and the byte at each address, or what is wrong with it.
+ * Reads a program's text alone; returns its map, and the byte at each address, or the errors.
  * @param {EngineHost} engine
  * @param {string} text
  * @returns {{ faults: TextFault[], map: SourceMap, bytes: Int16Array }}
@@ -46,7 +46,7 @@ export function readSource(engine, text) {
 }
 
 /**
- * Reads a program's text, and compares it with what is in ROM.
+ * Reads a program's text, and compares it with ROM.
  * @param {EngineHost} engine
  * @param {Uint8Array} codes the bytes in ROM
  * @param {string} text

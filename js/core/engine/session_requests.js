@@ -19,7 +19,7 @@ export class SessionRequests {
   }
 
   /**
-   * Opens a session in the place of the one that is here.
+   * Opens a session in place of the present one.
    * @param {Uint8Array} file
    * @param {number} [total] the cycles that were counted up to here
    * @param {number} [reset] and up to the last reset
@@ -28,16 +28,16 @@ export class SessionRequests {
   open(file, total = 0, reset = 0, printed = null) {
     const session = new WorkerSession(this.bench.engine, file, new CycleCount(total, reset));
     session.printing = printed && new Printing(printed);
-    const look = session.look();
+    const snapshot = session.takeSnapshot();
     this.bench.opened = new Debugger(session);
     this.bench.opened.usual.stops = new Set(this.bench.stopKinds);
     this.bench.fullSpeed.stop();
-    return this.bench.shown(look, true);
+    return this.bench.shown(snapshot, true);
   }
 
   /**
-   * What was done before the session was opened, as the page has kept it, is remembered from here on; gives how many entries of its last
-   * segment are, -1 where it is none of the session's.
+   * Restores the past that the page has kept from before the session was opened. Returns the number of entries used from its last segment,
+   * or -1 if it is not the session's past.
    * @param {import("./timeline.js").Recalled[]} segments
    */
   recall(segments) {
@@ -66,16 +66,16 @@ export class SessionRequests {
    */
   async serveTyped(lines) {
     const typed = { id: 0, why: "", change: "", cut: "", cycles: 0, tally: NO_TALLY };
-    const told = await this.bench.served(async () => {
+    const result = await this.bench.served(async () => {
       const served = await this.bench.debugger.serveTyped(lines, (done) => this.bench.goesOn(done, lines.length));
       Object.assign(typed, served.typed);
-      return served.told;
+      return served.result;
     });
-    return { ...told, typed };
+    return { ...result, typed };
   }
 
   /**
-   * The answers to questions.
+   * Returns the answers to queries.
    * @param {string} lines
    */
   ask(lines) {

@@ -3,7 +3,7 @@
 import { Answers, readTraced } from "./tracing.js";
 
 /**
- * What a line was in so many cycles: its level at first, and after how many cycles each edge came.
+ * The levels of a line over some cycles: the first one, and the cycles before each edge.
  * @typedef {{ cycles: number, level: number, edges: number[] }} Heard
  */
 
@@ -29,13 +29,13 @@ export class Sounding {
   }
 
   /**
-   * What the line was by the answers to the questions before runs; what an instruction changes is there once its first cycle is over.
-   * @param {string[][]} told line by line
+   * Returns the levels of the line, from the answers to the queries before runs. A change happens after the first cycle of its instruction.
+   * @param {string[][]} answerLists line by line
    * @returns {Heard}
    */
-  take(told) {
+  take(answerLists) {
     const heard = { cycles: 0, level: 0, edges: /** @type {number[]} */ ([]) };
-    for (const answers of told) {
+    for (const answers of answerLists) {
       if (answers.length === 0) continue;
       const { row, lines, cycles } = new Answers(answers).takeTrace();
       if (heard.cycles === 0) heard.level = Number(row.slice(1));

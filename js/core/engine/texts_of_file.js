@@ -1,5 +1,5 @@
-// Texts for a session file, which has neither comments nor names: those of an example where they fit, else what the bench says and a
-// source that is made of the ROM.
+// Texts for a session file, which has neither comments nor names: those of an example if they fit, otherwise texts made from the bench's
+// answers and a source disassembled from ROM.
 
 import { readListing } from "../bench/answers.js";
 import { linesOfExample } from "./examples.js";
@@ -69,7 +69,7 @@ function listAll(engine, file) {
   return lines;
 }
 
-/** From so many NOP on a stretch of ROM counts as empty. */
+/** A stretch of ROM counts as empty from this many NOPs on. */
 const FEW_NOPS = 4;
 
 /**

@@ -13,19 +13,19 @@ export class TimeRequests {
   }
 
   /**
-   * Lets so many cycles pass.
+   * Runs for this many cycles.
    * @param {number} cycles
-   * @param {Key | null} [key] goes down before them, or when its time comes
+   * @param {Key | null} [key] goes down before them, or when its turn comes
    * @returns {Frame}
    */
   advance(cycles, key = null) {
     if (key) this.press(key);
-    const { look, ...told } = this.bench.debugger.advance(cycles, key !== null);
-    return { ...told, ...this.bench.shown(look, false) };
+    const { snapshot, ...result } = this.bench.debugger.advance(cycles, key !== null);
+    return { ...result, ...this.bench.shown(snapshot, false) };
   }
 
   /**
-   * A key goes down while time runs; gives the changes that wait, as do the next two.
+   * Presses a key while time runs; returns the changes that wait, as do the next two.
    * @param {Key} key
    */
   press(key) {
@@ -55,7 +55,7 @@ export class TimeRequests {
   }
 
   /**
-   * At full speed a hidden page is told more seldom.
+   * At full speed a hidden page gets reports more seldom.
    * @param {boolean} isHidden
    */
   pace(isHidden) {
@@ -63,11 +63,11 @@ export class TimeRequests {
   }
 
   /**
-   * Full speed ends; gives what was not told yet.
+   * Ends full speed; returns what was not reported yet.
    * @returns {Frame}
    */
   halt() {
-    const frame = this.bench.untold();
+    const frame = this.bench.takeUnreported();
     this.bench.fullSpeed.stop();
     this.bench.session.timeline.stop();
     return frame;

@@ -1,6 +1,6 @@
-// The past of a session, for going back: its file at some moments, and what was accepted after each of them, which is done again on a copy
-// of that file. Of a long past the stops stay longest. It is in memory alone, as long as the session is open in this worker; the page is
-// told what comes to it (session/kept_past.js), and can give it back after a reload.
+// The past of a session, for going back: its file at some moments, and the accepted commands after each of them, which are done again on a
+// copy of that file. Of a long past the stops are kept longest. It is in memory only, as long as the session is open in this worker; the
+// page receives the additions (session/kept_past.js), and can restore it after a reload.
 
 import { Cancelled } from "../bench/faults.js";
 import { withoutSeq } from "../bench/state_line.js";
@@ -9,35 +9,34 @@ import { CycleCount } from "./accepted.js";
 /**
  * @typedef {import("./accepted.js").Accepted} Accepted
  * @typedef {import("./engine_host.js").EngineHost} Engine
- * @typedef {{ line: string, cycles: number, resets: boolean, isStop: boolean }} Entry a command; `isStop`: time stood still before it
- * @typedef {{ file: Uint8Array, count: CycleCount, entries: Entry[], cycles: number, letters: number, follows: boolean,
- *   marks: Mark[] }} Segment a file, the cycles that were counted up to it, and what came after it; `follows`: it is where the segment
- *   before it ends
- * @typedef {{ entry: number, file: Uint8Array, count: CycleCount, cycles: number }} Mark what the session was after so many entries of a
- *   segment, and so many cycles of it
- * @typedef {{ segment: number, entry: number, cycles: number }} Moment after so many entries of a segment, and so many cycles of the next
+ * @typedef {{ line: string, cycles: number, resets: boolean, isStop: boolean }} Entry a command; `isStop`: time was paused before it
+ * @typedef {{ file: Uint8Array, count: CycleCount, entries: Entry[], cycles: number, letters: number, follows: boolean, marks: Mark[] }}
+ * Segment a file, the cycle count at it, and what followed; `follows`: it begins where the segment before it ends
+ * @typedef {{ entry: number, file: Uint8Array, count: CycleCount, cycles: number }} Mark the session after a number of entries of a
+ * segment, and cycles of it
+ * @typedef {{ segment: number, entry: number, cycles: number }} Moment after a number of entries of a segment, and cycles of the next
  * @typedef {{ file: Uint8Array, count: CycleCount }} Present
- * @typedef {{ isAnew: boolean, entries: Entry[] }} News what was done since it was told last; `isAnew`: the past before it is another one
- * @typedef {{ file: Uint8Array, total: number, reset: number, entries: Entry[] }} Recalled a segment that the page gives back: the file,
- *   the cycles that were counted up to it, and what came after it
- * @typedef {(done?: number) => Promise<boolean>} GoesOn is told how many cycles were looked through, and says whether to go on
+ * @typedef {{ isAnew: boolean, entries: Entry[] }} News what was done since the last report; `isAnew`: the past before it is new
+ * @typedef {{ file: Uint8Array, total: number, reset: number, entries: Entry[] }} Recalled a segment that the page restores: the file, the
+ * cycle count at it, and what followed
+ * @typedef {(done?: number) => Promise<boolean>} GoesOn receives how many cycles were searched, and returns whether to continue
  */
 
-/** A segment has at most about so many cycles, which are done again in a moment, so many entries, and so many letters in their lines. */
+/** The limits of a segment: its cycles, which can be done again quickly, its entries, and the letters in their lines. */
 const SEGMENT_CYCLES = 4000000;
 export const SEGMENT_ENTRIES = 4000;
 const SEGMENT_LETTERS = 200000;
 /** Each has a file of 164 KB. */
 const MOST_SEGMENTS = 48;
-/** The last two segments have a mark after each so many cycles, so that a step back does no more than that again. */
+/** The last two segments have a mark after this many cycles, so that a step back repeats no more than these. */
 const MARK_CYCLES = 250000;
-/** So many times forward is possible after going back. */
+/** The most steps forward that are possible after going back. */
 export const MOST_FORWARD = 64;
-/** A command whose text is longer is not done again: another segment begins after it. */
+/** A command with a longer text is not done again: another segment begins after it. */
 const LONGEST_LINE = 20000;
-/** Commands without cycles may stand where the past is to end: so many places are tried. */
+/** Commands without cycles may be where the past is to end: this many places are tried. */
 const MOST_TRIES = 8;
-/** About so many cycles, and at most so many lines, are done again at once. */
+/** The most cycles and lines that are done again at once. */
 const PIECE_CYCLES = 1000000;
 const PIECE_LINES = 500;
 
@@ -46,15 +45,15 @@ export class Timeline {
   constructor(present) {
     /** @type {Segment[]} */
     this.segments = [segmentAt(present, false)];
-    /** Whether time stands still: what comes next begins at a stop. */
+    /** True if time is paused: what follows begins at a stop. */
     this.isStopped = true;
-    /** @type {({ segments: Segment[] } & Present)[]} where forward leads to, the next one last */
+    /** @type {({ segments: Segment[] } & Present)[]} the targets of forward, the next one last */
     this.future = [];
     /** @type {News} */
     this.news = { isAnew: true, entries: [] };
   }
 
-  /** What was done since this was asked last. */
+  /** Returns what was done since the last call. */
   takeNews() {
     const { news } = this;
     this.news = { isAnew: false, entries: [] };
@@ -62,8 +61,8 @@ export class Timeline {
   }
 
   /**
-   * The past before the first segment, as the page has it. What was kept of the session may be older than the past: then the last of that
-   * is left out. Gives how many entries of the last segment are taken, -1 where the past does not come to the first segment.
+   * Restores the past before the first segment, as the page has it. What was saved of the session may be older than the past: then the rest
+   * of that is left out. Returns how many entries of the last segment are used, -1 if the past does not reach the first segment.
    * @param {Engine} engine
    * @param {Recalled[]} recalled each follows the one before it
    */
@@ -101,20 +100,20 @@ export class Timeline {
     return this.segments[this.segments.length - 1];
   }
 
-  /** How many cycles it holds. */
+  /** Returns how many cycles it has. */
   get cycles() {
     return this.segments.reduce((sum, { cycles }) => sum + cycles, 0);
   }
 
-  /** Time stands still here. */
+  /** Notes that time is paused here. */
   stop() {
     this.isStopped = true;
   }
 
   /**
-   * Takes note of what was done; what is kept is not changed later.
+   * Notes what was done; stored objects are not changed later.
    * @param {Accepted[]} accepted
-   * @param {Present} present what the session is after it
+   * @param {Present} present the session after it
    */
   record(accepted, present) {
     if (accepted.length === 0) return;
@@ -142,7 +141,7 @@ export class Timeline {
   }
 
   /**
-   * Keeps what the session is, where the last mark is far away.
+   * Stores the session if the last mark is far away.
    * @param {Present} present
    */
   mark({ file, count }) {
@@ -151,7 +150,7 @@ export class Timeline {
     if (cycles - before >= MARK_CYCLES) marks.push({ entry: entries.length, file: file.slice(), count: count.copy(), cycles });
   }
 
-  /** Forgets the oldest segment that holds no stop, else the oldest. */
+  /** Forgets the oldest segment without a stop, otherwise the oldest. */
   thin() {
     const found = this.segments.findIndex(({ entries }, at) => at < this.segments.length - 1 && !entries.some(({ isStop }) => isStop));
     const at = Math.max(0, found);
@@ -165,7 +164,7 @@ export class Timeline {
   }
 
   /**
-   * The last stop before the present; null where there is none.
+   * Returns the last stop before the present; null if there is none.
    * @returns {Moment | null}
    */
   lastStop() {
@@ -179,8 +178,8 @@ export class Timeline {
   }
 
   /**
-   * The moment so many cycles, 1 or more, before another one: what was done between cycles there is done. Null where the past does not
-   * reach so far.
+   * Returns the moment this many cycles, 1 or more, before another one: what was done between cycles there is done. Null if the past does
+   * not reach that far.
    * @param {number} back
    * @param {Moment} [from]
    * @returns {Moment | null}
@@ -203,7 +202,7 @@ export class Timeline {
   }
 
   /**
-   * What the session was at a moment, done again on a copy.
+   * Resolves to the session at a moment, replayed on a copy.
    * @param {Engine} engine
    * @param {Moment} moment
    * @param {GoesOn} goesOn
@@ -225,9 +224,9 @@ export class Timeline {
   }
 
   /**
-   * Makes a moment the present. Forward leads back to what is here.
+   * Makes a moment the present. Forward leads back to the former present.
    * @param {Moment} moment
-   * @param {Present} present what the session is here
+   * @param {Present} present the session here
    */
   goBack(moment, present) {
     const { segments } = this;
@@ -243,7 +242,7 @@ export class Timeline {
   }
 
   /**
-   * Goes where the last going back came from; null where nothing lies there.
+   * Returns to where the last move back began; null if there is nothing.
    * @returns {Present | null}
    */
   goForward() {
@@ -272,7 +271,7 @@ function sumOf(numbers) {
 }
 
 /**
- * What a session is, but for how many commands it has taken.
+ * Returns the state of a session without its count of commands.
  * @param {Engine} engine
  * @param {Uint8Array} file
  */
@@ -281,7 +280,7 @@ function stateOf(engine, file) {
 }
 
 /**
- * The entries, from a place on, that are done again at once.
+ * Returns the entries, from an index on, that are done again at once.
  * @param {Entry[]} entries
  * @param {number} from
  */
@@ -305,7 +304,7 @@ function segmentAt({ file, count }, follows) {
 }
 
 /**
- * The first cycles of an entry, as an entry of its own; none where there are none.
+ * Returns the first cycles of an entry, as an entry of its own; none if there are none.
  * @param {Entry | undefined} entry
  * @param {number} cycles
  * @returns {Entry[]}

@@ -1,15 +1,14 @@
-// What the bench tells of a run that is not done: the answers to `trace` and `count`, among others that follow each other.
+// The bench's forecast of a run: the answers to `trace` and `count`, among other consecutive answers.
 
 import { readRun } from "../bench/answers.js";
 
 /**
- * An instruction that is told: how many cycles are done before it, its address, and the row of what is looked at after it, each value
- * after a blank.
+ * A reported instruction: the cycles before it, its address, and the row of watched values after it, each value after a blank.
  * @typedef {{ cycles: number, address: number, row: string }} Traced
- * @typedef {{ address: number, begun: number, jumped: number }} Counted how often the instruction at an address is begun, and how often it
- *   jumps, -1 for one that never does
+ * @typedef {{ address: number, begun: number, jumped: number }} Counted how often the instruction at an address begins, and how often it
+ * jumps, -1 for one that never does
  * @typedef {{ row: string, lines: string[], cycles: number }} Trace the row before the run, the lines of the instructions, its cycles
- * @typedef {{ cycles: number, end: string }} Ran how many cycles a run did, and what stopped it, "end" where nothing did
+ * @typedef {{ cycles: number, end: string }} Ran the cycles of a run, and what stopped it, "end" if nothing did
  */
 
 const HEAD = /^(?:trace|count) ran (\d+) \w+ lines (\d+)(.*)$/;
@@ -42,7 +41,7 @@ export function valuesOf(row) {
   return row.slice(1).split(" ");
 }
 
-/** Answers that follow each other. */
+/** Consecutive answers. */
 export class Answers {
   /** @param {string[]} answers */
   constructor(answers) {
@@ -59,7 +58,7 @@ export class Answers {
     return this.answers[this.at - 1];
   }
 
-  /** @param {number} count so many that nobody looks at */
+  /** @param {number} count the answers that are skipped */
   skip(count) {
     this.at += count;
   }
@@ -75,7 +74,7 @@ export class Answers {
   }
 
   /**
-   * The next answer, which stays to be taken.
+   * Returns the next answer without consuming it.
    * @returns {Trace}
    */
   seeTrace() {
@@ -85,13 +84,13 @@ export class Answers {
     return trace;
   }
 
-  /** What a run begins, by the answer to `count`. */
+  /** Returns the instructions that a run begins, from the answer to `count`. */
   takeCounts() {
     return this.takeTrace().lines.map(readCounted);
   }
 
   /**
-   * The answer to a run; a refusal is its end.
+   * Reads the answer to a run; a refusal is its end.
    * @returns {Ran}
    */
   takeRun() {

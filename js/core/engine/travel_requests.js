@@ -1,4 +1,4 @@
-// Requests that move the session to a goal, back and forward, and that look into its past.
+// Requests that move the session to a goal, back and forward, and that search its past.
 
 import { readBoard } from "../bench/answers.js";
 import { nearOf } from "../debug/debugger.js";
@@ -9,7 +9,7 @@ import { heatOf } from "./heat.js";
  * @typedef {import("../bench/protocol.js").ReachedLines} ReachedLines
  * @typedef {import("../debug/debugger.js").WentBack} WentBack
  * @typedef {import("./going_back.js").BackGoal} BackGoal
- * @typedef {import("../bench/protocol.js").Gone} Gone
+ * @typedef {import("../bench/protocol.js").TravelResult} TravelResult
  * @typedef {import("../debug/goals.js").Goal} Goal
  */
 
@@ -20,7 +20,7 @@ export class TravelRequests {
   }
 
   /**
-   * The names that a condition may have which is looked for.
+   * The names for a condition that is searched for.
    * @param {{ board: string, program: string, watched?: string[] }} texts
    */
   takeNames(texts) {
@@ -28,29 +28,29 @@ export class TravelRequests {
   }
 
   /**
-   * Goes on to a goal, or to what stops time before. Where neither comes soon, nothing is done; the time that runs goes on to it.
+   * Moves to a goal, or to an earlier stop. If neither is near, nothing is done; running time continues towards it.
    * @param {Goal} goal
-   * @param {number} [most] so many cycles are tried
+   * @param {number} [most] the cycles that are tried
    * @returns {Promise<ReachedLines>}
    */
   async goOn(goal, most = nearOf(goal)) {
-    const { found, told, tally } = await this.bench.debugger.goOn(goal, most, (done) => this.bench.goesOn(done, most));
-    if (!told) return { ...this.bench.nothingServed(), found, tally };
-    const { look, ...served } = told;
-    return { ...served, ...this.bench.shown(look, false), found, tally };
+    const { found, result, tally } = await this.bench.debugger.goOn(goal, most, (done) => this.bench.goesOn(done, most));
+    if (!result) return { ...this.bench.nothingServed(), found, tally };
+    const { snapshot, ...served } = result;
+    return { ...served, ...this.bench.shown(snapshot, false), found, tally };
   }
 
   /**
-   * Time begins to run, or to stand: there is no goal any more.
+   * Time begins to run, or is paused: there is no goal any more.
    */
   drop() {
     this.bench.debugger.begin();
   }
 
   /**
-   * Goes back; what is shown then is the session from there on, and forward leads to what it was.
+   * Goes back; the view shows the session from there on, and forward leads to the former present.
    * @param {BackGoal} goal
-   * @returns {Promise<Gone>}
+   * @returns {Promise<TravelResult>}
    */
   async goBack(goal) {
     const all = this.bench.session.timeline.cycles;
@@ -59,15 +59,15 @@ export class TravelRequests {
   }
 
   /**
-   * Goes where the last going back came from.
-   * @returns {Gone}
+   * Returns to where the last move back began.
+   * @returns {TravelResult}
    */
   goForward() {
     return gone(this.bench, "forward", this.bench.debugger.goForward());
   }
 
   /**
-   * When a place changed last.
+   * Resolves to the last change of a place.
    * @param {string} place
    */
   async lastChange(place) {
@@ -77,27 +77,27 @@ export class TravelRequests {
   }
 
   /**
-   * How often each character of RAM has changed in so many cycles up to here, and when and by what it did last.
+   * Returns how often each character of RAM has changed in the last cycles, and when and by what last.
    * @param {number} cycles
    */
   heat(cycles) {
     const { engine, session } = this.bench;
-    const board = readBoard(session.lookQuestions.board);
+    const board = readBoard(session.statusQueries.board);
     let done = 0;
     return heatOf(engine, session.timeline, board, cycles, (more = 0) => this.bench.goesOn(done += more, cycles));
   }
 }
 
 /**
- * The session is what it was, or will be, at another moment.
+ * Replaces the session by its state at another moment.
  * @param {OpenBench} bench
- * @param {string} word what the log calls it
+ * @param {string} word its name in the log
  * @param {WentBack} went
- * @returns {Gone}
+ * @returns {TravelResult}
  */
 function gone(bench, word, went) {
   const { session } = bench;
   const { isDone, wires } = went;
   const entries = isDone ? [{ line: `(${word})`, textLines: 0, answers: [bench.engine.ask(session.file, "").opened] }] : [];
-  return { entries, first: "", status: 0, touchesRom: isDone, ...went, ...bench.shown(session.look(), wires) };
+  return { entries, first: "", status: 0, touchesRom: isDone, ...went, ...bench.shown(session.takeSnapshot(), wires) };
 }

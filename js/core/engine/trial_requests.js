@@ -1,6 +1,7 @@
-// Requests for tests, and for the search of what breaks properties: on sessions of their own.
+// Requests for tests, and for the search for counterexamples: on sessions of their own.
 
 import { Exploring, readExplored, readToExplore } from "../explore/exploring.js";
+import { sampleTest } from "../testing/sample_test.js";
 import { readTested, runTests } from "../testing/test_suite.js";
 
 /**
@@ -11,16 +12,24 @@ export class TrialRequests {
   /** @param {OpenBench} bench */
   constructor(bench) {
     this.bench = bench;
-    /** @type {Exploring | null} the search that goes on */
+    /** @type {Exploring | null} the search in progress */
     this.exploring = null;
   }
 
   /**
-   * What is wrong with a text of tests, or with the texts that it is for.
+   * Returns the errors of a text of tests, or of its board and program.
    * @param {import("../testing/test_suite.js").TestedTexts} texts
    */
   testFaults(texts) {
     return readTested(this.bench.engine, texts).faults;
+  }
+
+  /**
+   * Returns the text of tests that a board with its program begins with.
+   * @param {import("../testing/prepared.js").Texts} texts
+   */
+  sampleTest(texts) {
+    return sampleTest(this.bench.engine, texts);
   }
 
   /**
@@ -32,7 +41,7 @@ export class TrialRequests {
   }
 
   /**
-   * What is wrong with a text of properties, or with the texts that it is for.
+   * Returns the errors of a text of properties, or of its board and program.
    * @param {import("../explore/exploring.js").ExploredTexts} texts
    */
   propertyFaults(texts) {
@@ -40,7 +49,7 @@ export class TrialRequests {
   }
 
   /**
-   * Begins to look for what breaks properties; gives what is wrong with the texts.
+   * Begins a search for counterexamples; returns the errors of the texts.
    * @param {import("../explore/exploring.js").ExploredTexts} texts
    * @param {import("../explore/exploring.js").Asked} asked
    */
@@ -53,7 +62,7 @@ export class TrialRequests {
   }
 
   /**
-   * Looks for so many milliseconds, or until something is found.
+   * Searches for this many milliseconds, or until something is found.
    * @param {number} milliseconds
    */
   exploreOn(milliseconds) {

@@ -3,11 +3,11 @@
 /**
  * @typedef {import("./timeline.js").Moment} Moment
  * @typedef {import("./timeline.js").Timeline} Timeline
- * @typedef {{ line: string, cycles: number, moment: Moment }} Unit a command, the cycles that it does, and where it begins
+ * @typedef {{ line: string, cycles: number, moment: Moment }} Unit a command, its cycles, and the moment where it begins
  */
 
 /**
- * The units from one moment to a later one of the same segment.
+ * Returns the units from one moment to a later one of the same segment.
  * @param {Timeline} timeline
  * @param {Moment} from
  * @param {Moment} to
@@ -28,9 +28,9 @@ export function unitsBetween(timeline, from, to) {
 }
 
 /**
- * The same units, those of many cycles in parts.
+ * Returns the same units, split if they have many cycles.
  * @param {Unit[]} units
- * @param {number} most so many cycles a part has
+ * @param {number} most the cycles of a part
  */
 export function shortUnits(units, most) {
   return units.flatMap((unit) => {
@@ -51,7 +51,7 @@ export function cyclesOf(units) {
 }
 
 /**
- * Units in pieces of about so many cycles, and at most so many of them.
+ * Returns units in pieces of about this many cycles, and at most this many units.
  * @param {Unit[]} units
  * @param {number} most
  * @param {number} mostUnits

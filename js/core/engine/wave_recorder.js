@@ -1,7 +1,7 @@
-// Records the lines of a board over time, in the worker: a copy of a session is run, and before each run the bench is asked what it will
+// The recorder of a board's lines over time, in the worker: a copy of a session is run, and before each run the bench is asked what it will
 // do.
 
-import { readBoard, readMarks } from "../bench/answers.js";
+import { readBoard } from "../bench/answers.js";
 import { Cancelled } from "../bench/faults.js";
 import { linesOf } from "../bench/inputs.js";
 import { linesOfBoard } from "../waves/wave_lines.js";
@@ -10,6 +10,7 @@ import { FIRST_CYCLES, PieceSize, RECORDED_CYCLES, RECORDED_UNITS } from "./piec
 import { Answers } from "./tracing.js";
 import { piecesOf, unitsBetween } from "./units.js";
 import { WaveTaking } from "./wave_taking.js";
+import { withoutStops } from "./without_stops.js";
 
 /**
  * @typedef {import("./engine_host.js").EngineHost} Engine
@@ -21,21 +22,21 @@ import { WaveTaking } from "./wave_taking.js";
  * The program in ROM: its text, the line of each address (0 for none), and its labels by rising address.
  * @typedef {{ text: string, lines: Uint16Array, labels: { address: number, name: string }[] }} RecordedProgram
  *
- * What was recorded, as a message carries it, or what came after it. A moment is a number of cycles from the beginning on; what stands at
- * a moment is what was there after so many cycles. `from`: the moment where it begins; `cycles`: that where it ends; `isStuck`: whether a
- * code that is no instruction comes next; `tracks`: what each line was over time; `moments`: the beginning of each instruction, and the
- * end; `counters`: the counter at each of these; `isOwed`: whether the first of them is the second cycle of an instruction; `listing`: the
- * lines of the listing at the counters that are new.
+ * A recording as a message carries it, or its continuation. A moment is a number of cycles from the beginning; the value at a moment is the
+ * value after that many cycles. `from`: the moment where it begins; `cycles`: that where it ends; `isStuck`: whether the next code is not
+ * an instruction; `tracks`: each line over time; `moments`: the beginning of each instruction, and the end; `counters`: the counter at each
+ * of these; `isOwed`: whether the first of them is the second cycle of an instruction; `listing`: the lines of the listing at the counters
+ * that are new.
  * @typedef {import("./wave_taking.js").Taken & { listing: [number, string][] }} RecordedPart
  *
- * The whole, with its lines; `program` is null where the text is not the program in ROM.
+ * The whole recording, with its lines; `program` is null if the text is not the program in ROM.
  * @typedef {RecordedPart & { lines: WaveLine[], program: RecordedProgram | null }} Recorded
  *
- * What belongs to a recording: a board's text, which has names, the program in ROM, and the names of registers and characters that are to
- * be recorded beside the lines of the board.
+ * The context of a recording: a board's text, which has names, the program in ROM, and the names of registers and characters to record in
+ * addition to the lines of the board.
  * @typedef {{ board: string, program: RecordedProgram | null, values: string[] }} Texts
  *
- * Is told how many cycles are done, and says whether to go on.
+ * Receives how many cycles are done, and returns whether to continue.
  * @typedef {(done: number) => Promise<boolean>} GoesOn
  */
 
@@ -96,27 +97,7 @@ export function listedAt(engine, file, addresses) {
 }
 
 /**
- * The lines that take away all breakpoints and watches.
- * @param {string[]} told the answers to `breaks` and `watches`
- */
-export function linesWithoutStops([breaks, watches]) {
-  const unwatches = readMarks(watches).map((each) => each.split(".")).map(([bank, source]) => `unwatch ${bank} 0x${source}`);
-  return linesOf([...readMarks(breaks).map((address) => `unbreak 0x${address}`), ...unwatches]);
-}
-
-/**
- * Returns a copy of a state without breakpoints and watches.
- * @param {Engine} engine
- * @param {Uint8Array} file
- */
-export function withoutStops(engine, file) {
-  const copy = file.slice();
-  engine.serve(copy, linesWithoutStops(engine.ask(copy, "breaks\nwatches\n").answers), copy);
-  return copy;
-}
-
-/**
- * Records so many cycles from here on, whatever breakpoints and watches there are; the file is left as it is.
+ * Records this many cycles from now on, regardless of breakpoints and watches; the file is unchanged.
  * @param {Engine} engine
  * @param {Uint8Array} file
  * @param {number} cycles
@@ -136,8 +117,8 @@ export async function recordAfter(engine, file, cycles, texts, goesOn) {
 }
 
 /**
- * The moment where a recording up to the present begins: so many cycles ago, or as far as the past reaches, but on the board of the
- * present.
+ * Returns the moment where a recording up to the present begins: this many cycles ago, or as far as the past reaches, but on the present
+ * board.
  * @param {Timeline} timeline
  * @param {number} cycles
  * @returns {Moment}
@@ -157,7 +138,7 @@ function beginningBefore(timeline, cycles) {
 }
 
 /**
- * What was done from a moment up to the present.
+ * Returns the units done from a moment up to the present.
  * @param {Timeline} timeline
  * @param {Moment} from
  */
@@ -170,7 +151,7 @@ function unitsFrom(timeline, from) {
 }
 
 /**
- * Records the last cycles before the present, so many where the past reaches so far: they are done again, with all that came between.
+ * Records the last cycles before the present, as far as the past reaches: they are done again, with all that happened between them.
  * @param {Engine} engine
  * @param {Timeline} timeline
  * @param {number} cycles

@@ -1,4 +1,5 @@
-// Records the lines of a board piece by piece, for a file that is written as it goes: however long the recording is, it holds one piece.
+// Records the lines of a board piece by piece, for a file that is written meanwhile: however long the recording is, only one piece is in
+// memory.
 
 import { Waves } from "../waves/wave_recording.js";
 import { Answers } from "./tracing.js";
@@ -20,7 +21,7 @@ const PIECE = 20000;
 const isOfCounter = ({ kind }) => kind === "pc" || kind === "label";
 
 /**
- * Returns the chosen lines of a board, and those that their ports are made of.
+ * Returns the chosen lines of a board, and the lines of their ports.
  * @param {WaveLine[]} lines of the board
  * @param {number[]} chosen by their numbers
  * @returns {{ lines: WaveLine[], chosen: number[] }} `chosen` are the same lines by their new numbers
@@ -40,9 +41,9 @@ export function neededLines(lines, chosen) {
  * @param {EngineHost} engine
  * @param {State} state is moved on
  * @param {{ lines: WaveLine[], program: RecordedProgram | null, cycles: number }} wanted
- * @param {() => Promise<any>} breathe is called between the pieces
+ * @param {() => Promise<any>} yieldToMessages is called between the pieces
  */
-export async function* recordPieces(engine, state, { lines, program, cycles }, breathe) {
+export async function* recordPieces(engine, state, { lines, program, cycles }, yieldToMessages) {
   const taking = new WaveTaking(lines, lines.some(isOfCounter));
   taking.begin(new Answers(engine.ask(state, `state\n${taking.questions(1)}`).answers));
   const waves = new Waves({ ...taking.take(), lines, listing: [], program });
@@ -55,6 +56,6 @@ export async function* recordPieces(engine, state, { lines, program, cycles }, b
     waves.beginAt(waves.cycles);
     waves.append({ ...taking.take(), listing: [] });
     yield waves;
-    await breathe();
+    await yieldToMessages();
   }
 }

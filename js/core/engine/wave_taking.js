@@ -1,7 +1,8 @@
-// What is taken of the bench's answers for a recording: the moments at which each line changes, and those at which each instruction begins.
+// The parts of the bench's answers that a recording keeps: the moments at which each line changes, and those at which each instruction
+// begins.
 
+import { MOST_PLACES } from "../bench/inputs.js";
 import { valueIn } from "../bench/state_line.js";
-import { MOST_PLACES } from "../conditions/condition_language.js";
 import { Growing } from "../waves/growing.js";
 import { Track, emptyTrack } from "../waves/track.js";
 import { readTraced, valuesOf } from "./tracing.js";
@@ -11,12 +12,12 @@ import { readTraced, valuesOf } from "./tracing.js";
  * @typedef {import("../waves/track.js").TrackData} TrackData
  * @typedef {import("../waves/wave_lines.js").WaveLine} WaveLine
  *
- * A line that a place tells: its number, and its value by what is told.
- * @typedef {{ member: number, read: (told: string) => number }} Reader
- * @typedef {{ place: string, readers: Reader[], from: number, to: number }} Asked a place, and where it stands in each row
- * @typedef {{ asked: Asked[], row: string }} Group places that are asked for at once, and what was told of them last
+ * A line that a place reports: its number, and its value in the report.
+ * @typedef {{ member: number, read: (answer: string) => number }} Reader
+ * @typedef {{ place: string, readers: Reader[], from: number, to: number }} Asked a place, and its position in each row
+ * @typedef {{ asked: Asked[], row: string }} Group places that are queried at once, and the last report of them
  *
- * What was taken since this was taken last.
+ * The additions since the last fetch.
  * @typedef {{ from: number, cycles: number, isStuck: boolean, isOwed: boolean, tracks: TrackData[], moments: Uint32Array,
  *   counters: Uint16Array }} Taken
  */
@@ -36,19 +37,19 @@ function digitAt(line, at) {
 }
 
 /**
- * The place of `trace` that tells a line of the board, and how: a port tells a digit whose bit k is line k, a chain its bits.
+ * Returns the place of `trace` that reports a line of the board, and how: a port reports a digit whose bit k is line k, a chain its bits.
  * @param {string} line `rom0.3`, `ram0.1.3`, `chain0.5`
  */
 function placeOfLevel(line) {
   const dot = line.lastIndexOf(".");
   const [place, bit] = [line.slice(0, dot), Number(line.slice(dot + 1))];
-  /** @type {(told: string) => number} */
-  const read = place.startsWith("chain") ? (told) => Number(told[bit]) : (told) => (parseInt(told, 16) >> bit) & 1;
+  /** @type {(answer: string) => number} */
+  const read = place.startsWith("chain") ? (answer) => Number(answer[bit]) : (answer) => (parseInt(answer, 16) >> bit) & 1;
   return { place, read };
 }
 
 /**
- * The places of lines, each once, with what they tell.
+ * Returns the places of lines, each once, with what they report.
  * @param {WaveLine[]} lines
  * @param {"level" | "value"} wanted
  */
@@ -72,15 +73,15 @@ function placesOfValue(places) {
   const digits = places.map(() => "0");
   return places.map((place, at) => ({
     place,
-    read: (/** @type {string} */ told) => {
-      digits[at] = told;
+    read: (/** @type {string} */ answer) => {
+      digits[at] = answer;
       return parseInt(digits.join(""), 16);
     },
   }));
 }
 
 /**
- * Places in groups that are asked for at once: ports apart from values, which change far more often.
+ * Returns places in groups that are queried at once: ports apart from values, which change far more often.
  * @param {WaveLine[]} lines
  */
 function groupsOf(lines) {
@@ -93,21 +94,21 @@ function groupsOf(lines) {
 }
 
 /**
- * Where each place stands in the rows of a group, in which what is told of it always has as many letters.
+ * Returns the position of each place in the rows of a group; the report of a place always has the same length.
  * @param {Group} group
  * @param {string} row
  */
 function measure({ asked }, row) {
   let from = 1;
-  valuesOf(row).forEach((told, at) => {
+  valuesOf(row).forEach((value, at) => {
     asked[at].from = from;
-    asked[at].to = from + told.length;
-    from += told.length + 1;
+    asked[at].to = from + value.length;
+    from += value.length + 1;
   });
 }
 
 /**
- * Whether two rows are the same from one letter up to another.
+ * Returns whether two rows are the same from one letter up to another.
  * @param {string} one
  * @param {string} other
  * @param {number} from
@@ -118,7 +119,7 @@ function isSame(one, other, from, to) {
   return true;
 }
 
-/** Takes the answers to its questions and to runs, and those to other commands. */
+/** Reads the answers to its queries and to runs, and those to other commands. */
 export class WaveTaking {
   /**
    * @param {WaveLine[]} lines
@@ -128,7 +129,7 @@ export class WaveTaking {
     this.lines = lines;
     this.hasCounter = hasCounter;
     this.elapsed = 0;
-    /** Whether no instruction is at the counter. */
+    /** True if no instruction is at the counter. */
     this.isStuck = false;
     this.isOwed = false;
     this.hasBegun = false;
@@ -136,12 +137,12 @@ export class WaveTaking {
     this.tracks = lines.map(({ width }) => new Track(emptyTrack(width)));
     this.moments = new Growing(new Uint32Array(0));
     this.counters = new Growing(new Uint16Array(0));
-    /** Up to where it was taken. */
+    /** The end of the last fetch. */
     this.from = 0;
   }
 
   /**
-   * What is asked before so many cycles are run: for each instruction where it stands, and for the lines when they change.
+   * Returns the queries before a run: each instruction with its address, and the lines when they change.
    * @param {number} cycles
    */
   questions(cycles) {
@@ -150,7 +151,7 @@ export class WaveTaking {
   }
 
   /**
-   * What is at the beginning: the answers to `state`, and to the questions.
+   * Reads the initial values: the answers to `state`, and to the queries.
    * @param {Answers} answers
    */
   begin(answers) {
@@ -163,7 +164,7 @@ export class WaveTaking {
   }
 
   /**
-   * The answers to the questions, and to the run.
+   * Reads the answers to the queries, and to the run.
    * @param {Answers} answers
    */
   takeRun(answers) {
@@ -188,7 +189,7 @@ export class WaveTaking {
   }
 
   /**
-   * An instruction that is begun, `5 00A`. There are a thousand and more of them in a frame: the line is read letter by letter.
+   * Reads an instruction that begins, `5 00A`. There are more than a thousand of them in a frame: the line is read character by character.
    * @param {string} line
    */
   takeBegun(line) {
@@ -209,7 +210,7 @@ export class WaveTaking {
   }
 
   /**
-   * The answer to `state` after a command, and where all is done.
+   * Reads the answer to `state` after a command, and at the end.
    * @param {string} state
    */
   takeState(state) {
@@ -241,7 +242,7 @@ export class WaveTaking {
 
   /**
    * @param {Group} group
-   * @param {string} row what is told of each place after a blank
+   * @param {string} row the value of each place after a blank
    * @param {number} moment
    */
   takeRow(group, row, moment) {
@@ -249,14 +250,14 @@ export class WaveTaking {
     if (group.row === "") measure(group, row);
     for (const { readers, from, to } of group.asked) {
       if (isSame(row, group.row, from, to)) continue;
-      const told = row.slice(from, to);
-      for (const { member, read } of readers) this.tracks[member].set(read(told), moment);
+      const field = row.slice(from, to);
+      for (const { member, read } of readers) this.tracks[member].set(read(field), moment);
     }
     group.row = row;
   }
 
   /**
-   * What was taken since this was called last.
+   * Returns what was recorded since the last call.
    * @returns {Taken}
    */
   take() {

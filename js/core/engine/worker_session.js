@@ -1,4 +1,4 @@
-// The session in the worker: the bytes of its file, the keys that wait, and the calls on them. A call is done whole or not at all.
+// The session in the worker: the bytes of its file, the waiting keys, and the calls on them. A call is done whole or not at all.
 
 import { CycleCount, acceptedOf } from "./accepted.js";
 import { askedLines, partedAnswers } from "./asking.js";
@@ -7,11 +7,11 @@ import { isStop, readBoard, readMarks, readRun, refusalOf } from "../bench/answe
 import { Cancelled } from "../bench/faults.js";
 import { endOfInputs, linesOf, matchAnswers, readInputs } from "../bench/inputs.js";
 import { KeyQueue } from "./key_queue.js";
-import { lookOf, questionsOf } from "../bench/look.js";
+import { snapshotOf, questionsOf } from "../bench/snapshot.js";
 import { PieceSize } from "./pieces.js";
 import { romCodes } from "./rom_codes.js";
 import { EYE_CYCLES } from "../time/mcs4_time.js";
-import { MOST_SHONE } from "./shining.js";
+import { MOST_SHONE } from "./brightness_meter.js";
 import { SEGMENT_ENTRIES, Timeline } from "./timeline.js";
 
 /**
@@ -24,25 +24,25 @@ import { SEGMENT_ENTRIES, Timeline } from "./timeline.js";
  * @typedef {import("./heating.js").Heating} Heating
  * @typedef {import("./heating.js").PassedHeat} PassedHeat
  * @typedef {import("./printing.js").Printing} Printing
- * @typedef {import("./shining.js").Shining} Shining
- * @typedef {import("./shining.js").Shone} Shone
+ * @typedef {import("./brightness_meter.js").BrightnessMeter} BrightnessMeter
+ * @typedef {import("./brightness_meter.js").LitShares} LitShares
  * @typedef {import("./sounding.js").Heard} Heard
  * @typedef {import("./sounding.js").Sounding} Sounding
- * @typedef {import("../bench/ran.js").RanEntry} RanEntry
+ * @typedef {import("../bench/run_log.js").RanEntry} RanEntry
  * @typedef {{ line: string, textLines: number, answers: string[] }} Answered an input, how many lines its text had, and its answers
- * @typedef {{ entries: Answered[], first: string, status: number, touchesRom: boolean, wires: boolean }} Told what came of lines:
- *   the last inputs, the first answer, the status of the shell's end, and whether bytes of ROM or the board may be others now
- * @typedef {Told & { look: string[] }} ToldAndSeen
- * @typedef {{ ran: RanEntry[], cycles: number, end: string, changesKeys: boolean, look: string[], shone: Shone | null,
- *   heard: Heard | null, warmed: PassedHeat | null }} Frame what came of cycles; `end` is the answer that ended the run early, "" where
- *   none did; what was lit (`shone`), what a line did (`heard`), which characters changed (`warmed`), null where that is not asked for
+ * @typedef {{ entries: Answered[], first: string, status: number, touchesRom: boolean, wires: boolean }} LinesResult the result of lines:
+ * the last inputs, the first answer, the status at the shell's end, and whether bytes of ROM or the board may have changed
+ * @typedef {LinesResult & { snapshot: string[] }} ResultAndSnapshot
+ * @typedef {{ ran: RanEntry[], cycles: number, end: string, changesKeys: boolean, snapshot: string[], litShares: LitShares | null, heard:
+ * Heard | null, warmed: PassedHeat | null }} Frame the result of cycles; `end` is the answer that ended the run early, "" if none did; the
+ * light (`shone`), the sound (`heard`), the changes of RAM (`warmed`), null if not asked for
  */
 
-/** So many of the inputs that were served are told. */
+/** The most served inputs that are reported. */
 export const MOST_ENTRIES = 400;
-/** A recording follows lines of so many cycles. */
+/** A recording follows lines of at most this many cycles. */
 const MOST_FOLLOWED = 2000000;
-/** So many characters of lines are served at once. */
+/** The characters of lines that are served at once. */
 const FIRST_PIECE = 4096;
 const LEAST_PIECE = 256;
 const LARGEST_PIECE = 1 << 20;
@@ -52,44 +52,44 @@ const TOUCHES_ROM = { poke: true, wire: true, asm: true };
 
 export class WorkerSession {
   /**
-   * Opens a session; it throws where the bytes hold none.
+   * Opens a session; throws if the bytes are not one.
    * @param {Engine} engine
-   * @param {Uint8Array} file is kept, and changed by each call
+   * @param {Uint8Array} file is owned, and changed by each call
    * @param {CycleCount} [count] the cycles that were counted up to here
    */
   constructor(engine, file, count = new CycleCount()) {
     this.engine = engine;
     this.file = file;
     this.count = count;
-    /** Takes the new bytes of a call, until they are in the place of the old ones. */
+    /** Stores the new bytes of a call, until they replace the old ones. */
     this.next = new Uint8Array(file.length);
     this.queue = new KeyQueue();
-    this.lookQuestions = lookQuestionsOf(engine, file);
+    this.statusQueries = statusQueriesOf(engine, file);
     this.timeline = new Timeline(this);
-    /** @type {Accepted[]} what was changed of breakpoints since going back, for the past to have before what comes next */
+    /** @type {Accepted[]} the changes of breakpoints since going back, which the past gets before what comes next */
     this.unrecorded = [];
-    /** @type {Uint8Array | null} what stands in ROM, where that was read */
+    /** @type {Uint8Array | null} the contents of ROM, if they were read */
     this.readCodes = null;
-    /** @type {LiveRecorder | null} records what is done */
+    /** @type {LiveRecorder | null} the recorder of all that is done */
     this.recorder = null;
     /** @type {Printing | null} what was sent to the board's printer */
     this.printing = null;
-    /** @type {Sounding | null} tells the edges of a line while time runs, where somebody listens */
+    /** @type {Sounding | null} the reporter of a line's edges while time runs, if somebody listens */
     this.sounding = null;
-    /** @type {Shining | null} adds up what is lit while time runs, where somebody looks */
-    this.shining = null;
-    /** @type {Heating | null} counts the changes of RAM while time runs, where somebody looks */
+    /** @type {BrightnessMeter | null} the meter of light while time runs, if somebody looks */
+    this.brightnessMeter = null;
+    /** @type {Heating | null} the counter of RAM changes while time runs, if somebody looks */
     this.heating = null;
   }
 
-  /** Another board is wired: whoever looks at it has to say so again. */
+  /** A new board is wired: its viewers must register again. */
   forgetSenses() {
-    this.shining = null;
+    this.brightnessMeter = null;
     this.sounding = null;
     this.heating = null;
   }
 
-  /** What records, where it goes on. */
+  /** Returns the recorder if it is recording. */
   get recording() {
     return this.recorder && this.recorder.isOn ? this.recorder : null;
   }
@@ -101,15 +101,15 @@ export class WorkerSession {
   }
 
   /**
-   * The answers to questions; nothing is changed.
+   * Returns the answers to queries; nothing is changed.
    * @param {string} lines
    */
   ask(lines) {
     return this.engine.ask(this.file, lines).answers;
   }
 
-  look() {
-    return lookAt(this.engine, this.file, this.lookQuestions);
+  takeSnapshot() {
+    return snapshotAt(this.engine, this.file, this.statusQueries);
   }
 
   adopt() {
@@ -117,7 +117,7 @@ export class WorkerSession {
   }
 
   /**
-   * Lets so many cycles pass, with the changes of keys that are due, and looks, in one call.
+   * Runs for this many cycles, with the changes of keys that are due, and takes a snapshot, in one call.
    * @param {number} cycles
    * @returns {Frame}
    */
@@ -126,12 +126,12 @@ export class WorkerSession {
   }
 
   /**
-   * Does lines of the queue's plan, and looks.
+   * Does lines of the queue's plan, and takes a snapshot.
    * @param {PlannedLine[]} planned
    * @returns {Frame}
    */
   advanceBy(planned) {
-    const { done, answers, look, sensed } = this.servePlanned(planned);
+    const { done, answers, snapshot, sensed } = this.servePlanned(planned);
     this.adopt();
     const runs = answers.map(readRun);
     /** @type {(at: number) => number} */
@@ -148,13 +148,13 @@ export class WorkerSession {
       cycles: runs.reduce((sum, run) => sum + (run ? run.cycles : 0), 0),
       end: isStop(last) ? last : "",
       changesKeys: done.some((each) => each.change !== null),
-      look,
+      snapshot,
       ...sensed,
     };
   }
 
   /**
-   * Takes note of what was done.
+   * Notes what was done.
    * @param {Accepted[]} accepted
    */
   record(accepted) {
@@ -165,15 +165,15 @@ export class WorkerSession {
   }
 
   /**
-   * The session is what it was at another moment; gives whether its board is another one.
+   * Takes over the session of another moment; returns whether its board is different.
    * @param {{ file: Uint8Array, count: CycleCount }} present
    */
   become({ file, count }) {
-    const lookQuestions = lookQuestionsOf(this.engine, file);
-    const wires = lookQuestions.board.join("\n") !== this.lookQuestions.board.join("\n");
+    const statusQueries = statusQueriesOf(this.engine, file);
+    const wires = statusQueries.board.join("\n") !== this.statusQueries.board.join("\n");
     this.file = file.slice();
     this.count = count.copy();
-    this.lookQuestions = lookQuestions;
+    this.statusQueries = statusQueries;
     this.queue.clear();
     this.unrecorded = [];
     this.readCodes = null;
@@ -188,8 +188,8 @@ export class WorkerSession {
   }
 
   /**
-   * Other breakpoints after going back or forward, which are no part of what was. Forward leads on to where it did: they are a line of
-   * the past only once something else is done.
+   * Notes changes of breakpoints after going back or forward, which are not part of the past. Forward still leads where it did: they become
+   * a line of the past only once something else is done.
    * @param {string} lines of breakpoints
    */
   changeBreaks(lines) {
@@ -199,8 +199,8 @@ export class WorkerSession {
   }
 
   /**
-   * Serves lines up to the first run that stops early, or a refusal. Whether there is one shows only in the answers; then what came of
-   * the call is not taken, and the lines up to there are served alone.
+   * Serves lines up to the first run that stops early, or a refusal. Only the answers show whether there is one; then the result of the
+   * call is discarded, and the lines up to there are served alone.
    * @param {PlannedLine[]} planned
    */
   servePlanned(planned) {
@@ -218,25 +218,26 @@ export class WorkerSession {
       served = this.tryPlanned(done);
     }
     const answers = served.answers.slice(0, done.length);
-    const look = lookOf(this.lookQuestions.inputs, served.answers.slice(done.length));
-    return { done, answers, look, sensed: served.sense() };
+    const snapshot = snapshotOf(this.statusQueries.inputs, served.answers.slice(done.length));
+    return { done, answers, snapshot, sensed: served.sense() };
   }
 
   /**
-   * What adds up what is lit in some lines, what a line does, and what changes; null where nobody asks, or they are too many for an eye.
+   * Returns the meters of lamps, of the buzzer's line and of RAM for some lines; null for each that nobody asks for, or if the lines take
+   * too long.
    * @param {PlannedLine[]} planned
    */
   sensesIn(planned) {
     const areFew = planned.reduce((sum, each) => sum + cyclesOfLine(each), 0) <= MOST_SHONE;
-    const { shining, sounding, heating } = this;
-    return areFew ? { shining, sounding, heating } : { shining: null, sounding: null, heating: null };
+    const { brightnessMeter, sounding, heating } = this;
+    return areFew ? { brightnessMeter, sounding, heating } : { brightnessMeter: null, sounding: null, heating: null };
   }
 
-  /** What will be lit, and change, in the time that an eye needs; null where nobody looks. */
+  /** Returns the duty cycles and the changes of the next 30 ms; null for each that nobody asks for. */
   senseAhead() {
-    const { shining, heating } = this;
+    const { brightnessMeter, heating } = this;
     return {
-      shone: shining && shining.take([this.ask(shining.questions(EYE_CYCLES))]),
+      litShares: brightnessMeter && brightnessMeter.take([this.ask(brightnessMeter.questions(EYE_CYCLES))]),
       warmed: heating && heating.take([this.ask(heating.questions(EYE_CYCLES))]),
     };
   }
@@ -244,26 +245,26 @@ export class WorkerSession {
   /** @param {PlannedLine[]} planned */
   tryPlanned(planned) {
     const { recording, printing } = this;
-    const { shining, sounding, heating } = this.sensesIn(planned);
+    const { brightnessMeter, sounding, heating } = this.sensesIn(planned);
     /** @type {import("./asking.js").Asker[]} */
-    const askers = [printing, shining, sounding, heating, recording].flatMap((asker) => asker || []);
-    const lines = askedLines(planned, askers) + this.lookQuestions.lines;
-    const { answers, told } = partedAnswers(planned, askers, this.engine.serve(this.file, lines, this.next).answers);
+    const askers = [printing, brightnessMeter, sounding, heating, recording].flatMap((asker) => asker || []);
+    const lines = askedLines(planned, askers) + this.statusQueries.lines;
+    const { answers, askerAnswers } = partedAnswers(planned, askers, this.engine.serve(this.file, lines, this.next).answers);
     /** @type {(asker: import("./asking.js").Asker) => string[][]} */
-    const toldTo = (asker) => told[askers.indexOf(asker)];
+    const answersTo = (asker) => askerAnswers[askers.indexOf(asker)];
     const sense = () => {
-      if (printing) printing.take(toldTo(printing), this.count.total);
+      if (printing) printing.take(answersTo(printing), this.count.total);
       return {
-        shone: shining && shining.take(toldTo(shining)),
-        heard: sounding && sounding.take(toldTo(sounding)),
-        warmed: heating && heating.take(toldTo(heating)),
+        litShares: brightnessMeter && brightnessMeter.take(answersTo(brightnessMeter)),
+        heard: sounding && sounding.take(answersTo(sounding)),
+        warmed: heating && heating.take(answersTo(heating)),
       };
     };
-    return { answers, sense, traced: recording ? told[askers.length - 1] : [] };
+    return { answers, sense, traced: recording ? askerAnswers[askers.length - 1] : [] };
   }
 
   /**
-   * The recording follows what was done by lines.
+   * The recording follows lines that were served.
    * @param {Uint8Array} before the file as it was
    * @param {Accepted[]} accepted
    */
@@ -275,16 +276,17 @@ export class WorkerSession {
   }
 
   /**
-   * Serves lines, piece by piece: all of them, or none where a piece fails or the work is cancelled.
+   * Serves lines, piece by piece: all of them, or none if a piece fails or the work is cancelled.
    * @param {string} lines
-   * @param {(done: number) => Promise<boolean>} goesOn is told after each piece how many characters are done, and says whether to go on
-   * @returns {Promise<ToldAndSeen>}
+   * @param {(done: number) => Promise<boolean>} goesOn receives, after each piece, how many characters are done, and returns whether to
+   * continue
+   * @returns {Promise<ResultAndSnapshot>}
    */
   async serve(lines, goesOn) {
-    const told = new Telling(this.count.copy());
+    const report = new LinesReport(this.count.copy());
     const before = this.recording ? this.file.slice() : null;
     const printing = this.printing && this.printing.copy();
-    // `from` is the file that the next piece is served on; the session's own stays until all is done.
+    // The next piece is served on `from`; the session's own file is unchanged until all is done.
     let [from, to] = [this.file, this.next];
     const size = new PieceSize(FIRST_PIECE, LEAST_PIECE, LARGEST_PIECE);
     for (let at = 0; at < lines.length;) {
@@ -292,8 +294,8 @@ export class WorkerSession {
       const piece = lines.slice(at, end);
       const served = size.measure(() => {
         const done = this.engine.serve(from, piece, to);
-        const { total } = told.count;
-        const accepted = told.add(piece, done);
+        const { total } = report.count;
+        const accepted = report.add(piece, done);
         if (printing) printing.follow(this.engine, from.slice(), accepted, total);
         return done;
       });
@@ -302,36 +304,36 @@ export class WorkerSession {
       if (served.status !== 0) break;
       if (at < lines.length && !(await goesOn(at))) throw new Cancelled();
     }
-    const lookQuestions = told.wires ? lookQuestionsOf(this.engine, from) : this.lookQuestions;
-    const look = lookAt(this.engine, from, lookQuestions);
+    const statusQueries = report.wires ? statusQueriesOf(this.engine, from) : this.statusQueries;
+    const snapshot = snapshotAt(this.engine, from, statusQueries);
     // From here on nothing fails: it is done.
     if (from !== this.file) [this.file, this.next] = [from, this.file];
-    this.lookQuestions = lookQuestions;
-    if (told.touchesRom) this.readCodes = null;
+    this.statusQueries = statusQueries;
+    if (report.touchesRom) this.readCodes = null;
     this.timeline.stop();
-    this.count = told.count;
+    this.count = report.count;
     this.printing = printing;
-    if (told.accepted.length > 0) this.timeline.record([...this.unrecorded.splice(0), ...told.accepted], this);
+    if (report.accepted.length > 0) this.timeline.record([...this.unrecorded.splice(0), ...report.accepted], this);
     this.timeline.stop();
-    // What waits for its time was meant for the keys of the other board.
-    if (told.wires) this.queue.clear();
-    if (told.wires) this.forgetSenses();
-    if (before) this.follow(before, told.accepted);
-    return { ...told.told(), look };
+    // Changes that wait for their time were meant for the keys of the other board.
+    if (report.wires) this.queue.clear();
+    if (report.wires) this.forgetSenses();
+    if (before) this.follow(before, report.accepted);
+    return { ...report.result(), snapshot };
   }
 }
 
 /**
- * What is asked for a look at a board: the answer to `board`, the questions as lines, and as inputs.
- * @typedef {{ board: string[], lines: string, inputs: Input[] }} LookQuestions
+ * Returns the status queries of a board: the answer to `board`, the queries as lines, and as inputs.
+ * @typedef {{ board: string[], lines: string, inputs: Input[] }} StatusQueries
  */
 
 /**
  * @param {Engine} engine
  * @param {Uint8Array} file
- * @returns {LookQuestions}
+ * @returns {StatusQueries}
  */
-function lookQuestionsOf(engine, file) {
+function statusQueriesOf(engine, file) {
   const board = engine.ask(file, "board\n").answers;
   const lines = linesOf(questionsOf(readBoard(board)));
   return { board, lines, inputs: readInputs(lines) };
@@ -340,18 +342,18 @@ function lookQuestionsOf(engine, file) {
 /**
  * @param {Engine} engine
  * @param {Uint8Array} file
- * @param {LookQuestions} lookQuestions
+ * @param {StatusQueries} lookQuestions
  */
-function lookAt(engine, file, { lines, inputs }) {
-  return lookOf(inputs, engine.ask(file, lines).answers);
+function snapshotAt(engine, file, { lines, inputs }) {
+  return snapshotOf(inputs, engine.ask(file, lines).answers);
 }
 
-/** Gathers what came of pieces. */
-class Telling {
+/** Gathers the results of pieces. */
+class LinesReport {
   /** @param {CycleCount} count the cycles before the first piece */
   constructor(count) {
     this.count = count;
-    /** @type {Accepted[]} where they are more than can be done again, not all of them */
+    /** @type {Accepted[]} only the last ones, if there are too many to do again */
     this.accepted = [];
     /** @type {Answered[]} */
     this.entries = [];
@@ -362,7 +364,7 @@ class Telling {
   }
 
   /**
-   * Gives what was accepted.
+   * Returns what was accepted.
    * @param {string} lines
    * @param {Served} served
    */
@@ -375,7 +377,7 @@ class Telling {
     if (this.first === "" && answers.length > 0) this.first = answers[0];
     this.status = status;
     this.touchesRom = this.touchesRom || inputs.some((input) => TOUCHES_ROM[input.kind]);
-    // A board that is refused leaves the old one as it is.
+    // A rejected board leaves the old one unchanged.
     this.wires = this.wires || inputs.some((input, at) => input.kind === "wire" && !matched[at].some(isStop));
     const from = Math.max(0, inputs.length - MOST_ENTRIES);
     const entries = inputs.slice(from).map(({ line, text }, at) => ({ line, textLines: text.length, answers: matched[from + at] }));
@@ -383,8 +385,8 @@ class Telling {
     return accepted;
   }
 
-  /** @returns {Told} */
-  told() {
+  /** @returns {LinesResult} */
+  result() {
     const { entries, first, status, touchesRom, wires } = this;
     return { entries, first, status, touchesRom, wires };
   }

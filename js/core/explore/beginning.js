@@ -1,5 +1,5 @@
-// Where a search begins that goes on from a state of the program's tests (`from STATE`): the tests that lead to it are run once, and their
-// lines stand before each find.
+// The start of a search from a state of the program's tests (`from STATE`): the tests that lead to it are run once, and their lines precede
+// each counterexample.
 
 import { partsOfState, portsOf } from "../bench/state_line.js";
 import { KeysDown } from "../board/key_place.js";
@@ -17,19 +17,19 @@ import * as say from "../../words/explore.js";
  * @typedef {{ subject: Subject, campaign: Campaign }} Readable
  */
 
-/** What is counted of tests that go on from one another: which calls are open. */
+/** The count over consecutive tests: the open calls. */
 class OpenCalls extends Account {
   begin() {
     this.waiting.key = "";
   }
 
   end() {
-    // They are open where the next one goes on.
+    // They are still open when the next one continues.
   }
 }
 
 /**
- * Whether a test saves a state.
+ * Returns whether a test saves a state.
  * @param {Test} test
  * @param {string} state
  */
@@ -38,7 +38,7 @@ function saves({ steps }, state) {
 }
 
 /**
- * The tests that lead to a state, in their order; or why there are none, in words.
+ * Returns the tests that lead to a state, in their order; or why there are none, in words.
  * @param {Prepared["names"]} names
  * @param {string} testText
  * @param {string} state
@@ -58,7 +58,7 @@ export function testsThatLead(names, testText, state) {
 }
 
 /**
- * The tests up to where each saves the state that is gone on from.
+ * Returns the tests up to the state of each from which the next continues.
  * @param {Test[]} tests
  * @param {string} state
  * @returns {Test[]}
@@ -72,7 +72,7 @@ function upToStates(tests, state) {
 }
 
 /**
- * What is done in tests, without the lines of states.
+ * Returns the steps of tests without the lines of states.
  * @param {Test[]} tests
  */
 function linesOf(tests) {
@@ -81,7 +81,7 @@ function linesOf(tests) {
 }
 
 /**
- * How many calls are open behind tests; after a power cycle in one of them that is not known.
+ * Returns how many calls are open after tests; unknown after a power cycle in one of them.
  * @param {Test[]} tests
  * @param {OpenCalls} account
  */
@@ -92,7 +92,7 @@ function callsOf(tests, account) {
 }
 
 /**
- * An input, down or up as it is in a session.
+ * An input, down or up as in a session.
  * @param {Input} input
  * @param {string} state
  * @returns {Input}
@@ -103,7 +103,7 @@ function asItIs(input, state) {
 }
 
 /**
- * A campaign that begins where it says; or why it cannot, in words.
+ * Returns the campaign from its starting state; or why it cannot start, in words.
  * @param {Readable} readable
  * @param {Prepared} prepared
  * @param {string} testText
@@ -126,8 +126,8 @@ export async function begun(readable, prepared, testText) {
   const saved = run.states.get(state);
   if (!saved) return { readable, words: failed };
   const { file } = saved;
-  const [told] = subject.engine.ask(file, "state\n").answers;
-  const inputs = campaign.inputs.map((input) => asItIs(input, told));
+  const [stateAnswer] = subject.engine.ask(file, "state\n").answers;
+  const inputs = campaign.inputs.map((input) => asItIs(input, stateAnswer));
   const there = { inputs, before: linesOf(leading), calls: callsOf(leading, account) };
   return { readable: { subject: { ...subject, file }, campaign: { ...campaign, ...there } }, words: "" };
 }

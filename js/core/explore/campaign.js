@@ -1,11 +1,11 @@
-// A text of properties: what may be changed on the board, what makes a state new, and what must hold. Its lines are in the manual
-// ("Looking for what breaks it").
+// A text of properties: the inputs, what makes a state new, and what must hold. Its lines are in the manual ("Looking for what breaks it").
 
 import { LONGEST_RUN } from "../engine/key_queue.js";
 import { hasScannedDisplay } from "../engine/seen_text.js";
 import { tracedConditionOf } from "../conditions/condition_language.js";
 import { durationOf, wholeDuration } from "../conditions/durations.js";
 import { placeOf } from "../conditions/places.js";
+import { Unreadable, fail } from "../conditions/scanner.js";
 import { TOOL_KEY_DOWN_CYCLES, TOOL_KEY_UP_CYCLES, cyclesOfMs } from "../time/mcs4_time.js";
 import { keysOf, namesOfInputs, pinOf } from "./explored_inputs.js";
 import {
@@ -22,37 +22,15 @@ import { noKey } from "../../words/testing.js";
  * @typedef {import("./subject.js").Subject} Subject
  * @typedef {{ line: number, column: number, words: string }} Fault `column` counts from 0, -1 if none is known
  *
- * @typedef {{ inputs: Input[], together: number, canReset: boolean, shortest: number, longest: number, held: number, apart: number,
- *   begin: number, down: number, up: number, notes: string[], properties: Property[], command: string, from: From | null,
- *   before: string[], calls: { least: number, most: number } }} Campaign
- *   `shortest` and `longest` are waits, `held` is how long a key is down at most, `apart` for how long it is up at least, `begin` is from
- *   where on all is judged, `down` and `up` are how long a key is down and up for a model, in cycles; `notes` are places of `trace`;
- *   `before` are lines of a test that lead to where all begins, and `calls` how many are open there
+ * @typedef {{ inputs: Input[], together: number, canReset: boolean, shortest: number, longest: number, held: number, apart: number, begin:
+ * number, down: number, up: number, notes: string[], properties: Property[], command: string, from: From | null, before: string[], calls: {
+ * least: number, most: number } }} Campaign `shortest` and `longest` are waits, `held` is the longest press, `apart` the shortest release,
+ * `begin` is when the properties begin to be judged, `down` and `up` are the press and the release for a model, in cycles; `notes` are
+ * places of `trace`; `before` are lines of a test that lead to the start, and `calls` how many are open there
  *
- * A state of tests to begin with, the file that has them ("" for those beside the properties), and the line that says so.
+ * A state of tests to start from, the file that has it ("" for the tests next to the properties), and the line that names it.
  * @typedef {{ state: string, file: string, line: number }} From
  */
-
-/** A line that cannot be read, and from which of its columns on. */
-class Unreadable extends Error {
-  /**
-   * @param {string} words
-   * @param {number} column from 0, -1 if none is known
-   */
-  constructor(words, column) {
-    super(words);
-    this.column = column;
-  }
-}
-
-/**
- * @param {string} words
- * @param {number} [column]
- * @returns {never}
- */
-function fail(words, column = -1) {
-  throw new Unreadable(words, column);
-}
 
 /**
  * Returns the column in a line of one in the same line with single blanks.
@@ -69,9 +47,9 @@ function columnIn(whole, column) {
 }
 
 const MOST_NOTES = 16;
-/** So many keys are down together at most, where nothing is said. */
+/** The default for the most keys that are down together. */
 const TOGETHER = 2;
-/** Waits where nothing is said, of 1 and 20 ms, and the pace of `keys`. */
+/** The default waits, of 1 and 20 ms, and the pace of `keys`. */
 const WAITS = { shortest: cyclesOfMs(1), longest: cyclesOfMs(20) };
 const PACE = { down: TOOL_KEY_DOWN_CYCLES, up: TOOL_KEY_UP_CYCLES };
 
@@ -98,9 +76,9 @@ class Reader {
     this.command = "";
     /** @type {{ state: string, file: string } | null} */
     this.from = null;
-    /** What has to hold while the property of this line is judged; "" for nothing. */
+    /** The condition that must hold while the property of this line is judged; "" for none. */
     this.during = "";
-    /** The line that is read, and from where on a condition of it is looked for. */
+    /** The current line, and the index from which a condition is searched for in it. */
     this.line = "";
     this.looked = 0;
   }
@@ -112,7 +90,7 @@ class Reader {
   }
 
   /**
-   * Returns a condition that is broken, or reached, only while another one holds.
+   * Returns a condition that is violated, or reached, only while another one holds.
    * @param {string} text
    */
   met(text) {
@@ -121,7 +99,7 @@ class Reader {
   }
 
   /**
-   * Returns a condition that has to hold only while another one does.
+   * Returns a condition that must hold only while another one does.
    * @param {string} text
    */
   due(text) {
@@ -162,7 +140,7 @@ class Reader {
 }
 
 /**
- * Two times, with or without a word between them.
+ * Reads two times, with or without a word between them.
  * @param {string[]} words
  * @param {string} form
  */
@@ -176,7 +154,7 @@ function twoTimes(words, form) {
 
 
 /**
- * The lines that say what may be changed, and how.
+ * The lines for inputs and their timing.
  * @type {Record<string, (reader: Reader, words: string[]) => void>}
  */
 const SETTINGS = {
@@ -216,7 +194,7 @@ const SETTINGS = {
     if (!state || (words.length > 1 && (of !== "of" || file.length === 0))) {
       fail(say.FROM_FORM);
     }
-    if (reader.from) fail(say.FROM_ALREADY);
+    if (reader.from) fail(say.FROM_TWICE);
     reader.from = { state, file: file.join(" ") };
   },
   begin: (reader, words) => {
@@ -236,7 +214,7 @@ const SETTINGS = {
 };
 
 /**
- * Whether a line of properties says what may change, and not what must hold.
+ * Returns whether a line of properties describes inputs rather than properties.
  * @param {string} line without blanks before it
  */
 export const isSetting = (line) => Object.prototype.hasOwnProperty.call(SETTINGS, line.split(/\s/)[0]);
@@ -255,11 +233,11 @@ function placesOfNote({ names }, word) {
   return fail(place ? boardLacks(place.name) : say.noTrace(word));
 }
 
-/** `lamp open on for 1.1 s`: the condition, and how long it holds. */
+/** Reads `lamp open on for 1.1 s`: the condition, and how long it holds. */
 const FOR = /^(.*) for (\S+(?: \S+)?)$/;
 
 /**
- * The lines that say what must hold, by their first words.
+ * The lines for properties, by their first words.
  * @type {Record<string, (reader: Reader, rest: string, text: string) => Property>}
  */
 const PROPERTIES = {
@@ -299,7 +277,7 @@ const PROPERTIES = {
     return reader.during === "" ? reachAt(text, address) : reach(text, reader.met(`pc = ${address}`));
   },
   model: (reader, rest, text) => {
-    if (reader.command) fail(say.MODEL_ALREADY);
+    if (reader.command) fail(say.MODEL_TWICE);
     if (rest === "") fail(say.MODEL_FORM);
     if (!reader.names.face.groups.some(({ kind }) => kind === "display")) {
       fail(NO_DISPLAY);
@@ -316,7 +294,7 @@ const PROPERTIES = {
 const GUARD = /^(while|once|after press)\b/;
 
 /**
- * Cuts a line behind its first guard, at a comma that is in no text; null if it has none.
+ * Cuts a line after its first guard, at a comma outside of texts; null if it has none.
  * @param {string} text
  */
 function cutGuard(text) {
@@ -364,7 +342,7 @@ function guardedLine(reader, text, cut) {
   reader.looked = text.length - rest.length;
   const property = lineWithoutGuard(reader, rest);
   if (!property || !GUARDED.has(property.form)) return fail(say.GUARD_FORM);
-  // Of a press it matters what holds then.
+  // For a press, the condition at the press counts.
   if (property.form === "after press" && reader.during !== "") {
     guards.push({ kind: "while", key: "", limit: 0, condition: reader.condition(reader.during) });
   }
@@ -417,7 +395,7 @@ function hasKeysForModel({ command, inputs }) {
 }
 
 /**
- * Where nothing is said of what may be pressed, that is all that the face has.
+ * Without lines for inputs, all inputs of the front panel may change.
  * @param {Reader} reader
  * @param {string} text
  */
@@ -436,7 +414,7 @@ function complete(reader, text) {
  * Reads a text of properties.
  * @param {string} text
  * @param {Subject} subject
- * @param {boolean} [needsInputs] whether it is a fault that nothing can change
+ * @param {boolean} [needsInputs] whether it is an error if there are no inputs
  * @returns {{ campaign: Campaign, faults: Fault[] }}
  */
 export function readCampaign(text, subject, needsInputs = true) {

@@ -1,8 +1,8 @@
-// A campaign at work: the search, finds that are made short and confirmed, and what is told of them.
+// A running campaign: the search, the minimising and confirmation of counterexamples, and their report.
 
-import { AllStates } from "./all_states.js";
 import { linesOfFind, testOf } from "./find_test.js";
 import { Model } from "./model.js";
+import { ProofFirst } from "./proof_first.js";
 import { Search } from "./search.js";
 import { Shortening } from "./shortening.js";
 import { randomFrom } from "./walks.js";
@@ -17,23 +17,31 @@ import { randomFrom } from "./walks.js";
  * Whether a test is judged as it should: it fails (of a goal: it passes).
  * @typedef {(test: string, isGoal: boolean) => boolean | Promise<boolean>} Confirm
  *
- * Something that was found: the number of its property, and the steps that lead to it, null where a model says something else.
+ * A counterexample: the number of its property, and the steps that lead to it, null if a model disagrees.
  * @typedef {{ property: number, found: Found, find: Find | null }} Taken
  */
 
-/** Of so many parts of the time one goes to seeing all states, as long as that is not given up. */
-const SHARE = 2;
-/** A property that is found broken so often, by tests that do not fail, is not looked for any more. */
+/** The share of the time that goes to a proof first. */
+const SHARE = 10;
+/** The number of failed confirmations after which a property is no longer searched for. */
 const MOST_UNCONFIRMED = 3;
-/** To make a find shorter so many cycles are looked at, for each second in which it looks for finds, and at least and at most. */
+/** The cycles for minimising a counterexample, for each second of the search, with a minimum and a maximum. */
 const PATIENCE = { second: 2e6, least: 10e6, most: 60e6 };
 
 /**
- * How many cycles are looked at to make a find shorter, where there are so many seconds in all.
+ * Returns the cycles for minimising a counterexample, for this many seconds in all.
  * @param {number} seconds
  */
 export function patienceOf(seconds) {
   return Math.max(PATIENCE.least, Math.min(PATIENCE.most, seconds * PATIENCE.second));
+}
+
+/**
+ * Returns the milliseconds for a proof first, of this many seconds in all.
+ * @param {number} seconds
+ */
+export function proofTimeOf(seconds) {
+  return 1000 * seconds / SHARE;
 }
 
 async function noBreath() {
@@ -46,22 +54,23 @@ export class CampaignRun {
    * @param {Campaign} campaign
    * @param {number} seed
    * @param {Confirm} confirm
-   * @param {number} patience so many cycles are looked at to make a find shorter
+   * @param {number} patience the cycles for minimising a counterexample
    * @param {import("./model.js").Asked | null} [asked] the command of a model
-   * @param {() => Promise<void>} [breathe] lets others in, while a find is made shorter
+   * @param {() => Promise<void>} [yieldToMessages] yields to others, while a counterexample is minimised
+   * @param {number} [proofTime] milliseconds that a proof may take first
    */
-  constructor(subject, campaign, seed, confirm, patience, asked = null, breathe = noBreath) {
+  constructor(subject, campaign, seed, confirm, patience, asked = null, yieldToMessages = noBreath, proofTime = 0) {
     this.subject = subject;
     this.campaign = campaign;
     this.seed = seed;
     this.confirm = confirm;
     this.patience = patience;
-    this.breathe = breathe;
+    this.yieldToMessages = yieldToMessages;
     this.search = new Search(subject, campaign, seed);
-    this.all = new AllStates(subject, campaign, this.search.start);
-    /** How many milliseconds the search had so far, and all states. */
-    this.spent = { search: 0, all: 0, model: 0 };
-    /** The number of the property that is a model, -1 where there is none to ask. */
+    this.proof = new ProofFirst(subject, campaign, proofTime);
+    /** The milliseconds spent so far by the search, the proof and the model. */
+    this.spent = { search: 0, proof: 0, model: 0 };
+    /** The number of the property that is a model, -1 if there is none to ask. */
     this.modelled = asked ? campaign.properties.findIndex(({ form }) => form === "model") : -1;
     this.model = asked && this.modelled >= 0 ? new Model(subject, campaign, this.search.start, asked, randomFrom(seed)) : null;
     /** @type {(Found | null)[]} */
@@ -71,17 +80,17 @@ export class CampaignRun {
     this.doubts = [];
   }
 
-  /** Whether nothing is left to be looked for. */
+  /** Returns whether nothing is left to search for. */
   get isDone() {
     return this.search.open.length === 0 && !this.asksModel;
   }
 
-  /** Whether the model is still asked. */
+  /** Returns whether the model is still asked. */
   get asksModel() {
     return this.model !== null && this.found[this.modelled] === null && this.unconfirmed[this.modelled] < MOST_UNCONFIRMED;
   }
 
-  /** What is wrong with the command of the model. */
+  /** Returns the error of the model's command. */
   get fault() {
     return this.model ? this.model.fault : "";
   }
@@ -102,7 +111,7 @@ export class CampaignRun {
   }
 
   /**
-   * Goes on for so many milliseconds; a find takes longer.
+   * Searches for this many milliseconds; a counterexample takes longer.
    * @param {number} milliseconds
    * @returns {Promise<Taken | null>} what was found
    */
@@ -113,20 +122,14 @@ export class CampaignRun {
       this.spent.model += performance.now() - begun;
       return found;
     }
-    if (this.all.goesOn && this.spent.all * SHARE <= this.spent.search) {
-      this.all.goOn(milliseconds);
-      this.spent.all += performance.now() - begun;
-      if (this.all.isDone) this.closeAll();
+    if (this.proof.continues) {
+      for (const at of this.proof.ask()) this.search.close(at);
+      this.spent.proof += performance.now() - begun;
       return null;
     }
     const find = this.search.walkFor(milliseconds);
     this.spent.search += performance.now() - begun;
     return find && this.take(find);
-  }
-
-  /** All states were seen: what holds in each of them need not be looked for. */
-  closeAll() {
-    for (const at of this.all.open) this.search.close(at);
   }
 
   /**
@@ -135,7 +138,7 @@ export class CampaignRun {
    */
   async take(find) {
     const { campaign, subject, search: { start } } = this;
-    const short = await new Shortening(subject, campaign, start, find, this.patience, this.breathe).shorten();
+    const short = await new Shortening(subject, campaign, start, find, this.patience, this.yieldToMessages).shorten();
     const { isGoal } = campaign.properties[short.property];
     const test = testOf(subject, start.file, campaign, short);
     if (!(await this.confirm(test, isGoal))) return this.doubt(short.property, test);
@@ -145,7 +148,7 @@ export class CampaignRun {
   }
 
   /**
-   * The session as a find says that it is.
+   * Returns the session of a counterexample.
    * @param {Find} find
    */
   sessionOf(find) {
@@ -180,14 +183,14 @@ export class CampaignRun {
    * @returns {Report}
    */
   report(given) {
-    const { campaign: { properties }, search, subject: { instructions }, all } = this;
+    const { campaign: { properties }, search, subject: { instructions }, proof } = this;
     return {
       form: "explore 1", ...given, seeds: [this.seed], steps: search.steps, states: search.stateCount, covered: search.coverage.text,
       instructions,
       properties: properties.map(({ text, line, isGoal, form }, at) => ({
         text, line, isGoal, isSkipped: form === "model" && this.model === null,
         applied: search.applied.has(at) || isGoal, chains: this.model && at === this.modelled ? this.model.chains : 0,
-        states: all.isDone && all.open.includes(at) ? all.count : 0, found: this.found[at],
+        states: proof.states[at], found: this.found[at],
       })),
     };
   }

@@ -1,9 +1,8 @@
-// A walk that is gone along once more for what its looks do not tell: which code it runs, and how many calls are open. Both are counted,
-// which takes a fraction of watching. What the properties remember follows from that and from the looks, if they are of forms that
-// remember nothing else.
+// A second pass over a walk for what its snapshots do not report: the code that it runs, and the open calls. Both are counted, which takes
+// a fraction of watching. The memory of the properties follows from that and from the snapshots, if their forms remember nothing else.
 
 import { isCall, isReturn } from "../engine/rom_codes.js";
-import { Told } from "./place_questions.js";
+import { PlaceValues } from "./place_questions.js";
 import { downAfter, lineOf } from "./walks.js";
 
 /**
@@ -13,15 +12,15 @@ import { downAfter, lineOf } from "./walks.js";
  * @typedef {import("./watching.js").Start} Start
  */
 
-/** What a property remembers that has told since when its condition holds: that it does not. */
+/** The memory of a property whose condition does not hold. */
 const HOLDS_NOT = [-1];
 const FORMS = new Set(["code", "never", "always", "never for", "reach", "reach at", "model", "calls", "returns"]);
 
 /**
- * Whether what these properties remember follows from looks and counts, after some steps at which their conditions hold or not. Since when
- * a condition holds is told by watching alone.
+ * Returns whether the memory of these properties follows from snapshots and counts, given after which steps their conditions hold. Only
+ * watching shows since when a condition holds.
  * @param {Property[]} properties
- * @param {number[]} open the numbers of those that matter
+ * @param {number[]} open the numbers of the properties that are still open
  * @param {boolean[][]} holds after each of the steps, by the numbers of properties
  */
 export function followsFromLooks(properties, open, holds) {
@@ -35,7 +34,7 @@ export function followsFromLooks(properties, open, holds) {
  * @param {Property} property
  * @param {number[]} memory
  * @param {WalkStep} step
- * @param {number} deeper how many calls were made beyond those that came back
+ * @param {number} deeper how many more calls than returns were made
  */
 function memoryAfter({ form }, memory, { kind }, deeper) {
   if (form === "calls" || form === "returns") return [kind === "reset" ? 0 : memory[0] + deeper];
@@ -50,11 +49,11 @@ function memoryAfter({ form }, memory, { kind }, deeper) {
  */
 export function countWalk({ subject: { engine, codes }, campaign, coverage }, start, steps) {
   const lines = steps.map((step) => `count ${step.wait}\nrun ${step.wait}\n${lineOf(campaign, step)}`).join("");
-  const told = new Told(engine.ask(start.file, lines).answers);
+  const values = new PlaceValues(engine.ask(start.file, lines).answers);
   let { time, down, memories } = start;
   return steps.map((step) => {
-    const counts = told.counts();
-    told.skip(step.kind === "none" ? 1 : 2);
+    const counts = values.counts();
+    values.skip(step.kind === "none" ? 1 : 2);
     let deeper = 0;
     for (const { address, begun } of counts) {
       if (isCall(codes[address])) deeper += begun;

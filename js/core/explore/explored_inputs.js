@@ -1,11 +1,11 @@
-// What may be changed on a board while it is explored: keys and TEST, by the names of its face.
+// The inputs of a board that a search can change: keys and TEST, by the names of its face.
 
 import { lineOfKey, pinKey } from "../board/key_place.js";
 
 /**
  * @typedef {import("../board/key_place.js").Key} Key
  *
- * Something that is up or down: the lines that change it, the words of a test for them, and whether it is down at power-on.
+ * An input that is up or down: the lines that change it, its words in a test, and whether it is down at power-on.
  * @typedef {{ name: string, key: Key, isKey: boolean, down: string, up: string, downWords: string, upWords: string,
  *   isDown: boolean }} Input
  *
@@ -35,7 +35,7 @@ export function keysOf(face) {
 }
 
 /**
- * The TEST pin. It is 1 at power-on; without a face it is down at 0.
+ * The TEST pin. It is 1 at power-on; without a front panel it is down at 0.
  * @param {Face} face
  * @returns {Input}
  */
@@ -46,7 +46,7 @@ export function pinOf({ test }) {
 }
 
 /**
- * The names of all that a face tells of.
+ * Returns the names of all inputs of a front panel.
  * @param {Face} face
  */
 export function namesOfInputs(face) {

@@ -1,5 +1,5 @@
-// What must hold of a program, on the page: the text of properties is read, and keys that break them are looked for, piece by piece.
-// Without a document: the page's worker calls it. What is found is what mcs4 explore finds with the same seed.
+// Properties of a program, on the page: reads the text of properties, and searches for counterexamples, piece by piece. The page's
+// worker calls it. It finds the same as mcs4 explore with the same seed.
 //
 //     const { readable, faults } = await readToExplore(engine, texts);
 //     const exploring = new Exploring(engine, texts, readable, { seed: 1, seconds: 20 }, async () => {});
@@ -8,7 +8,7 @@
 import { isConfirmed } from "../testing/confirming.js";
 import { prepare } from "../testing/prepared.js";
 import { begun, testsThatLead } from "./beginning.js";
-import { CampaignRun, patienceOf } from "./campaign_run.js";
+import { CampaignRun, patienceOf, proofTimeOf } from "./campaign_run.js";
 import { readCampaign } from "./campaign.js";
 import { subjectOf } from "./subject.js";
 import * as say from "../../words/explore.js";
@@ -24,18 +24,18 @@ import * as say from "../../words/explore.js";
  * @typedef {{ subject: Subject, campaign: Campaign }} Readable
  * @typedef {import("../testing/prepared.js").Prepared} Prepared
  *
- * How far it is: what it has come to, what was found since this was told last, with the session as each find says that it is, and whether
- * nothing is left to be looked for.
+ * The progress: the result so far, what was found since the last report, with the session of each counterexample, and whether the search is
+ * over.
  * @typedef {{ report: Report, found: { property: number, file: Uint8Array }[], isDone: boolean }} Progress
  */
 
-/** So many milliseconds pass between two looks at the clock. */
+/** The milliseconds between two checks of the clock. */
 const SLICE = 50;
 /**
- * A text of properties with what it is for, or what is wrong with any of the texts.
+ * A text of properties with its subject, or the errors of any of the texts.
  * @param {Engine} engine
  * @param {ExploredTexts} texts
- * @param {boolean} [needsInputs] whether it is an error that nothing can change
+ * @param {boolean} [needsInputs] whether it is an error if there are no inputs
  * @returns {{ read: (Readable & { prepared: Prepared }) | null, faults: TextFault[] }}
  */
 export function readExplored(engine, { boardText, programText, testText, propertiesText }, needsInputs = true) {
@@ -60,7 +60,7 @@ function ofProperties(faults) {
 }
 
 /**
- * The same at where it is to begin.
+ * Returns the same for the starting state.
  * @param {Engine} engine
  * @param {ExploredTexts} texts
  * @returns {Promise<{ readable: Readable | null, faults: TextFault[] }>}
@@ -79,16 +79,17 @@ export class Exploring {
    * @param {ExploredTexts} texts
    * @param {Readable} readable
    * @param {Asked} asked
-   * @param {() => Promise<void>} breathe lets others in, while a find is made shorter
+   * @param {() => Promise<void>} yieldToMessages yields to others, while a counterexample is minimised
    */
-  constructor(engine, texts, { subject, campaign }, { seed, seconds }, breathe) {
-    // A find counts only once its test was seen to fail (that of a goal: to pass).
-    const confirm = (/** @type {string} */ test, /** @type {boolean} */ isGoal) => isConfirmed(engine, texts, test, isGoal, breathe);
-    this.run = new CampaignRun(subject, campaign, seed, confirm, patienceOf(seconds), null, breathe);
+  constructor(engine, texts, { subject, campaign }, { seed, seconds }, yieldToMessages) {
+    // A counterexample counts only once its test was seen to fail (that of a goal: to pass).
+    const confirm = (/** @type {string} */ test, /** @type {boolean} */ isGoal) => (
+      isConfirmed(engine, texts, test, isGoal, yieldToMessages));
+    this.run = new CampaignRun(subject, campaign, seed, confirm, patienceOf(seconds), null, yieldToMessages, proofTimeOf(seconds));
   }
 
   /**
-   * Goes on for so many milliseconds, or until something is found, which takes longer.
+   * Searches for this many milliseconds, or until something is found, which takes longer.
    * @param {number} milliseconds
    * @returns {Promise<Progress>}
    */
@@ -105,7 +106,7 @@ export class Exploring {
   }
 
   report() {
-    const { search, all, model } = this.run.spent;
-    return this.run.report({ names: say.NAMES, sums: "", seconds: (search + all + model) / 1000, isStopped: false });
+    const { search, proof, model } = this.run.spent;
+    return this.run.report({ names: say.NAMES, sums: "", seconds: (search + proof + model) / 1000, isStopped: false });
   }
 }

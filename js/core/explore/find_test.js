@@ -1,4 +1,4 @@
-// A find as a test in the words of mcs4 test: it fails for as long as the program is as it is (of a goal: it passes).
+// A counterexample as a test in the words of mcs4 test: it fails as long as the program is unchanged (that of a goal passes).
 
 import { readCounter } from "../bench/answers.js";
 import { hex } from "../bench/numbers.js";
@@ -15,7 +15,7 @@ import * as say from "../../words/explore.js";
  */
 
 /**
- * The lines that lead to a find, from where all is begun with.
+ * Returns the lines that lead to a counterexample, from the starting state.
  * @param {Campaign} campaign
  * @param {Find} find
  */
@@ -24,11 +24,11 @@ export function linesOfFind(campaign, { steps, time }) {
   return linesOf(campaign, steps) + runLines(time - changed);
 }
 
-/** Writes the test of a find. */
+/** Writes the test of a counterexample. */
 class Writer {
   /**
    * @param {Subject} subject
-   * @param {Uint8Array} file where all is begun with
+   * @param {Uint8Array} file the starting state
    * @param {Campaign} campaign
    * @param {Find} find
    */
@@ -37,19 +37,19 @@ class Writer {
     this.subject = subject;
     this.file = file;
     this.campaign = campaign;
-    /** The lines that lead to where the property is broken. */
+    /** Returns the lines that lead to the violation of the property. */
     this.linesThere = linesOfFind(campaign, find);
     this.property = campaign.properties[property];
     this.steps = steps;
     this.time = time;
-    /** When the last change was made. */
+    /** The time of the last change. */
     this.changed = steps.reduce((sum, { wait }) => sum + wait, campaign.begin);
     /** @type {string[]} */
     this.lines = [`test ${this.property.text}`, ...campaign.before];
     this.waited = campaign.begin;
   }
 
-  /** Puts the wait that is due. */
+  /** Writes the wait that is due. */
   putWait() {
     if (this.waited > 0) this.lines.push(`  run ${this.waited}`);
     this.waited = 0;
@@ -97,7 +97,7 @@ class Writer {
   }
 
   /**
-   * The counter's address, by its label where one stands there.
+   * Returns the counter's address, by its label if it has one.
    * @param {number} address
    */
   counter(address) {
@@ -106,7 +106,7 @@ class Writer {
   }
 
   /**
-   * What has to come within a time, which has begun by a change or before it.
+   * What must follow within a time that began with a change or before it.
    * @param {string} words
    * @param {number} since
    */
@@ -118,7 +118,7 @@ class Writer {
 }
 
 /**
- * What has to be, by the form of the property.
+ * The requirement, by the form of the property.
  * @type {Record<Property["form"], (writer: Writer) => void>}
  */
 const JUDGED = {
@@ -144,13 +144,13 @@ const JUDGED = {
 /** @type {Partial<Record<Property["form"], string>>} */
 const NOTES = {
   calls: say.FOURTH_CALL,
-  returns: say.BBL_LEADS,
-  mistake: say.MADE_THERE,
+  returns: say.RETURN_WITHOUT_CALL,
+  mistake: say.MISTAKE_CONFIRMED,
   once: say.MORE_OFTEN,
 };
 
 /**
- * Returns the test of a find.
+ * Returns the test of a counterexample.
  * @param {Subject} subject
  * @param {Uint8Array} file
  * @param {Campaign} campaign

@@ -1,4 +1,4 @@
-// Session files that are kept: of each one the words in which it differs from a first one, since most of a file is the same.
+// Session files that are stored as differences: of each one the words that differ from a first one, because most of a file is the same.
 
 /** @typedef {{ indexes: Uint32Array, words: Uint32Array }} KeptFile */
 

@@ -1,6 +1,6 @@
-// A model: a command that says what the display has to show. It gets a line of keys for each chain, the names with blanks between them, and
-// prints a line for each, what the display shows after them; an empty line says nothing of it. A chain is keyed from where all is begun
-// with, at the pace of the properties.
+// A model: a command that says what the display must show. It receives a line of keys for each chain, the names with blanks between them,
+// and prints a line for each, the text of the display after them; an empty line means no opinion. A chain is keyed from the starting state,
+// at the pace of the properties.
 
 import { readMarks } from "../bench/answers.js";
 import { DisplayText } from "../board/display_text.js";
@@ -13,11 +13,11 @@ import { runLines } from "../engine/key_queue.js";
  * @typedef {import("./walks.js").Random} Random
  * @typedef {import("./watching.js").Start} Start
  *
- * What the display has to show after each chain of keys, or words of what is wrong with the command.
+ * What the display must show after each chain of keys, or the error of the command.
  * @typedef {{ shown: string[], fault: string }} Said
  * @typedef {(chains: string[]) => Said | Promise<Said>} Asked
  *
- * A chain by which the display shows something else.
+ * A chain after which the display differs.
  * @typedef {{ keys: number[], wanted: string, lit: string[], cycles: number }} Difference `lit` are names of lamps that are on, and should
  *   be off
  */
@@ -42,7 +42,7 @@ export class Model {
     /** The inputs that are keys, by their numbers. */
     this.keys = campaign.inputs.flatMap(({ isKey }, at) => (isKey ? [at] : []));
     this.chains = 0;
-    /** What is wrong with the command; nothing is asked any more then. */
+    /** The error of the command, after which it is not asked again. */
     this.fault = "";
   }
 
@@ -59,7 +59,7 @@ export class Model {
   }
 
   /**
-   * The first chain by which the display shows something else.
+   * Returns the first chain after which the display differs.
    * @param {number[][]} chains
    * @returns {Promise<Difference | null>}
    */
@@ -78,8 +78,7 @@ export class Model {
   }
 
   /**
-   * Returns what the display shows after a chain: the number, the names of the lamps that are on beside it, and both, as mcs4 display
-   * prints them.
+   * Returns the display after a chain: the number, the names of the other lamps that are on, and both, as mcs4 display prints them.
    * @param {number[]} keys
    */
   shownAfter(keys) {

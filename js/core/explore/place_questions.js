@@ -1,7 +1,7 @@
-// The places of `trace` that properties and notes look at, in questions of at most 16, and where each condition finds its values.
+// The places of `trace` in properties and notes, in queries of at most 16, and the positions of each condition's values.
 
+import { MOST_PLACES } from "../bench/inputs.js";
 import { refusalOf } from "../bench/answers.js";
-import { MOST_PLACES } from "../conditions/condition_language.js";
 import { Answers, readTraced, valuesOf } from "../engine/tracing.js";
 
 /** @typedef {import("./properties.js").Property} Property */
@@ -10,7 +10,7 @@ export class Places {
   /** @param {string[]} names */
   constructor(names) {
     this.names = [...new Set(names)];
-    /** What is asked at once. */
+    /** The groups of places that are queried at once. */
     this.groups = [];
     for (let from = 0; from < this.names.length; from += MOST_PLACES) this.groups.push(this.names.slice(from, from + MOST_PLACES));
   }
@@ -24,7 +24,7 @@ export class Places {
   }
 
   /**
-   * Where the values of some places stand among all.
+   * Returns the positions of some places' values among all.
    * @param {string[]} places
    */
   indexes(places) {
@@ -62,7 +62,7 @@ export class Conditions {
   }
 
   /**
-   * Whether those of the guards hold.
+   * Returns whether those of the guards hold.
    * @param {string[]} values
    */
   opens(values) {
@@ -78,10 +78,10 @@ function holdsBy({ condition, indexes }, values) {
   return condition !== null && condition.holds(indexes.map((at) => values[at]));
 }
 
-/** Answers that follow each other, to questions about places. */
-export class Told extends Answers {
+/** Reads consecutive answers to queries about places. */
+export class PlaceValues extends Answers {
   /**
-   * What stands at all places now; the lines of what comes are left out.
+   * Returns the values of all places now, without the lines of later changes.
    * @param {Places} places
    */
   row(places) {
@@ -91,7 +91,7 @@ export class Told extends Answers {
   }
 
   /**
-   * What stands at all places now, and after each instruction that changes them, by the cycles before it.
+   * Returns the values of all places now, and after each instruction that changes them, with the cycles before it.
    * @param {Places} places
    * @returns {{ values: string[], changes: Change[] }}
    */
@@ -109,7 +109,7 @@ export class Told extends Answers {
     return { values, changes: all.length === 1 ? all[0] : all.flat().sort((one, other) => one.cycles - other.cycles) };
   }
 
-  /** What `count` tells; nothing where the bench refuses a wait. */
+  /** Returns the answer to `count`; nothing if the bench rejects a wait. */
   counts() {
     if (!refusalOf(this.answers[this.at])) return this.takeCounts();
     this.skip(1);
@@ -118,7 +118,7 @@ export class Told extends Answers {
 }
 
 /**
- * An instruction after which some values, from one of them on, are others.
+ * An instruction that changes some values, given from one of them on.
  * @typedef {{ cycles: number, address: number, from: number, values: string[] }} Change
  */
 

@@ -1,6 +1,6 @@
-// Properties: what must hold whatever is pressed, and when. Each one is told what happens on a walk, in the order of time, and tells when
-// it is broken (a goal: when it is reached). What it remembers of a walk is a list of numbers, so that a walk can go on from a state
-// that was kept.
+// Properties: the conditions that must hold whatever is pressed, and when. Each one receives the events of a walk, in the order of time,
+// and says when it is violated (a goal: when it is reached). Its memory of a walk is a list of numbers, so that a walk can continue from a
+// stored state.
 
 import * as say from "../../words/explore.js";
 
@@ -8,18 +8,18 @@ import * as say from "../../words/explore.js";
  * @typedef {import("../conditions/condition_language.js").Condition} Condition
  * @typedef {import("./explored_inputs.js").Input} Input
  *
- * What happens: `values` are what the condition looks at, now; `label`: the counter comes to the address; `down`: an input goes down;
- * `reset`; `end`: a wait is over; `call` and `return`: a subroutine's.
+ * The events: `values` are the values of the condition's places, now; `label`: the counter reaches the address; `down`: an input goes down;
+ * `reset`; `end`: a wait is over; `call` and `return`: of a subroutine.
  * @typedef {"values" | "label" | "down" | "reset" | "end" | "call" | "return"} Event
  * @typedef {{ time: number, holds: boolean, opens: boolean[], input: string, isDown: number }} Moment cycles from power-on; whether the
  *   condition holds now, and those of the guards; the input that goes down; how many are down
  *
- * When a property is judged: from a press on, for `limit` cycles or, where that is 0, without an end; once a condition has held; while it
+ * When a property is judged: from a press on, for `limit` cycles or, if that is 0, without an end; once a condition has held; while it
  * holds.
  * @typedef {{ kind: "press" | "once" | "while", key: string, limit: number, condition: Condition | null }} Guard
  *
- * `from` begins a memory; `see` gives the time at which the property is broken, -1 where it is not; `mark` is what of its memory makes a
- * state new; `address` is that of its label, -1 without one; `form` is what a test has to say of it.
+ * `from` begins a memory; `see` returns the time at which the property is violated, -1 if it is not; `mark` is the part of its memory that
+ * makes a state new; `address` is that of its label, -1 without one; `form` is the text for a test.
  * @typedef {{ form: Form, text: string, line: number, condition: Condition | null, address: number, limit: number, isGoal: boolean,
  *   keys: string[], guards: Guard[], from: (time: number, isDown: number) => number[],
  *   see: (memory: number[], event: Event, moment: Moment) => number, mark: (memory: number[]) => string,
@@ -39,7 +39,7 @@ const PLAIN = {
 };
 
 /**
- * A condition that is a lone label is told by the counter: it holds whenever the counter comes there.
+ * A condition that is a lone label follows the counter: it holds whenever the counter reaches it.
  * @param {Condition} condition
  * @returns {Pick<Property, "condition" | "address">}
  */
@@ -48,7 +48,7 @@ function lookedAt(condition) {
 }
 
 /**
- * Whether a condition begins to hold, or is told to hold once more.
+ * Returns whether a condition becomes true, or is reported as true once more.
  * @param {Event} event
  * @param {Moment} moment
  */
@@ -78,7 +78,7 @@ export function always(text, condition) {
 }
 
 /**
- * The condition never holds for so many cycles on end. It remembers since when it holds.
+ * The condition never holds for this many cycles without a break. It remembers since when it holds.
  * @param {string} text
  * @param {Condition} condition
  * @param {number} limit
@@ -98,7 +98,7 @@ export function neverFor(text, condition, limit) {
 }
 
 /**
- * The condition holds whenever the counter comes to a label. It remembers whether it came there.
+ * The condition holds whenever the counter reaches a label. It remembers whether the counter was there.
  * @param {string} text
  * @param {Condition} condition
  * @param {number} address
@@ -116,8 +116,8 @@ export function at(text, condition, address) {
 }
 
 /**
- * The condition begins to hold only after these presses, in this order, since it held last. It remembers how many came, whether it holds,
- * and whether it ever did.
+ * The condition becomes true only after these presses, in this order, since it held last. It remembers how many came, whether it holds, and
+ * whether it ever did.
  * @param {string} text
  * @param {Condition} condition
  * @param {string[]} keys
@@ -133,7 +133,7 @@ export function onlyAfter(text, condition, keys) {
       else if (comes(event, moment)) {
         if (!memory[1] && memory[0] < keys.length) return moment.time;
         memory[1] = memory[2] = 1;
-        // The counter goes on from a label at once.
+        // The counter leaves a label at once.
         if (event === "label") memory.fill(0, 0, 2);
       } else if (event === "values" && memory[1]) memory.fill(0, 0, 2);
       return NOT;
@@ -142,7 +142,7 @@ export function onlyAfter(text, condition, keys) {
 }
 
 /**
- * The counter comes to a label again and again, each time within so many cycles. It remembers when it was there last.
+ * The counter reaches a label again and again, each time within this many cycles. It remembers when it was there last.
  * @param {string} text
  * @param {number} address
  * @param {number} limit
@@ -160,7 +160,7 @@ export function every(text, address, limit) {
 }
 
 /**
- * Once an input went down, the condition holds within so many cycles. It remembers since when that is waited for, and whether it was.
+ * Once an input went down, the condition holds within this many cycles. It remembers since when that is awaited, and whether it was.
  * @param {string} text
  * @param {string} key
  * @param {Condition} condition
@@ -187,7 +187,7 @@ export function afterPress(text, key, condition, limit) {
 }
 
 /**
- * The counter comes to a label at most once for each press. It remembers how many presses are left, and whether it came there.
+ * The counter reaches a label at most once for each press. It remembers how many presses are left, and whether the counter was there.
  * @param {string} text
  * @param {number} address
  * @returns {Property}
@@ -209,7 +209,7 @@ export function once(text, address) {
 }
 
 /**
- * A goal: a condition that can come to hold.
+ * A goal: a condition that can become true.
  * @param {string} text
  * @param {Condition} condition
  * @returns {Property}
@@ -219,7 +219,7 @@ export function reach(text, condition) {
 }
 
 /**
- * A goal: an address that the counter can come to.
+ * A goal: an address that the counter can reach.
  * @param {string} text
  * @param {number} address
  * @returns {Property}
@@ -232,7 +232,7 @@ export function reachAt(text, address) {
 export const GUARDED = new Set(["never", "never for", "always", "at", "after press", "reach", "reach at"]);
 
 /**
- * Returns what a guard remembers: since when it is open, or since when for the last time; NOT if it is closed.
+ * Returns the memory of a guard: since when it is open, or was open last; NOT if it is closed.
  * @param {Guard} guard
  * @param {number} since
  * @param {Event} event
@@ -258,7 +258,7 @@ function lastOf({ kind, limit }, since) {
 }
 
 /**
- * Tells a guarded property what happens, in the memory of its own.
+ * Reports an event to a guarded property, in its own memory.
  * @param {Property} property
  * @param {number[]} memory
  * @param {Event} event
@@ -267,14 +267,13 @@ function lastOf({ kind, limit }, since) {
  */
 function seeGuarded({ form, see, keys }, memory, event, moment, isOpen) {
   if (form === "never for") return see(memory, event, { ...moment, holds: moment.holds && isOpen });
-  // A press counts where it comes; what it is to bring about may come later.
+  // A press counts when it comes; its effect may come later.
   if (form === "after press") return event === "down" && moment.input === keys[0] && !isOpen ? NOT : see(memory, event, moment);
   return isOpen || event === "reset" ? see(memory, event, moment) : NOT;
 }
 
 /**
- * The same property, judged where all its guards are open. It remembers each guard, whether all were ever open, and what it remembers
- * itself.
+ * The same property, judged while all its guards are open. It remembers each guard, whether all were ever open, and its own memory.
  * @param {string} text
  * @param {Property} property
  * @param {Guard[]} guards
@@ -289,7 +288,7 @@ export function guarded(text, property, guards) {
     see: (memory, event, moment) => {
       const inner = memory.slice(own);
       const last = Math.min(...guards.map((guard, index) => lastOf(guard, memory[index])));
-      // What lasts is over where the guard closed before this moment.
+      // A duration is over if the guard closed before this moment.
       const hasClosed = property.form === "never for" && last < moment.time && last !== NOT;
       let when = hasClosed ? property.see(inner, "values", { ...moment, time: last + 1, holds: false }) : NOT;
       guards.forEach((guard, index) => {
@@ -305,7 +304,7 @@ export function guarded(text, property, guards) {
 }
 
 /**
- * What a command says the display has to show; it is not told what happens.
+ * Returns the property of a command that says what the display must show. It receives no events.
  * @param {string} text
  * @returns {Property}
  */
@@ -314,7 +313,7 @@ export function model(text) {
 }
 
 /**
- * How deep the calls are, kept in a memory of one number.
+ * The depth of calls, stored in a memory of one number.
  * @param {number[]} memory
  * @param {Event} event
  */
@@ -325,7 +324,7 @@ function countCalls(memory, event) {
 }
 
 /**
- * What no program should do.
+ * Returns the properties that no program should break.
  * @returns {Property[]}
  */
 export function alwaysOn() {
@@ -342,7 +341,7 @@ export function alwaysOn() {
       ...PLAIN, form: "returns", text: say.NO_LONE_RETURN, from: () => [0],
       see: (memory, event, { time }) => {
         countCalls(memory, event);
-        // A fourth call is told by itself: what comes back from it is another question.
+        // A fourth call is reported by itself; its return is another question.
         memory[0] = Math.min(memory[0], DEEPEST);
         return memory[0] < 0 ? time : NOT;
       },

@@ -1,4 +1,4 @@
-// What stands at places now, by the questions that cost the bench least: `lamps`, `regs`, `state` and `ram` tell most of what `trace`
+// The current values of places, by the queries that cost the bench least: `lamps`, `regs`, `state` and `ram` report most of what `trace`
 // does, without a copy of the bench. The values are those of `trace`, to the letter.
 
 import { numberOf } from "../bench/numbers.js";
@@ -6,22 +6,22 @@ import { Places } from "./place_questions.js";
 
 /**
  * @typedef {import("../bench/answers.js").Board} Board
- * @typedef {import("./place_questions.js").Told} Told
+ * @typedef {import("./place_questions.js").PlaceValues} PlaceValues
  *
- * Where a value stands: the line of which question, how many lines behind its first one, from which letter on and how many; where the
- * answer has words of changing length, behind which of its words. `length` 0: up to the end.
+ * The position of a value: the query, the line after its first one, the first letter and the number of letters; if the answer has words of
+ * varying length, the word before it. `length` 0: up to the end.
  * @typedef {{ question: string, line: number, after: string, from: number, length: number }} Spot
  */
 
 /** `acc H cy B pc HHH owed B dcl D test B r HHHHHHHHHHHHHHHH ..` */
 const REGISTERS = new Map([["acc", [4, 1]], ["cy", [9, 1]], ["pc", [14, 3]], ["dcl", [29, 1]]]);
 const FIRST_REGISTER = 40;
-/** So many lines `ram` has for a chip: its registers, and its port. */
+/** The lines of `ram` for a chip: its registers, and its port. */
 const CHIP_LINES = 5;
 const CHIP_REGISTERS = 4;
 
 /**
- * How many chips a bank of the board has.
+ * Returns how many chips a bank of the board has.
  * @param {Board} board
  * @param {number} bank
  */
@@ -59,8 +59,8 @@ function memorySpot(name, board) {
 }
 
 /**
- * The port of a RAM chip: `ram0.1`. It is driven by its latch alone. As all spots it is read letter by letter, and not by
- * bench/state_line.js: a search has thousands of looks in a second.
+ * The port of a RAM chip: `ram0.1`. Only its latch drives it. Like all positions it is read character by character, and not by
+ * bench/state_line.js: a search has thousands of snapshots in a second.
  * @param {string} name
  * @param {Board} board
  * @returns {Spot | null}
@@ -82,7 +82,7 @@ function spotOf(name, board) {
   return registerSpot(name) || memorySpot(name, board) || portSpot(name, board);
 }
 
-export class Looks {
+export class Snapshots {
   /**
    * @param {string[]} names
    * @param {Board} board
@@ -90,24 +90,24 @@ export class Looks {
   constructor(names, board) {
     const all = [...new Set(names)];
     const spots = all.map((name) => spotOf(name, board));
-    /** What `trace` alone tells. */
+    /** The places that only `trace` reports. */
     this.rest = new Places(all.filter((_, at) => !spots[at]));
     this.spots = spots.flatMap((spot) => spot || []);
     /** All places, in the order of their values. */
     this.names = [...all.filter((_, at) => spots[at]), ...this.rest.names];
     this.questions = [...new Set(this.spots.map(({ question }) => question))];
-    /** What is asked. */
+    /** The queries. */
     this.lines = this.questions.map((question) => `${question}\n`).join("") + this.rest.lines(1);
     const counts = this.questions.map((question) => (
       question.startsWith("ram ") ? 1 + CHIP_LINES * chipsOf(board, Number(question.slice(4))) : 1));
-    /** On which line of all that is answered each spot is. */
+    /** The line of each position in the whole answer. */
     this.at = this.spots.map(({ question, line }) => (
       line + counts.slice(0, this.questions.indexOf(question)).reduce((sum, count) => sum + count, 0)));
     this.count = counts.reduce((sum, count) => sum + count, 0);
   }
 
   /**
-   * Where the values of some places stand among all.
+   * Returns the positions of some places' values among all.
    * @param {string[]} places
    */
   indexes(places) {
@@ -115,21 +115,21 @@ export class Looks {
   }
 
   /**
-   * What stands at all places, by the answers to the lines.
-   * @param {Told} told
+   * Returns the values of all places, from the answers to the lines.
+   * @param {PlaceValues} values
    */
-  row(told) {
+  row(values) {
     const { spots, at, rest } = this;
-    const first = told.at;
+    const first = values.at;
     let row = "";
     for (let each = 0; each < spots.length; each++) {
       const { after, from, length } = spots[each];
-      const answer = told.answers[first + at[each]];
+      const answer = values.answers[first + at[each]];
       const begin = after === "" ? from : answer.indexOf(after) + after.length + from;
       row += `${each === 0 ? "" : " "}${length === 0 ? answer.slice(begin) : answer.substr(begin, length)}`;
     }
-    told.skip(this.count);
+    values.skip(this.count);
     if (rest.names.length === 0) return row;
-    return row === "" ? told.row(rest) : `${row} ${told.row(rest)}`;
+    return row === "" ? values.row(rest) : `${row} ${values.row(rest)}`;
   }
 }

@@ -1,24 +1,25 @@
-// What a search has come to, and its output as TAP. Reports of searches with other seeds, by other processes or machines, are joined.
+// The result of a search, and its output as TAP. Reports of searches with other seeds, by other processes or machines, are joined.
 
 import { counted } from "../bench/numbers.js";
 import { TAP_HEAD, described, quoted } from "../testing/tap.js";
 import { Coverage } from "./search_coverage.js";
 import { andMore } from "../../words/debug.js";
 import * as say from "../../words/explore.js";
+import { neverReached, proved } from "../../words/prove.js";
 
 /**
  * @typedef {import("./properties.js").Property} Property
  * @typedef {import("./subject.js").Instruction} Instruction
  *
- * A find: its test, how many steps it has, how many cycles pass, and the seed by which it was found.
+ * A counterexample: its test, its number of steps, its cycles, and the seed that found it.
  * @typedef {{ test: string, steps: number, cycles: number, seed: number }} Found
  *
- * A property, as it is told: `isSkipped` says that it is a model whose command was not run; `states` are how many states there are, where
- * all of them were seen and it holds in each, else 0; `chains` are those of keys that a model was asked about.
+ * A property in a report: `isSkipped` says that it is a model whose command was not run; `states` are the states of the proof that it holds
+ * for all inputs, otherwise 0; `chains` are the chains of keys for which a model was asked.
  * @typedef {{ text: string, line: number, isGoal: boolean, isSkipped: boolean, applied: boolean, states: number, chains: number,
- *   found: Found | null }} Told
+ *   found: Found | null }} PropertyResult
  *
- * @typedef {{ form: "explore 1", names: { board: string, program: string, properties: string }, sums: string, properties: Told[],
+ * @typedef {{ form: "explore 1", names: { board: string, program: string, properties: string }, sums: string, properties: PropertyResult[],
  *   seeds: number[], steps: number, states: number, seconds: number, covered: string, instructions: Instruction[],
  *   isStopped: boolean }} Report
  */
@@ -33,7 +34,7 @@ export const grouped = (number) => Math.round(number).toLocaleString("en");
 export const stepsOf = (count) => counted(count, "step");
 
 /**
- * The shorter one of two finds, by steps and then by time.
+ * Returns the shorter of two counterexamples, by steps and then by time.
  * @param {Found | null} one
  * @param {Found | null} other
  */
@@ -43,7 +44,7 @@ function shorterOf(one, other) {
 }
 
 /**
- * Joins reports of one campaign. Those of others are refused, by an empty answer.
+ * Joins reports of one campaign. Returns an empty answer for reports of different ones.
  * @param {Report[]} reports
  * @returns {Report | null}
  */
@@ -70,26 +71,26 @@ export function joinReports(reports) {
   };
 }
 
-/** @param {Told} property */
+/** @param {PropertyResult} property */
 export function isRight({ isGoal, isSkipped, found }) {
   return !isSkipped && isGoal === (found !== null);
 }
 
 /**
- * What stands behind a property.
- * @param {Told} property
+ * Returns the text after a property.
+ * @param {PropertyResult} property
  * @param {Report} report
  */
 export function remarkOf({ isGoal, applied, states, chains, found }, report) {
   if (found) return `${isGoal ? "reached" : "broken"}, ${stepsOf(found.steps)}`;
-  if (states > 0) return isGoal ? say.neverInAll(grouped(states)) : say.holdsForAll(grouped(states));
+  if (states > 0) return isGoal ? neverReached(counted(states, "state")) : proved(counted(states, "state"));
   if (chains > 0) return say.chainsOfKeys(grouped(chains));
   return applied ? say.stepsAndStates(grouped(report.steps), grouped(report.states)) : say.NEVER_LOOKED_AT;
 }
 
 /**
- * The line that a property stands at, with its file.
- * @param {Told} property
+ * Returns the line of a property, with its file.
+ * @param {PropertyResult} property
  * @param {Report} report
  */
 export function lineOfProperty({ line }, { names }) {
@@ -98,7 +99,7 @@ export function lineOfProperty({ line }, { names }) {
 
 /**
  * The lines of a property.
- * @param {Told} property
+ * @param {PropertyResult} property
  * @param {number} at
  * @param {Report} report
  */
@@ -112,7 +113,7 @@ function linesOf(property, at, report) {
   return [...lines, ...found.test.trimEnd().split("\n").map((line) => `    ${line}`), "  ..."];
 }
 
-/** Lines are told up to so many. */
+/** The most lines that are reported. */
 const MOST_LINES = 40;
 
 /** @param {number[]} lines */
@@ -122,7 +123,7 @@ function listed(lines) {
 }
 
 /**
- * What was run.
+ * Returns the lines about the code that was run.
  * @param {Report} report
  */
 export function coverageLines({ covered, instructions }) {
@@ -134,7 +135,7 @@ export function coverageLines({ covered, instructions }) {
 }
 
 /**
- * Returns the report as TAP. A property that was not run is a comment alone.
+ * Returns the report as TAP. A property that was not run is only a comment.
  * @param {Report} report
  */
 export function tapOf(report) {
@@ -150,7 +151,7 @@ export function tapOf(report) {
 }
 
 /**
- * The tests of all finds, with where each comes from.
+ * Returns the tests of all counterexamples, each with its origin.
  * @param {Report} report
  */
 export function testsOfReport(report) {

@@ -1,12 +1,12 @@
-// The search: walks from states that were kept. Most of them are only looked at after each change. One that shows something new is counted;
-// it is looked at instruction by instruction where it runs something for the first time, where a property has to know more than that, or
-// seems broken, and so is one of some others.
+// The search: walks from stored states. Of most walks only a snapshot after each change is read. A walk that shows something new is
+// counted. It is watched instruction by instruction if it runs something for the first time, if a property needs to know more than that, or
+// if one seems violated; so is a sample of the others.
 
 import { countWalk, followsFromLooks } from "./counting.js";
 import { Coverage } from "./search_coverage.js";
 import { KeptFiles } from "./kept_files.js";
-import { Looks } from "./read_places.js";
-import { Conditions, Told, conditionsOf } from "./place_questions.js";
+import { Snapshots } from "./read_places.js";
+import { Conditions, PlaceValues, conditionsOf } from "./place_questions.js";
 import { chooseStep, downAfter, downAtFirst, lineOf, linesOf, randomFrom } from "./walks.js";
 import { sinceAfter, sinceAtFirst, upToRandom } from "./walks.js";
 import { Watcher } from "./watching.js";
@@ -20,27 +20,27 @@ import { LONGEST_RUN, runLines } from "../engine/key_queue.js";
  * @typedef {import("./walks.js").WalkStep} WalkStep
  * @typedef {import("./kept_files.js").KeptFile} KeptFile
  *
- * A state that was kept, with the steps that lead to it from another one, and how often the search went on from it.
+ * A stored state: the steps from its parent, and how often the search resumed here.
  * @typedef {{ kept: KeptFile, time: number, down: number[], since: number[], memories: number[][], parent: State | null, steps: WalkStep[],
  *   depth: number, picked: number }} State `since` is how many cycles ago each input was changed
  *
- * What broke a property (or reached a goal): its number, the steps from power-on that were done before, and when it came.
+ * The violation of a property (or the goal reached): its number, the steps from power-on before it, and its time.
  * @typedef {{ property: number, steps: WalkStep[], time: number }} Find
  *
- * How a state looks after a step: the values of what is noted; whether conditions hold, and those of guards, in the order of properties.
- * @typedef {{ notes: string, holds: boolean[], opens: boolean[][] }} Look
+ * The snapshot of a state after a step: the values of the notes; whether conditions hold, and those of guards, in the order of properties.
+ * @typedef {{ notes: string, holds: boolean[], opens: boolean[][] }} Snapshot
  */
 
 const LONGEST_WALK = 16;
-/** A state is so many steps from power-on at most. */
+/** The most steps of a state from power-on. */
 const DEEPEST = 120;
 const MOST_STATES = 20000;
 const MOST_LOOKS = 200000;
-/** One of so many walks is looked at instruction by instruction though it showed nothing new. */
+/** One of this many walks is watched instruction by instruction even if it showed nothing new. */
 const WATCHED = 32;
-/** Of so many states that come into question the one is taken from which the search went on least often. */
+/** Of this many candidate states the search resumes the one that it resumed least often. */
 const CANDIDATES = 3;
-/** Half of all walks begin at one of the states that were kept last. */
+/** Half of all walks begin at one of the states that were stored last. */
 const LAST_STATES = 6;
 
 export class Search {
@@ -56,7 +56,7 @@ export class Search {
     this.coverage = new Coverage();
     this.watcher = new Watcher(subject, campaign, this.coverage);
     const looked = campaign.properties.flatMap(conditionsOf).flatMap((condition) => (condition ? condition.places : []));
-    this.places = new Looks([...campaign.notes, ...looked], subject.names.board);
+    this.places = new Snapshots([...campaign.notes, ...looked], subject.names.board);
     this.notes = this.places.indexes(campaign.notes);
     this.conditions = campaign.properties.map((property) => new Conditions(property, this.places));
     /** @type {number[]} the properties that are not broken so far */
@@ -65,11 +65,11 @@ export class Search {
     this.applied = new Set();
     this.steps = 0;
     this.walks = 0;
-    /** @type {Map<string, Look>} what rows of values say */
-    this.looks = new Map();
+    /** @type {Map<string, Snapshot>} what rows of values say */
+    this.snapshots = new Map();
     /** @type {Set<string>} */
     this.seen = new Set();
-    /** Where all is begun with. */
+    /** The start state. */
     this.start = this.startOf();
     this.files = new KeptFiles(this.start.file);
     const { file, time, down, memories } = this.start;
@@ -78,7 +78,7 @@ export class Search {
       picked: 0 }];
   }
 
-  /** How many states were told apart. */
+  /** Returns how many states were distinguished. */
   get stateCount() {
     return this.seen.size;
   }
@@ -99,7 +99,7 @@ export class Search {
   }
 
   /**
-   * How many calls are open where all is begun with.
+   * Counts the calls that are open at the start state.
    * @param {number[][]} memories
    */
   countCalls(memories) {
@@ -115,7 +115,7 @@ export class Search {
   }
 
   /**
-   * Walks for so many milliseconds, or until something is found.
+   * Walks for this many milliseconds, or until something is found.
    * @param {number} milliseconds
    * @returns {Find | null}
    */
@@ -135,11 +135,11 @@ export class Search {
     this.walks += 1;
     this.steps += steps.length;
     const file = this.fileOf(state);
-    const { fresh, isSuspect, looks } = this.look(file, state, steps);
+    const { fresh, isSuspect, snapshots } = this.takeSnapshot(file, state, steps);
     const isWhole = isSuspect || this.walks % WATCHED === 1;
     if (fresh.length === 0 && !isWhole) return null;
     const start = { ...state, file };
-    const { broken, after } = isWhole ? this.watcher.watch(start, steps, this.open) : this.goAgain(start, steps, fresh, looks);
+    const { broken, after } = isWhole ? this.watcher.watch(start, steps, this.open) : this.goAgain(start, steps, fresh, snapshots);
     if (after.length > 0) this.note(after[after.length - 1].memories);
     after.forEach(({ isNew }, at) => {
       if (isNew && !fresh.includes(at)) fresh.push(at);
@@ -150,17 +150,17 @@ export class Search {
   }
 
   /**
-   * Goes along a walk once more, up to the last state that is new: what comes after it was looked at already. Where that is enough, it is
-   * counted; a walk that runs something for the first time is watched.
+   * Repeats a walk, up to the last new state: the rest was examined already. If that is enough, it is counted; a walk that runs something
+   * for the first time is watched.
    * @param {import("./watching.js").Start} start
    * @param {WalkStep[]} steps
-   * @param {number[]} fresh the steps after which something is new; those that run something for the first time come to them
-   * @param {Look[]} looks
+   * @param {number[]} fresh the steps after which something is new, including those that run something for the first time
+   * @param {Snapshot[]} snapshots
    */
-  goAgain(start, steps, fresh, looks) {
+  goAgain(start, steps, fresh, snapshots) {
     const { campaign: { properties }, open, watcher } = this;
     const part = steps.slice(0, Math.max(...fresh) + 1);
-    if (followsFromLooks(properties, open, fresh.map((at) => looks[at].holds))) {
+    if (followsFromLooks(properties, open, fresh.map((at) => snapshots[at].holds))) {
       const after = countWalk(this, start, part);
       const ran = [...after.keys()].filter((at) => after[at].isNew);
       if (ran.length === 0) return { broken: null, after };
@@ -215,7 +215,7 @@ export class Search {
   }
 
   /**
-   * The labels at which a property may be broken, whatever came before: a run stops there. At most 32, as many as the bench takes.
+   * Returns the labels at which a property may be violated, whatever came before: a run stops there. At most 32, the limit of the bench.
    * @returns {number[]}
    */
   get stops() {
@@ -224,56 +224,56 @@ export class Search {
   }
 
   /**
-   * Looks at a walk after each of its changes: after which steps something is new, and whether a property seems to be broken.
+   * Examines a walk after each of its changes: after which steps something is new, and whether a property seems violated.
    * @param {Uint8Array} file
    * @param {State} state
    * @param {WalkStep[]} steps
    */
-  look(file, state, steps) {
+  takeSnapshot(file, state, steps) {
     const { campaign, places, ofLabels, stops } = this;
     const counts = ofLabels.some((at) => !stops.includes(campaign.properties[at].address));
     const lines = steps.map((step) => (
       `${counts ? `count ${step.wait}\n` : ""}run ${step.wait}\n${lineOf(campaign, step)}${places.lines}`)).join("");
-    const told = new Told(this.subject.engine.ask(file, stops.map((address) => `break ${address}\n`).join("") + lines).answers);
-    told.skip(stops.length);
+    const values = new PlaceValues(this.subject.engine.ask(file, stops.map((address) => `break ${address}\n`).join("") + lines).answers);
+    values.skip(stops.length);
     /** @type {number[]} */
     const fresh = [];
-    /** @type {Look[]} */
-    const looks = [];
-    const seem = new Seeming(this, state);
+    /** @type {Snapshot[]} */
+    const snapshots = [];
+    const seem = new ApparentState(this, state);
     for (const [at, step] of steps.entries()) {
-      const begun = counts ? told.counts() : [];
-      if (told.takeRun().end !== "end") return { fresh, isSuspect: true, looks };
-      if (step.kind !== "none") told.skip(1);
-      const look = this.lookOf(places.row(told));
-      looks.push(look);
-      if (seem.isBroken(step, look, begun)) return { fresh, isSuspect: true, looks };
+      const begun = counts ? values.counts() : [];
+      if (values.takeRun().end !== "end") return { fresh, isSuspect: true, snapshots };
+      if (step.kind !== "none") values.skip(1);
+      const snapshot = this.snapshotOf(places.row(values));
+      snapshots.push(snapshot);
+      if (seem.isBroken(step, snapshot, begun)) return { fresh, isSuspect: true, snapshots };
       if (this.coverage.add(begun)) fresh.push(at);
-      if (this.isNew(look, seem.marks) && !fresh.includes(at)) fresh.push(at);
+      if (this.isNew(snapshot, seem.marks) && !fresh.includes(at)) fresh.push(at);
     }
-    return { fresh, isSuspect: false, looks };
+    return { fresh, isSuspect: false, snapshots };
   }
 
   /**
    * @param {string} row
-   * @returns {Look}
+   * @returns {Snapshot}
    */
-  lookOf(row) {
-    const known = this.looks.get(row);
+  snapshotOf(row) {
+    const known = this.snapshots.get(row);
     if (known) return known;
     const values = row.split(" ");
-    const look = {
+    const snapshot = {
       notes: this.notes.map((at) => values[at]).join(" "),
       holds: this.conditions.map((each) => each.holds(values)),
       opens: this.conditions.map((each) => each.opens(values)),
     };
-    if (this.looks.size >= MOST_LOOKS) this.looks.clear();
-    this.looks.set(row, look);
-    return look;
+    if (this.snapshots.size >= MOST_LOOKS) this.snapshots.clear();
+    this.snapshots.set(row, snapshot);
+    return snapshot;
   }
 
   /**
-   * @param {Look} look
+   * @param {Snapshot} look
    * @param {string} marks
    */
   isNew({ notes }, marks) {
@@ -284,7 +284,7 @@ export class Search {
   }
 
   /**
-   * Keeps the states after some steps of a walk.
+   * Stores the states after some steps of a walk.
    * @param {State} state
    * @param {Uint8Array} file
    * @param {WalkStep[]} steps
@@ -307,7 +307,7 @@ export class Search {
   }
 
   /**
-   * A property is done with: it was broken, or cannot be told about.
+   * A property is done with: it was broken, or cannot be judged.
    * @param {number} property
    */
   close(property) {
@@ -316,7 +316,7 @@ export class Search {
 }
 
 /**
- * The steps from power-on to a state.
+ * Returns the steps from power-on to a state.
  * @param {State} state
  */
 function pathOf(state) {
@@ -335,7 +335,7 @@ function pathOf(state) {
 const NONE = [];
 
 /**
- * Whether a property may be broken wherever the counter comes to its label.
+ * Returns whether a property may be violated whenever the counter reaches its label.
  * @param {Property} property
  */
 function stopsAtLabel({ form, guards }) {
@@ -343,9 +343,9 @@ function stopsAtLabel({ form, guards }) {
 }
 
 /**
- * What properties seem to be by looks alone. Of labels it is known how often one was come to in a wait, and not when.
+ * Returns the state of properties as snapshots alone show it. For labels they show how often the counter was there in a wait, but not when.
  */
-class Seeming {
+class ApparentState {
   /**
    * @param {Search} search
    * @param {State} state
@@ -361,7 +361,7 @@ class Seeming {
 
   /**
    * @param {WalkStep} step
-   * @param {Look} look
+   * @param {Snapshot} look
    * @param {import("../engine/tracing.js").Counted[]} begun how often each address was begun at
    */
   isBroken(step, { holds, opens }, begun) {
@@ -388,11 +388,11 @@ class Seeming {
    * @param {number[]} memory
    * @param {import("./properties.js").Moment} moment at the end of the wait
    * @param {WalkStep} step
-   * @param {number} count how often its label was come to
+   * @param {number} count how often the counter reached its label
    */
   mayBreakAtLabel(property, memory, moment, step, count) {
     const { form, see, limit, guards } = property;
-    // Whether it was open then is known to one who watches.
+    // Only watching shows whether it was open then.
     if (guards.length > 0) return count > 0 || form === "after press";
     if (stopsAtLabel(property)) return count > 0;
     if (form === "after press" && memory[0] >= 0 && (count > 0 || moment.time > memory[0] + limit)) {
@@ -411,7 +411,7 @@ class Seeming {
     return false;
   }
 
-  /** What of the memories makes a state new. */
+  /** Returns the part of the memories that makes a state new. */
   get marks() {
     let marks = "";
     for (const at of [...this.asked, ...this.ofLabels]) {

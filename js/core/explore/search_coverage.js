@@ -1,4 +1,4 @@
-// What was run so far: of each address whether an instruction was begun there, whether it jumped, and whether it went on.
+// The coverage so far: for each address whether an instruction began there, whether it jumped, and whether it continued.
 
 import { ADDRESSES } from "../bench/rom_bytes.js";
 
@@ -9,16 +9,16 @@ const JUMPED = 2;
 const WENT_ON = 4;
 
 export class Coverage {
-  /** @param {string} [told] of another one */
-  constructor(told = "") {
+  /** @param {string} [text] of another coverage */
+  constructor(text = "") {
     this.flags = new Uint8Array(ADDRESSES);
-    [...told].forEach((digit, address) => {
+    [...text].forEach((digit, address) => {
       this.flags[address] = Number(digit);
     });
   }
 
   /**
-   * Adds what `count` has told; whether any of it is new.
+   * Adds the report of `count`; returns whether any of it is new.
    * @param {{ address: number, begun: number, jumped: number }[]} counts
    */
   add(counts) {
@@ -38,13 +38,13 @@ export class Coverage {
     });
   }
 
-  /** A digit for each address, up to the last one that was begun at. */
+  /** Returns a digit for each address, up to the last one where an instruction began. */
   get text() {
     return [...this.flags].join("").replace(/0+$/, "");
   }
 
   /**
-   * How many of the program's instructions and ways were run, and the lines of those that were not.
+   * Returns how many of the program's instructions and branch directions were run, and the lines of the others.
    * @param {Instruction[]} instructions
    */
   summary(instructions) {

@@ -1,4 +1,4 @@
-// A find made short: steps are left out, waits are made shorter, as long as the same property is broken.
+// The minimising of a counterexample: steps are left out, waits are shortened, as long as the same property is violated.
 
 import { LONGEST_RUN } from "../engine/key_queue.js";
 import { Watcher } from "./watching.js";
@@ -11,11 +11,11 @@ import { downAfter, downAtFirst, isSound, longestAfter } from "./walks.js";
  * @typedef {import("./walks.js").WalkStep} WalkStep
  */
 
-/** A step takes as long as so many cycles, beside those of its wait. */
+/** A step takes as long as this many cycles, in addition to those of its wait. */
 const COST_OF_STEP = 500;
-/** So many cycles more are tried. */
+/** The extra cycles that are tried. */
 const PHASES = 256;
-/** What is tried of a wait. */
+/** The parts of a wait that are tried. */
 const PARTS = [0, 1 / 4, 1 / 2, 3 / 4, 7 / 8, 15 / 16, 63 / 64];
 
 export class Shortening {
@@ -24,19 +24,19 @@ export class Shortening {
    * @param {Campaign} campaign
    * @param {import("./watching.js").Start} start
    * @param {Find} find
-   * @param {number} patience so many cycles are looked at, so that it comes to the same on each machine
-   * @param {() => Promise<void>} breathe between two tries
+   * @param {number} patience the cycles to spend, so that the result is the same on each machine
+   * @param {() => Promise<void>} yieldToMessages between two tries
    */
-  constructor(subject, campaign, start, find, patience, breathe) {
+  constructor(subject, campaign, start, find, patience, yieldToMessages) {
     this.campaign = campaign;
-    // It looks at this property alone.
+    // It checks only this property.
     this.watcher = new Watcher(subject, { ...campaign, properties: [campaign.properties[find.property]] }, null);
     this.start = { ...start, memories: [start.memories[find.property]] };
     this.property = find.property;
     this.steps = find.steps;
     this.time = find.time;
     this.left = patience;
-    this.breathe = breathe;
+    this.yieldToMessages = yieldToMessages;
   }
 
   /** @returns {Promise<Find>} */
@@ -46,19 +46,19 @@ export class Shortening {
       isShorter = await this.leaveOut();
       isShorter = (await this.leaveOutPairs()) || isShorter;
       isShorter = (await this.wait()) || isShorter;
-      // It has the most tries, so that it comes where nothing else helps.
+      // It needs the most tries, so it comes last.
       isShorter = isShorter || (await this.beginLater());
     }
     return { property: this.property, steps: this.steps, time: this.time };
   }
 
   /**
-   * Takes steps in the place of those so far, if the property is broken by them.
+   * Replaces the steps so far, if the property is violated by these.
    * @param {WalkStep[]} steps
    */
   async take(steps) {
     if (this.left <= 0 || !isSound(this.campaign, steps)) return false;
-    await this.breathe();
+    await this.yieldToMessages();
     const wait = Math.min(this.campaign.longest, longestAfter(this.campaign, steps));
     const last = wait > 0 ? [{ wait, kind: /** @type {const} */ ("none"), input: -1 }] : [];
     this.left -= [...steps, ...last].reduce((sum, step) => sum + step.wait + COST_OF_STEP, 0);
@@ -82,7 +82,7 @@ export class Shortening {
   }
 
   /**
-   * Some steps are left out with their waits, or but for their waits.
+   * Leaves out some steps with their waits, or without their waits.
    * @param {(index: number) => boolean} isOut
    */
   async takeWithout(isOut) {
@@ -92,7 +92,7 @@ export class Shortening {
   }
 
   /**
-   * The steps without some, for which time passes all the same; null where it would pass for too long.
+   * Returns the steps without some, with the same total time; null if a wait would become too long.
    * @param {(index: number) => boolean} isOut
    */
   waiting(isOut) {
@@ -125,8 +125,8 @@ export class Shortening {
   }
 
   /**
-   * All before a moment at which nothing is down is left out. What the program does by itself then stands elsewhere, so that the wait after
-   * it is tried with some cycles more.
+   * Leaves out everything before a moment at which nothing is down. The program's own work then happens at another time, so the wait after
+   * it is also tried with some more cycles.
    */
   async beginLater() {
     const { campaign, steps } = this;

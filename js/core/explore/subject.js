@@ -1,4 +1,4 @@
-// What is explored: a session at power-on that has board and program, and what they are called.
+// The subject of a search: a session at power-on that has board and program, and their names.
 
 import { readBoard, refusalOf } from "../bench/answers.js";
 import { matchAnswers, readInputs } from "../bench/inputs.js";
@@ -12,14 +12,15 @@ import * as say from "../../words/explore.js";
  * @typedef {import("../engine/engine_host.js").EngineHost} Engine
  * @typedef {import("../conditions/condition_language.js").Names} Names
  *
- * An instruction of the program: its line, its address, and whether it goes on at one of two places.
+ * An instruction of the program: its line, its address, and whether it has two possible successors.
  * @typedef {{ line: number, address: number, hasWays: boolean }} Instruction
  *
  * @typedef {{ engine: Engine, file: Uint8Array, names: Names & { map: SourceMap }, codes: Uint8Array,
- *   instructions: Instruction[] }} Subject `file` is that of the session; `codes` are the bytes in ROM
+ *   instructions: Instruction[], texts: { board: string, program: string } }} Subject `file` is that of the session; `codes` are the bytes
+ *   in ROM
  */
 
-/** A text was refused: which one, the number of the refusal and the line that it names, 0 for none. */
+/** A text was rejected: which one, the number of the refusal and the line that it names, 0 for none. */
 export class TextRefused extends Error {
   /**
    * @param {"board" | "program"} which
@@ -37,7 +38,7 @@ export class TextRefused extends Error {
  * @param {Engine} engine
  * @param {string} boardText
  * @param {string} programText
- * @param {number} [before] how many lines of its file stand before the program's text
+ * @param {number} [before] how many lines of its file precede the program's text
  * @returns {Subject}
  */
 export function subjectOf(engine, boardText, programText, before = 0) {
@@ -58,5 +59,6 @@ export function subjectOf(engine, boardText, programText, before = 0) {
     if (address === undefined || !source.beginsInstruction(address)) continue;
     instructions.push({ line: line + before, address, hasWays: hasWays(codes[address]) });
   }
-  return { engine, file, names: { face: new Face(boardText), board: readBoard(board), map: source }, codes, instructions };
+  const names = { face: new Face(boardText), board: readBoard(board), map: source };
+  return { engine, file, names, codes, instructions, texts: { board: boardText, program: programText } };
 }

@@ -1,11 +1,11 @@
-// Walks: waits, and what is changed after each of them.
+// Walks: waits, and the change after each of them.
 
 import { runLines } from "../engine/key_queue.js";
 
 /**
  * @typedef {import("./campaign.js").Campaign} Campaign
  *
- * A wait of so many cycles, and then a change: an input of the campaign that goes down or up, a power cycle, or nothing.
+ * A wait of this many cycles, and then a change: an input of the campaign that goes down or up, a power cycle, or nothing.
  * @typedef {{ wait: number, kind: "down" | "up" | "reset" | "none", input: number }} WalkStep
  *
  * @typedef {() => number} Random from 0 up to 1
@@ -42,7 +42,7 @@ export function downAtFirst({ inputs }) {
   return inputs.flatMap(({ isDown }, at) => (isDown ? [at] : []));
 }
 
-/** Of so many waits one is as long as it can be; the others are of all lengths, short ones as often as long ones. */
+/** One of this many waits has the maximum length; the others are of all lengths, short ones as often as long ones. */
 const LONGEST_SHARE = 0.6;
 const RESET_SHARE = 0.02;
 
@@ -55,7 +55,8 @@ function waitOf({ shortest, longest }, random) {
 }
 
 /**
- * The next step, where these inputs are down, and each was changed so many cycles ago. Where a key would be held for too long, it goes up.
+ * Returns the next step, if these inputs are down, and each was changed this many cycles ago. A key that would be held for too long goes
+ * up.
  * @param {Campaign} campaign
  * @param {number[]} down
  * @param {number[]} since
@@ -67,9 +68,9 @@ export function chooseStep(campaign, down, since, random) {
   if (campaign.held === Infinity || down.length === 0) return chooseChange(campaign, down, since, wait, random);
   const left = down.map((at) => campaign.held - since[at]);
   const first = left.indexOf(Math.min(...left));
-  // What goes down now is up in time as well: a wait, and then a key at a time.
+  // An input that goes down now must be up in time as well: a wait, and then a key at a time.
   if (left[first] >= wait + campaign.shortest * down.length) return chooseChange(campaign, down, since, wait, random);
-  // Those that went down together go up one after the other, a cycle apart at least, and no wait is without a cycle.
+  // Inputs that went down together go up one after the other, at least a cycle apart, and no wait is without a cycle.
   const inTurn = [...left].sort((one, other) => one - other).map((cycles, turn) => cycles - turn);
   return { wait: Math.max(1, Math.min(wait, ...inTurn)), kind: "up", input: down[first] };
 }
@@ -95,7 +96,7 @@ function chooseChange(campaign, down, since, wait, random) {
 }
 
 /**
- * How many cycles ago each input was changed last, at power-on.
+ * Returns how many cycles ago each input was changed last, at power-on.
  * @param {Campaign} campaign
  */
 export function sinceAtFirst({ inputs }) {
@@ -112,7 +113,7 @@ export function sinceAfter(since, { wait, input }) {
 }
 
 /**
- * What is down after a step.
+ * Returns the keys that are down after a step.
  * @param {number[]} down
  * @param {WalkStep} step
  */
@@ -122,7 +123,7 @@ export function downAfter(down, { kind, input }) {
 }
 
 /**
- * Whether each step changes something, from what is down at power-on, and no more keys are down, nor for longer, than may be.
+ * Returns whether each step changes something, from the state at power-on, and no more keys are down, nor for longer, than allowed.
  * @param {Campaign} campaign
  * @param {WalkStep[]} steps
  */
@@ -141,7 +142,7 @@ export function isSound(campaign, steps) {
 }
 
 /**
- * How long it can be until something changes, so that nothing that is down is held for too long; without end where nothing is down.
+ * Returns the longest time until something changes, so that nothing that is down is held for too long; without end if nothing is down.
  * @param {Campaign} campaign
  * @param {number[]} down
  * @param {number[]} since

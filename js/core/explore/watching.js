@@ -1,9 +1,9 @@
-// A walk that is looked at instruction by instruction: what its properties look at is traced, what it begins is counted, and each property
-// is told what happens, in the order of time. Looked at so is each walk that brought something new, and one of some others.
+// A walk that is watched instruction by instruction: the places of its properties are traced, its instructions are counted, and each
+// property receives the events, in the order of time. All walks that brought something new are watched, and a sample of the others.
 
 import { cyclesOf, isCall, isReturn } from "../engine/rom_codes.js";
 import { readTraced } from "../engine/tracing.js";
-import { Conditions, Places, Told, conditionsOf } from "./place_questions.js";
+import { Conditions, Places, PlaceValues, conditionsOf } from "./place_questions.js";
 import { downAfter, lineOf } from "./walks.js";
 
 /**
@@ -15,25 +15,25 @@ import { downAfter, lineOf } from "./walks.js";
  * @typedef {import("./place_questions.js").Change} Change
  * @typedef {import("../engine/tracing.js").Counted} Counted
  *
- * From where a walk goes on: the session, the cycles since power-on, what is down, and what each property remembers.
+ * The starting point of a walk: the session, the cycles since power-on, the inputs that are down, and the memory of each property.
  * @typedef {{ file: Uint8Array, time: number, down: number[], memories: number[][] }} Start
  *
- * A property that is broken (a goal that is reached): its number, when, and how many steps were begun by then.
+ * The violation of a property (or a goal that is reached): its number, its time, and how many steps had begun.
  * @typedef {{ property: number, time: number, step: number }} Broken
  *
- * After a step: the time, what is down, what each property remembers, whether it was the first to run something.
+ * The state after a step: the time, the inputs that are down, the memory of each property, whether it was the first to run something.
  * @typedef {{ time: number, down: number[], memories: number[][], isNew: boolean }} After
  *
- * What was asked about one step.
+ * The queries about one step.
  * @typedef {{ values: string[], changes: Change[], counts: Counted[], ran: string,
- *   list: { cycles: number, address: number }[] | null }} StepTold
+ *   list: { cycles: number, address: number }[] | null }} StepReport
  */
 
 export class Watcher {
   /**
    * @param {Subject} subject
    * @param {Campaign} campaign
-   * @param {import("./search_coverage.js").Coverage | null} coverage null where it does not matter what is run
+   * @param {import("./search_coverage.js").Coverage | null} coverage null if it does not matter what is run
    */
   constructor(subject, campaign, coverage) {
     this.subject = subject;
@@ -45,12 +45,12 @@ export class Watcher {
     this.conditions = campaign.properties.map((property) => new Conditions(property, this.places));
     /** @type {Set<number>} the labels of the properties that are open */
     this.labels = new Set();
-    /** Whether `count` is asked. */
+    /** True if `count` is queried. */
     this.counts = coverage !== null || this.calls.length > 0 || campaign.properties.some(({ address }) => address >= 0);
   }
 
   /**
-   * Looks at a walk. It ends where a property is broken that is still open.
+   * Watches a walk. It ends when an open property is violated.
    * @param {Start} start
    * @param {WalkStep[]} steps
    * @param {number[]} open the numbers of properties
@@ -58,16 +58,16 @@ export class Watcher {
    */
   watch(start, steps, open) {
     this.labels = new Set(open.map((at) => this.campaign.properties[at].address).filter((address) => address >= 0));
-    const told = this.ask(start.file, steps, open);
+    const reports = this.ask(start.file, steps, open);
     const memories = start.memories.map((memory) => [...memory]);
     const walk = new Walk(this, memories, open, start);
     /** @type {After[]} */
     const after = [];
     for (const [at, step] of steps.entries()) {
-      const broken = walk.step(told[at], step);
-      const isNew = this.coverage !== null && this.coverage.add(told[at].counts);
+      const broken = walk.step(reports[at], step);
+      const isNew = this.coverage !== null && this.coverage.add(reports[at].counts);
       if (broken) return { broken: { ...broken, step: at }, after };
-      if (!/ end$/.test(told[at].ran)) break;
+      if (!/ end$/.test(reports[at].ran)) break;
       after.push({ time: walk.time, down: walk.down, memories: memories.map((memory) => [...memory]), isNew });
     }
     return { broken: null, after };
@@ -77,20 +77,20 @@ export class Watcher {
    * @param {Uint8Array} file
    * @param {WalkStep[]} steps
    * @param {number[]} open
-   * @returns {StepTold[]}
+   * @returns {StepReport[]}
    */
   ask(file, steps, open) {
     const { campaign, places, subject: { engine } } = this;
     const lines = steps.map((step) => (
       `${places.lines(step.wait)}${this.counts ? `count ${step.wait}\n` : ""}run ${step.wait}\n${lineOf(campaign, step)}`)).join("");
-    const told = new Told(engine.ask(file, lines).answers);
-    /** @type {StepTold[]} */
+    const placeValues = new PlaceValues(engine.ask(file, lines).answers);
+    /** @type {StepReport[]} */
     const all = [];
     for (const step of steps) {
-      const { values, changes } = told.changes(places);
-      const counts = this.counts ? told.counts() : [];
-      all.push({ values, changes, counts, ran: told.take(), list: null });
-      if (step.kind !== "none") told.skip(1);
+      const { values, changes } = placeValues.changes(places);
+      const counts = this.counts ? placeValues.counts() : [];
+      all.push({ values, changes, counts, ran: placeValues.take(), list: null });
+      if (step.kind !== "none") placeValues.skip(1);
     }
     const asksCalls = this.calls.some((at) => open.includes(at));
     this.list(file, steps, all, all.map((each) => this.needsList(each, asksCalls)));
@@ -98,10 +98,10 @@ export class Watcher {
   }
 
   /**
-   * Asks for all instructions of some steps.
+   * Queries all instructions of some steps.
    * @param {Uint8Array} file
    * @param {WalkStep[]} steps
-   * @param {StepTold[]} all
+   * @param {StepReport[]} all
    * @param {boolean[]} isListed
    */
   list(file, steps, all, isListed) {
@@ -109,17 +109,17 @@ export class Watcher {
     const last = isListed.lastIndexOf(true);
     const lines = steps.slice(0, last + 1).map((step, at) => (
       `${isListed[at] ? `trace ${step.wait}\n` : ""}run ${step.wait}\n${lineOf(this.campaign, step)}`)).join("");
-    const told = new Told(this.subject.engine.ask(file, lines).answers);
+    const placeValues = new PlaceValues(this.subject.engine.ask(file, lines).answers);
     for (const [at, step] of steps.slice(0, last + 1).entries()) {
-      if (isListed[at]) all[at].list = told.takeTrace().lines.map(readTraced);
-      told.skip(step.kind === "none" ? 1 : 2);
+      if (isListed[at]) all[at].list = placeValues.takeTrace().lines.map(readTraced);
+      placeValues.skip(step.kind === "none" ? 1 : 2);
     }
   }
 
   /**
-   * Where a label of a property is come to, or a call or a return leaves the return addresses as they are, so that no line tells it, all
-   * instructions are asked for.
-   * @param {StepTold} told
+   * If the counter reaches a label of a property, or a call or a return leaves the return addresses unchanged, so that no line shows it,
+   * all instructions are queried.
+   * @param {StepReport} report
    * @param {boolean} asksCalls
    */
   needsList({ changes, counts }, asksCalls) {
@@ -128,12 +128,12 @@ export class Watcher {
     const { codes } = this.subject;
     /** @type {(address: number) => boolean} */
     const isOfCalls = (address) => isCall(codes[address]) || isReturn(codes[address]);
-    const told = new Set(changes.filter(({ address }) => isOfCalls(address)).map(({ cycles }) => cycles)).size;
-    return told !== counts.reduce((sum, { address, begun }) => sum + (isOfCalls(address) ? begun : 0), 0);
+    const calls = new Set(changes.filter(({ address }) => isOfCalls(address)).map(({ cycles }) => cycles)).size;
+    return calls !== counts.reduce((sum, { address, begun }) => sum + (isOfCalls(address) ? begun : 0), 0);
   }
 }
 
-/** What happens on a walk, told to the properties. */
+/** A walk whose events are reported to the properties. */
 class Walk {
   /**
    * @param {Watcher} watcher
@@ -159,7 +159,7 @@ class Walk {
    * @param {number} address of a label
    * @param {string} input
    */
-  tell(event, time, address = -1, input = "") {
+  notify(event, time, address = -1, input = "") {
     const { watcher: { campaign: { properties }, conditions, calls }, values } = this;
     const isOfCalls = event === "call" || event === "return";
     for (const at of isOfCalls ? calls : this.open) {
@@ -174,20 +174,20 @@ class Walk {
   }
 
   /**
-   * @param {StepTold} told
+   * @param {StepReport} report
    * @param {WalkStep} step
    */
-  step(told, step) {
+  step(report, step) {
     const began = this.time;
-    const end = Number(told.ran.split(" ")[3]);
-    this.values = told.values;
-    this.tell("values", began);
-    if (told.list) this.tellListed(told, began, end);
-    else for (const change of told.changes) this.tellChange(change, began, end, true);
+    const end = Number(report.ran.split(" ")[3]);
+    this.values = report.values;
+    this.notify("values", began);
+    if (report.list) this.notifyListed(report, began, end);
+    else for (const change of report.changes) this.notifyChange(change, began, end, true);
     this.time = began + end;
-    this.tell("end", this.time);
-    this.tellCode(told);
-    if (!this.broken) this.tellChangeOf(step);
+    this.notify("end", this.time);
+    this.notifyCode(report);
+    if (!this.broken) this.notifyChangeOf(step);
     return this.broken;
   }
 
@@ -195,60 +195,60 @@ class Walk {
    * @param {Change} change
    * @param {number} began
    * @param {number} end
-   * @param {boolean} tellsCalls
+   * @param {boolean} notifiesCalls
    */
-  tellChange({ cycles, address, from, values }, began, end, tellsCalls) {
+  notifyChange({ cycles, address, from, values }, began, end, notifiesCalls) {
     const { codes } = this.watcher.subject;
     if (this.broken) return;
     this.values = from === 0 && values.length === this.values.length ? values
       : [...this.values.slice(0, from), ...values, ...this.values.slice(from + values.length)];
     const time = began + Math.min(end, cycles + cyclesOf(codes[address]));
-    this.tell("values", time);
-    if (tellsCalls) this.tellCall(address, time);
+    this.notify("values", time);
+    if (notifiesCalls) this.notifyCall(address, time);
   }
 
   /**
    * @param {number} address
    * @param {number} time
    */
-  tellCall(address, time) {
+  notifyCall(address, time) {
     const { codes } = this.watcher.subject;
-    if (isCall(codes[address])) this.tell("call", time);
-    else if (isReturn(codes[address])) this.tell("return", time);
+    if (isCall(codes[address])) this.notify("call", time);
+    else if (isReturn(codes[address])) this.notify("return", time);
   }
 
   /**
-   * The same with all instructions: the counter comes to an instruction before it changes anything.
-   * @param {StepTold} told
+   * Does the same with all instructions: the counter reaches an instruction before that changes anything.
+   * @param {StepReport} report
    * @param {number} began
    * @param {number} end
    */
-  tellListed({ list, changes }, began, end) {
+  notifyListed({ list, changes }, began, end) {
     const { labels, subject: { codes } } = this.watcher;
     let next = 0;
     for (const { cycles, address } of list || []) {
       if (this.broken) return;
-      if (labels.has(address)) this.tell("label", began + cycles, address);
-      for (; next < changes.length && changes[next].cycles <= cycles; next++) this.tellChange(changes[next], began, end, false);
-      this.tellCall(address, began + Math.min(end, cycles + cyclesOf(codes[address])));
+      if (labels.has(address)) this.notify("label", began + cycles, address);
+      for (; next < changes.length && changes[next].cycles <= cycles; next++) this.notifyChange(changes[next], began, end, false);
+      this.notifyCall(address, began + Math.min(end, cycles + cyclesOf(codes[address])));
     }
-    for (; next < changes.length; next++) this.tellChange(changes[next], began, end, false);
+    for (; next < changes.length; next++) this.notifyChange(changes[next], began, end, false);
   }
 
-  /** @param {StepTold} told */
-  tellCode({ ran }) {
+  /** @param {StepReport} report */
+  notifyCode({ ran }) {
     if (this.broken || !/ code$/.test(ran)) return;
     const at = this.watcher.campaign.properties.findIndex(({ form }) => form === "code");
     if (this.open.includes(at)) this.broken = { property: at, time: this.time };
   }
 
   /** @param {WalkStep} step */
-  tellChangeOf(step) {
+  notifyChangeOf(step) {
     const { campaign: { inputs } } = this.watcher;
     this.down = downAfter(this.down, step);
-    if (step.kind === "down") this.tell("down", this.time, -1, inputs[step.input].name);
+    if (step.kind === "down") this.notify("down", this.time, -1, inputs[step.input].name);
     if (step.kind === "reset") {
-      this.tell("reset", this.time);
+      this.notify("reset", this.time);
       for (const at of this.watcher.calls) this.watcher.campaign.properties[at].see(this.memories[at], "reset", NOTHING);
     }
   }

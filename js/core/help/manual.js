@@ -1,16 +1,16 @@
-// What the page shows of the manual: its tables, which page/build takes out of docs/MANUAL.md and page/help.md.
+// The parts of the manual that the page shows: its tables, which page/build extracts from docs/MANUAL.md and page/help.md.
 
 import * as say from "../../words/help.js";
 
 /**
- * A table: the line in bold type before it ("" for none), its head and its rows. In a cell, code stands between backticks.
+ * A table: the line in bold type before it ("" for none), its head and its rows. In a cell, code is between backticks.
  * @typedef {{ caption: string, head: string[], rows: string[][] }} ManualTable
  * @typedef {{ title: string, tables: ManualTable[] }} ManualSection
  *
  * A piece of a cell.
  * @typedef {{ text: string, isCode: boolean }} Piece
  *
- * What the manual says of an instruction.
+ * The manual's description of an instruction.
  * @typedef {{ form: string, code: string, words: string, cycles: string, does: string }} Instruction
  */
 
@@ -29,7 +29,7 @@ export function piecesOf(cell) {
 }
 
 /**
- * The text of a cell without its marks.
+ * Returns the text of a cell without its marks.
  * @param {string} cell
  */
 export function plain(cell) {
@@ -47,7 +47,7 @@ export function rowsOf(manual, title) {
 }
 
 /**
- * What has all of some words in it, whatever their case; a row is left where it has them, or its section's title does.
+ * Returns the sections that contain all of some words, whatever their case; a row remains if it contains them, or its section's title does.
  * @param {ManualSection[]} manual
  * @param {string} wanted
  * @returns {ManualSection[]}
@@ -79,7 +79,7 @@ export function instructionsOf(manual) {
 }
 
 /**
- * Returns what each condition of JCN asks for, by its number.
+ * Returns the condition of JCN for each number.
  * @param {ManualSection[]} manual
  * @returns {Map<number, string>}
  */
@@ -89,7 +89,7 @@ export function conditionsOf(manual) {
 }
 
 /**
- * The lines of the bench: each form with what it does.
+ * Returns the lines of the bench: each form with its effect.
  * @param {ManualSection[]} manual
  * @returns {{ form: string, does: string }[]}
  */
@@ -99,7 +99,7 @@ export function linesOfBench(manual) {
 }
 
 /**
- * The lines of the bench that begin as what is typed does: by its first word, and while that is being typed by its beginning.
+ * Returns the lines of the bench that begin as the typed text does: by its first word, and while that is being typed by its beginning.
  * @param {{ form: string, does: string }[]} lines
  * @param {string} typed
  */
@@ -111,7 +111,7 @@ export function fittingLines(lines, typed) {
 }
 
 /**
- * What a cell shows, in words: by its name, or by what its name begins with (`R` for `R5`, `bank` for `bank 0`); "" for none.
+ * Returns the description of a cell: by its name, or by the beginning of its name (`R` for `R5`, `bank` for `bank 0`); "" for none.
  * @param {Map<string, string>} words
  * @param {string} name
  */
@@ -120,7 +120,7 @@ export function wordsOfCell(words, name) {
 }
 
 /**
- * What each cell of the machine shows, by its name.
+ * Returns the description of each cell of the machine by its name.
  * @param {ManualSection[]} manual
  * @returns {Map<string, string>}
  */

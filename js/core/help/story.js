@@ -1,22 +1,22 @@
-// The story of an example: a text in steps, with places in it that do something on the page. `# TITLE` is its first line; each step begins
-// with `## TITLE`; blank lines part its paragraphs. `[WORDS](ACT)` is a place:
+// The story of an example: a text in steps, with links that do something on the page. `# TITLE` is its first line; each step begins
+// with `## TITLE`; blank lines separate its paragraphs. `[WORDS](ACT)` is a link:
 //
-//     run, stop, back, forward                time runs, stands still, goes back a stop or forward again
+//     run, stop, back, forward                time runs, is paused, goes back a stop or forward again
 //     go to LABEL, run to LABEL               shows a line of the program; time passes up to it
-//     back to PLACE                           goes back to before a place changed last: r11, ram.0.0x12, rom0.2
-//     press KEY, release KEY                  a click on it: while time stands still it stays down; it goes up where it is down
+//     back to PLACE                           goes back to before the last change of a place: r11, ram.0.0x12, rom0.2
+//     press KEY, release KEY                  a click on it: while time is paused it stays down; a key that is down goes up
 //     show VIEW                               brings a text or a panel into view
 
 /**
  * @typedef {import("./tour.js").Part} Part
  * @typedef {import("./tour.js").TourStep} TourStep
  *
- * What a place does, and with what, "" where it needs nothing.
+ * The action of a link, with its argument, "" if it needs none.
  * @typedef {"run" | "stop" | "back" | "forward" | "go to" | "run to" | "back to" | "press" | "release" | "show"} ActName
  * @typedef {{ name: ActName, of: string }} Act
  */
 
-/** What can be shown: texts, which have tabs in this order, and panels. */
+/** The parts that can be shown: texts, which have tabs in this order, and panels. */
 export const TEXTS = ["program", "board", "tests", "properties", "wiring", "waves"];
 export const PANELS = ["front", "processor", "listing", "memory", "ports"];
 
@@ -36,7 +36,7 @@ function readAct(words) {
 }
 
 /**
- * The parts of a paragraph. A place whose act is none is told by its words alone.
+ * Returns the parts of a paragraph. A link without a valid action is shown as its words alone.
  * @param {string} text
  * @returns {Part[]}
  */
@@ -45,8 +45,8 @@ function partsOf(text) {
   const parts = [];
   let end = 0;
   for (const found of text.matchAll(LINK)) {
-    const [whole, words, told] = found;
-    const act = readAct(told);
+    const [whole, words, rest] = found;
+    const act = readAct(rest);
     parts.push(text.slice(end, found.index), act ? { words, act } : words);
     end = (found.index || 0) + whole.length;
   }
@@ -63,7 +63,7 @@ function stepOf(text) {
 }
 
 /**
- * The steps of a story; none where the text is empty.
+ * Returns the steps of a story; none if the text is empty.
  * @param {string} text
  * @returns {TourStep[]}
  */

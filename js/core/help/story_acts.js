@@ -1,4 +1,4 @@
-// What the places of a story do: each is one act of the page, by the page's own calls.
+// The actions of a story's links: each is one action of the page, by the page's own calls.
 
 import { TEXTS } from "./story.js";
 import * as say from "../../words/help.js";
@@ -11,7 +11,7 @@ import * as say from "../../words/help.js";
  */
 
 /**
- * What the links of a story call.
+ * The actions of a story's links.
  * @typedef {object} ActCalls
  * @property {(label: string) => number | undefined} addressOf Returns the address of a label of the program in ROM; undefined if no label
  *   has this name.
@@ -20,10 +20,10 @@ import * as say from "../../words/help.js";
  * @property {() => Promise<void>} stand Pauses time; resolves once it is paused.
  * @property {(goal: Goal) => Promise<void>} goOn Lets time pass until a goal is reached; resolves once it is reached or time runs to it.
  * @property {(goal: BackGoal) => Promise<void>} goBack Goes back to a goal; resolves once the session is there.
- * @property {() => Promise<void>} goForward Returns to where the last way back began.
+ * @property {() => Promise<void>} goForward Returns to where the last move back began.
  * @property {(address: number) => void} goTo Shows the line of an address in the source and in the listing.
  * @property {() => boolean} isRunning Returns whether time runs, so that keys wait for their time.
- * @property {(key: BoardKey) => boolean} isDown Returns whether a key will be down after all that was asked for.
+ * @property {(key: BoardKey) => boolean} isDown Returns whether a key will be down after all requests.
  * @property {(key: BoardKey) => void} press Clicks a key: a key that stayed down goes up.
  * @property {(name: string) => void} showText Brings a text to the front, by the name of its tab.
  * @property {(name: string) => void} showPanel Brings a panel to the front, by its name.
@@ -54,7 +54,7 @@ function atKey(legend, calls, act) {
 }
 
 /**
- * Who does an act; gives why it was not done, "" where it was.
+ * The function of each act; it returns the reason if the act was not done, else "".
  * @type {Record<import("./story.js").ActName, (of: string, calls: ActCalls) => Promise<string>>}
  */
 const ACTS = {
@@ -77,7 +77,7 @@ async function done(act) {
 }
 
 /**
- * Gives why it was not done, "" where it was.
+ * Does an action; returns why it was not done, "" if it was.
  * @param {Act} act
  * @param {ActCalls} calls
  */

@@ -1,22 +1,22 @@
-// A first program in five steps: what each step says, what is typed in it, and when it is done. The page watches over it: a step is done
-// when what the bench answers shows it.
+// A first program in five steps: the text of each step, what is typed in it, and when it is done. The page decides by the bench's answers
+// when a step is done.
 
 import * as say from "../../words/help.js";
 
 /**
- * What a step is judged by: the lamps (a `*` for each that is lit), how many different lamps were seen in this step, how many keys are
- * down, and why a run ended last in this step (`break`, `watch`, "" for no end).
+ * The values by which a step is judged: the lamps (a `*` for each that is on), how many different patterns of lamps were seen in this step,
+ * how many keys are down, and why a run ended last in this step (`break`, `watch`, "" for no end).
  * @typedef {{ lamps: string, patterns: number, keysDown: number, end: string }} Seen
  *
- * A step: its title, what is to be done, the program that is typed ("" where it stays), what the step points at, and when it is done. A
- * paragraph of a story has places that do something.
+ * A step: its title, its task, the program that is typed ("" if it stays), what the step points at, and when it is done. A paragraph of a
+ * story has links that do something.
  * @typedef {string | { words: string, act: import("./story.js").Act }} Part
  * @typedef {"send" | "key" | "margin" | "ram"} Target the button that assembles, a key, the margin of the source, a character of RAM
  * @typedef {{ title: string, words: (string | Part[])[], program: string, target?: Target, isDone: (seen: Seen) => boolean }} TourStep
  */
 
 /**
- * What it begins with.
+ * The texts that it begins with.
  * @type {import("../engine/examples.js").Example}
  */
 export const FIRST_PROGRAM = {
@@ -59,7 +59,7 @@ export const TOUR = [
 ];
 
 /**
- * Whether a text is nothing of the user's own: none, or a program of a step.
+ * Returns whether a text contains nothing of the user's own: it is empty, or a program of a step.
  * @param {string} text
  */
 export function isOfTour(text) {
@@ -92,7 +92,7 @@ export class TourWatch {
   }
 
   /**
-   * The lamps are others.
+   * The lamps have changed.
    * @param {string} lamps
    */
   seeLamps(lamps) {
@@ -106,7 +106,7 @@ export class TourWatch {
   }
 
   /** @param {string} end why a run ended */
-  seeEnd(end) {
+  noteEnd(end) {
     this.see({ end });
   }
 

@@ -5,16 +5,16 @@ import { capitals } from "./source_lines.js";
 import * as say from "../../words/import.js";
 
 /**
- * A value; `isKnown` is false where a name has none yet, and `fault` is why the expression cannot be read, "" if it can.
+ * A value; `isKnown` is false if a name has none yet, and `fault` is why the expression cannot be read, "" if it can.
  * @typedef {{ value: number, isKnown: boolean, fault: string }} Evaluated
  *
- * What names mean: whether a line defines a name, and its value, if that is known.
+ * The meaning of names: whether a line defines a name, and its value, if that is known.
  * @typedef {{ isDefined: (name: string) => boolean, valueOf: (name: string) => number | undefined }} NameValues
  */
 
 const MOST_DEPTH = 50;
 const BYTE = 256;
-/** The bits that & looks at. */
+/** The bits that & uses. */
 const MOST_BITS = 4096;
 const NAME = /[A-Za-z_.?@][A-Za-z0-9_.?@$]*/y;
 const BYTE_OF = /(LOW|HIGH|LO|HI|low|high|lo|hi)[ \t]*\(/y;
@@ -69,7 +69,7 @@ class Evaluation {
     this.fault = "";
   }
 
-  /** @param {string} words the first ones hold */
+  /** @param {string} words whose words are first */
   fail(words) {
     if (this.fault === "") this.fault = words;
   }
@@ -78,14 +78,14 @@ class Evaluation {
     while (/[ \t]/.test(this.text[this.at] || "")) this.at += 1;
   }
 
-  /** Returns the next letter that is no blank, "" at the end. */
+  /** Returns the next character that is not a blank, "" at the end. */
   next() {
     this.skip();
     return this.text[this.at] || "";
   }
 
   /**
-   * Returns what stands here, if it has a form.
+   * Returns the expression that begins here, if there is one.
    * @param {RegExp} form
    */
   match(form) {
@@ -157,7 +157,7 @@ class Evaluation {
     return 0;
   }
 
-  /** @param {string} sign `<` and `>` are of all that is behind them */
+  /** @param {string} sign `<` and `>` apply to all that follows */
   signed(sign) {
     this.at += 1;
     if (sign === "-") return -this.factor();

@@ -1,7 +1,7 @@
 // Brings a program in the spelling of Intel or of AS into the bench's spelling, a line for each line. Names get their values first, then
 // lines are written.
 
-import { hex } from "../bench/numbers.js";
+import { LAST_ADDRESS, hex } from "../bench/numbers.js";
 import { LONGEST_NAME } from "../text/assembly.js";
 import { evaluate, isAscii } from "./expressions.js";
 import {
@@ -14,20 +14,19 @@ import * as say from "../../words/import.js";
  * @typedef {import("./source_lines.js").SourceLine} SourceLine
  * @typedef {import("./source_lines.js").OperandKind} OperandKind
  *
- * A line that cannot be taken, from 1, and why.
+ * A line that cannot be imported, from 1, and why.
  * @typedef {{ line: number, words: string }} ImportFault
  *
- * How the value of an operand is written: its range, the modulus of negative numbers (0 for none), and whether it is always a number.
+ * The spelling of an operand's value: its range, the modulus of negative numbers (0 for none), and whether it is always a number.
  * @typedef {{ from?: number, to: number, modulus?: number, isNumber?: boolean }} Figure
  */
 
 const MOST_TURNS = 20;
-const LAST_ADDRESS = 4095;
 const NIBBLE = 16;
 const BYTE = 256;
-/** Where statements and comments begin. */
+/** The columns of statements and comments. */
 const COLUMNS = { statement: 8, comment: 24 };
-/** Names that the bench takes for something else. */
+/** Names that mean something else to the bench. */
 const RESERVED = /^(ORG|DB|WPM|R[0-9]|R1[0-5]|P[0-7])$/;
 const NAME = /^[A-Za-z_.?@][A-Za-z0-9_.?@$]*$/;
 /** Numbers whose value is written without a note of how they were spelled. */
@@ -38,11 +37,11 @@ const INVERTED = 8;
 /** @type {Record<string, number>} the bits of a condition by its letters */
 const LETTERS = { Z: 4, C: 2, T: 1 };
 
-/** Why a line cannot be taken; the rest of it is not looked at. */
+/** Why a line cannot be imported; the rest of it is skipped. */
 class LineFault extends Error {}
 
 /**
- * Returns a text that is filled up to a column, with a blank behind it at least.
+ * Returns a text that is filled up to a column, with at least one blank after it.
  * @param {string} text
  * @param {number} column
  */
@@ -71,7 +70,7 @@ class ProgramImport {
     this.meaning = { isDefined: (name) => this.definedAt.has(name), valueOf: (name) => this.values.get(name) };
   }
 
-  /** Returns the lines as the bench takes them; none if a line has a fault. */
+  /** Returns the lines in the bench's spelling; none if a line has an error. */
   run() {
     this.lines.forEach((line, at) => this.define(line, at + 1));
     if (this.faults.length > 0) return [];
@@ -83,7 +82,7 @@ class ProgramImport {
   }
 
   /**
-   * Returns what an act returns; the fault of a line is noted.
+   * Returns the result of an action; notes the error of a line.
    * @template Result
    * @param {number} line
    * @param {() => Result} act
@@ -116,10 +115,10 @@ class ProgramImport {
     }, undefined);
   }
 
-  /** Gives each name the spelling of the line that defines it, as far as the bench takes that. */
+  /** Gives each name the spelling of the line that defines it, as far as the bench accepts that. */
   chooseNames() {
     const taken = new Set();
-    /** @type {Map<string, number>} the next number behind a name that is taken */
+    /** @type {Map<string, number>} the next number after a name that is in use */
     const next = new Map();
     for (const [name, line] of this.definedAt) {
       const plain = this.lines[line - 1].label.replace(/[^A-Za-z0-9_]/g, "_").replace(/^(?=[0-9])/, "_");
@@ -145,7 +144,7 @@ class ProgramImport {
     return evaluate(text, here, this.meaning);
   }
 
-  /** Gives each name its value; returns whether any has changed. */
+  /** Sets the value of each name; returns whether any has changed. */
   locate() {
     let [at, hasChanged] = [0, false];
     for (const line of this.lines) {
@@ -216,7 +215,7 @@ class ProgramImport {
     }
     if (OF_4040.has(word)) throw new LineFault(say.of4040(word));
     if (word === PROGRAM_RAM) throw new LineFault(say.NO_PROGRAM_RAM);
-    if (FOREIGN.has(word)) throw new LineFault(say.notTaken(word));
+    if (FOREIGN.has(word)) throw new LineFault(say.notSupported(word));
     if (word === "ORG") return `ORG ${this.figure(operand, { to: LAST_ADDRESS, isNumber: true })}`;
     if (word === "ALIGN" || ROOM_WORDS.has(word)) return this.room(word, operand);
     if (BYTE_WORDS.has(word)) return `DB ${this.bytes(operand)}`;
@@ -281,7 +280,7 @@ class ProgramImport {
   }
 
   /**
-   * Returns the value of an operand as the bench takes it: a name stays, and an expression becomes its number, and is noted.
+   * Returns the value of an operand as the bench accepts it: a name stays, and an expression becomes its number, and is noted.
    * @param {string} text
    * @param {Figure} figure
    */
@@ -336,7 +335,7 @@ class ProgramImport {
 /**
  * Brings a program into the bench's spelling.
  * @param {string} source
- * @returns {{ text: string, faults: ImportFault[] }} the text, if no line has a fault
+ * @returns {{ text: string, faults: ImportFault[] }} the text, if no line has an error
  */
 export function importProgram(source) {
   const texts = source.split("\n").map((line) => line.replace(/\r$/, ""));

@@ -1,13 +1,13 @@
-// A line of a program in Intel's spelling or in that of AS, cut into its parts. (What the bench takes is read by text/assembly.js.)
+// A line of a program in Intel's spelling or in that of AS, split into its parts. (text/assembly.js splits the bench's own spelling.)
 
 /**
- * A line: its label, its word in capitals, what is behind that, and its comment. A definition has the word EQU.
+ * A line: its label, its word in capitals, the text after that, and its comment. A definition has the word EQU.
  * @typedef {{ text: string, label: string, word: string, operand: string, comment: string, isLong: boolean }} SourceLine
  *
  * @typedef {"register" | "pair" | "digit" | "byte" | "target" | "condition"} OperandKind
  */
 
-/** Longer lines are none of an assembler. */
+/** Longer lines do not come from an assembler. */
 export const LONGEST_SOURCE_LINE = 1024;
 
 /** @type {[string[], OperandKind[]][]} */
@@ -25,13 +25,13 @@ const FORMS = [
 /** The operands of each instruction. */
 export const OPERANDS = new Map(FORMS.flatMap(([names, kinds]) => names.map((name) => /** @type {const} */ ([name, kinds]))));
 export const OF_4040 = new Set(["HLT", "BBS", "LCR", "OR4", "OR5", "AN6", "AN7", "DB0", "DB1", "SB0", "SB1", "EIN", "DIN", "RPM"]);
-/** What becomes a comment. */
+/** The words that become comments. */
 export const REMARKS = new Set(["CPU", "TITLE", "PAGE", "LISTING", "NEWPAGE", "PRTINIT", "PRTEXIT", "SUBTITLE", "EJECT", "NOLIST", "LIST",
   "NAME", "SPACE", "RELAXED", "RADIX", "INTSYNTAX"]);
 export const BYTE_WORDS = new Set(["DB", "DATA", "BYTE", "DEFB", "FCB", "DC"]);
 export const ROOM_WORDS = new Set(["DS", "RES", "DEFS", "RMB"]);
 const DIRECTIVES = new Set([...BYTE_WORDS, ...ROOM_WORDS, "EQU", "=", "SET", "ORG", "ALIGN", "END"]);
-/** What is not taken. */
+/** The words that are rejected. */
 export const FOREIGN = new Set(["MACRO", "ENDM", "IF", "ELSE", "ENDIF", "IFDEF", "IFNDEF", "INCLUDE", "BINCLUDE", "REPT", "IRP", "WHILE",
   "STRUCT", "SECTION", "DW"]);
 export const PROGRAM_RAM = "WPM";
@@ -44,7 +44,7 @@ const DEFINITION = /^(=|EQU|SET|:=)(?=[ \t]|$|[^A-Za-z0-9_=])/i;
 const NAMED_DEFINITION = new RegExp(`^(${NAME})[ \\t]*(?:=|[ \\t]EQU[ \\t]|[ \\t]SET[ \\t])`, "i");
 
 /**
- * Returns a text in capitals, as far as its letters are of ASCII.
+ * Returns a text in capitals, as far as its letters are ASCII.
  * @param {string} text
  */
 export function capitals(text) {
@@ -60,7 +60,7 @@ export function trimmed(text) {
 }
 
 /**
- * Returns where the comment of a line begins: its mark is behind a blank if it is `/`; -1 for none.
+ * Returns where the comment of a line begins: its mark is after a blank if it is `/`; -1 for none.
  * @param {string} line
  */
 function commentAt(line) {
@@ -76,7 +76,7 @@ function commentAt(line) {
 }
 
 /**
- * Cuts a line into what is before its comment, and the comment.
+ * Splits a line into the text before its comment, and the comment.
  * @param {string} text
  */
 function withoutComment(text) {
@@ -89,7 +89,7 @@ function withoutComment(text) {
 }
 
 /**
- * Cuts a line into its label and what is behind that. A name at the first column is a label if it is no instruction.
+ * Splits a line into its label and the text after that. A name at the first column is a label unless it is an instruction.
  * @param {string} line
  */
 function withoutLabel(line) {
@@ -102,7 +102,7 @@ function withoutLabel(line) {
 }
 
 /**
- * Reads what a line says behind its label; a definition is `X = 5` or `X EQU 5`, with or without a colon.
+ * Reads the statement of a line after its label; a definition is `X = 5` or `X EQU 5`, with or without a colon.
  * @param {string} label
  * @param {string} rest
  */
@@ -118,7 +118,7 @@ function statementIn(label, rest) {
 }
 
 /**
- * Reads the lines of a source. What is behind END is a comment.
+ * Reads the lines of a source. The text after END is a comment.
  * @param {string[]} texts
  * @returns {SourceLine[]}
  */
@@ -137,7 +137,7 @@ export function readSource(texts) {
 }
 
 /**
- * Returns the parts of a list between commas that are in no brackets and no quotes.
+ * Returns the parts of a list between commas that are outside brackets and quotes.
  * @param {string} list
  */
 export function partsOfList(list) {
@@ -160,7 +160,7 @@ export function partsOfList(list) {
 }
 
 /**
- * Returns the letters of a part that is a text of several letters in quotes; null for any other part.
+ * Returns the characters of a part that is a text of several characters in quotes; null for any other part.
  * @param {string} part
  */
 export function lettersOf(part) {

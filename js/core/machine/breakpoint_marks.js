@@ -7,14 +7,14 @@ import * as say from "../../words/machine.js";
  * @typedef {{ mark: string, words: string }} BreakpointMark
  */
 
-/** It stops, it stops where it holds, it logs, it stops nothing. */
+/** It stops, it stops on a condition, it logs, it stops nothing. */
 const ALWAYS = "\u25CF";
 const SOMETIMES = "\u25C6";
 const LOGS = "\u25B8";
 const NEVER = "\u25CB";
 
 /**
- * When a breakpoint stops, and what it logs; "" if it stops at each arrival.
+ * Returns the condition and the log text of a breakpoint; "" if it stops at each arrival.
  * @param {Pick<Breakpoint, "condition" | "from" | "note">} breakpoint
  */
 export function detailsOfBreakpoint({ condition, from, note }) {
@@ -24,7 +24,7 @@ export function detailsOfBreakpoint({ condition, from, note }) {
 }
 
 /**
- * What a breakpoint does, in words.
+ * Returns the effect of a breakpoint, in words.
  * @param {Pick<Breakpoint, "condition" | "from" | "note">} breakpoint
  */
 export function wordsOfBreakpoint(breakpoint) {
@@ -33,12 +33,12 @@ export function wordsOfBreakpoint(breakpoint) {
 
 /**
  * @param {Breakpoint} breakpoint
- * @param {string} fault why it cannot be read, and so stops at each arrival; "" where it can
+ * @param {string} fault why it cannot be read, and so stops at each arrival; "" if it can
  * @returns {BreakpointMark}
  */
 export function markOf(breakpoint, fault) {
   const words = wordsOfBreakpoint(breakpoint);
-  if (fault) return { mark: ALWAYS, words: say.stopsAsUnsure(words, fault) };
+  if (fault) return { mark: ALWAYS, words: say.stopsAlwaysByError(words, fault) };
   if (!breakpoint.isOn) return { mark: NEVER, words: say.isOff(words) };
   if (breakpoint.address < 0) return { mark: NEVER, words: say.stopsLater(words) };
   if (breakpoint.note.trim()) return { mark: LOGS, words };

@@ -1,4 +1,4 @@
-// Where "go to" goes: a name of the program, also with a number added to it, an address as listings print it, or a number as lines
+// The targets of "go to": a name of the program, also with a number added to it, an address as listings print it, or a number as lines
 // write it.
 
 import { LAST_ADDRESS, numberOf } from "../bench/numbers.js";
@@ -11,10 +11,9 @@ import * as say from "../../words/machine.js";
  * @typedef {{ address: number, words: string }} Goal
  */
 
-/** Three digits are an address of a listing, also where all of them are decimal ones. */
+/** Three digits are an address of a listing, even if all of them are decimal. */
 const OF_LISTING = /^[0-9a-f]{3}$/i;
-const NUMBER = /^(0x[0-9a-f]+|\d+)$/i;
-/** A name with a number added, as the page writes addresses behind a label. */
+/** A name with an offset, as the page writes addresses after a label. */
 const BEHIND = /^([a-z_]\w*)\s*\+\s*(0x[0-9a-f]+|\d+)$/i;
 
 /**
@@ -27,7 +26,7 @@ function refused(words) {
 
 /**
  * @param {string} text
- * @param {SourceMap | null} map the program that stands in ROM
+ * @param {SourceMap | null} map the program in ROM
  * @returns {Goal}
  */
 export function goalOf(text, map) {
@@ -37,7 +36,7 @@ export function goalOf(text, map) {
   if (value !== undefined && value + numberOf(added) <= LAST_ADDRESS) return { address: value + numberOf(added), words: "" };
   const address = OF_LISTING.test(word) ? parseInt(word, 16) : numberOf(word);
   if (address <= LAST_ADDRESS) return { address, words: "" };
-  if (NUMBER.test(word)) return refused(say.beyondLast(word));
+  if (!Number.isNaN(numberOf(word))) return refused(say.beyondLast(word));
     if (word === "") return refused(say.nothingToGoTo(say.ADDRESS_FORMS));
   if (map) return refused(say.noNameOrAddress(word, say.ADDRESS_FORMS));
   return refused(say.noAddress(word, say.ADDRESS_FORMS));

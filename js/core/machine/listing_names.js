@@ -1,4 +1,4 @@
-// A line of a listing with the names of the program that stands in ROM.
+// A line of a listing with the names of the program in ROM.
 
 import { hex } from "../bench/numbers.js";
 import { wordsOfLine } from "../../words/stops.js";
@@ -7,8 +7,8 @@ import { wordsOfLine } from "../../words/stops.js";
  * @typedef {import("../bench/answers.js").Listed} Listed
  * @typedef {import("./source_map.js").SourceMap} SourceMap
  *
- * What is shown of a line: its address and that of its second byte ("" for none) as answers write them, address and bytes, the labels at
- * it, its instruction, and its line of the source in words ("" for none).
+ * The contents of a row: its address and that of its second byte ("" for none) as answers write them, address and bytes, the labels at it,
+ * its instruction, and its line of the source in words ("" for none).
  * @typedef {{ address: number, first: string, second: string, bytes: string, labels: string, instruction: string, source: string }}
  *   NamedLine
  */
@@ -40,7 +40,7 @@ export function namedLine({ address, line }, map) {
 }
 
 /**
- * An instruction with the label of its target, the one that the source writes where there are several.
+ * Returns an instruction with the label of its target, the one that the source writes if there are several.
  * @param {string} instruction
  * @param {string} source
  * @param {SourceMap} map
@@ -56,7 +56,7 @@ function withTarget(instruction, source, map) {
 }
 
 /**
- * How many letters the widest label has, with its colon; 0 where there is none.
+ * Returns the length of the longest label, with its colon; 0 if there is none.
  * @param {SourceMap | null} map
  */
 export function widthOfLabels(map) {

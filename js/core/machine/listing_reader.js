@@ -1,4 +1,4 @@
-// Asks the bench for the stretch of a listing that is wanted, and for no more.
+// Asks the bench for the requested stretch of a listing, and for no more.
 
 import { readListing } from "../bench/answers.js";
 import { linesOf, matchAnswers, readInputs } from "../bench/inputs.js";
@@ -10,13 +10,13 @@ import { beginningsOf, beginsLine, linesNeeded } from "./listing_stretch.js";
  */
 
 export class ListingReader {
-  /** @param {(lines: string) => Promise<string[]>} ask gives the answers to questions */
+  /** @param {(lines: string) => Promise<string[]>} ask returns the answers to queries */
   constructor(ask) {
     this.ask = ask;
   }
 
   /**
-   * A list that is in step with the goal's anchor; most often the first one that is tried is.
+   * A list that is in step with the goal's anchor; usually the first one that is tried.
    * @param {Goal} goal
    * @param {number} rows
    */

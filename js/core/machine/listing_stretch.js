@@ -1,5 +1,5 @@
-// Which stretch of a listing is shown: where lists have to begin, and what is cut from them. A list is a sweep from its first byte on, so
-// that it is in step with the program only where one of its lines begins at an address that is known to begin an instruction.
+// The stretch of a listing that is shown: the addresses where lists must begin, and the parts to cut from them. A list is a sweep from its
+// first byte on, so it is in step with the program only if one of its lines begins at the known beginning of an instruction.
 
 import { upTo } from "../bench/numbers.js";
 import { ADDRESSES, MOST_LISTED } from "../bench/rom_bytes.js";
@@ -7,16 +7,16 @@ import { ADDRESSES, MOST_LISTED } from "../bench/rom_bytes.js";
 /**
  * @typedef {import("../bench/answers.js").Listed} Listed
  *
- * A stretch that is wanted: its first line is the first one at or after `from`, and a line begins at `anchor`, where that is known.
+ * A requested stretch: its first line is the first one at or after `from`, and a line begins at `anchor`, if that is known.
  * @typedef {{ from: number, anchor: number | null }} Goal
  */
 
-/** A sweep falls into step within some instructions, so that it begins so many bytes early; where it does not, it begins a byte later. */
+/** A sweep falls into step within a few instructions, so it begins this many bytes early; if it does not, it begins a byte later. */
 const BYTES_BEFORE = 12;
 const TRIES = 4;
 
 /**
- * Where lists begin, the best one first; the last one begins at the anchor itself.
+ * Returns the addresses where lists begin, the best one first; the last one begins at the anchor itself.
  * @param {Goal} goal
  * @param {number} rows how many lines are shown
  */
@@ -29,7 +29,7 @@ export function beginningsOf({ from, anchor }, rows) {
 }
 
 /**
- * How many lines such a list needs.
+ * Returns how many lines such a list needs.
  * @param {number} start
  * @param {Goal} goal
  * @param {number} rows
@@ -39,7 +39,7 @@ export function linesNeeded(start, { from, anchor }, rows) {
 }
 
 /**
- * Whether a line begins at an address.
+ * Returns whether a line begins at an address.
  * @param {Listed[]} lines
  * @param {number | null} address
  */
@@ -60,7 +60,7 @@ export function stretchOf(lines, from, rows) {
 }
 
 /**
- * Whether an address lies inside a line and begins none: then the lines are not in step with it.
+ * Returns whether an address is inside a line and does not begin one: then the lines are not in step with it.
  * @param {Listed[]} lines
  * @param {number} address
  */

@@ -28,7 +28,7 @@ function rowsOfBytes(address, bytes, source) {
 }
 
 /**
- * Returns what stands before a line without bytes: the value of the name that it defines, or the address of a label that stands alone.
+ * Returns the text before a line without bytes: the value of the name that it defines, or the address of a lone label.
  * @param {string} line
  * @param {number} address
  * @param {SourceMap} map

@@ -1,4 +1,4 @@
-// What characters of RAM are called: by the list of values, and by the source where SRC selects by a name of it. Without a document.
+// The names of RAM nibbles: from the list of values, and from the source if SRC selects by a name of it.
 
 import { hex } from "../bench/numbers.js";
 import { PAIR, partsOf } from "../text/assembly.js";
@@ -10,7 +10,7 @@ import { PAIR, partsOf } from "../text/assembly.js";
  */
 
 /**
- * The numbers with names that the program puts into a pair of an SRC, by FIM.
+ * The named numbers that the program loads into a pair of an SRC, by FIM.
  * @param {SourceMap} map
  * @returns {{ name: string, byte: number }[]} each name once
  */
@@ -27,10 +27,10 @@ export function bytesOfSource(map) {
 }
 
 /**
- * What characters are called, by their places as `poke` has them. A byte of SRC selects in each bank.
+ * Returns the names of RAM nibbles, by their places as `poke` has them. A byte of SRC selects in each bank.
  * @param {Board} board
  * @param {Pick<Watched, "name" | "place">[]} watched
- * @param {SourceMap | null} map null where the source is not what stands in ROM
+ * @param {SourceMap | null} map null if the source is not the program in ROM
  * @returns {Map<string, string[]>}
  */
 export function namesOfCharacters({ banks }, watched, map) {
@@ -41,7 +41,7 @@ export function namesOfCharacters({ banks }, watched, map) {
     const known = names.get(place) || [];
     if (!known.includes(name)) names.set(place, [...known, name]);
   };
-  // One without a name of its own is called by its place.
+  // A nibble without a name of its own is called by its place.
   for (const { name, place } of watched) if (place !== "" && /^\w+$/.test(name)) add(place, name);
   for (const { name, byte } of map ? bytesOfSource(map) : []) {
     for (const { bank, chips } of banks) if (byte < chips * 64) add(`ram.${bank}.0x${hex(byte, 2)}`, name);

@@ -1,4 +1,5 @@
-// Which return addresses wait for a BBL, as far as they tell: a call leaves the address after its JMS, and a BBL the address after itself.
+// The return addresses that wait for a BBL, as far as they show it: a call leaves the address after its JMS, and a BBL the address after
+// itself.
 
 import { LAST_ADDRESS } from "../bench/numbers.js";
 import * as say from "../../words/machine.js";
@@ -6,14 +7,14 @@ import { wordsOfLine } from "../../words/stops.js";
 
 /**
  * @typedef {import("./source_map.js").SourceMap} SourceMap
- * @typedef {{ isLive: boolean, words: string, title: string }} Note what an address is, in words
+ * @typedef {{ isLive: boolean, words: string, title: string }} Note a description of an address, in words
  */
 
 const JMS_BYTES = 2;
 const CODE_OF_JMS = "5";
 
 /**
- * Where the JMS stands that a return address comes after.
+ * Returns the address of the JMS before a return address.
  * @param {number} address
  */
 export function callBefore(address) {
@@ -21,10 +22,10 @@ export function callBefore(address) {
 }
 
 /**
- * Whether each return address is one that a call left, the newest first. What lies below an address that no call left is left over, too.
+ * Returns whether each return address is one that a call left, the newest first. Entries below a stale address are stale too.
  * @param {number[]} addresses
- * @param {string[]} bytes what ROM has where the JMS of each would stand
- * @param {SourceMap | null} map the program that stands in ROM
+ * @param {string[]} bytes the bytes of ROM where the JMS of each would be
+ * @param {SourceMap | null} map the program in ROM
  */
 export function areLive(addresses, bytes, map) {
   const firstLeft = addresses.findIndex((address, at) => {

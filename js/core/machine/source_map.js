@@ -1,4 +1,4 @@
-// Where a program's text stands in ROM, as the bench answers the line `map`: the address and the bytes of each line, and the names.
+// The map of a program's text to ROM, as the bench answers the line `map`: the address and the bytes of each line, and the names.
 
 import { readMap } from "../bench/answers.js";
 import { hex } from "../bench/numbers.js";
@@ -22,13 +22,13 @@ export class SourceMap {
     this.text = text;
     /** @type {number[]} by line, from 1 */
     this.addresses = [];
-    /** @type {number[]} how many bytes each line puts */
+    /** @type {number[]} the number of bytes of each line */
     this.sizes = [];
     /** @type {Map<string, Name>} in the order of the lines that define them */
     this.names = new Map();
     /** @type {Map<number, string[]>} */
     this.labels = new Map();
-    /** The line that puts the byte at each address, 0 for none. */
+    /** The line of the byte at each address, 0 for none. */
     this.lines = new Uint16Array(ADDRESSES);
     this.sources = text.split("\n");
     this.read(answers);
@@ -68,13 +68,13 @@ export class SourceMap {
     return owners;
   }
 
-  /** How many lines the program has. */
+  /** Returns how many lines the program has. */
   get count() {
     return Math.max(0, this.addresses.length - 1);
   }
 
   /**
-   * The address of a line that puts bytes; undefined for any other line.
+   * Returns the address of a line with bytes; undefined for any other line.
    * @param {number} line
    * @returns {number | undefined}
    */
@@ -83,7 +83,7 @@ export class SourceMap {
   }
 
   /**
-   * The line that puts the byte at an address; 0 where none does.
+   * Returns the line of the byte at an address; 0 if there is none.
    * @param {number} address
    */
   lineOf(address) {
@@ -91,7 +91,7 @@ export class SourceMap {
   }
 
   /**
-   * The line that a label is written in; 0 for another word.
+   * Returns the line of a label; 0 for another word.
    * @param {string} label
    */
   lineOfLabel(label) {
@@ -99,7 +99,7 @@ export class SourceMap {
   }
 
   /**
-   * Whether an instruction of the program begins at an address.
+   * Returns whether an instruction of the program begins at an address.
    * @param {number} address
    */
   beginsInstruction(address) {
@@ -108,7 +108,7 @@ export class SourceMap {
   }
 
   /**
-   * Whether an address is inside an instruction of the program: a run that comes to its line does not begin anything there.
+   * Returns whether an address is inside an instruction of the program: a run that reaches its line does not begin anything there.
    * @param {number} address
    */
   isInside(address) {
@@ -125,7 +125,7 @@ export class SourceMap {
   }
 
   /**
-   * An address by its label, `put`, or by the nearest one below it in the same stretch of bytes, `put + 2`; "" where there is none.
+   * Returns an address by its label, `put`, or by the nearest one below it in the same stretch of bytes, `put + 2`; "" if there is none.
    * @param {number} address
    */
   nameOf(address) {
@@ -136,7 +136,7 @@ export class SourceMap {
   }
 
   /**
-   * What a name means, in words; "" where the program has no such name.
+   * Returns the meaning of a name, in words; "" if the program lacks it.
    * @param {string} word
    */
   meaningOf(word) {
@@ -148,7 +148,7 @@ export class SourceMap {
   }
 
   /**
-   * The value of a name; undefined where the program has no such name.
+   * Returns the value of a name; undefined if the program has no such name.
    * @param {string} name
    * @returns {number | undefined}
    */
@@ -158,7 +158,7 @@ export class SourceMap {
   }
 
   /**
-   * The value of a name in whatever case; undefined where the program has none, or more than one.
+   * Returns the value of a name in any case; undefined if the program has none, or more than one.
    * @param {string} word
    * @returns {number | undefined}
    */

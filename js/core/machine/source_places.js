@@ -8,7 +8,7 @@ import { inSource, notInSource } from "../../words/machine.js";
 /**
  * Returns an address with its name and the line of the source that fills it.
  * @param {SourceMap} map
- * @param {{ lines: string[], before: number }} source its lines, and how many lines of its file come before them
+ * @param {{ lines: string[], before: number }} source its lines, and how many lines of its file precede them
  * @param {number} address
  */
 export function placeInSource(map, { lines, before }, address) {

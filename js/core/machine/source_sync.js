@@ -1,5 +1,5 @@
-// The source and the machine: while the program's text is what stands in ROM, the line that comes next is marked, and addresses have
-// names. Whether it is, the bench is asked anew where the text or ROM may have changed.
+// The link between the source and the machine: while the program's text is what is in ROM, the next line is marked, and addresses have
+// names. The bench is asked again whenever the text or ROM may have changed.
 
 import { hex } from "../bench/numbers.js";
 import { SourceMap } from "./source_map.js";
@@ -8,21 +8,21 @@ import * as say from "../../words/machine.js";
 /**
  * @typedef {import("../engine/program_check.js").Checked} Checked
  *
- * What shows the program's text: the line that comes next (0 for none), and the address of each line ("" where it has none to show); a
- * line is brought into view.
+ * The view of the program's text: the next line (0 for none), and the address of each line ("" if it has none to show); it scrolls to a
+ * line.
  * @typedef {{ showNext: (line: number) => void, showAddresses: (addresses: string[]) => void,
  *   reveal: (line: number) => void }} SourceEditor
  */
 
 /**
- * What the comparison of source and ROM calls.
+ * The calls that the comparison of source and ROM makes.
  * @typedef {object} SyncCalls
  * @property {() => string} text Returns the source as it would be sent.
  * @property {(text: string) => Promise<Checked>} check Resolves to the map of a source, or to why it is rejected, and to where it differs
- *   from ROM.
- * @property {(map: SourceMap | null, words: string) => void} changed The program in ROM is another one: its map, null if the source is
- *   not what is in ROM, with a message about that.
- * @property {(number: number) => string} wordsOfRefusal Returns what the number of a refusal means.
+ * from ROM.
+ * @property {(map: SourceMap | null, words: string) => void} changed The program in ROM has changed: its map, null if the source is not
+ * what is in ROM, with a message about that.
+ * @property {(number: number) => string} wordsOfRefusal Returns the message of a refusal.
  */
 
 /** @type {SourceEditor} */
@@ -38,15 +38,15 @@ export class SourceSync {
   constructor(calls) {
     this.calls = calls;
     this.editor = NO_EDITOR;
-    /** @type {SourceMap | null} the program that stands in ROM */
+    /** @type {SourceMap | null} the program in ROM */
     this.map = null;
     /** Why the text is not that program. */
     this.words = "";
-    /** @type {Checked | null} what came of the last look */
+    /** @type {Checked | null} the result of the last check */
     this.checked = null;
-    /** The text that was looked at last. */
+    /** The text of the last check. */
     this.text = "";
-    // What is told of a text that is not the newest one is not shown.
+    // A result for an older text is not shown.
     this.asked = 0;
     /** @type {Promise<void> | null} */
     this.freshening = null;
@@ -63,7 +63,7 @@ export class SourceSync {
     this.calls.changed(null, "");
   }
 
-  /** Looks whether the text is what stands in ROM. */
+  /** Checks whether the text is what is in ROM. */
   async check() {
     this.asked += 1;
     const { asked } = this;
@@ -89,7 +89,7 @@ export class SourceSync {
   }
 
   /**
-   * Why the text is not what stands in ROM; "" where it is.
+   * Returns why the text is not what is in ROM; "" if it is.
    * @param {Checked} checked
    * @param {SourceMap} map
    */
@@ -97,7 +97,7 @@ export class SourceSync {
     if (refusal) {
       const where = refusal.line > 0 ? say.inThatLine(refusal.line) : "";
       const what = refusal.number > 0 ? `no ${refusal.number}: ${this.calls.wordsOfRefusal(refusal.number)}` : say.DOT_ENDS;
-      return say.sourceHasFault(where, what);
+      return say.sourceHasError(where, what);
     }
     if (!difference) return "";
     const line = map.lineOf(difference.address);
@@ -106,7 +106,7 @@ export class SourceSync {
   }
 
   /**
-   * Shows where the machine is. While time runs no line is the next one.
+   * Shows the position of the machine. While time runs no line is the next one.
    * @param {number} counter
    * @param {boolean} isRunning
    */
@@ -126,9 +126,9 @@ export class SourceSync {
     if (line > 0) this.editor.reveal(line);
   }
 
-  /** What was edited a moment ago is looked at. */
+  /** Checks the text that was edited a moment ago. */
   async fresh() {
-    // A look that another one has overtaken is not taken. All who wait share one, or none of theirs would be the last.
+    // A check that was overtaken by another is discarded. All who wait share one check, or none of theirs would be the last.
     while (this.calls.text() !== this.text || !this.checked) {
       this.freshening = this.freshening || this.check().finally(() => {
         this.freshening = null;
@@ -138,7 +138,7 @@ export class SourceSync {
   }
 
   /**
-   * What a name of the program means; "" for a word that is none.
+   * Returns the meaning of a name of the program; "" for any other word.
    * @param {string} word
    */
   meaningOf(word) {
@@ -147,7 +147,7 @@ export class SourceSync {
 }
 
 /**
- * The address of each line that puts bytes, and "" for each other one, the first line first.
+ * Returns the address of each line that has bytes, and "" for each other one, the first line first.
  * @param {SourceMap} map
  */
 function addressesOf(map) {

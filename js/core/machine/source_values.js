@@ -1,4 +1,4 @@
-// What the words of the source stand for, while time stands still, and what its lines have changed that were done last: of the last look.
+// The values of the source's words while time is paused, and the changes by its last lines: of the last snapshot.
 
 import { LineChanges } from "../debug/line_changes.js";
 import { Standing } from "../debug/standing.js";
@@ -10,13 +10,13 @@ import { valuesAt } from "../debug/value_words.js";
  */
 
 /**
- * What the values in the source call of the page.
+ * The calls that the values in the source make to the page.
  * @typedef {object} ValuesOwnCalls
  * @property {() => import("./source_map.js").SourceMap | null} map Returns the map of the program in ROM; null if the source is not in
  *   ROM.
- * @property {(lines: ReadonlyMap<number, string>) => void} showLines Shows beside each line, by its number from 1, what it has changed.
+ * @property {(lines: ReadonlyMap<number, string>) => void} showLines Shows next to each line, by its number from 1, what it has changed.
  * @property {() => void} showWatched Shows the watched values again.
- * @property {() => string[]} look Returns the answers of the last snapshot.
+ * @property {() => string[]} snapshot Returns the answers of the last snapshot.
  * @property {() => boolean} isRunning Returns whether time runs; values are shown only while it is paused.
  * @property {() => void} changed The values have changed, or are hidden since time runs.
  */
@@ -27,8 +27,8 @@ export class SourceValues {
   /** @param {ValuesCalls} calls */
   constructor(calls) {
     this.calls = calls;
-    /** @type {string[]} the look that was read */
-    this.look = [];
+    /** @type {string[]} the snapshot that was read */
+    this.snapshot = [];
     /** @type {Standing | null} */
     this.read = null;
     this.isRunning = false;
@@ -37,24 +37,24 @@ export class SourceValues {
 
   /** Another session is shown. */
   forget() {
-    this.look = [];
+    this.snapshot = [];
     this.read = null;
     this.changes.forget();
   }
 
-  /** @returns {Standing | null} what stands in the machine; null while time runs */
+  /** @returns {Standing | null} the state of the machine; null while time runs */
   get standing() {
     if (this.calls.isRunning()) return null;
-    const look = this.calls.look();
-    if (look !== this.look) {
-      this.look = look;
-      this.read = look.length > 0 ? new Standing(look) : null;
+    const snapshot = this.calls.snapshot();
+    if (snapshot !== this.snapshot) {
+      this.snapshot = snapshot;
+      this.read = snapshot.length > 0 ? new Standing(snapshot) : null;
     }
     return this.read;
   }
 
   /**
-   * What the word at a place of a line stands for now.
+   * Returns the current value of the word at a position of a line.
    * @param {string} text
    * @param {number} at
    * @returns {Piece[]}
@@ -65,7 +65,7 @@ export class SourceValues {
   }
 
   /**
-   * A look was shown: what is told of it is told anew, but not at each frame while time runs.
+   * Handles a new snapshot: reports of it are renewed, but not at each frame while time runs.
    * @param {number} cycles that were done in all
    */
   looked(cycles) {

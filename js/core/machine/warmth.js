@@ -1,4 +1,4 @@
-// How warm a cell is by how often, or how lately, it has changed, in five steps; and words on it. Without a document.
+// The heat level of a cell by how often, or how recently, it has changed, in five steps; and words about it.
 
 import { hex } from "../bench/numbers.js";
 import { wordsOfAddress } from "../../words/stops.js";
@@ -14,11 +14,11 @@ import * as say from "../../words/machine.js";
  */
 
 export const WARMEST = 5;
-/** The cycles that are kept of time that runs are so many stretches. */
+/** The cycles of running time are kept as this many stretches. */
 const MOST_PARTS = 50;
 
 /**
- * Where a number is between 1 and the most, by its logarithm: 1 to the warmest.
+ * Returns the position of a number between 1 and the largest, by its logarithm: 1 to the warmest.
  * @param {number} number
  * @param {number} most
  */
@@ -27,8 +27,8 @@ function degree(number, most) {
 }
 
 /**
- * How warm each place is, 1 to the warmest, beside the one that has changed most often, or last; a place that has not changed is none of
- * them.
+ * The heat level of each place, from 1 to the hottest, relative to the one that changed most often, or last; places that have not changed
+ * are left out.
  * @param {Heat} heat
  * @param {HeatKind} kind
  * @returns {Map<string, number>}
@@ -40,11 +40,11 @@ export function warmthOf({ cycles, cells }, kind) {
     [place, kind === "often" ? degree(count, most) : WARMEST + 1 - degree(1 + ago - last, cycles)])));
 }
 
-/** What changes while time runs, over the last so many cycles of it. */
+/** The changes while time runs, over its last cycles. */
 export class PassingHeat {
   constructor() {
     this.total = 0;
-    /** @type {{ from: number, cells: Map<string, Heated & { at: number }> }[]} stretches of time, each behind so many cycles */
+    /** @type {{ from: number, cells: Map<string, Heated & { at: number }> }[]} stretches of time, each with the cycles before it */
     this.parts = [];
   }
 
@@ -55,8 +55,8 @@ export class PassingHeat {
 
   /**
    * @param {PassedHeat} heat
-   * @param {number} cycles that have passed; not all of them were looked at where time runs at full speed
-   * @param {number} most so many cycles are kept
+   * @param {number} cycles that have passed; not all of them were examined if time runs at full speed
+   * @param {number} most the cycles to keep
    */
   add({ cells }, cycles, most) {
     const from = this.total;
@@ -109,16 +109,16 @@ function times(count) {
 }
 
 /**
- * How often, and last by what: `12 times, last by 00B (turn + 9, line 7), 320 cycles, 3.456 ms ago`.
+ * Returns how often and by what last: `12 times, last by 00B (turn + 9, line 7), 320 cycles, 3.456 ms ago`.
  * @param {Heated} cell
  * @param {SourceMap | null} map
  */
-export function wordsOfHeated(cell, map) {
+export function wordsOfChanges(cell, map) {
   return `${times(cell.count)}${cell.count === 1 ? "" : say.LAST} ${lastOf(cell, map)}`;
 }
 
 /**
- * The same while time runs on: not each change is looked at, and none is told at once, so that it tells what was seen, and no time.
+ * Returns the same while time runs: not each change is examined, and none is reported at once, so it gives no time.
  * @param {Heated} cell
  * @param {SourceMap | null} map
  */
@@ -127,18 +127,18 @@ export function wordsOfSeen(cell, map) {
 }
 
 /**
- * What is told while time runs.
+ * Returns the status while time runs.
  * @param {PassedHeat} heat
- * @param {boolean} isAll whether all cycles are looked at
+ * @param {boolean} isAll whether all cycles are examined
  */
 export function wordsOfPassing({ chips }, isAll) {
   return say.heatCounted(chips, isAll);
 }
 
 /**
- * What is told of all.
+ * Returns the summary.
  * @param {Heat} heat
- * @param {number} wanted so many cycles
+ * @param {number} wanted cycles
  * @param {(place: string) => string} nameOf
  * @param {SourceMap | null} map
  */
@@ -147,7 +147,7 @@ export function wordsOfHeat({ cycles, cells }, wanted, nameOf, map) {
   const reach = say.inTheLast(wordsOfCycles(cycles), cycles >= wanted);
   if (cells.length === 0) return say.noneChanged(reach);
   const most = cells.reduce((one, other) => (other.count > one.count ? other : one));
-  if (cells.length === 1) return say.oneChanged(reach, nameOf(most.place), wordsOfHeated(most, map));
+  if (cells.length === 1) return say.oneChanged(reach, nameOf(most.place), wordsOfChanges(most, map));
   const last = cells.reduce((one, other) => (other.ago < one.ago ? other : one));
   const often = say.mostOften(nameOf(most.place), times(most.count));
   return say.manyChanged(reach, cells.length, often, nameOf(last.place), lastOf(last, map));

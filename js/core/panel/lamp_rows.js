@@ -16,10 +16,10 @@ import { upTo } from "../bench/numbers.js";
 /** From this many columns on, lamps are side by side without gaps. */
 const NARROW_FROM = 13;
 const DIE_WIDTH = 4;
-/** A name is behind `( ) `, and has a blank behind itself. */
+/** A name follows `( ) `, and is followed by a blank. */
 const BESIDE_NAME = 5;
 const USUAL_COLOUR = "red";
-/** What a lamp shows at its level of brightness. */
+/** The sign of a lamp for each level of brightness. */
 const SIGNS = [" ", ":", "+", "*"];
 
 /** Makes the rows of a board's lamps. */
@@ -69,7 +69,7 @@ class LampRows {
 
   /**
    * @param {Group} group
-   * @param {number} number of those that are scanned, -1 for another one
+   * @param {number} number of the scanned ones, -1 for others
    */
   addGroup(group, number) {
     const { kind, first, rows, columns } = group;
@@ -126,7 +126,7 @@ export function lampRowsOf(face, count) {
 }
 
 /**
- * Returns what a place shows of its lamp, if that has this level of brightness: `( ) red`, or a sign alone.
+ * Returns a lamp at this brightness level: `( ) red`, or a sign alone.
  * @param {LampCell} cell
  * @param {number} level
  */

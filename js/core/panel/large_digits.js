@@ -5,7 +5,7 @@ import { patternOf } from "../board/digit_patterns.js";
 export const LARGE_ROWS = 5;
 const BLANK = " ";
 
-/** Whether a pattern has the segment of a letter, a to g. */
+/** Returns whether a pattern has the segment of a letter, a to g. */
 const has = (/** @type {number} */ pattern, /** @type {string} */ letter) => ((pattern >> "abcdefg".indexOf(letter)) & 1) === 1;
 
 /**

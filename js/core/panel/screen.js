@@ -1,6 +1,6 @@
 // The rows of the panel's screen: the session and time, the number on the display, registers, the source at the counter; below them side by
-// side RAM, the front of the board and the listing; last a message and the keys. A row is text in pieces, of which those of lamps have the
-// colour and the level of brightness of their lamp; js/node/panel_terminal.mjs puts them in their places.
+// side RAM, the front panel and the listing; last a message and the keys. A row is text in pieces; those of lamps have the colour and the
+// brightness level of their lamp. js/node/panel_terminal.mjs positions them.
 
 import { hex, upTo } from "../bench/numbers.js";
 import { linesOf } from "../board/strip.js";
@@ -8,7 +8,7 @@ import { escaped } from "../text/escaped.js";
 import { withoutTabs } from "../text/without_tabs.js";
 import { LARGE_ROWS, largeRows } from "./large_digits.js";
 import { lampRowsOf, textOfCell } from "./lamp_rows.js";
-import { CHIP_ROWS } from "./panel_look.js";
+import { CHIP_ROWS } from "./panel_snapshot.js";
 import { notInSource } from "../../words/machine.js";
 import * as say from "../../words/panel.js";
 
@@ -17,7 +17,7 @@ import * as say from "../../words/panel.js";
  * @typedef {import("./terminal_panel.js").Panel} Panel
  *
  * @typedef {{ rows: number, columns: number }} ScreenSize
- * @typedef {{ text: string, colour: string, level: number }} Piece `colour` is "" for text of no lamp
+ * @typedef {{ text: string, colour: string, level: number }} Piece `colour` is "" for text that is not a lamp
  * @typedef {{ pieces: Piece[], isInverse: boolean }} ScreenRow
  */
 
@@ -142,7 +142,7 @@ export class Screen {
     return (source && source.map.nameOf(address)) || hex(address, 3);
   }
 
-  /** The line of the source that comes next. */
+  /** The next line of the source. */
   sourceText() {
     const { of: { source }, seen: { counter } } = this.panel;
     if (!source) return "";
@@ -183,7 +183,7 @@ export class Screen {
   }
 
   /**
-   * Returns the rows of keys, of what is at TEST, of lamps and of the printer's paper.
+   * Returns the rows of keys, of the switch at TEST, of lamps and of the printout.
    * @param {number} count
    */
   frontRows(count) {
@@ -233,7 +233,7 @@ function testName({ name }) {
 }
 
 /**
- * Returns what a key is called, and what is typed for it if that is something else; of a key without a name the latter alone.
+ * Returns the name of a key, and the character that presses it if that differs; for a key without a name only the latter.
  * @param {BoardKey} key
  */
 function labelOf({ legend, letter, isNamed }) {

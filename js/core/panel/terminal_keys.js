@@ -1,4 +1,4 @@
-// The keys in what a terminal sends: a character each, or a sequence that begins with an escape.
+// The keys in the input of a terminal: a character each, or a sequence that begins with an escape.
 
 // eslint-disable-next-line no-control-regex
 const KEYS = /\u001b(?:\[[0-9;?]*[A-Za-z~]|O[A-Za-z]|[^\u001b[O])?|[^]/gu;

@@ -1,5 +1,5 @@
-// The panel of a session in a terminal: time, which runs as fast as in the real chip or is paused; keys that are typed; and what is seen.
-// It does all by lines that it asks a session, and knows no terminal: js/core/panel/screen.js makes rows of characters of what is seen.
+// The panel of a session in a terminal: time, which runs as fast as in the real chip or is paused; typed keys; and the picture. It does
+// everything by lines that it asks a session, and knows no terminal: js/core/panel/screen.js converts the picture to rows of characters.
 
 import { refusalOf, readRun } from "../bench/answers.js";
 import { linesOf } from "../bench/inputs.js";
@@ -13,7 +13,7 @@ import { KeyQueue, LONGEST_RUN } from "../engine/key_queue.js";
 import { Printing } from "../engine/printing.js";
 import { RealTime } from "../time/real_time.js";
 import { REASONS } from "../../words/stops.js";
-import { PanelLook } from "./panel_look.js";
+import { PanelSnapshot } from "./panel_snapshot.js";
 import * as say from "../../words/panel.js";
 
 /**
@@ -25,14 +25,14 @@ import * as say from "../../words/panel.js";
  * @typedef {import("../machine/source_map.js").SourceMap} SourceMap
  * @typedef {import("./terminal_keys.js").TypedKey} TypedKey
  *
- * A session that answers lines; it throws if it has ended.
+ * A session that answers lines; throws if it has ended.
  * @typedef {(lines: string) => Promise<string[]>} Ask
  *
- * The program in ROM by its text: the lines of the text, and how many lines of its file come before them.
+ * The program in ROM by its text: the lines of the text, and how many lines of its file precede them.
  * @typedef {{ map: SourceMap, lines: string[], before: number }} PanelSource
  *
- * What the panel is of: the name of the session, its board with the face, its program if that is known; what a refusal means; whether time
- * is paused at first, and what the message is then.
+ * The subject of the panel: the name of the session, its board with the front panel, its program if that is known; the messages of
+ * refusals; whether time is paused at first, and the message then.
  * @typedef {{ name: string, board: Board, face: Face, source: PanelSource | null, wordsOfRefusal: (number: number) => string,
  *   isPaused: boolean, note: string }} PanelOf
  */
@@ -58,7 +58,7 @@ export class Panel {
     this.own = [];
     this.time = new RealTime(now, now);
     this.isPaused = of.isPaused;
-    /** Why time is paused, in words; "" if somebody wanted it. */
+    /** Why time is paused, in words; "" if the user paused it. */
     this.why = "";
     this.message = of.note;
     /** The first RAM chip that is shown. */
@@ -66,9 +66,9 @@ export class Panel {
     this.isEnded = false;
     const printer = printerOf(board, face);
     this.printing = printer && new Printing({ ...printer, codes: [] });
-    /** How many cycles were run here. */
+    /** The number of cycles run here. */
     this.cycles = 0;
-    this.seen = new PanelLook(this);
+    this.seen = new PanelSnapshot(this);
   }
 
   /** Begins: a session that is at a breakpoint is paused. */
@@ -80,7 +80,7 @@ export class Panel {
   // --- lines ---
 
   /**
-   * Does a command; reports a refusal. Returns the answer.
+   * Sends a command; reports a refusal. Returns the answer.
    * @param {string} line
    */
   async act(line) {
@@ -122,7 +122,7 @@ export class Panel {
   }
 
   /**
-   * Runs some cycles, with the keys that wait, up to a stop.
+   * Runs some cycles, with the waiting keys, up to a stop.
    * @param {number} cycles
    */
   async advance(cycles) {
@@ -130,7 +130,7 @@ export class Panel {
   }
 
   /**
-   * Does the next thing that is due in some cycles: a change of a key, or a run; returns how many cycles were done.
+   * Does the next event within some cycles: a change of a key, or a run; returns how many cycles were done.
    * @param {number} cycles
    */
   async goOnFor(cycles) {
@@ -143,7 +143,7 @@ export class Panel {
   }
 
   /**
-   * A key goes down or up.
+   * Moves a key up or down.
    * @param {Change} change
    */
   async change(change) {
@@ -159,8 +159,8 @@ export class Panel {
    */
   async run(planned) {
     const askers = this.printing ? [this.printing] : [];
-    const { answers: [answer], told } = partedAnswers([planned], askers, await this.ask(askedLines([planned], askers)));
-    if (this.printing) this.printing.take(told[0], this.cycles);
+    const { answers: [answer], askerAnswers } = partedAnswers([planned], askers, await this.ask(askedLines([planned], askers)));
+    if (this.printing) this.printing.take(askerAnswers[0], this.cycles);
     const run = readRun(answer);
     this.cycles += run ? run.cycles : 0;
     this.reportRefusal(planned.line, answer);
@@ -187,7 +187,7 @@ export class Panel {
   // --- keys ---
 
   /**
-   * Does what a typed key means.
+   * Handles a typed key.
    * @param {TypedKey} key
    * @param {number} now
    */
@@ -200,14 +200,14 @@ export class Panel {
     else if (kind === "sequence") this.message = say.NOTHING_HERE;
   }
 
-  /** @param {number} by so many chips */
+  /** @param {number} by chips */
   moveRam(by) {
     const last = this.seen.chips.length - 1;
     this.firstChip = Math.max(0, Math.min(last, this.firstChip + by));
   }
 
   /**
-   * A key of the board: while time runs it goes down and up when its turn comes; else it goes down or up at once.
+   * Handles a key of the board: while time runs it goes down and up when its turn comes; otherwise it goes down or up at once.
    * @param {string} typed
    */
   async typeKey(typed) {
@@ -232,7 +232,7 @@ export class Panel {
     await this.act(`${this.seen.isAtBreakpoint ? "unbreak" : "break"} 0x${hex(counter, 3)}`);
   }
 
-  /** Ends: what was typed has its time, and keys that went down here go up. */
+  /** Ends: typed keys get their time, and keys that the panel pressed go up. */
   async end() {
     while (!this.isPaused && this.queue.changes.length > 0) await this.goOnFor(LONGEST_RUN);
     for (const key of this.own) await this.act(lineOfKey("release", key));
@@ -246,7 +246,7 @@ const step = (panel) => panel.step();
 const end = (panel) => panel.end();
 
 /**
- * What keys do that are none of the board's.
+ * The acts of keys that do not belong to the board.
  * @type {Record<string, (panel: Panel, now: number) => Promise<unknown> | void>}
  */
 const ACTS = {

@@ -1,4 +1,4 @@
-// A project with its folder: what its file names has to be there.
+// A project with its folder: the files that it names must exist.
 
 import { LONGEST_PROJECT_FILE, PROJECT_FILE, filesNamed, readProjectToml } from "./project_toml.js";
 import * as say from "../../words/server.js";
@@ -9,16 +9,16 @@ import * as say from "../../words/server.js";
  * A project: the paths of its files, each from its folder.
  * @typedef {{ board: string, program: string, tests: string[], properties: string[], speed: string }} ProjectFolder
  *
- * Why a path names no file of the folder, in words; "" where it does.
+ * Returns why a path names no file of the folder, in words; "" if it does.
  * @typedef {(path: string) => string} LookAtFile
  */
 
-/** Why a folder is no project; its message names the file, the line and what is wrong. */
+/** Why a folder is not a project; its message names the file, the line and the error. */
 export class ProjectFault extends Error {
   /**
    * @param {string} file
    * @param {string} words
-   * @param {number} line 0 where it is of no line
+   * @param {number} line 0 if no line is to blame
    */
   constructor(file, words, line = 0) {
     super(line > 0 ? `${file}: line ${line}: ${words}` : `${file}: ${words}`);
@@ -49,10 +49,10 @@ function pathsOf({ board, program, tests, properties, speed }) {
 }
 
 /**
- * A project from the bytes of its file; throws the first fault.
+ * Returns a project from the bytes of its file; throws the first error.
  * @param {Uint8Array} bytes
  * @param {LookAtFile} look
- * @param {string} file what the project file is called in faults
+ * @param {string} file the name of the project file in errors
  * @returns {ProjectFolder}
  */
 export function readProject(bytes, look, file = PROJECT_FILE) {

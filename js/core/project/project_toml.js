@@ -9,19 +9,19 @@ import * as say from "../../words/server.js";
  * @typedef {import("../text/board_reader.js").Value} Value
  * @typedef {import("../text/text_fault.js").Fault} Fault
  *
- * A path as it stands in the text, with its place.
+ * A path as the text has it, with its place.
  * @typedef {{ path: string, key: string, line: number, from: number, to: number }} NamedFile
  *
- * What a project file says; `speed` is "" where it says none.
+ * The contents of a project file; `speed` is "" if it has none.
  * @typedef {{ board: NamedFile, program: NamedFile, tests: NamedFile[], properties: NamedFile[], speed: string }} ProjectNames
  */
 
 export const PROJECT_FILE = "mcs4.toml";
-/** What a project file has at most, in bytes. */
+/** The largest project file, in bytes. */
 export const LONGEST_PROJECT_FILE = 16384;
 
 const SPEED_NAMES = SPEEDS.map(({ id }) => `"${id}"`);
-/** What each key is, in words. */
+/** The meaning of each key, in words. */
 const KEYS = new Map([
   ["board", say.BOARD_IS],
   ["program", say.PROGRAM_IS],
@@ -42,7 +42,7 @@ function faultAt({ line, from, to }, words) {
 }
 
 /**
- * Why a text is no path in a project; "" where it is one.
+ * Returns why a text is not a path in a project; "" if it is one.
  * @param {string} key
  * @param {string} path
  */
@@ -75,7 +75,7 @@ function faultsOfKey({ name, line, from, to, value }) {
 }
 
 /**
- * Keys that stand there twice.
+ * Keys that occur twice.
  * @param {Key[]} keys
  * @returns {Fault[]}
  */
@@ -102,13 +102,13 @@ function filesOf(keys, name) {
 }
 
 /**
- * What a project file says, and its faults by rising lines; it says nothing where it has one.
+ * Parses a project file. Returns its content, or null and the errors by rising line.
  * @param {string} text
  * @returns {{ names: ProjectNames | null, faults: Fault[] }}
  */
 export function readProjectToml(text) {
   const { entries, others, keys, faults } = readBoardText(text.replace(/^\uFEFF/, ""));
-  // A list without anything counts among the boards' reader as one of tables.
+  // The boards' reader treats an empty list as a list of tables.
   const lists = keys.filter(({ value: { inner } }) => Array.isArray(inner) && inner.length === 0);
   const found = [
     ...faults.map((fault) => ({ ...fault, number: 0 })),

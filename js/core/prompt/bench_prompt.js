@@ -19,9 +19,9 @@ import * as say from "../../words/session_prompt.js";
  * @typedef {import("../bench/answers.js").Refusal} Refusal
  * @typedef {import("../help/manual.js").ManualSection} ManualSection
  * @typedef {import("./line_completion.js").Completion} Completion
- * @typedef {"wire" | "asm" | "map"} TextWord
+ * @typedef {"wire" | "asm" | "map" | "wiring" | "errors"} TextWord
  *
- * An error of a text: its line, from 1, 0 for none; what is wrong.
+ * An error of a text: its line, from 1, 0 for none; the message.
  * @typedef {{ line: number, words: string }} TextError
  *
  * A text that is being typed: the word that opened it, its lines, and the number of the line that opened it.
@@ -29,7 +29,7 @@ import * as say from "../../words/session_prompt.js";
  */
 
 /**
- * What the prompt of a session calls of its host. `files` and `ask` also serve completion.
+ * The calls that the prompt of a session makes to its host. `files` and `ask` also serve completion.
  * @typedef {object} SessionPromptCalls
  * @property {(input: string) => Promise<string>} serve Serves an input and prints its answers. Resolves to the first line of them, "" if
  *   there is none.
@@ -40,21 +40,21 @@ import * as say from "../../words/session_prompt.js";
  * @property {(begin: string) => string[]} files Returns the names of the files that begin with a text.
  * @property {(word: TextWord, text: string, board: string) => Promise<TextError[]>} errorsOf Resolves to all errors of a text that the
  *   bench has rejected. A program is read with the board of `board`.
- * @property {(number: number) => string} wordsOf Returns what the number of a refusal means.
+ * @property {(number: number) => string} wordsOf Returns the message of a refusal.
  * @property {() => ManualSection[]} manual Returns the sections of the manual, with their tables.
  */
 
-const COMMENT_MARKS = /** @type {const} */ ({ wire: "#", asm: ";", map: ";" });
+const COMMENT_MARKS = /** @type {const} */ ({ wire: "#", asm: ";", map: ";", wiring: "#", errors: ";" });
 const LONGEST_SHOWN = 120;
-/** Refusals that name something which the board lacks. */
+/** Refusals that name something that the board lacks. */
 const NO_KEY = 41;
 const NO_ROM = 42;
 const NO_RAM = 43;
 const NO_RUN = 44;
-/** Refusals of texts have numbers from the first to the last one. */
+/** The refusals of texts have numbers from the first to the last one. */
 const OF_TEXTS = { first: 12, last: 42 };
 
-/** What is wrong, in words, at the prompt itself. */
+/** An error at the prompt itself, in words. */
 class Rejected extends Error {}
 
 export class SessionPrompt {
@@ -67,7 +67,7 @@ export class SessionPrompt {
     this.sources = new Sources(this, calls);
   }
 
-  /** What is shown before a line. */
+  /** Returns the prompt before a line. */
   get label() {
     return `${this.opened ? this.opened.word : "mcs4"}> `;
   }
@@ -77,20 +77,20 @@ export class SessionPrompt {
     return false;
   }
 
-  /** Drops the text that is open; returns words of that, "" if there is none. */
+  /** Discards the unfinished text; returns words about it, "" if there is none. */
   drop() {
     const { opened } = this;
     this.opened = null;
     return opened ? say.textDropped(opened.word) : "";
   }
 
-  /** Returns what the session gets at the end of input: a text without its dot. */
+  /** Returns what the session receives at the end of input: a text without its dot. */
   get rest() {
     return this.opened ? [this.opened.word, ...this.opened.lines].map((line) => `${line}\n`).join("") : "";
   }
 
   /**
-   * Serves a line; false if it is rejected, which is printed.
+   * Serves a line; returns false if it is rejected, which is printed.
    * @param {string} whole
    */
   async take(whole) {
@@ -154,7 +154,7 @@ export class SessionPrompt {
   // --- texts ---
 
   /**
-   * Takes a text of a file, as other commands take it: without its comments.
+   * Reads a text of a file, as other commands do: without its comments.
    * @param {TextWord} word
    * @param {string} name
    */
@@ -174,13 +174,27 @@ export class SessionPrompt {
    */
   async serveText(word, sent, text, place) {
     const board = word === "asm" ? await this.board() : "";
-    const refusal = refusalOf(await this.calls.serve(`${word}\n${sent}.\n`));
-    if (!refusal) return true;
-    const { number, line } = refusal;
+    const first = await this.calls.serve(`${word}\n${sent}.\n`);
+    const refusal = refusalOf(first);
+    if (refusal) return this.complainOfText(await this.errorsOfText(word, text, board, refusal), text, place);
+    if (/^errors [1-9]/.test(first)) this.complainOfText(await this.calls.errorsOf(word, text, board), text, place);
+    return true;
+  }
+
+  /**
+   * Returns the errors of a text that was rejected.
+   * @param {TextWord} word
+   * @param {string} text
+   * @param {string} board
+   * @param {Refusal} refusal
+   * @returns {Promise<TextError[]>}
+   */
+  async errorsOfText(word, text, board, { number, line }) {
     const isOfText = number >= OF_TEXTS.first && number <= OF_TEXTS.last;
     const errors = isOfText ? await this.calls.errorsOf(word, text, board) : [];
-    const found = errors.some((error) => error.line === line) || line === 0 ? errors : [];
-    return this.complainOfText(found.length > 0 ? found : [{ line, words: this.calls.wordsOf(number) }], text, place);
+    // Of a board the bench names the line of a table, and the message is about one of its keys.
+    const isSame = line === 0 || COMMENT_MARKS[word] === "#" || errors.some((error) => error.line === line);
+    return isSame && errors.length > 0 ? errors : [{ line, words: this.calls.wordsOf(number) }];
   }
 
   /**
@@ -197,7 +211,7 @@ export class SessionPrompt {
     return false;
   }
 
-  /** The text of the board that is wired. */
+  /** Returns the text of the wired board. */
   async board() {
     const [, ...lines] = await this.calls.ask("board");
     return lines.map((line) => `${line}\n`).join("");
@@ -245,7 +259,7 @@ export class SessionPrompt {
   // --- help ---
 
   /**
-   * Prints all lines, or what the manual has about a line, about places, or about the number of a refusal.
+   * Prints all lines, or the manual's description of a line, of places, or of the number of a refusal.
    * @param {string} about
    */
   help(about) {
@@ -270,7 +284,7 @@ export class SessionPrompt {
   // --- completion ---
 
   /**
-   * Returns what a line can go on with.
+   * Returns the possible continuations of a line.
    * @param {string} line up to the cursor
    * @returns {Promise<Completion>}
    */

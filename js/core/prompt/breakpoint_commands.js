@@ -1,7 +1,7 @@
 // Commands of breakpoints and watches.
 
 import { watchedPlaces } from "../bench/answers.js";
-import { addressTold, breakpointLines } from "./looks.js";
+import { addressText, breakpointLines } from "./looks.js";
 import { instructionIn, refuse } from "./words_of_line.js";
 import * as say from "../../words/prompt.js";
 
@@ -19,7 +19,7 @@ export class BreakpointCommands {
   /** @param {Prompt} prompt */
   constructor(prompt) {
     this.prompt = prompt;
-    /** The place that `continue` watches, "" for none; characters of RAM are watched by the bench. */
+    /** The place that `continue` watches, "" for none; the bench watches RAM characters. */
     this.watched = "";
     /** The number of the breakpoint that was set last, 0 for none. */
     this.last = 0;
@@ -48,7 +48,7 @@ export class BreakpointCommands {
     };
   }
 
-  /** The bench's own breakpoints are those of the list that always stop: those that a line of the bench has set or taken away, too. */
+  /** Returns the bench's own breakpoints, including those that a line of the bench has set or deleted. */
   takeOwn() {
     const { map, debugger: { session } } = this.prompt.session;
     for (const address of session.breaks) {
@@ -79,7 +79,7 @@ export class BreakpointCommands {
     }
     await machine.stand();
     const { address: placed } = this.list.get(made.id) || made;
-    calls.print(say.breakpointAt(made.id, addressTold(session, placed)));
+    calls.print(say.breakpointAt(made.id, addressText(session, placed)));
     this.last = made.id;
     return made.id;
   }
@@ -153,13 +153,13 @@ export class BreakpointCommands {
     return [...watchedPlaces(answer), ...(this.watched ? [this.watched] : [])];
   }
 
-  /** What is watched, in words. */
+  /** Returns the name of the watched place. */
   get watches() {
     const places = this.watchedPlaces.map((place) => (place === this.watched ? say.byContinue(place) : place));
     return places.join("\n") || say.NOTHING_WATCHED;
   }
 
-  get told() {
-    return breakpointLines(this.prompt.session, (id) => this.prompt.stops.told(id));
+  get lines() {
+    return breakpointLines(this.prompt.session, (id) => this.prompt.stops.textOf(id));
   }
 }

@@ -1,4 +1,4 @@
-// Commands that change the session while time stands: keys, values, the program.
+// Commands that change the session while time is paused: keys, values, the program.
 
 import { linesOfSet } from "../adapter/set_place.js";
 import { refuse } from "./words_of_line.js";
@@ -26,7 +26,7 @@ export class ChangeCommands {
       load: () => this.load(),
       reset: async () => {
         await prompt.serve("reset");
-        prompt.tellStop("");
+        prompt.showStop("");
       },
       bench: async (rest) => {
         const { words, changes } = await prompt.lines.serve(rest || refuse(say.BENCH_FORM));
@@ -51,7 +51,7 @@ export class ChangeCommands {
     const lines = linesOfSet(rest, session);
     await this.prompt.lines.served(lines);
     await machine.stand();
-    if (lines.startsWith("poke pc ")) this.prompt.tellStop("");
+    if (lines.startsWith("poke pc ")) this.prompt.showStop("");
   }
 
   async load() {
@@ -64,6 +64,6 @@ export class ChangeCommands {
       refuse(`no ${refusal.number}${where}: ${lines.words.ofRefusal(refusal.number)}`);
     }
     await machine.stand();
-    return this.prompt.tellStop(say.SOURCE_IN_ROM);
+    return this.prompt.showStop(say.SOURCE_IN_ROM);
   }
 }

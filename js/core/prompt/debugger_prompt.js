@@ -1,12 +1,12 @@
-// The debugger at a prompt: each line is a command; words go out by `print`, and by `complain` where it is refused. The engine is that of
-// the page (debug/), on a session in memory; a session file has at each stop what was done up to there.
+// The debugger at a prompt: each line is a command; its output goes to `print`, and errors to `complain`. The engine is that of the
+// page (debug/), on a session in memory; at each stop the session file contains all work up to it.
 //
 //     const prompt = new Prompt(launched, dataOfPage, { print, complain, pause, source, isByHand });   (adapter/launching.js launches)
 //     await prompt.begin(); await prompt.take("break show"); prompt.isEnded; prompt.complete("br")
 
 import { WORDS } from "../conditions/parser.js";
 import { PLACE_WORDS, placeOf } from "../conditions/places.js";
-import { PLACES_TOLD } from "../../words/conditions.js";
+import { NAMED_PLACES } from "../../words/conditions.js";
 import { Face } from "../board/face.js";
 import { instructionsOf } from "../help/manual.js";
 import { Console } from "../adapter/console.js";
@@ -33,38 +33,38 @@ import { stoppedAt } from "../../words/stops.js";
  */
 
 /**
- * What the debugger's prompt calls of its host. `complain` and `read` also serve files of lines.
+ * The calls that the debugger's prompt makes to its host. `complain` and `read` also serve files of lines.
  * @typedef {object} PromptCalls
  * @property {(words: string) => void} print Prints a message on standard output.
  * @property {(words: string) => void} complain Prints a message on standard error.
  * @property {() => Promise<void>} pause Resolves after other work had its turn, such as a typed Ctrl-C.
- * @property {() => string | null} source Returns the text of the program as its file has it now; null if the program has no file.
+ * @property {() => string | null} source Returns the present text of the program's file; null if the program has no file.
  * @property {(name: string) => string} read Returns the text of a file; throws an error that says why it cannot be read.
  * @property {(name: string, text: string) => void} write Writes a text to a file; throws an error that says why it cannot be written.
  * @property {(begin: string) => string[]} files Returns the names of the files that begin with a text.
- * @property {boolean} isByHand Whether somebody can interrupt what would go on without an end.
+ * @property {boolean} isByHand Whether somebody can interrupt an endless run.
  * @property {{ toggle: () => string, turn: (isOn: boolean) => string } | null} view Shows or hides the view (view.js); null without a
  *   terminal. Each call returns why it cannot be shown, "" if it can.
  */
 
-/** A move of a script takes so many cycles at most, 18 minutes of the board. */
+/** The most cycles of a move in a script, 18 minutes of the board. */
 const MOST_CYCLES = 100000000;
-/** The commands of breakpoints run for so many stops of a script at most. */
+/** The most stops of a script for which the commands of breakpoints run. */
 const MOST_STOPS = 100000;
-/** The word of a command, and what is after it. */
+/** The word of a command, and the text after it. */
 const COMMAND = /^([a-zA-Z-]+|\S)(.*)$/;
 const NO_COMMANDS = { commands: [], isSilent: false, words: "", hasMoved: false };
-/** What an empty line does again. */
+/** The commands that an empty line repeats. */
 const AGAIN = /^(next|step|reverse-step|reverse-next|reverse-continue|continue|until|list|run|x)$/;
 
 /**
- * Lines that go on with the name of a file.
+ * Lines that continue with the name of a file.
  * @type {Record<string, RegExp>}
  */
 const FILE_AFTER = { source: /^\s*\S+\s+(.*)$/, save: /^\s*\S+\s+\S+\s+(.*)$/ };
 
-/** What is wrong has been told already. */
-class Told extends Error {}
+/** An error that has been reported already. */
+class Reported extends Error {}
 
 export class Prompt {
   /**
@@ -79,11 +79,11 @@ export class Prompt {
     this.isEnded = false;
     /** The line that an empty one does again. */
     this.last = "";
-    /** The cycles that were counted where the last line began. */
+    /** The cycle count at the beginning of the last line. */
     this.begun = 0;
-    /** Whether somebody has stopped what the last line does. */
+    /** True if the user has stopped the last line. */
     this.isInterrupted = false;
-    /** @type {{ commands: string[], isSilent: boolean, words: string, hasMoved: boolean }} what the stop of the last command asks for */
+    /** @type {{ commands: string[], isSilent: boolean, words: string, hasMoved: boolean }} the commands of the last stop */
     this.atStop = NO_COMMANDS;
     /** @type {import("../adapter/debugged_machine.js").Ended} the last stop */
     this.ended = { reason: "", words: "", id: 0 };
@@ -101,7 +101,7 @@ export class Prompt {
     this.acts = {
       ...new MoveCommands(this).acts, ...this.breakpoints.acts, ...this.stops.acts, ...this.looks.acts, ...new ChangeCommands(this).acts,
       source: async (name) => {
-        if (!(await this.sources.serve(name))) throw new Told();
+        if (!(await this.sources.serve(name))) throw new Reported();
       },
     };
   }
@@ -126,10 +126,10 @@ export class Prompt {
   async begin() {
     this.breakpoints.takeOwn();
     await this.session.applyBreakpoints();
-    this.tellStop(stoppedAt(this.session.counterWords));
+    this.showStop(stoppedAt(this.session.counterWords));
   }
 
-  /** Others have a turn. Where nobody can stop what has no end, it ends after a while. */
+  /** Yields to others. If nobody can stop an endless run, it ends after a while. */
   async turn() {
     await this.calls.pause();
     const { count } = this.session.debugger.session;
@@ -142,14 +142,14 @@ export class Prompt {
    */
   output(words, category) {
     if (category === "stderr") this.sources.complain(words.trimEnd());
-    // What was not done is told once, as a refusal.
+    // A failure is reported once, as a refusal.
     else if (!words.startsWith(say.NOTHING_DONE)) this.calls.print(words.trimEnd());
   }
 
   // --- lines ---
 
   /**
-   * Does a line, and what breakpoints at which it stops ask for; false where one is refused, which is told.
+   * Executes a line, and the commands of the breakpoints at which it stops; returns false if one is rejected, which is reported.
    * @param {string} text
    */
   async take(text) {
@@ -158,7 +158,7 @@ export class Prompt {
     this.isInterrupted = false;
     const name = this.nameOf(line);
     const isDone = await this.takeAlone(line);
-    // The lines after those that were listed come next.
+    // The lines after those that were listed are next.
     this.last = isDone && AGAIN.test(name) ? (name === "list" ? name : line) : "";
     return isDone && this.runCommands();
   }
@@ -171,13 +171,13 @@ export class Prompt {
       else if (line !== "" && !line.startsWith("#")) await this.act(line);
       return true;
     } catch (thrown) {
-      if (!(thrown instanceof Told)) this.sources.complain(thrown instanceof Error ? thrown.message : String(thrown));
+      if (!(thrown instanceof Reported)) this.sources.complain(thrown instanceof Error ? thrown.message : String(thrown));
       return false;
     }
   }
 
   /**
-   * The name of the command of a line, "" where it has none.
+   * Returns the name of a line's command, "" if it has none.
    * @param {string} line
    */
   nameOf(line) {
@@ -192,7 +192,7 @@ export class Prompt {
     await this.acts[command ? command.name : refuse(words)](rest.trim());
   }
 
-  /** Runs the commands of the breakpoint that has stopped. Those after one that moves are left out: the next stop may have its own. */
+  /** Runs the commands of the breakpoint that has stopped. Those after a move are skipped: the next stop may have its own. */
   async runCommands() {
     let stops = 0;
     for (let { commands } = this.atStop; commands.length > 0 && !this.isInterrupted; { commands } = this.atStop) {
@@ -209,7 +209,7 @@ export class Prompt {
   }
 
   /**
-   * Does a move, and waits for its end; gives what is told of it.
+   * Makes a move, and waits for its end; returns its report.
    * @param {() => void} act
    */
   async moved(act) {
@@ -223,7 +223,7 @@ export class Prompt {
   }
 
   /**
-   * A line of the bench; it is kept.
+   * Serves a line of the bench, and saves it.
    * @param {string} line
    */
   async serve(line) {
@@ -232,19 +232,19 @@ export class Prompt {
   }
 
   /**
-   * Where time stands: words of why, the instruction that comes next, and what is displayed.
+   * Shows a stop: its reason, the next instruction and the displays.
    * @param {string} words
    */
-  tellStop(words) {
+  showStop(words) {
     this.looks.listed = 0;
     if (this.atStop.isSilent) return;
     if (words) this.calls.print(words);
     this.calls.print(hereLine(this.session));
-    this.looks.tellDisplays();
+    this.looks.showDisplays();
   }
 
   /**
-   * The name of a place of the machine, of a lamp by its own name.
+   * Returns the name of a place of the machine, of a lamp by its own name.
    * @param {string} text
    * @param {string} command
    */
@@ -252,16 +252,16 @@ export class Prompt {
     if (text === "") refuse(say.placeForm(command));
     const lamp = this.face.lampNumbers.get(text.replace(/ /g, "_"));
     const place = placeOf(lamp === undefined ? text : `lamp ${lamp}`);
-    if (!place) return refuse(say.noPlace(text, PLACES_TOLD));
+    if (!place) return refuse(say.noPlace(text, NAMED_PLACES));
     return this.session.values([place.name])[0] === "" ? refuse(boardHasNo(place.name)) : place.name;
   }
 
-  /** What stands before a line that is typed. */
+  /** Returns the prompt before a line that is typed. */
   get label() {
     return this.stops.opened ? "> " : "(mcs4) ";
   }
 
-  /** Stops what runs; false if nothing does. */
+  /** Stops what is running; returns false if nothing is. */
   interrupt() {
     const { isMoving } = this.machine;
     this.isInterrupted = true;
@@ -269,7 +269,7 @@ export class Prompt {
     return isMoving;
   }
 
-  /** Drops the commands of a breakpoint that are being typed; returns words of that. */
+  /** Discards the commands of a breakpoint that are being typed; returns words about them. */
   drop() {
     return this.stops.drop();
   }
@@ -277,7 +277,7 @@ export class Prompt {
   // --- completion ---
 
   /**
-   * What a line can go on with: words, and the part of the line that they take the place of.
+   * Resolves to the completions of a line: words, and the part of the line that they replace.
    * @param {string} line
    * @returns {Promise<[string[], string]>}
    */

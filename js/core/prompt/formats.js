@@ -33,9 +33,9 @@ const FORMATS = {
 function numberOfText(text, session) {
   const { expression, fault, column } = expressionOf(text, session.names);
   if (!expression) return refuse(inColumn(fault, column));
-  const values = session.debugger.told(expression.places);
+  const values = session.debugger.readPlaces(expression.places);
   if (expression.number) return expression.number(values);
-  return expression.told(values) === "true" ? 1 : 0;
+  return expression.textOf(values) === "true" ? 1 : 0;
 }
 
 /**

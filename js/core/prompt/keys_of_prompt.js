@@ -22,9 +22,9 @@ export class KeysOfPrompt {
     this.named = keysOf(face);
   }
 
-  /** The names of all keys: those that have none are told by row and column. */
+  /** Returns the names of all keys: unnamed keys by row and column. */
   get names() {
-    const { rows, columns } = readBoard(this.session.debugger.session.lookQuestions.board);
+    const { rows, columns } = readBoard(this.session.debugger.session.statusQueries.board);
     const taken = new Set([...this.named.values()].map(({ key }) => textOfKey(key)));
     const others = [];
     for (let at = 0; at < rows * columns; at++) {
@@ -34,7 +34,7 @@ export class KeysOfPrompt {
     return [...this.named.keys(), ...others];
   }
 
-  told() {
+  text() {
     const down = keysDown(this.session);
     const { names } = this;
     if (names.length === 0) return say.NO_KEYS;
@@ -49,13 +49,13 @@ export class KeysOfPrompt {
     const named = this.named.get(word);
     if (named) return named;
     const [, row, column] = /^(\d+)\.(\d+)$/.exec(word) || [];
-    const { rows, columns } = readBoard(this.session.debugger.session.lookQuestions.board);
+    const { rows, columns } = readBoard(this.session.debugger.session.statusQueries.board);
     if (row === undefined || Number(row) >= rows || Number(column) >= columns) return null;
     return namedKey(word, matrixKey(Number(row), Number(column)));
   }
 
   /**
-   * The keys that words name; a word that is none is taken letter by letter.
+   * Returns the keys that words name; a word that is not a name is read letter by letter.
    * @param {string} text
    * @param {string} command
    */

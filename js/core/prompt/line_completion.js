@@ -1,4 +1,4 @@
-// What a line of the bench, or of the prompt around it, can go on with.
+// The completions of a line of the bench, or of the prompt around it.
 
 import { FORMS } from "../bench/answer_table.js";
 import { readBoard, readMarks } from "../bench/answers.js";
@@ -6,12 +6,12 @@ import { POKED, TRACED } from "../bench/line_forms.js";
 import { upTo } from "../bench/numbers.js";
 
 /**
- * The ways to go on, and the end of the line that they replace.
+ * The possible completions, and the end of the line that they replace.
  * @typedef {[string[], string]} Completion
  */
 
 /**
- * What completion asks of the host and of the session.
+ * The calls that completion makes to the host and to the session.
  * @typedef {object} CompletionCalls
  * @property {(begin: string) => string[]} files Returns the names of the files that begin with a text.
  * @property {(line: string) => Promise<string[]>} ask Resolves to the bench's answers to one line, without showing them.
@@ -19,8 +19,8 @@ import { upTo } from "../bench/numbers.js";
 
 /** Words of the prompt itself. */
 export const OWN_WORDS = ["help", "source", "quit"];
-/** Words that a file can follow. */
-export const FILE_WORDS = ["wire", "asm", "map", "source"];
+/** Words that a file name can follow. */
+export const FILE_WORDS = ["wire", "asm", "map", "wiring", "errors", "source"];
 const HELP_WORDS = ["places"];
 
 /** @type {(words: string[], begin: string) => string[]} */
@@ -39,7 +39,7 @@ const keysAt = async (at, ask) => {
 };
 
 /**
- * The words that may stand behind the first one, by their position.
+ * The words that may follow the first one, by their position.
  * @type {Record<string, WordsAt>}
  */
 const WORDS_AFTER = {

@@ -1,4 +1,4 @@
-// Commands that show what stands in the session, and change nothing.
+// Commands that show the state of the session, and change nothing.
 
 import { LAST_ADDRESS } from "../bench/numbers.js";
 import { placeOf } from "../conditions/places.js";
@@ -16,13 +16,13 @@ import { stoppedAt } from "../../words/stops.js";
  */
 
 const MOST_SHOWN = 4096;
-/** So many lines of the source are listed. */
+/** The lines of the source that are listed at once. */
 const LISTED = 10;
 export const INFOS = [
   "registers", "ram", "ports", "keys", "breakpoints", "watches", "display", "names", "source", "session", "line", "symbol", "frame",
   "stack", "program", "locals",
 ];
-/** Short words that gdb has. */
+/** Abbreviations as in gdb. */
 const SHORT_INFOS = new Map([["r", "registers"], ["s", "stack"], ["f", "frame"], ["args", "locals"], ["all-registers", "registers"]]);
 
 export class LookCommands {
@@ -86,16 +86,16 @@ export class LookCommands {
   }
 
   /** @param {number} [from] those from one on */
-  tellDisplays(from = 0) {
+  showDisplays(from = 0) {
     this.displays.slice(from).forEach((what, at) => this.prompt.calls.print(`${from + at + 1}: ${what} = ${this.valueOrFault(what)}`));
   }
 
   /** @param {string} rest */
   display(rest) {
-    if (rest === "") return this.tellDisplays();
+    if (rest === "") return this.showDisplays();
     this.value(rest);
     this.displays.push(rest);
-    return this.tellDisplays(this.displays.length - 1);
+    return this.showDisplays(this.displays.length - 1);
   }
 
   /** @param {string} rest */
@@ -145,17 +145,17 @@ export class LookCommands {
       registers: () => looks.registerLines(session),
       ram: () => looks.ramLines(session),
       ports: () => looks.portLines(session),
-      keys: () => keys.told(),
-      breakpoints: () => breakpoints.told,
+      keys: () => keys.text(),
+      breakpoints: () => breakpoints.lines,
       watches: () => breakpoints.watches,
       display: () => this.displays.map((what, at) => `${at + 1}: ${what}`).join("\n") || say.NOTHING_DISPLAYED,
       names: () => looks.nameLines(session),
       source: () => say.linesOf(launched.program || MADE_OF_ROM, looks.linesOfSource(session)),
       session: () => (launched.kept ? say.SESSION_FILE : say.IN_MEMORY),
-      line: (where) => looks.lineTold(session, instructionIn(where, session)),
+      line: (where) => looks.lineText(session, instructionIn(where, session)),
       symbol: (where) => {
         const address = addressIn(where || refuse(say.SYMBOL_FORM), session);
-        return address === undefined ? refuse(say.noPlaceOfMemory(where)) : looks.addressTold(session, address);
+        return address === undefined ? refuse(say.noPlaceOfMemory(where)) : looks.addressText(session, address);
       },
       frame: () => this.frame,
       stack: () => looks.frameLines(session),
@@ -169,7 +169,7 @@ export class LookCommands {
     const [, word = "", more = ""] = /^(\S*)\s*(.*)$/.exec(rest) || [];
     const found = INFOS.filter((kind) => word !== "" && kind.startsWith(word));
     const kind = SHORT_INFOS.get(word) || (found.length === 1 ? found[0] : refuse(say.infoShows(INFOS.join(", "))));
-    if (more !== "" && !/^(line|symbol)$/.test(kind)) refuse(say.infoAlone(kind));
+    if (more !== "" && !/^(line|symbol)$/.test(kind)) refuse(say.infoTakesNoArgument(kind));
     return this.infos[kind](more);
   }
 }

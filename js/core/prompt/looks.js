@@ -1,4 +1,4 @@
-// What a prompt shows of a session: the source round a line, registers, RAM, ports, ROM, calls, breakpoints.
+// The views of a session that a prompt shows: the source round a line, registers, RAM, ports, ROM, calls, breakpoints.
 
 import { counted, hex, numberOf, upTo } from "../bench/numbers.js";
 import { linesOfBreakpoints } from "../debug/breakpoint_lines.js";
@@ -14,11 +14,11 @@ import * as say from "../../words/prompt.js";
 
 /** @param {DebugSession} session */
 function standingOf(session) {
-  return new Standing(session.debugger.session.look());
+  return new Standing(session.debugger.session.takeSnapshot());
 }
 
 /**
- * A line of the source with its address; `>` where the next instruction stands, `*` where a breakpoint is on.
+ * A line of the source with its address; `>` at the next instruction, `*` at an enabled breakpoint.
  * @param {DebugSession} session
  * @param {number} line
  */
@@ -33,7 +33,7 @@ export function sourceLine(session, line) {
 }
 
 /**
- * How many lines the source has.
+ * Returns how many lines the source has.
  * @param {DebugSession} session
  */
 export function linesOfSource({ program }) {
@@ -52,7 +52,7 @@ export function sourceLines(session, from, to) {
 }
 
 /**
- * The instruction that comes next: its line of the source, else its code.
+ * Returns the next instruction: its line of the source, otherwise its code.
  * @param {DebugSession} session
  */
 export function hereLine(session) {
@@ -119,7 +119,7 @@ export function keysDown(session) {
 }
 
 /**
- * How many calls wait for their return.
+ * Returns how many calls wait for their return.
  * @param {DebugSession} session
  */
 export function callsOpen(session) {
@@ -130,7 +130,7 @@ export function callsOpen(session) {
  * @param {DebugSession} session
  * @param {number} address
  */
-export function addressTold(session, address) {
+export function addressText(session, address) {
   return wordsOfAddress(hex(address, 3), session.map);
 }
 
@@ -139,7 +139,7 @@ export function addressTold(session, address) {
  * @param {DebugSession} session
  * @param {{ line: number, address: number }} place
  */
-export function lineTold(session, { line, address }) {
+export function lineText(session, { line, address }) {
   const [{ bytes = "" } = {}] = rowsAt(session, address, 0, 1);
   const last = address + Math.max(1, bytes.split(" ").filter(Boolean).length) - 1;
   return say.lineIs(line, hex(address, 3), session.map.nameOf(address) || "", last > address ? hex(last, 3) : "");
@@ -161,7 +161,7 @@ export function nameLines({ map }) {
 
 /**
  * @param {DebugSession} session
- * @param {(id: number) => string} more what else is told of a breakpoint
+ * @param {(id: number) => string} more the rest of the report on a breakpoint
  */
 export function breakpointLines({ breakpoints }, more) {
   const { all, kept } = breakpoints;

@@ -1,4 +1,4 @@
-// Commands that let time pass, or go back: one move at a time, whose end is awaited and told.
+// Commands that let time pass, or go back: one move at a time, whose end is awaited and reported.
 
 import { goalOfText } from "../debug/becoming.js";
 import { callsOpen } from "./looks.js";
@@ -65,11 +65,11 @@ export class MoveCommands {
 
   /** @param {() => void} act */
   async move(act) {
-    this.prompt.tellStop(await this.prompt.moved(act));
+    this.prompt.showStop(await this.prompt.moved(act));
   }
 
   /**
-   * A move so many times, up to one that ends otherwise.
+   * Repeats a move, until one ends differently.
    * @param {string} rest
    * @param {() => void} act
    */
@@ -80,7 +80,7 @@ export class MoveCommands {
       words = await prompt.moved(act);
       if (prompt.ended.reason !== "step" || prompt.machine.isToPause) break;
     }
-    prompt.tellStop(words);
+    prompt.showStop(words);
   }
 
   /** @param {string} rest */
@@ -113,9 +113,9 @@ export class MoveCommands {
       }, () => true));
       if (why === "passed") continue;
       const left = keys.slice(at + 1).map(({ name }) => name).join(" ");
-      prompt.tellStop(left === "" ? words : say.notPressed(words, left));
+      prompt.showStop(left === "" ? words : say.notPressed(words, left));
       return;
     }
-    prompt.tellStop(stoppedAt(session.counterWords));
+    prompt.showStop(stoppedAt(session.counterWords));
   }
 }

@@ -1,4 +1,4 @@
-// Moves that a prompt has beside those of the debugger: back past a subroutine, keys that are pressed while time passes.
+// Moves of a prompt in addition to those of the debugger: back past a subroutine, keys that are pressed while time passes.
 
 import { isCall, isReturn } from "../engine/rom_codes.js";
 import { KEY_DOWN_CYCLES, TOOL_KEY_UP_CYCLES } from "../time/mcs4_time.js";
@@ -10,7 +10,7 @@ import * as say from "../../words/prompt.js";
  */
 
 /**
- * The byte of ROM that comes next.
+ * The next byte of ROM.
  * @param {DebugSession} session
  */
 function codeHere(session) {
@@ -18,7 +18,7 @@ function codeHere(session) {
 }
 
 /**
- * An instruction back; from behind a return to the call that led there, by the changes of the return addresses.
+ * An instruction back; from after a return to its call, by the changes of the return addresses.
  * @param {DebugSession} session
  * @param {GoesOn} goesOn
  */

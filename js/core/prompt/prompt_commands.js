@@ -14,7 +14,7 @@ export const COMMANDS = COMMAND_WORDS.map(({ words, use, does, more }) => {
 });
 
 /**
- * The command of a word: its name, a shorter one, or what only one name begins with; else words of why not.
+ * Returns the command of a word: its name, an abbreviation, or its unique beginning; otherwise words that say why not.
  * @param {string} word
  * @returns {{ command: CommandText | null, words: string }}
  */

@@ -3,11 +3,11 @@
 import * as say from "../../words/session_prompt.js";
 
 /**
- * What serves the lines: `take` returns false if a line is rejected; `drop` drops what lines have begun, and returns words of that.
+ * The server of lines: `take` returns false if a line is rejected; `drop` discards unfinished input, and returns words about it.
  * @typedef {{ isEnded: boolean, take: (line: string) => Promise<boolean>, drop: () => string }} Taking
  */
 
-/** Files may serve the lines of others so deep. */
+/** The deepest nesting of files that serve the lines of others. */
 const MOST_SOURCES = 8;
 
 export class Sources {
@@ -33,7 +33,7 @@ export class Sources {
   }
 
   /**
-   * Serves the lines of a file, up to one that is rejected; false if one is. Throws why the file cannot be served.
+   * Serves the lines of a file, up to one that is rejected; returns false if one is. Throws why the file cannot be served.
    * @param {string} name
    */
   async serve(name) {

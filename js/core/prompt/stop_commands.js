@@ -1,4 +1,4 @@
-// What breakpoints of the prompt do beyond stopping: they are deleted at their first stop, let hits pass, run commands, and are saved.
+// The acts of the prompt's breakpoints beyond stopping: they are deleted at their first stop, let hits pass, run commands, and are saved.
 
 import { hex } from "../bench/numbers.js";
 import { LAST } from "./breakpoint_commands.js";
@@ -102,7 +102,7 @@ export class StopCommands {
   }
 
   /**
-   * Takes a line of the commands that are being typed; false if there are too many.
+   * Stores a line of the commands that are being typed; returns false if there are too many.
    * @param {string} line
    */
   take(line) {
@@ -116,7 +116,7 @@ export class StopCommands {
     } else if (line.trim() !== "") lines.push(line.trim());
   }
 
-  /** Drops the commands that are being typed; returns words of that. */
+  /** Discards the commands that are being typed; returns words about them. */
   drop() {
     const { opened } = this;
     this.opened = null;
@@ -124,7 +124,7 @@ export class StopCommands {
   }
 
   /**
-   * What the breakpoint asks for that ended the last move: a temporary one is deleted.
+   * Returns the commands of the breakpoint that ended the last move; deletes it if it is temporary.
    * @returns {Promise<{ commands: string[], isSilent: boolean, words: string }>}
    */
   async reached() {
@@ -133,16 +133,16 @@ export class StopCommands {
     const { isTemporary, commands } = here ? this.of(here.id) : NOTHING;
     if (here && isTemporary) await breakpoints.remove(String(here.id));
     const isSilent = commands[0] === SILENT;
-    return { commands: isSilent ? commands.slice(1) : commands, isSilent, words: here && isTemporary ? say.temporaryGone(here.id) : "" };
+    return { commands: isSilent ? commands.slice(1) : commands, isSilent, words: here && isTemporary ? say.temporaryDeleted(here.id) : "" };
   }
 
-  // --- what is shown and saved ---
+  // --- reports and saved lists ---
 
   /**
-   * What info breakpoints adds to a breakpoint.
+   * Returns the text that `info breakpoints` adds to a breakpoint.
    * @param {number} id
    */
-  told(id) {
+  textOf(id) {
     const { isTemporary, commands } = this.of(id);
     return `${isTemporary ? say.TEMPORARY : ""}${commands.map((line) => `\n       ${line}`).join("")}`;
   }

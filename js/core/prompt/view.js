@@ -1,8 +1,8 @@
-// The view of a prompt as lines of a terminal: the source round the instruction that comes next, registers, lamps and displays. It makes
-// texts alone; js/node/view_on_terminal.mjs puts them in their place.
+// The view of a prompt as lines of a terminal: the source around the next instruction, registers, lamps and displays. It only
+// makes texts; js/node/view_on_terminal.mjs positions them.
 //
 //     const view = new View(prompt);
-//     view.lines(sizeOf(24, 80), { head, here, other });      these make a text stand out; sizeOf is null where there is no room
+//     view.lines(sizeOf(24, 80), { head, here, other });      these highlight a text; sizeOf is null if there is no room
 
 import { upTo } from "../bench/numbers.js";
 import { Standing } from "../debug/standing.js";
@@ -15,19 +15,19 @@ import * as say from "../../words/prompt.js";
  * @typedef {import("./debugger_prompt.js").Prompt} Prompt
  * @typedef {{ rows: number, columns: number }} ViewSize how many lines the view has, and how long each is at most
  * @typedef {(text: string) => string} Marked
- * @typedef {{ head: Marked, here: Marked, other: Marked }} Marks of the line above, of the line that comes next, of a value that differs
- *   from what it was before the last move
+ * @typedef {{ head: Marked, here: Marked, other: Marked }} Marks of the header line, of the next line, of a value that differs from the one
+ * before the last move
  */
 
-/** So many rows and columns a terminal needs at least, and so many rows are left to commands. */
+/** The fewest rows and columns of a terminal, and the rows that are left to commands. */
 export const LEAST_ROWS = 12;
 export const LEAST_COLUMNS = 40;
 const LEAST_FOR_COMMANDS = 5;
 const MOST_ROWS = 40;
-/** Registers stand beside the source where so many columns are there, else below it. */
+/** Registers are shown next to the source if there are this many columns, otherwise below it. */
 const WIDE = 72;
 const SIDE = 24;
-/** So many expressions of `display` are shown. */
+/** The most expressions of `display` that are shown. */
 const MOST_DISPLAYS = 4;
 
 /**
@@ -38,12 +38,12 @@ const MOST_DISPLAYS = 4;
 export function sizeOf(rows, columns) {
   if (!(rows >= LEAST_ROWS && columns >= LEAST_COLUMNS)) return null;
   const wanted = Math.round(rows * 0.6);
-  // A terminal goes on with the next line after its last column.
+  // A terminal wraps after its last column.
   return { rows: Math.min(MOST_ROWS, wanted, rows - LEAST_FOR_COMMANDS), columns: columns - 1 };
 }
 
 /**
- * A text in so many columns, without what would move a cursor.
+ * Pads or cuts a text to this many columns, without characters that would move a cursor.
  * @param {string} text
  * @param {number} length
  */
@@ -56,7 +56,7 @@ export class View {
   /** @param {Prompt} prompt */
   constructor(prompt) {
     this.prompt = prompt;
-    /** @type {Map<string, string>} what was shown of each register when time stood last */
+    /** @type {Map<string, string>} the text of each register when time was paused last */
     this.before = new Map();
     /** @type {Map<string, string>} what is shown of them now */
     this.now = new Map();
@@ -82,11 +82,11 @@ export class View {
     return [head(this.head(columns)), ...body, ...below, "-".repeat(columns)].slice(0, rows);
   }
 
-  /** What stands there now, beside what stood there before the last move. */
+  /** Stores the present values, to compare them with those before the last move. */
   look() {
     const { session } = this.prompt;
     const { total } = session.debugger.session.count;
-    const { registers, ports } = new Standing(session.debugger.session.look());
+    const { registers, ports } = new Standing(session.debugger.session.takeSnapshot());
     const { accumulator, carry, bank, test } = registers;
     const now = new Map([["acc", accumulator], ["cy", carry], ["test", test], ["dcl", bank], ["SRC", ports.sources[0]]]);
     for (const at of upTo(8)) now.set(`P${at}`, `${registers.registers[2 * at]}${registers.registers[2 * at + 1]}`);
@@ -116,7 +116,7 @@ export class View {
    * @param {Marked} marked
    * @returns {string}
    */
-  told(name, marked) {
+  valueText(name, marked) {
     const value = this.now.get(name) || "";
     const text = `${name} ${value}`;
     return this.before.get(name) === value ? text : marked(text);
@@ -125,12 +125,12 @@ export class View {
   /** @param {Marked} marked */
   sideLines(marked) {
     const { session } = this.prompt;
-    const told = (/** @type {string} */ name) => this.told(name, marked);
+    const textOf = (/** @type {string} */ name) => this.valueText(name, marked);
     const calls = session.registers.returns.join(" ");
     return [
-      `${told("acc")}   ${told("cy")}   ${told("test")}`,
-      `${told("dcl")}   ${told("SRC")}`,
-      ...upTo(4).map((at) => `${told(`P${2 * at}`)}  ${told(`P${2 * at + 1}`)}`),
+      `${textOf("acc")}   ${textOf("cy")}   ${textOf("test")}`,
+      `${textOf("dcl")}   ${textOf("SRC")}`,
+      ...upTo(4).map((at) => `${textOf(`P${2 * at}`)}  ${textOf(`P${2 * at + 1}`)}`),
       `returns ${calls}`,
     ];
   }
@@ -140,10 +140,10 @@ export class View {
    * @param {Marked} marked
    */
   belowLines(columns, marked) {
-    const told = (/** @type {string[]} */ names) => names.map((name) => this.told(name, marked)).join(" ");
+    const textsOf = (/** @type {string[]} */ names) => names.map((name) => this.valueText(name, marked)).join(" ");
     const pairs = upTo(8).map((at) => `P${at}`);
     const line = ["acc", "cy", "test", "dcl", "SRC"];
-    return columns >= 60 ? [told(line), told(pairs)] : [told(line), told(pairs.slice(0, 4)), told(pairs.slice(4))];
+    return columns >= 60 ? [textsOf(line), textsOf(pairs)] : [textsOf(line), textsOf(pairs.slice(0, 4)), textsOf(pairs.slice(4))];
   }
 
   /** @param {number} columns */

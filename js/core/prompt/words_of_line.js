@@ -1,6 +1,6 @@
-// What stands behind a command: places in the program, counts, times.
+// The arguments of a command: places in the program, counts, times.
 
-import { LAST_ADDRESS, hex, numberOf } from "../bench/numbers.js";
+import { LAST_ADDRESS, numberOf } from "../bench/numbers.js";
 import { wholeDuration } from "../conditions/durations.js";
 import { instructionOfAddress, instructionOfLine } from "../debug/breakpoints.js";
 import { askedOf } from "../debug/becoming.js";
@@ -9,10 +9,10 @@ import * as say from "../../words/prompt.js";
 
 /**
  * @typedef {import("../debug/debug_session.js").DebugSession} DebugSession
- * @typedef {{ line: number, address: number }} InProgram `line` is 0 where the program has none there
+ * @typedef {{ line: number, address: number }} InProgram `line` is 0 if the program has none there
  */
 
-/** What a command refuses, in words. */
+/** An error of a command, in words. */
 export class Refused extends Error {}
 
 /**
@@ -25,7 +25,7 @@ export function refuse(words) {
 
 
 /**
- * The address that a label with a number behind it says, or an address itself; undefined where it is none.
+ * Returns the address of a label with an offset, or of an address itself; undefined if the text is neither.
  * @param {string} text
  * @param {DebugSession} session
  */
@@ -38,7 +38,7 @@ export function addressIn(text, { map }) {
 }
 
 /**
- * An instruction of the program; without words where time stands. A line without bytes is the next one that has some.
+ * Returns an instruction of the program; without words, the current one. A line without bytes stands for the next one that has some.
  * @param {string} text
  * @param {DebugSession} session
  * @returns {InProgram}
@@ -77,13 +77,8 @@ export function cyclesIn(text) {
   return cycles > 0 ? cycles : refuse(say.noTime(text.trim() || say.NOTHING));
 }
 
-/** @param {number} address */
-export function addressTold(address) {
-  return `0x${hex(address, 3)}`;
-}
-
 /**
- * The condition that a text is; "" for a place in the program: a line, an address, a label.
+ * Returns the condition in a text; "" for a place in the program: a line, an address, a label.
  * @param {string} text
  * @param {DebugSession} session
  */

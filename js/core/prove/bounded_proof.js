@@ -1,14 +1,14 @@
-// Proofs on the page: the module's prover is asked with a bound on the states that doubles, so that it is known how far it is; a
-// counterexample is confirmed by its test. Without a document: the page's worker calls it.
+// Proofs on the page: the module's prover is asked with a bound on the states that doubles, so that progress is known; a counterexample
+// is confirmed by its test. The page's worker calls it.
 //
-//     const { proving, faults } = beginProving(engine, texts, 1000000, { seen: async (states) => {}, breathe: async () => {} });
+//     const { proving, faults } = beginProving(engine, texts, 1000000, { seen: async (states) => {}, yieldToMessages: async () => {} });
 //     for (let judged = await proving.next(); judged; judged = await proving.next()) ..
 
 import { readExplored } from "../explore/exploring.js";
 import { grouped } from "../explore/report.js";
 import { isConfirmed } from "../testing/confirming.js";
 import { Judging } from "./judging.js";
-import { questionOf, readAnswer } from "./question.js";
+import { MOST_SETS, boundsUpTo, questionOf, readAnswer } from "./question.js";
 import * as say from "../../words/prove.js";
 
 /**
@@ -21,26 +21,13 @@ import * as say from "../../words/prove.js";
  * @typedef {import("./verdicts.js").Judged} Judged
  * @typedef {import("./verdicts.js").Verdict} Verdict
  *
- * A property that is judged, as a message to the page has it.
+ * A judged property, as a message to the page has it. A mistake that every program is checked for has line 0.
  * @typedef {{ text: string, line: number, isGoal: boolean, verdict: Verdict }} JudgedLine
  *
  * @typedef {object} ProvingCalls
- * @property {(states: number) => Promise<void>} seen takes a number of states that were searched in vain so far
- * @property {() => Promise<void>} breathe lets other work in
+ * @property {(states: number) => Promise<void>} seen receives a number of states that were searched without result so far
+ * @property {() => Promise<void>} yieldToMessages yields to other work
  */
-
-/** The bound of the first question. */
-const FIRST = 10000;
-
-/**
- * Returns the bounds on the states, each twice the one before it, up to the last one.
- * @param {number} most
- */
-export function boundsUpTo(most) {
-  const bounds = [];
-  for (let bound = FIRST; bound < most; bound *= 2) bounds.push(bound);
-  return [...bounds, most];
-}
 
 class Asking {
   /**
@@ -59,17 +46,18 @@ class Asking {
   }
 
   /**
-   * Asks the prover, with one bound after the other.
+   * Asks the prover, with increasing bounds.
    * @param {All[]} nevers
+   * @param {string[]} mistakes their words
    * @returns {Promise<Answer>}
    */
-  async ask(nevers) {
+  async ask(nevers, mistakes) {
     this.searched = 0;
     /** @type {Answer} */
     let answer = { kind: "more" };
     for (const bound of boundsUpTo(this.most)) {
       await this.calls.seen(this.searched);
-      answer = this.askWithin(nevers, bound);
+      answer = this.askWithin(questionOf(this.texts, nevers, mistakes, { most: bound }));
       if (answer.kind !== "more") break;
       this.searched = bound;
     }
@@ -77,20 +65,27 @@ class Asking {
   }
 
   /**
+   * Asks the prover by sets of states.
    * @param {All[]} nevers
-   * @param {number} bound
+   * @param {string[]} mistakes their words
    */
-  askWithin(nevers, bound) {
-    const line = this.engine.prove(questionOf(this.texts, nevers, bound));
+  async askBySets(nevers, mistakes) {
+    await this.calls.seen(0);
+    return this.askWithin(questionOf(this.texts, nevers, mistakes, { most: 0, sets: MOST_SETS }));
+  }
+
+  /** @param {string} question */
+  askWithin(question) {
+    const line = this.engine.prove(question);
     const answer = readAnswer(line);
     if (!answer) throw new Error(say.proverEnded(line));
     return answer;
   }
 
-  /** @param {"more" | "lost" | "full"} kind */
-  reason(kind) {
-    const states = grouped(this.searched);
-    return { more: say.moreThan(states), lost: say.GAVE_UP, full: say.fullAfter(states) }[kind];
+  /** @param {import("./question.js").NoAnswer} answer */
+  reason(answer) {
+    if (answer.kind === "lost") return say.GAVE_UP;
+    return answer.kind === "more" ? say.moreThan(grouped(this.searched)) : say.fullAfter(grouped(Math.max(answer.states, this.searched)));
   }
 }
 
@@ -107,10 +102,11 @@ export function beginProving(engine, texts, most, calls) {
   if (!read) return { proving: null, faults };
   const asking = new Asking(engine, texts, most, calls);
   const proving = new Judging(read.subject, read.campaign, {
-    ask: (nevers) => asking.ask(nevers),
-    confirms: async ({ isTest, text }, isGoal) => !isTest || isConfirmed(engine, texts, text, isGoal, calls.breathe),
-    reason: (kind) => asking.reason(kind),
-    breathe: calls.breathe,
+    ask: (nevers, mistakes) => asking.ask(nevers, mistakes),
+    askBySets: (nevers, mistakes) => asking.askBySets(nevers, mistakes),
+    confirms: async ({ isTest, text }, isGoal) => !isTest || isConfirmed(engine, texts, text, isGoal, calls.yieldToMessages),
+    reason: (answer) => asking.reason(answer),
+    yieldToMessages: calls.yieldToMessages,
   });
   return { proving, faults: [] };
 }

@@ -1,6 +1,7 @@
-// The places that conditions look at as cells of a machine, in the words of a question to the prover (docs/PROVE.md has its lines).
+// The places in conditions as cells of a machine, in the words of a question to the prover (docs/PROVE.md has its lines).
 
 import { hex, upTo } from "../bench/numbers.js";
+import { ADDRESSES, PAGE_BYTES } from "../bench/rom_bytes.js";
 
 /**
  * @typedef {import("../bench/answers.js").Board} Board
@@ -9,16 +10,14 @@ import { hex, upTo } from "../bench/numbers.js";
  * @typedef {string} Comparison
  * @typedef {Comparison[]} All
  *
- * A place, whose values are numbers from 0 up to `count`. `texts` are what `trace` may write for a number: several if it shows levels of
- * input lines, too. `between` returns the comparisons of the numbers from one to another: a list of which one has to hold whole.
+ * A place, whose values are numbers from 0 up to `count`. `texts` are the texts of `trace` for a number: several if it shows levels of
+ * input lines, too. `between` returns the comparisons of the numbers from one to another: a list of which one must hold whole.
  * @typedef {{ name: string, count: number, texts: (number: number) => string[], between: (low: number, high: number) => All[] }} Field
  */
 
 /** Numbers of cells in the list `counter`. */
 export const COUNTER = { acc: 0, cy: 1, dcl: 2, owed: 3, page: 4, word: 5, src: 12 };
 const NIBBLES = 16;
-const PAGE = 256;
-const ADDRESSES = 4096;
 
 /** @type {(list: string, index: number, low: number, high: number, part?: string) => Comparison} */
 const isWithin = (list, index, low, high, part = "whole") => ["in", list, index, part, low, high].join(" ");
@@ -47,16 +46,16 @@ function lineField(name, list, index, part = "whole") {
 }
 
 /**
- * The counter, which is kept in two cells.
+ * The counter, which is stored in two cells.
  * @returns {Field}
  */
 function counterField() {
   return {
     name: "pc", count: ADDRESSES, texts: (number) => [hex(number, 3)],
     between: (low, high) => upTo(NIBBLES).flatMap((page) => {
-      const [first, last] = [Math.max(low, page * PAGE), Math.min(high, page * PAGE + PAGE - 1)];
+      const [first, last] = [Math.max(low, page * PAGE_BYTES), Math.min(high, page * PAGE_BYTES + PAGE_BYTES - 1)];
       if (first > last) return [];
-      return [[isWithin("counter", COUNTER.page, page, page), isWithin("counter", COUNTER.word, first % PAGE, last % PAGE)]];
+      return [[isWithin("counter", COUNTER.page, page, page), isWithin("counter", COUNTER.word, first % PAGE_BYTES, last % PAGE_BYTES)]];
     }),
   };
 }
@@ -88,7 +87,7 @@ function registerField(place) {
     case "acc": return cellField(place, "counter", COUNTER.acc, NIBBLES);
     case "cy": return cellField(place, "counter", COUNTER.cy, 2);
     case "dcl": return cellField(place, "counter", COUNTER.dcl, 8);
-    case "src": return cellField(place, "counter", COUNTER.src, PAGE, 2);
+    case "src": return cellField(place, "counter", COUNTER.src, PAGE_BYTES, 2);
     case "pc": return counterField();
     default: return null;
   }
@@ -100,7 +99,7 @@ function registerField(place) {
  */
 function memoryField(place) {
   const [, bank, byte] = /^ram\.(\d)\.0x(\w\w)$/.exec(place) || [];
-  if (bank) return cellField(place, "character", Number(bank) * PAGE + parseInt(byte, 16), NIBBLES);
+  if (bank) return cellField(place, "character", Number(bank) * PAGE_BYTES + parseInt(byte, 16), NIBBLES);
   const [, statusBank, high, status] = /^st\.(\d)\.(\d+)\.(\d)$/.exec(place) || [];
   return statusBank ? cellField(place, "status", (Number(statusBank) * NIBBLES + Number(high)) * 4 + Number(status), NIBBLES) : null;
 }
@@ -125,8 +124,8 @@ export function outputLine(line, { roms }) {
 }
 
 /**
- * Returns the field of a place of `trace`, but for lamps and whole chains, whose parts are fields; null for one whose value is that of an
- * input.
+ * Returns the field of a place of `trace`, except for lamps and whole chains, whose parts are fields; null for one whose value is an
+ * input's.
  * @param {string} place
  * @param {Board} board
  * @returns {Field | null}
@@ -141,7 +140,7 @@ export function fieldOf(place, board) {
   return bank ? cellField(place, "ramport", Number(bank) * 4 + Number(ram), NIBBLES) : null;
 }
 
-/** Whether the second cycle of an instruction is pending. */
+/** True if the second cycle of an instruction is pending. */
 export const OWED = lineField("owed", "counter", COUNTER.owed);
 
 /**

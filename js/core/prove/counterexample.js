@@ -1,4 +1,4 @@
-// A way that the prover found as a counterexample: it is run on the bench, made short, and written as a test.
+// A way that the prover found as a counterexample: it is run on the bench, minimised, and written as a test.
 
 import { readCounter } from "../bench/answers.js";
 import { LONGEST_RUN } from "../engine/key_queue.js";
@@ -16,12 +16,12 @@ import { allInputs, wayOf } from "./way.js";
  * @typedef {import("../explore/subject.js").Subject} Subject
  * @typedef {import("../explore/walks.js").WalkStep} WalkStep
  *
- * `isAllowed`: the text of properties allows these inputs; `text` is a test, or lines of a session if a key that is pressed has no name;
- * `before` are the lines of a session after which the next step breaks the property.
+ * `isAllowed`: the text of properties allows these inputs; `text` is a test, or lines of a session if a pressed key has no name; `before`
+ * are the lines of a session after which the next step violates the property.
  * @typedef {{ steps: number, cycles: number, isAllowed: boolean, isTest: boolean, text: string, before: string }} Counterexample
  */
 
-/** So many cycles are looked at to make it short. */
+/** The cycles that minimising can use. */
 const PATIENCE = 10e6;
 
 /**
@@ -39,7 +39,7 @@ function freeCampaign(campaign, property, inputs) {
 }
 
 /**
- * Returns waits that a run takes, where a change follows another one: it comes a cycle later, and the one before a cycle earlier.
+ * Returns waits that a run accepts if a change follows another one: it comes a cycle later, and the one before a cycle earlier.
  * @param {WalkStep[]} steps
  */
 function spread(steps) {
@@ -77,7 +77,7 @@ class Replay {
    * @param {Subject} subject
    * @param {Campaign} campaign
    * @param {number} property
-   * @param {string} mistake the word of the mistake that the property excludes; "" if it is another property
+   * @param {string} mistake the word of the mistake that the property excludes; "" for other properties
    */
   constructor(subject, campaign, property, mistake) {
     this.subject = subject;
@@ -86,14 +86,14 @@ class Replay {
     this.free = freeCampaign(campaign, property, allInputs(subject));
     this.down = downAtFirst(this.free);
     const [{ form }] = this.free.properties;
-    /** Whether walks are not told what breaks the property. */
+    /** True if walks receive nothing that breaks the property. */
     this.isUnseen = form === "mistake";
-    /** Whether what the property remembers begins at power-on. */
+    /** True if the property's memory begins at power-on. */
     this.isCounted = form === "calls" || form === "returns";
   }
 
   /**
-   * From where the property is judged.
+   * When the property begins to be judged.
    * @param {Uint8Array} file
    */
   start(file) {
@@ -101,7 +101,7 @@ class Replay {
   }
 
   /**
-   * Returns the find that some values lead to; null if the bench does not break the property there.
+   * Returns the counterexample that some values lead to; null if the bench does not confirm the violation.
    * @param {number[]} values
    * @returns {Find | null}
    */
@@ -120,19 +120,19 @@ class Replay {
   }
 
   /**
-   * Makes a find short, if its changes can be made one after the other.
+   * Minimises a counterexample, if its changes can be made one after the other.
    * @param {Find} find
-   * @param {() => Promise<void>} breathe
+   * @param {() => Promise<void>} yieldToMessages
    */
-  async short(find, breathe) {
+  async short(find, yieldToMessages) {
     const steps = spread(find.steps);
     if (!steps || this.isUnseen) return find;
     const { subject, free } = this;
-    return new Shortening(subject, free, this.start(subject.file), { ...find, steps }, PATIENCE, breathe).shorten();
+    return new Shortening(subject, free, this.start(subject.file), { ...find, steps }, PATIENCE, yieldToMessages).shorten();
   }
 
   /**
-   * Whether the text of properties allows these inputs at these times.
+   * Returns whether the text of properties allows these inputs at these times.
    * @param {Find} find
    */
   isAllowed({ steps, time }) {
@@ -157,7 +157,7 @@ class Replay {
   }
 
   /**
-   * Returns the lines after which the next step breaks the property: an instruction, or what is left of one if an input changes within it.
+   * Returns the lines after which the next step violates the property: an instruction, or the rest of one if an input changes within it.
    * @param {Find} find
    */
   linesBefore(find) {
@@ -176,11 +176,11 @@ class Replay {
  * @param {Campaign} campaign
  * @param {number} property its number
  * @param {number[]} values
- * @param {() => Promise<void>} breathe
+ * @param {() => Promise<void>} yieldToMessages
  * @param {string} [mistake] the word of the mistake that the property excludes
  */
-export async function counterexampleOf(subject, campaign, property, values, breathe, mistake = "") {
+export async function counterexampleOf(subject, campaign, property, values, yieldToMessages, mistake = "") {
   const replay = new Replay(subject, campaign, property, mistake);
   const find = replay.find(values);
-  return find && replay.written(await replay.short(find, breathe));
+  return find && replay.written(await replay.short(find, yieldToMessages));
 }

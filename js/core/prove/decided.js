@@ -1,5 +1,5 @@
-// A condition as comparisons of cells, by what it says of all values of its places. A value is decided only when the condition looks at it:
-// then all values of that place are tried. So the condition itself says which places matter.
+// A condition as comparisons of cells, from its results for all values of its places. A value is decided only when the condition reads it:
+// then all values of that place are tried. So the condition itself determines which places matter.
 
 import { OWED, fieldOf, outputLine } from "./cells.js";
 import { upTo } from "../bench/numbers.js";
@@ -11,18 +11,18 @@ import * as say from "../../words/prove.js";
  * @typedef {import("../bench/answers.js").Board} Board
  * @typedef {import("../conditions/condition_language.js").Condition} Condition
  *
- * What a condition says: that alone, or by the value of a field. Values that say the same follow each other in one range.
+ * The result of a condition: alone, or by the value of a field. Consecutive values with the same result form one range.
  * @typedef {boolean | { field: Field, ranges: { low: number, high: number, said: Said }[] }} Said
  */
 
-/** So often a condition is asked at most, and so many lists of comparisons can come of it. */
-const MOST_ASKED = 100000;
+/** The most values that the evaluations of a condition may read, and the most lists of comparisons. */
+const MOST_READ = 500000;
 const MOST_LISTS = 4000;
 
-/** A condition cannot be asked of the prover. */
+/** A condition cannot be put to the prover. */
 export class NotAsked extends Error {}
 
-/** A field was looked at whose value is not decided. */
+/** A field was read whose value is not decided. */
 class Look extends Error {
   /** @param {Field} field */
   constructor(field) {
@@ -31,7 +31,7 @@ class Look extends Error {
   }
 }
 
-/** Whether two values say the same, as far as that is simple. */
+/** Returns whether two values say the same, as far as that is simple. */
 function areSame(/** @type {Said} */ one, /** @type {Said} */ other) {
   return typeof one === "boolean" ? one === other : JSON.stringify(one) === JSON.stringify(other);
 }
@@ -44,7 +44,7 @@ class Asking {
   constructor(condition, board) {
     this.condition = condition;
     this.board = board;
-    this.asked = 0;
+    this.read = 0;
     /** @type {Map<string, string>} the texts of the fields that are decided, by their names */
     this.decided = new Map();
     const input = (/** @type {string} */ name) => this.textOf(null, name);
@@ -64,19 +64,21 @@ class Asking {
   }
 
   /**
-   * The text of a field; a look at one that is not decided breaks off.
+   * Returns the text of a field; reading an undecided one aborts.
    * @param {Field | null} field null for an input
    * @param {string} name
    */
   textOf(field, name) {
     if (!field) throw new NotAsked(say.looksAtInput(name));
+    this.read += 1;
+    if (this.read > MOST_READ) throw new NotAsked(say.LOOKS_AT_TOO_MUCH);
     const text = this.decided.get(field.name);
     if (text === undefined) throw new Look(field);
     return text;
   }
 
   /**
-   * A text of marks, as that of all lamps, each of which is a line.
+   * A text of marks, such as that of all lamps, each of which is a line.
    * @param {string[]} lines
    * @param {[string, string]} marks of 0 and 1
    */
@@ -92,6 +94,7 @@ class Asking {
       get: (_, key) => {
         if (key === Symbol.iterator) return whole;
         if (key === "length") return lines.length;
+        if (key === "charCodeAt") return (/** @type {number} */ at) => (at < lines.length ? markAt(at).charCodeAt(0) : NaN);
         return typeof key === "string" && /^\d+$/.test(key) && Number(key) < lines.length ? markAt(Number(key)) : undefined;
       },
     });
@@ -106,10 +109,8 @@ class Asking {
     return this.textOf(fieldOf(place, board), place);
   }
 
-  /** Asks the condition once. */
+  /** Evaluates the condition once. */
   holds() {
-    this.asked += 1;
-    if (this.asked > MOST_ASKED) throw new NotAsked(say.LOOKS_AT_TOO_MUCH);
     const { condition: { places, holds } } = this;
     const values = new Proxy(/** @type {string[]} */ ([]), {
       get: (_, key) => (typeof key === "string" && key in places ? this.valueOf(places[Number(key)]) : undefined),
@@ -118,7 +119,7 @@ class Asking {
   }
 
   /**
-   * Asks the condition about all values of what it looks at.
+   * Evaluates the condition for all values of its places.
    * @returns {Said}
    */
   ask() {
@@ -155,7 +156,7 @@ class Asking {
 }
 
 /**
- * The lists of comparisons of which one holds whole where a condition says this.
+ * Returns the lists of comparisons of which one holds whole if the condition has this result.
  * @param {Said} said
  * @param {boolean} wanted
  * @returns {All[]}
@@ -172,8 +173,8 @@ function listsOf(said, wanted) {
 }
 
 /**
- * Returns lists of comparisons of which one holds whole exactly if the condition holds, or does not; throws NotAsked if it looks at inputs
- * or at too much.
+ * Returns lists of comparisons of which one holds whole exactly if the condition holds, or does not; throws NotAsked if it depends on
+ * inputs or on too much.
  * @param {Condition} condition
  * @param {boolean} wanted
  * @param {Board} board

@@ -1,7 +1,9 @@
-// The mistakes that the prover looks for in every program, with no text that asks for them, and where the bench makes one.
+// The mistakes that the prover looks for in every program, with no text that asks for them, and whether the bench makes one.
 
 import { partsOfState, portsOf, registersOf } from "../bench/state_line.js";
 import { upTo } from "../bench/numbers.js";
+import { ADDRESSES, PAGE_BYTES } from "../bench/rom_bytes.js";
+import { RDR, WRR } from "../engine/rom_codes.js";
 import { alwaysOn } from "../explore/properties.js";
 import * as say from "../../words/prove.js";
 
@@ -10,24 +12,20 @@ import * as say from "../../words/prove.js";
  * @typedef {import("../explore/properties.js").Property} Property
  * @typedef {import("../explore/subject.js").Subject} Subject
  *
- * The word of a mistake in a question, and the property that no cycle makes it.
+ * The word of a mistake in a question, and the property that excludes it.
  * @typedef {{ word: keyof typeof say.MISTAKES, property: Property }} Mistake
  *
- * What a mistake depends on: the board, the address of the instruction, its code, that of the next word, what the registers hold, and
- * the SRC bytes, that of the ROMs first and then those of the banks by their numbers.
+ * The state on which a mistake depends: the board, the address of the instruction, its code, that of the next word, the registers, and the
+ * SRC bytes, that of the ROMs first and then those of the banks by their numbers.
  * @typedef {{ board: Board, address: number, code: number, dcl: number, pair: number, source: number, banks: Map<number, number> }} Seen
  */
 
-const PAGE = 256;
-const ADDRESSES = 4096;
-const WRR = 0xE2;
-const RDR = 0xEA;
 /** WRM, WMP, WR0 to WR3, SBM, RDM, ADM, RD0 to RD3. */
 const FOR_RAM = new Set([0xE0, 0xE1, ...upTo(4).map((k) => 0xE4 + k), 0xE8, 0xE9, 0xEB, ...upTo(4).map((k) => 0xEC + k)]);
 const isFin = (/** @type {number} */ code) => (code & 0xF1) === 0x30;
 /** JCN, FIM, JUN, JMS and ISZ. */
 const hasTwoWords = (/** @type {number} */ code) => [1, 4, 5, 7].includes(code >> 4) || (code & 0xF1) === 0x20;
-/** So many cycles are looked at one by one. */
+/** The cycles that are checked one by one. */
 const PATIENCE = 200000;
 const CHUNK = 500;
 
@@ -37,7 +35,7 @@ const portOf = ({ roms }, chip) => (roms.find((rom) => Number(rom.chip) === chip
 const lacksRom = (board, address) => portOf(board, address >> 8) === "";
 
 /**
- * How a mistake is seen before an instruction begins. Other mistakes are seen by what `explore` looks at.
+ * How a mistake is recognised before an instruction begins. Other mistakes are recognised by what `explore` watches.
  * @type {Partial<Record<keyof typeof say.MISTAKES, (seen: Seen) => boolean>>}
  */
 const MADE = {
@@ -48,7 +46,7 @@ const MADE = {
   rom: ({ board, address, code, pair }) => {
     const next = (address + 1) % ADDRESSES;
     return lacksRom(board, address) || (hasTwoWords(code) && lacksRom(board, next))
-      || (isFin(code) && lacksRom(board, next - next % PAGE + pair));
+      || (isFin(code) && lacksRom(board, next - next % PAGE_BYTES + pair));
   },
   rdr: ({ board, code, source }) => code === RDR && !portOf(board, source >> 4).includes("i"),
   wrr: ({ board, code, source }) => code === WRR && /^i*$/.test(portOf(board, source >> 4)),
@@ -97,11 +95,11 @@ export function cyclesToMistake(subject, file, word, cycles) {
   return -1;
 }
 
-/** Those that `explore` sees, too, by its forms. */
+/** The mistakes that `explore` also finds, by its forms. */
 const EXPLORED = { code: "code", call: "calls", return: "returns" };
 
 /**
- * The mistakes, in the order in which they are reported.
+ * The mistakes, in the order of reports.
  * @returns {Mistake[]}
  */
 export function allMistakes() {

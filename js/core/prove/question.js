@@ -12,19 +12,39 @@ import * as say from "../../words/prove.js";
  * @typedef {import("../explore/properties.js").Property} Property
  * @typedef {import("../bench/answers.js").Board} Board
  *
- * What a property asks: `nevers` are lists of comparisons that are never to be met whole; or why nothing is asked.
+ * The question of a property: `nevers` are lists of comparisons that must never hold whole; or why nothing is asked.
  * @typedef {{ nevers: All[], words: "" } | { nevers: null, words: string }} Asked
  *
- * An answer: all states are well, and how many there are; what was read on a way to one that may not be; there are more states than were
- * asked for; the search was lost; there was no memory for more of them. A refusal is none of these.
- * @typedef {{ kind: "holds", states: number } | { kind: "fails", values: number[] } | { kind: "more" | "lost" | "full" }} Answer
+ * An answer: all states are valid, and how many there are; the values read on a way to a violation; more states than the bound; the search
+ * failed; no memory for more than these states (0: before the first one). A refusal is none of these.
+ * @typedef {{ kind: "more" } | { kind: "lost" } | { kind: "full", states: number }} NoAnswer
+ * @typedef {{ kind: "holds", states: number } | { kind: "fails", values: number[] } | NoAnswer} Answer
+ *
+ * The limits of a question: the most states, and the most memory for them in MB (0: all that there is). With `sets`, the most sets of
+ * states, the prover does not search, but computes what each register may hold at each address; 0 if it searches.
+ * @typedef {{ most: number, memory?: number, sets?: number }} QuestionLimits
  */
 
-/** A stretch of so many cycles without a read is cut. */
+/** A stretch of this many cycles without a read is cut. */
 export const PAUSE = 1000000;
+/** The most sets of states for a question that is not searched. */
+export const MOST_SETS = 100000;
+/** The bound of the first question. */
+const FIRST = 10000;
 
 /**
- * When the condition of a form has to be judged: `nevers` of what must not be.
+ * Returns the bounds on the states, each twice the one before it, up to the last one.
+ * @param {number} most
+ * @param {number} [first]
+ */
+export function boundsUpTo(most, first = FIRST) {
+  const bounds = [];
+  for (let bound = first; bound < most; bound *= 2) bounds.push(bound);
+  return [...bounds, most];
+}
+
+/**
+ * The times at which the condition of a form is judged: `nevers` of what must not be.
  * @type {Record<string, (property: Property, board: Board) => All[]>}
  */
 const FORMS = {
@@ -40,7 +60,7 @@ const FORMS = {
 };
 
 /**
- * Returns what a property asks of the prover.
+ * Returns the questions of a property to the prover.
  * @param {Property} property
  * @param {Campaign} campaign
  * @param {Board} board
@@ -63,21 +83,22 @@ export function askedOf(property, { from }, board) {
  * Returns the lines of a question.
  * @param {{ board: string, program: string }} texts
  * @param {All[]} nevers
- * @param {number} most states
- * @param {string[]} [mistakes] their words
+ * @param {string[]} mistakes their words
+ * @param {QuestionLimits} limits
  */
-export function questionOf({ board, program }, nevers, most, mistakes = []) {
-  const limits = [["most", most], ["pause", PAUSE]].map((words) => words.join(" "));
+export function questionOf({ board, program }, nevers, mistakes, { most, memory = 0, sets = 0 }) {
+  const given = Object.entries({ memory, sets }).filter(([, number]) => number > 0);
+  const limits = [["most", most], ...given, ["pause", PAUSE]].map((words) => words.join(" "));
   const texts = [`wire\n${sentText(board, "#")}.`, `asm\n${sentText(program, ";")}.`];
   const made = mistakes.length > 0 ? [["never", ["mistake", ...mistakes].join(" ")]] : [];
   return `${[...limits, ...texts, ...nevers.map((all) => ["never", ...all]), ...made, ["prove"]].flat().join("\n")}\n`;
 }
 
-/** @type {[RegExp, "more" | "lost" | "full"][]} */
-const OTHERS = [[/^too many$/, "more"], [/^gave up$/, "lost"], [/^no 90$/, "full"]];
+/** @type {[RegExp, NoAnswer][]} */
+const OTHERS = [[/^too many$/, { kind: "more" }], [/^gave up$/, { kind: "lost" }], [/^no 90$/, { kind: "full", states: 0 }]];
 
 /**
- * Reads the answer; null if it is a refusal, or none.
+ * Reads the answer; returns null if it is a refusal, or not an answer.
  * @param {string} text
  * @returns {Answer | null}
  */
@@ -87,6 +108,8 @@ export function readAnswer(text) {
   if (states) return { kind: "holds", states: Number(states) };
   const [, values] = /^may fail((?: \d+)*)$/.exec(line) || [];
   if (values !== undefined) return { kind: "fails", values: values.split(" ").slice(1).map(Number) };
-  const [, kind] = OTHERS.find(([form]) => form.test(line)) || [];
-  return kind ? { kind } : null;
+  const [, room] = /^no room (\d+)$/.exec(line) || [];
+  if (room) return { kind: "full", states: Number(room) };
+  const [, other = null] = OTHERS.find(([form]) => form.test(line)) || [];
+  return other;
 }

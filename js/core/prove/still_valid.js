@@ -1,4 +1,4 @@
-// Whether a verdict still stands: it is about the texts that it was given for.
+// Checks that a verdict is still valid: it depends on the texts that it was given for.
 
 import { isSetting } from "../explore/campaign.js";
 
@@ -16,8 +16,8 @@ function linesOf(text) {
 }
 
 /**
- * Returns the lines that a verdict depends on beside its property. A proof holds for all inputs, whatever the text lets change, but it
- * begins at power-on.
+ * Returns the lines that a verdict depends on in addition to its property. A proof holds for all inputs, whatever the text lets change, but
+ * it begins at power-on.
  * @param {string[]} lines
  * @param {boolean} isProof
  */
@@ -26,17 +26,17 @@ function settingsOf(lines, isProof) {
 }
 
 /**
- * Returns whether a verdict on a property stands for other texts than those that it was given for.
+ * Returns whether a verdict on a property remains valid for changed texts.
  * @param {JudgedLine} judged
  * @param {ProvedTexts} then
  * @param {ProvedTexts} now
  */
-export function stillStands({ text, verdict }, then, now) {
+export function stillStands({ text, line, verdict }, then, now) {
   if (then.boardText !== now.boardText || then.programText !== now.programText) return false;
   if (then.propertiesText === now.propertiesText) return true;
   const [before, lines] = [linesOf(then.propertiesText), linesOf(now.propertiesText)];
   const isProof = verdict.kind === "proved";
-  return lines.includes(text) && settingsOf(before, isProof) === settingsOf(lines, isProof);
+  return (line === 0 || lines.includes(text)) && settingsOf(before, isProof) === settingsOf(lines, isProof);
 }
 
 /**

@@ -1,4 +1,4 @@
-// What came of proving properties, and its output as TAP, version 13.
+// The results of proving properties, and their output as TAP, version 13.
 
 import { counted } from "../bench/numbers.js";
 import { grouped, stepsOf } from "../explore/report.js";
@@ -9,9 +9,10 @@ import * as say from "../../words/prove.js";
  * @typedef {import("../explore/properties.js").Property} Property
  * @typedef {import("./counterexample.js").Counterexample} Counterexample
  *
- * What came of a property: it is proved, with the number of states; there is a counterexample (of a goal: a way to it); or it is not
- * decided, for a reason.
- * @typedef {{ kind: "proved", states: number } | { kind: "found", found: Counterexample } | { kind: "open", words: string }} Verdict
+ * The verdict on a property: it is proved, with the number of states, or of sets of states; there is a counterexample (for a goal: a way
+ * to it); or it is not decided, for a reason.
+ * @typedef {{ kind: "proved", states: number, bySets: boolean }} Proved
+ * @typedef {Proved | { kind: "found", found: Counterexample } | { kind: "open", words: string }} Verdict
  * @typedef {{ property: Property, verdict: Verdict }} Judged
  */
 
@@ -20,8 +21,13 @@ function isRight({ property: { isGoal }, verdict }) {
   return verdict.kind !== "open" && isGoal === (verdict.kind === "found");
 }
 
-/** @type {(verdict: { states: number }) => string} */
-const statesOf = ({ states }) => counted(states, "state");
+/**
+ * Returns how many states a proof rests on, or how many sets of states.
+ * @param {{ states: number, bySets: boolean }} verdict
+ */
+export function statesOf({ states, bySets }) {
+  return bySets ? counted(states, say.SET, say.SETS) : counted(states, say.STATE);
+}
 
 /** @type {(judged: Judged) => string} */
 function remarkOf({ property: { isGoal }, verdict }) {
@@ -31,8 +37,9 @@ function remarkOf({ property: { isGoal }, verdict }) {
 }
 
 /**
+ * Returns the lines of a property.
  * @param {Judged} judged
- * @param {number} at
+ * @param {number} at its number, from 0
  * @param {string} file of the properties
  */
 function linesOf(judged, at, file) {
@@ -41,19 +48,25 @@ function linesOf(judged, at, file) {
   if (verdict.kind !== "found") return lines;
   const { isTest, text, cycles, steps } = verdict.found;
   lines.push("  ---", `  message: ${quoted(say.foundBy(stepsOf(steps), grouped(cycles), property.isGoal))}`);
-  // What every program is asked stands in no line.
+  // The mistakes that every program is checked for have no line.
   if (property.line > 0) lines.push(`  at: ${quoted(`${file}:${property.line}`)}`);
   lines.push(`  ${isTest ? "test" : "session"}: |`);
   return [...lines, ...text.trimEnd().split("\n").map((line) => `    ${line}`), "  ..."];
 }
 
 /**
- * @param {Judged[]} all
+ * Returns the lines before the first property.
+ * @param {number} count of properties
+ */
+export const tapHead = (count) => `${TAP_HEAD}\n1..${count}\n`;
+
+/**
+ * Returns the lines of a property as text.
+ * @param {Judged} judged
+ * @param {number} at its number, from 0
  * @param {string} file of the properties
  */
-export function tapOf(all, file) {
-  return `${[TAP_HEAD, `1..${all.length}`, ...all.flatMap((judged, at) => linesOf(judged, at, file))].join("\n")}\n`;
-}
+export const tapOfJudged = (judged, at, file) => `${linesOf(judged, at, file).join("\n")}\n`;
 
 /**
  * Returns the exit status: 0 if all is as it should be; 1 if a property is broken, or a goal is never reached; else 3.

@@ -1,4 +1,4 @@
-// The way to where a property is broken, by what was read, as steps of keys and TEST: the bench runs it, and each read gets its keys.
+// The way to a violation, from the values that were read to steps of keys and TEST: the bench runs it, and each read gets its keys.
 
 import { readCounter, readRun } from "../bench/answers.js";
 import { upTo } from "../bench/numbers.js";
@@ -7,6 +7,7 @@ import { portsOf, partsOfState } from "../bench/state_line.js";
 import { isSameKey, lineOfKey, matrixKey, pinKey } from "../board/key_place.js";
 import { MOST_ON } from "../debug/breakpoints.js";
 import { LONGEST_RUN } from "../engine/key_queue.js";
+import { RDR } from "../engine/rom_codes.js";
 import { inputOf, keysOf, pinOf } from "../explore/explored_inputs.js";
 import { PAUSE } from "./question.js";
 
@@ -15,8 +16,6 @@ import { PAUSE } from "./question.js";
  * @typedef {import("../explore/subject.js").Subject} Subject
  * @typedef {import("../explore/walks.js").WalkStep} WalkStep
  */
-
-const RDR = 0xEA;
 
 /** @param {number} code of a JCN with TEST among its conditions */
 const looksAtTest = (code) => (code & 0xF1) === 0x11;
@@ -65,7 +64,7 @@ class Way {
     return this.subject.engine.serve(this.file, lines, this.file).answers;
   }
 
-  /** The code of the next cycle that asks; -1 if it asks nothing. */
+  /** Returns the code of the next cycle that reads an input; -1 if it does not read. */
   asked() {
     const { counter, owed } = readCounter(this.subject.engine.ask(this.file, "regs\n").answers[0]);
     const code = this.subject.codes[parseInt(counter, 16)];
@@ -73,7 +72,7 @@ class Way {
   }
 
   /**
-   * Puts an input down or up.
+   * Moves an input down or up.
    * @param {number} at
    * @param {boolean} isDown
    */
@@ -86,7 +85,7 @@ class Way {
   }
 
   /**
-   * Puts TEST at a level.
+   * Sets TEST to a level.
    * @param {number} level
    */
   putTest(level) {
@@ -95,7 +94,7 @@ class Way {
   }
 
   /**
-   * Puts keys so that the selected port reads a value: of each line one key in a row that is driven, or none.
+   * Sets keys so that the selected port reads a value: for each line one key in a driven row, or none.
    * @param {number} value
    */
   putKeys(value) {
@@ -124,7 +123,7 @@ class Way {
     return { cycles, end };
   }
 
-  /** Runs to where the next cycle asks, or to where a pause is cut; false if no cycle can follow. */
+  /** Runs to the next cycle that reads, or to a cut; returns false if no cycle can follow. */
   runOn() {
     for (let left = PAUSE; left > 0 && this.asked() < 0;) {
       const { cycles, end } = this.run(Math.min(left, this.asking.length <= MOST_ON ? LONGEST_RUN : 1));
@@ -144,7 +143,7 @@ class Way {
 
 /**
  * Returns the steps by which these values are read, one after the other; the state after the last of them, and the cycles up to the next
- * read, in which something is to be broken.
+ * read, in which the violation must be.
  * @param {Subject} subject
  * @param {Input[]} inputs all that can change
  * @param {number[]} values

@@ -1,4 +1,4 @@
-// What an editor asks of a text of tests or of properties, which stands beside those of a board and a program and has their names.
+// An editor's requests about a text of tests or of properties, which belongs to a board and a program and uses their names.
 
 import { Face } from "../board/face.js";
 import { prepare } from "../testing/prepared.js";
@@ -21,16 +21,16 @@ import * as say from "../../words/server.js";
  * A text with its address; the text is null if it cannot be read.
  * @typedef {{ uri: string, text: string | null }} NamedText
  *
- * What a text stands beside: a board, a program, and the texts of tests up to it.
+ * The context of a text: a board, a program, and the texts of tests up to it.
  * @typedef {{ board: NamedText, program: NamedText, tests: NamedText[] }} BesideTexts
  */
 
-/** Kinds of what completes a word. */
+/** Kinds of completions. */
 const OF_KEYWORD = 14;
 const OF_VALUE = 12;
 
 /**
- * Returns a fault as an editor shows it: at the word at a column, which the words need not name then, or in the whole line.
+ * Returns an error as an editor shows it: at the word at a column, which the message then need not name, or in the whole line.
  * @param {string[]} lines
  * @param {{ line: number, column: number, words: string }} fault its line from 1, its column from 0, -1 if none is known
  * @returns {ShownFault}
@@ -68,7 +68,7 @@ export class BesideLanguage {
   }
 
   /**
-   * Board and program at work, with their names, or what is wrong with them.
+   * Returns board and program in a session, with their names, or their errors.
    * @param {Texts} texts
    */
   prepared(texts) {

@@ -1,4 +1,4 @@
-// What an editor asks of a board's text, answered by the modules that the page's own editor has.
+// An editor's requests about a board's text, answered by the modules that the page's own editor has.
 
 import { Face } from "../board/face.js";
 import { AllFaultsOfTexts, faultsOfFace } from "../text/all_faults.js";
@@ -21,7 +21,7 @@ import * as say from "../../words/server.js";
  * @typedef {import("./token_codes.js").ColouredWord} ColouredWord
  */
 
-/** Kinds of symbols, and of what completes a word. */
+/** Kinds of symbols and of completions. */
 const OBJECT = 19;
 const OF_PROPERTY = 10;
 
@@ -29,17 +29,12 @@ export class BoardLanguage {
   /**
    * @param {TextBench} bench
    * @param {Map<string, Map<string, string>>} tables of the manual
-   * @param {(number: number) => string} wordsOf gives the words of a refusal
+   * @param {(number: number) => string} wordsOf returns the message of a refusal
    */
   constructor(bench, tables, wordsOf) {
     this.parts = PARTS.board;
     this.tables = tables;
-    this.all = new AllFaultsOfTexts({
-      refuse: async (_, part) => bench.refuseBoard(part),
-      map: async () => [],
-      roms: async () => new Set(),
-      boardFault: async (sent, number) => bench.boardFault(sent, number),
-    }, new Map(), wordsOf);
+    this.all = new AllFaultsOfTexts(bench.asked(), { instructions: new Map(), tables }, wordsOf);
   }
 
   /**
@@ -62,12 +57,13 @@ export class BoardLanguage {
     if (words && word) return { words, markdown: asMarkdown(words), range: rangeOf(line + 1, word.from, word.to) };
     const references = new BoardReferences(text);
     const value = references.valueAt(line + 1, character);
-    const told = value ? references.wordsOf(value, new Face(text)) : "";
-    return value && told ? { words: told, markdown: asMarkdown(told), range: rangeOf(value.line, value.from, value.to) } : null;
+    const hoverText = value ? references.wordsOf(value, new Face(text)) : "";
+    return value && hoverText ? { words: hoverText, markdown: asMarkdown(hoverText),
+      range: rangeOf(value.line, value.from, value.to) } : null;
   }
 
   /**
-   * The chip that a line is one of, or the chain that is named.
+   * Returns the chip of a line, or the named chain.
    * @param {OpenText} open
    * @param {Position} position
    */
@@ -79,7 +75,7 @@ export class BoardLanguage {
   }
 
   /**
-   * All that hangs on the chip or chain that is meant here.
+   * Returns all that depends on the chip or chain at the caret.
    * @param {OpenText} open
    * @param {Position} position
    * @param {boolean} withDefinition
@@ -104,7 +100,7 @@ export class BoardLanguage {
    * @param {string} trigger
    */
   completion({ lines }, { line, character }, trigger) {
-    // An editor that asks by itself after a blank is answered only where a value begins.
+    // An editor that asks by itself after a blank is answered only at the beginning of a value.
     const begun = lines[line].slice(Math.max(0, character - 9), character);
     if (trigger === " " && !/=[ \t]*$/.test(begun)) return { from: character, to: character, list: [] };
     const found = completeBoard(lines, line, character, this.tables);
@@ -112,18 +108,18 @@ export class BoardLanguage {
   }
 
   /**
-   * The parts of the board, each up to the next one.
+   * Returns the parts of the board, each up to the next one.
    * @param {OpenText} open
    */
   symbols({ lines, text }) {
     const { entries, lamps, nameOf } = new BoardReferences(text);
     const face = new Face(text);
     return entries.map((entry) => {
-      const told = face.lamps.get(lamps.indexOf(entry));
+      const faceText = face.lamps.get(lamps.indexOf(entry));
       const last = entry.keys.reduce((most, { line, value }) => Math.max(most, line, value.line), entry.line);
       const range = { start: rangeOf(entry.line, entry.from, 0).start, end: rangeOf(last, 0, lines[last - 1].length).end };
       const selectionRange = rangeOf(entry.line, entry.from, entry.to);
-      return { name: nameOf(entry), kind: OBJECT, detail: told ? told.text : "", range, selectionRange };
+      return { name: nameOf(entry), kind: OBJECT, detail: faceText ? faceText.text : "", range, selectionRange };
     });
   }
 

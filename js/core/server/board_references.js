@@ -10,11 +10,11 @@ import * as say from "../../words/server.js";
  */
 
 const LINE = /^(rom|ram|chain)(\d+)\.(\d+)(?:\.(\d+))?$/;
-/** @type {Record<string, string>} the key by which parts are told apart */
+/** @type {Record<string, string>} the key by which parts are distinguished */
 const NUMBERS = { rom: "chip", ram: "bank" };
 
 /**
- * What a table has by a name.
+ * Returns the value that a table has under a key.
  * @param {Entry} entry
  * @param {string} name
  */
@@ -53,7 +53,7 @@ export class BoardReferences {
   }
 
   /**
-   * The value at a place; null where none stands.
+   * Returns the value at a place; null if there is none.
    * @param {number} line from 1
    * @param {number} at
    */
@@ -62,7 +62,7 @@ export class BoardReferences {
   }
 
   /**
-   * The chip or chain that a value names; null where it names none.
+   * Returns the chip or chain that a value names; null if it names none.
    * @param {KeyedValue} value
    * @returns {Entry | null}
    */
@@ -76,7 +76,7 @@ export class BoardReferences {
   }
 
   /**
-   * The chip or chain in whose text a line stands; null where none does.
+   * Returns the chip or chain in whose text a line is; null if there is none.
    * @param {number} line from 1
    */
   partAt(line) {
@@ -85,7 +85,7 @@ export class BoardReferences {
   }
 
   /**
-   * What a part is called: by its number.
+   * Returns the name of a part, by its number.
    * @param {Entry} entry
    */
   nameOf(entry) {
@@ -97,7 +97,7 @@ export class BoardReferences {
   }
 
   /**
-   * What line a value names, whose lamp it is, and where its chip stands; "" where it names none.
+   * Returns the line that a value names, its lamp, and the place of its chip; "" if it names none.
    * @param {KeyedValue} value
    * @param {import("../board/face.js").Face} face
    */
@@ -109,8 +109,8 @@ export class BoardReferences {
       : kind === "chain" ? say.bitOfChain(second, first)
         : say.lineOfRam(third, second, first);
     const lamp = this.lamps.indexOf(value.entry);
-    const told = face.lamps.get(lamp);
-    const ofLamp = lamp < 0 ? "" : `, lamp ${lamp}${told ? ` (${told.text})` : ""}`;
+    const faceText = face.lamps.get(lamp);
+    const ofLamp = lamp < 0 ? "" : `, lamp ${lamp}${faceText ? ` (${faceText.text})` : ""}`;
     const part = this.partOf(value);
     return `${name}: ${what}${ofLamp}${part ? say.standsIn(kind === "chain", part.line) : ""}.`;
   }

@@ -1,22 +1,22 @@
-// What the server can do, as it announces it, and what its client can.
+// The abilities of the server, as it announces them, and those of its client.
 
 import { fieldOf } from "./framing.js";
 import { MODIFIERS, TYPES } from "./token_codes.js";
 
 /**
- * What a client can: whether it shows Markdown and asks for diagnostics itself, what it asks for once more if it is told to, and which
- * commands it has for a click.
+ * The abilities of a client: whether it shows Markdown and asks for diagnostics itself, what it refreshes on request, and its commands for
+ * clicks.
  * @typedef {{ showsMarkdown: boolean, pulls: boolean, refreshesDiagnostics: boolean, commands: Set<string>, folders: string[] }} Client
  */
 
 const INCREMENTAL = 2;
-/** The command by which clients that have it show places. */
+/** The command with which clients that have it show places. */
 export const SHOW_REFERENCES = "editor.action.showReferences";
 /** The command that the server runs. */
 export const RUN_TEST = "mcs4.runTest";
 
 /**
- * Returns what a message has at the end of a path.
+ * Returns the value of a message at a path.
  * @param {any} value
  * @param {string[]} path
  */
@@ -33,7 +33,7 @@ function listOf(value) {
 }
 
 /**
- * Returns what a client can, by its request `initialize`.
+ * Returns the abilities of a client, from its request `initialize`.
  * @param {any} params
  * @returns {Client}
  */

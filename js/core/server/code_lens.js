@@ -1,4 +1,5 @@
-// What stands above a line, as editors take it: a click shows places where the client has a command for that, or runs a test by the server.
+// The commands above a line, as editors accept them: a click shows places if the client has a command for that, or runs a test by the
+// server.
 
 import { RUN_TEST, SHOW_REFERENCES } from "./capabilities.js";
 

@@ -13,9 +13,9 @@ import * as say from "../../words/server.js";
  *
  * A request that is not answered yet. A client that cancels it is answered at once; the work looks at `isCancelled` and ends.
  * @typedef {{ isCancelled: boolean }} Asked
- * @typedef {(params: any, asked: Asked) => unknown} Act gives the result, or a promise of it
+ * @typedef {(params: any, asked: Asked) => unknown} Act returns the result, or a promise of it
  *
- * What is served: requests and notifications by their methods, and what is done at the end.
+ * The service: requests and notifications by their methods, and the action at the end.
  * @typedef {{ requests: Record<string, Act>, notifications: Record<string, Act> }} Served
  */
 
@@ -28,7 +28,7 @@ function isId(id) {
   return typeof id === "string" || typeof id === "number" || id === null;
 }
 
-/** @type {Asked} of what no request asks for */
+/** @type {Asked} for work that no request asks for */
 const NOBODY = { isCancelled: false };
 
 export class Connection extends MessageStream {
@@ -45,7 +45,7 @@ export class Connection extends MessageStream {
     this.state = "new";
     /** @type {Map<Id, Asked>} requests that are not answered yet */
     this.waiting = new Map();
-    /** How often something was asked of the client. */
+    /** The number of requests to the client. */
     this.asked = 0;
   }
 
@@ -64,7 +64,7 @@ export class Connection extends MessageStream {
       return;
     }
     const [id, method] = [fieldOf(message, "id"), fieldOf(message, "method")];
-    // An answer to what was asked of the client: nothing hangs on it.
+    // A response to a request of the server: nothing depends on it.
     if (method === undefined && isId(id) && ("result" in message || "error" in message)) return;
     if (typeof method !== "string" || fieldOf(message, "jsonrpc") !== "2.0" || !(id === undefined || isId(id))) {
       const words = say.MESSAGE_FORM;
@@ -74,7 +74,7 @@ export class Connection extends MessageStream {
   }
 
   /**
-   * Why a request is not taken now; null where it is.
+   * Returns why a request cannot be served now; null if it can.
    * @param {string} method
    */
   faultOfOrder(method) {
@@ -99,7 +99,7 @@ export class Connection extends MessageStream {
     }
     const asked = { isCancelled: false };
     this.waiting.set(id, asked);
-    // What comes in the same chunk is served in its order, so the state changes before anything is awaited.
+    // Messages in the same chunk are served in order, so the state changes before anything is awaited.
     if (method === "initialize") this.state = "open";
     if (method === "shutdown") this.state = "shut";
     try {
@@ -135,7 +135,7 @@ export class Connection extends MessageStream {
    */
   async notified(method, params) {
     if (method === "exit") {
-      // The answer to a shutdown that came in the same chunk is written first.
+      // The answer to a shutdown in the same chunk is written first.
       if (this.waiting.size > 0) await null;
       this.end(this.state === "shut" ? 0 : 1);
       return;
@@ -149,20 +149,20 @@ export class Connection extends MessageStream {
     try {
       await act(params, NOBODY);
     } catch (thrown) {
-      this.tell(`${method}: ${thrown instanceof Error ? thrown.message : String(thrown)}`);
+      this.logMessage(`${method}: ${thrown instanceof Error ? thrown.message : String(thrown)}`);
     }
   }
 
   /**
-   * Tells a fault that no request has.
+   * Reports an error that belongs to no request.
    * @param {string} words
    */
-  tell(words) {
+  logMessage(words) {
     this.notify("window/logMessage", { type: ERROR, message: words });
   }
 
   /**
-   * Shows words to the user.
+   * Shows a message to the user.
    * @param {string} message
    * @param {boolean} isError
    */
@@ -171,7 +171,7 @@ export class Connection extends MessageStream {
   }
 
   /**
-   * Asks the client to do something; its answer says no more than that it was asked.
+   * Sends the client a request; its answer says no more than that it was received.
    * @param {string} method
    */
   ask(method) {

@@ -1,6 +1,6 @@
-// Faults of a text as editors take them, and what cures them.
+// Errors of a text as editors accept them, and their fixes.
 
-import { MOST_FAULTS } from "../text/program_faults.js";
+import { MOST_ERRORS } from "../bench/text_judgement.js";
 import { LONGEST_KEPT, TEXT_TOO_LONG } from "../text/text_fault.js";
 import { rangeOf } from "./lsp_protocol.js";
 import * as say from "../../words/server.js";
@@ -9,7 +9,7 @@ import * as say from "../../words/server.js";
  * @typedef {import("../text/text_fault.js").Fault} Fault
  * @typedef {import("./lsp_protocol.js").Range} Range
  *
- * A fault of any text; without a number it is a warning if it is not said to be an error.
+ * An error of any text; without a number it is a warning unless marked as an error.
  * @typedef {Fault & { isError?: boolean }} ShownFault
  * @typedef {{ range: Range, severity: number, code?: number, source: string, message: string }} Diagnostic
  */
@@ -20,13 +20,13 @@ const INFORMATION = 3;
 const SOURCE = "mcs4";
 
 /**
- * A fault without a number does not hinder anything in the board's text: what is not understood of its face.
+ * An error without a number does not invalidate the board's text: it is about its front panel.
  * @param {ShownFault} fault
  * @returns {Diagnostic}
  */
 export function diagnosticOf({ number, line, from, to, words, isError = number > 0 }) {
-  const told = { range: rangeOf(line, from, to), source: SOURCE, message: words, severity: isError ? ERROR : WARNING };
-  return number > 0 ? { ...told, code: number } : told;
+  const diagnostic = { range: rangeOf(line, from, to), source: SOURCE, message: words, severity: isError ? ERROR : WARNING };
+  return number > 0 ? { ...diagnostic, code: number } : diagnostic;
 }
 
 /**
@@ -35,15 +35,15 @@ export function diagnosticOf({ number, line, from, to, words, isError = number >
  * @returns {Diagnostic[]}
  */
 export function diagnosticsOf(faults, areAll) {
-  const told = faults.slice(0, MOST_FAULTS).map(diagnosticOf);
-  const isMore = faults.length > MOST_FAULTS || (!areAll && faults.length > 1);
-  if (!isMore) return told;
-  const { range } = told[told.length - 1];
-  return [...told, { range, severity: INFORMATION, source: SOURCE, message: say.MAY_BE_MORE }];
+  const diagnostics = faults.slice(0, MOST_ERRORS).map(diagnosticOf);
+  const isMore = faults.length > MOST_ERRORS || (!areAll && faults.length > 1);
+  if (!isMore) return diagnostics;
+  const { range } = diagnostics[diagnostics.length - 1];
+  return [...diagnostics, { range, severity: INFORMATION, source: SOURCE, message: say.MAY_BE_MORE }];
 }
 
 /**
- * That a text is too long to be looked at; null where it is not.
+ * Returns that a text is too long to be checked; null if it is not.
  * @param {import("./open_text.js").OpenText} open
  * @returns {Fault | null}
  */
@@ -56,7 +56,7 @@ export function faultOfLength({ lines, length }) {
 }
 
 /**
- * Whether a fault touches a range.
+ * Returns whether an error touches a range.
  * @param {Fault} fault
  * @param {Range} range
  */
@@ -68,7 +68,7 @@ function touches({ line, from, to }, { start, end }) {
 }
 
 /**
- * What cures the faults in a range: an action for each text that can take the place of a word at fault.
+ * Returns the actions that fix the errors in a range: one for each text that can replace a wrong word.
  * @param {string} uri
  * @param {Fault[]} faults
  * @param {Range} range

@@ -8,7 +8,7 @@ import { lastFolded } from "../text/folding.js";
  */
 
 /**
- * Returns what folds away in a text.
+ * Returns the folding ranges of a text.
  * @param {string[]} lines
  * @param {Parts} parts
  * @returns {Fold[]}

@@ -1,19 +1,19 @@
-// Messages as they go over a stream: a head that says how many bytes follow, and these; and what stands in one.
+// Messages as a stream carries them: a head that says how many bytes follow, and these bytes; and the contents of a message.
 
 import * as say from "../../words/server.js";
 
-/** Longer messages are not read, and still longer ones are not waited for. */
+/** Longer messages are not read, and for still longer ones the rest is not awaited. */
 export const LONGEST_MESSAGE = 16777216;
 export const LONGEST_SKIPPED = 16 * LONGEST_MESSAGE;
 const LONGEST_HEAD = 4096;
 const SIZE = /^content-length[ \t]*:[ \t]*(\d{1,12})[ \t]*$/i;
 
 /**
- * What comes out of a stream: a message, or that one was left out for its size.
+ * An item of a stream: a message, or the note that one was left out for its size.
  * @typedef {{ text: string } | { tooLong: number }} Received
  */
 
-/** What comes is not of the protocol, and where its next message begins is not known. */
+/** An error of the stream: the bytes are not of the protocol, and the start of the next message is unknown. */
 export class StreamLost extends Error {}
 
 /** @param {string} head */
@@ -29,21 +29,21 @@ export class MessageReader {
   constructor() {
     this.decoder = new TextDecoder();
     this.head = "";
-    /** How many bytes of the message are still to come; -1 in a head. */
+    /** The bytes of the message that are still missing; -1 in a head. */
     this.lacking = -1;
-    /** @type {Uint8Array | null} takes the message; null where it is left out */
+    /** @type {Uint8Array | null} receives the message; null if it is skipped */
     this.body = null;
     this.size = 0;
   }
 
-  /** What is missing of a message that has begun, in words; "" between messages. */
+  /** Returns the missing part of a message that has begun, in words; "" between messages. */
   get incomplete() {
     if (this.lacking > 0) return say.messageIncomplete(this.size - this.lacking, this.size);
     return this.head === "" ? "" : say.HEAD_INCOMPLETE;
   }
 
   /**
-   * Yields the messages that are whole by these bytes: those before bytes that are not of the protocol, too.
+   * Yields the complete messages: also those before bytes that violate the protocol.
    * @param {Uint8Array} bytes
    * @returns {Generator<Received, void>}
    */
@@ -60,7 +60,7 @@ export class MessageReader {
   }
 
   /**
-   * Reads on in a head; gives the place after it.
+   * Continues to read a head; returns the index after it.
    * @param {Uint8Array} bytes
    * @param {number} begun
    */
@@ -103,7 +103,7 @@ export function framed(message) {
 }
 
 /**
- * What an object of a message has by a name; undefined where it is none.
+ * Returns the value of a message's object under a name; undefined if it is not an object.
  * @param {any} value
  * @param {string} name
  */

@@ -26,7 +26,7 @@ function valueOf(map, word) {
  * @param {string} text
  * @param {number} line from 0
  * @param {SourceMap} map
- * @param {(mnemonic: string) => string} cyclesOf an instruction, "" for another word
+ * @param {(mnemonic: string) => string} cyclesOf of an instruction, "" for another word
  * @returns {InlayHint[]}
  */
 function hintsOfLine(text, line, map, cyclesOf) {
@@ -46,7 +46,7 @@ function hintsOfLine(text, line, map, cyclesOf) {
  * Returns the hints of the lines of a range.
  * @param {string[]} lines
  * @param {SourceMap} map
- * @param {(mnemonic: string) => string} cyclesOf an instruction, "" for another word
+ * @param {(mnemonic: string) => string} cyclesOf of an instruction, "" for another word
  * @param {Range} range
  * @returns {InlayHint[]}
  */

@@ -1,4 +1,4 @@
-// Which texts are programs, which are boards, and which are project files; and which board a program is for.
+// The kinds of texts: programs, boards and project files; and the board that a program is for.
 
 import { LONGEST_PROJECT_FILE, PROJECT_FILE, filesNamed, readProjectToml } from "../project/project_toml.js";
 import { readBoardText } from "../text/board_reader.js";
@@ -13,8 +13,8 @@ import * as say from "../../words/server.js";
  * none).
  * @typedef {(uri: string, folder: string) => string | null} TextOf
  *
- * @typedef {{ folder: string, board: string, program: string, tests: string[], properties: string[] }} Project the addresses of what a
- *   project names
+ * @typedef {{ folder: string, board: string, program: string, tests: string[], properties: string[] }} Project the addresses of the files
+ * that a project names
  * @typedef {Omit<Project, "properties">} Beside
  * @typedef {{ uri: string, folder: string }} NamedBoard a board's address, and the folder of the project that names it, "" for none
  */
@@ -27,7 +27,7 @@ const TOML = /\.toml$/i;
 export const NO_BOARD = /\.(asm|4004|test|props)$/i;
 const TABLES = ["rom", "ram", "chain", "lamp"];
 
-/** So many folders above a program are looked at for its project. */
+/** The most folders above a program that are searched for its project. */
 const MOST_FOLDERS = 8;
 
 /**
@@ -50,7 +50,7 @@ export function isProjectFile(uri) {
 }
 
 /**
- * Reads a project file; one that is too long is not looked at.
+ * Reads a project file; one that is too long is skipped.
  * @param {string} text
  * @returns {ReturnType<typeof readProjectToml>}
  */
@@ -61,7 +61,7 @@ export function readProject(text) {
 }
 
 /**
- * The faults of a project file; what it names has to be there.
+ * Returns the errors of a project file; the files that it names must exist.
  * @param {string} uri
  * @param {string} text
  * @param {TextOf} textOf
@@ -107,7 +107,7 @@ export function projectIn(folder, textOf) {
 }
 
 /**
- * Finds the board that a program is for: the one that its project names; else `board.toml` in its folder.
+ * Finds the board of a program: the one that its project names; otherwise `board.toml` in its folder.
  * @param {string} uri
  * @param {TextOf} textOf
  * @returns {NamedBoard}
@@ -118,8 +118,8 @@ export function boardFor(uri, textOf) {
 }
 
 /**
- * Finds what a text of tests or properties is about: the board and the program of its project; else `board.toml` in its folder, and the
- * program there that is called as it is. The texts of tests are those of the project up to this one.
+ * Finds the subject of a text of tests or properties: the board and the program of its project; otherwise `board.toml` in its folder, and
+ * the program there with its name. The texts of tests are those of the project up to this one.
  * @param {string} uri
  * @param {TextOf} textOf
  * @returns {Beside}
@@ -138,7 +138,7 @@ export function besideOf(uri, textOf) {
 }
 
 /**
- * A text of TOML is a board where it is called so, or has tables that boards have: other tools have texts of TOML, too.
+ * A TOML text is a board if it has the name of one, or the tables of one: other tools have TOML texts, too.
  * @param {OpenText} open
  */
 export function isBoard({ uri, language, text }) {
@@ -149,7 +149,7 @@ export function isBoard({ uri, language, text }) {
 }
 
 /**
- * A program is what is called for nothing else here.
+ * A program is any text whose name fits nothing else here.
  * @param {OpenText} open
  */
 export function isProgram({ uri, language }) {
@@ -157,7 +157,7 @@ export function isProgram({ uri, language }) {
 }
 
 /**
- * Whether a text is one of tests.
+ * Returns whether a text is one of tests.
  * @param {OpenText} open
  */
 export function isTests({ uri, language }) {
@@ -165,7 +165,7 @@ export function isTests({ uri, language }) {
 }
 
 /**
- * Whether a text is one of properties.
+ * Returns whether a text is one of properties.
  * @param {OpenText} open
  */
 export function isProperties({ uri, language }) {

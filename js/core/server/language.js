@@ -1,4 +1,4 @@
-// What an editor can ask of a text: each language has the methods for what its texts have, and lacks the others.
+// The requests that an editor can make about a text: each language has the methods for its texts, and lacks the others.
 
 /**
  * @typedef {import("../text/completion.js").Completion} Completion
@@ -23,7 +23,7 @@
  * @typedef {{ signatures: Signature[], activeSignature: number, activeParameter: number }} SignatureHelp
  * @typedef {{ range: Range, target: string, tooltip: string }} DocumentLink
  *
- * What stands above a line: words, and what a click on them does, null for nothing.
+ * The text above a line, and the action of a click on it, null for none.
  * @typedef {{ range: Range, title: string, references: Range[] | null, test: string | null }} Lens
  *
  * A routine that calls or is called, and the places of the calls.
@@ -31,7 +31,7 @@
  * @typedef {{ routine: Routine, ranges: Range[] }} Call
  *
  * @typedef {object} Language
- * @property {Parts} parts by which its texts fold
+ * @property {Parts} parts the parts by which its texts fold
  * @property {(open: OpenText, isWanted: () => boolean) => Promise<FoundFaults | undefined>} faults undefined if not wanted any more
  * @property {(open: OpenText, position: Position) => Hover | null} [hover]
  * @property {(open: OpenText, position: Position) => Range | Location | null} [definition] a range is one of the same text

@@ -1,4 +1,4 @@
-// The language server for programs and boards: the texts that are open, what is asked of them, and their faults, which are told after each
+// The language server for programs and boards: the open texts, the requests about them, and their errors, which are reported after each
 // edit.
 
 import { boardTables } from "../text/text_help.js";
@@ -27,10 +27,10 @@ import * as say from "../../words/server.js";
  * @typedef {import("./diagnostics.js").ShownFault} ShownFault
  * @typedef {import("./language.js").Language} Language
  *
- * What the host gives: texts of files, and a turn for others.
+ * The host's calls: texts of files, and a turn for others.
  * @typedef {{ readFile: import("./kinds.js").TextOf, pause: () => Promise<void> }} Host
  *
- * A text with its faults, as they are and as they are shown: at how many edits they were found, and the look that is under way.
+ * A text with its errors, as found and as shown: the number of edits when they were found, and the check that is under way.
  * @typedef {{ open: OpenText, faults: ShownFault[], diagnostics: Diagnostic[], lookedAt: number, looking: Promise<void> }} Looked
  */
 
@@ -57,7 +57,7 @@ export class LanguageServer {
     this.properties = new PropertyLanguage(engine, manual, beside, textOf);
     this.project = new ProjectLanguage(textOf);
     this.runs = new TestRuns(engine, wordsOf, beside, host.pause);
-    /** @type {Client} until it says what it can, it can nothing */
+    /** @type {Client} without abilities until it announces them */
     this.client = clientOf({});
     connection.served = { requests: new Requests(this).table(), notifications: this.notifications() };
   }
@@ -96,7 +96,7 @@ export class LanguageServer {
   }
 
   /**
-   * What a text is written in; null where it is nothing that is known here, or is too long.
+   * Returns the language of a text, or null if it is unknown or the text is too long.
    * @param {OpenText} open
    * @returns {Language | null}
    */
@@ -110,7 +110,7 @@ export class LanguageServer {
   }
 
   /**
-   * The texts that a text of tests or properties stands beside.
+   * Returns the texts that a text of tests or properties belongs to.
    * @param {string} uri
    * @returns {import("./beside_language.js").BesideTexts}
    */
@@ -121,7 +121,7 @@ export class LanguageServer {
   }
 
   /**
-   * The texts that are open, and those that their projects name, and projects of the folders that the client has open.
+   * Returns the open texts, those that their projects name, and projects of the folders that the client has open.
    * @returns {OpenText[]}
    */
   allTexts() {
@@ -156,7 +156,7 @@ export class LanguageServer {
     const text = this.textIn(params);
     const changes = fieldOf(params, "contentChanges");
     if (!Array.isArray(changes)) throw new ProtocolError(INVALID_PARAMS, say.CHANGES_ARE);
-    // All of them are looked at before the first one is made.
+    // All of them are checked before the first one is made.
     const edits = changes.map((change) => {
       const range = fieldOf(change, "range");
       return { range: range ? needRange(range) : null, text: needText(fieldOf(change, "text"), say.TEXT_OF_CHANGE) };
@@ -185,18 +185,18 @@ export class LanguageServer {
     return this.textOf(uri, folder);
   }
 
-  // --- faults
+  // --- errors
 
   /**
-   * Whether what is said of a text hangs on another one: of a program on its board, of tests on both.
-   * @param {string} uri of the one that changed
+   * Returns whether the errors of a text depend on another text: of a program on its board, of tests on both.
+   * @param {string} uri of the changed text
    * @param {string} other
    */
   isBeside(uri, other) {
     if (isProjectFile(uri)) return true;
     const text = this.texts.get(other);
     if (!text || uri === other) return false;
-    // Files are looked for only if the answer hangs on them: a program changes nothing in another one.
+    // Files are searched only if the answer depends on them: a program changes nothing in another one.
     const isOfBoth = isTests(text.open) || isProperties(text.open);
     if (!isOfBoth) return !NO_BOARD.test(uri) && this.boardFor(other).uri === uri;
     const { board, program, tests } = besideOf(other, (each, folder) => this.textOf(each, folder));
@@ -204,7 +204,7 @@ export class LanguageServer {
   }
 
   /**
-   * A text is new or was edited: others may hang on it.
+   * A text is new or was edited: others may depend on it.
    * @param {Looked} text
    */
   touched(text) {
@@ -224,7 +224,7 @@ export class LanguageServer {
   }
 
   /**
-   * Waits until a text was looked at as it is: an edit that comes meanwhile is looked at, too.
+   * Waits until the current text is checked: an edit that arrives meanwhile is checked, too.
    * @param {Looked} text
    */
   async untilLookedAt(text) {
@@ -236,7 +236,7 @@ export class LanguageServer {
     const { open } = text;
     const { edits, uri } = open;
     const isWanted = () => open.edits === edits && this.texts.get(uri) === text;
-    // Edits that came together are looked at once.
+    // Edits that arrive together are checked at once.
     await this.host.pause();
     if (!isWanted()) return;
     try {
@@ -244,11 +244,11 @@ export class LanguageServer {
       if (!found || !isWanted()) return;
       Object.assign(text, { faults: found.faults, diagnostics: diagnosticsOf(found.faults, found.areAll), lookedAt: edits });
       this.publish(text);
-      // What a hover asks for is ready then.
+      // Then the data for a hover are ready.
       if (found.faults.length === 0 && this.languageOf(open) === this.program) this.program.assembled(open);
     } catch (thrown) {
       Object.assign(text, { faults: [], diagnostics: [], lookedAt: edits });
-      this.connection.tell(say.faultsOf(uri, thrown instanceof Error ? thrown.message : String(thrown)));
+      this.connection.logMessage(say.faultsOf(uri, thrown instanceof Error ? thrown.message : String(thrown)));
     }
   }
 
@@ -275,7 +275,7 @@ export class LanguageServer {
   // --- tests
 
   /**
-   * Runs a test and shows what came of it, also in its text.
+   * Runs a test and shows its result, also in its text.
    * @param {string} uri
    * @param {string} name
    * @param {import("./connection.js").Asked} asked

@@ -1,4 +1,4 @@
-// What the protocol of language servers says of messages: their form, and the numbers of their errors.
+// Messages in the protocol of language servers: their form, and the numbers of their errors.
 
 import { fieldOf } from "./framing.js";
 import * as say from "../../words/server.js";
@@ -20,7 +20,7 @@ export const REQUEST_FAILED = -32803;
 export const CONTENT_MODIFIED = -32801;
 export const CANCELLED = -32800;
 
-/** What a request is answered in the place of a result. */
+/** The error that answers a request in place of a result. */
 export class ProtocolError extends Error {
   /**
    * @param {number} code
@@ -34,7 +34,7 @@ export class ProtocolError extends Error {
 
 /**
  * A stretch of one line.
- * @param {number} line from 1, as faults and references count them
+ * @param {number} line from 1, as in errors and references
  * @param {number} from
  * @param {number} to
  * @returns {Range}

@@ -1,5 +1,5 @@
-// What the language server and the debug adapter do alike with a stream: messages are read out of its bytes, and the client gets the error
-// of a stream that is not right. What a message says is the matter of the class that extends this one.
+// The common part of the language server's and the debug adapter's streams: messages are read from the bytes, and the client receives the
+// error of a malformed stream. The meaning of a message is left to the subclass.
 
 import { MessageReader, StreamLost, framed } from "./framing.js";
 import { messageTooLong } from "../../words/server.js";
@@ -12,7 +12,7 @@ export class MessageStream {
   }
 
   /**
-   * Takes bytes of the stream. It throws a StreamLost if no message can follow, after the client has got the error.
+   * Takes bytes of the stream. Throws a StreamLost if no message can follow, after the client has received the error.
    * @param {Uint8Array} bytes
    */
   take(bytes) {
@@ -28,7 +28,7 @@ export class MessageStream {
   }
 
   /**
-   * Reports that the rest of a message does not come; returns the words, "" if none has begun.
+   * Reports that the rest of a message is missing; returns the words, "" if none has begun.
    * @returns {string}
    */
   refuseIncomplete() {

@@ -11,7 +11,7 @@ const LINE_END = /\r\n|\r|\n/;
 export class OpenText {
   /**
    * @param {string} uri
-   * @param {string} language as the editor calls it
+   * @param {string} language as the editor names it
    * @param {string} text
    * @param {number | null} version
    */
@@ -22,11 +22,11 @@ export class OpenText {
     this.lines = text.split(LINE_END);
     /** How often it was edited. */
     this.edits = 0;
-    /** @type {{ text: string, edits: number } | null} the whole text, as it was at so many edits */
+    /** @type {{ text: string, edits: number } | null} the whole text, after this many edits */
     this.joined = null;
   }
 
-  /** How many characters it has. */
+  /** Returns how many characters it has. */
   get length() {
     return this.lines.reduce((count, { length }) => count + length + 1, -1);
   }
@@ -38,7 +38,7 @@ export class OpenText {
   }
 
   /**
-   * The place in the text that is nearest to a position.
+   * Returns the place in the text that is nearest to a position.
    * @param {Position} position
    * @returns {Position}
    */
@@ -50,7 +50,7 @@ export class OpenText {
 
   /**
    * @param {Range | null} range null for the whole text
-   * @param {string} text takes its place
+   * @param {string} text replaces it
    */
   edit(range, text) {
     const added = text.split(LINE_END);

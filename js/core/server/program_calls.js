@@ -1,4 +1,4 @@
-// The routines of a program as editors show them: a call hierarchy, and above each label how often it is called.
+// The routines of a program as editors show them: a call hierarchy, and above each label the number of its calls.
 
 import { Routines } from "../text/routines.js";
 import { rangeOf } from "./lsp_protocol.js";
@@ -46,7 +46,7 @@ export class ProgramCalls {
   }
 
   /**
-   * Returns the routine that a name begins, else the one that comes to a line; null if none does.
+   * Returns the routine that a name begins, otherwise the one that reaches a line; null if none does.
    * @param {string} name "" for none
    * @param {number} line from 0
    */
@@ -83,7 +83,7 @@ export class ProgramCalls {
 
   /**
    * Returns how often each label is called and named.
-   * @param {(name: string) => Range[]} usesOf gives the places of a name but its definition
+   * @param {(name: string) => Range[]} usesOf returns the places of a name other than its definition
    * @returns {Lens[]}
    */
   lenses(usesOf) {

@@ -1,4 +1,4 @@
-// What a word of a program can become, with what an editor shows beside it.
+// The completions of a word of a program, with the details that an editor shows.
 
 import { DIRECTIVES, namesOf, partsOf } from "../text/assembly.js";
 import { completeProgram } from "../text/completion.js";
@@ -10,10 +10,10 @@ import { wordsOfDirective, wordsOfInstruction, wordsOfRegister } from "../text/t
  * @typedef {import("./language.js").CompletedWord} CompletedWord
  * @typedef {import("./lsp_protocol.js").Position} Position
  * @typedef {{ instructions: Map<string, Instruction>, conditions: Map<number, string>, meaningOf: (name: string) => string }} Known the
- *   manual's instructions and conditions of JCN, and what a name is
+ * manual's instructions and conditions of JCN, and the meaning of names
  */
 
-/** Kinds of what completes a word. */
+/** Kinds of completions. */
 const OF_FUNCTION = 3;
 const OF_VARIABLE = 6;
 const OF_KEYWORD = 14;
@@ -21,7 +21,7 @@ const OF_CONSTANT = 21;
 const OF_VALUE = 12;
 
 /**
- * Returns the numbers of the conditions that fit what is typed of one; none where no condition stands.
+ * Returns the numbers of the conditions that match the typed text; none if a condition cannot be here.
  * @param {string} before the caret, of the line
  * @param {Known} known
  * @returns {CompletedWord[]}
@@ -36,7 +36,8 @@ function conditionsFor(before, { instructions, conditions }) {
 }
 
 /**
- * Whether an editor that asks by itself after a blank gets an answer: only where an operand begins, so that indentation proposes nothing.
+ * Returns whether an editor that asks by itself after a blank gets an answer: only at the beginning of an operand, so that indentation
+ * proposes nothing.
  * @param {string} before the caret, of the line
  */
 function isInOperands(before) {

@@ -1,5 +1,5 @@
-// Help at a word of a program: what the manual's table says of an instruction, what a name is, with the comment above it, and where the
-// line is in ROM.
+// Help for a word of a program: the manual's table for an instruction, the meaning of a name, with the comment above it, and the line's
+// address in ROM.
 
 import { NUMBER, namesOf, partsOf, wordAt } from "../text/assembly.js";
 import { operandsOfForm } from "../text/program_words.js";
@@ -14,8 +14,8 @@ import * as say from "../../words/server.js";
  * @typedef {import("./language.js").Hover} Hover
  * @typedef {import("./lsp_protocol.js").Position} Position
  *
- * What is known: the instructions and the conditions of JCN by the manual, what a name is, its value, and where a line is ("" if that is
- * not known).
+ * The knowledge of a program: the manual's instructions and conditions of JCN, the meaning of a name, its value, and the address of a line
+ * ("" if unknown).
  * @typedef {{ instructions: Map<string, Instruction>, conditions: Map<number, string>, meaningOf: (name: string) => string,
  *   valueOf: (name: string) => number | undefined, wordsOfLine: (line: number) => string }} Known
  */
@@ -24,7 +24,7 @@ import * as say from "../../words/server.js";
 const MOST_LINES = 12;
 
 /**
- * Returns the comment of a name: the lines above a label, and what stands behind the definition.
+ * Returns the comment of a name: the lines above a label, and the text after the definition.
  * @param {string[]} lines
  * @param {string} name
  * @returns {string[]}
@@ -40,7 +40,7 @@ export function commentOf(lines, name) {
 }
 
 /**
- * Returns what the condition of a JCN asks for, if a word is one; "" if not.
+ * Returns the meaning of a JCN condition, if a word is one; "" if not.
  * @param {string} text of the line
  * @param {Word} word
  * @param {Known} known

@@ -1,4 +1,4 @@
-// What an editor asks of a program's text, answered by the modules that the page's own editor has.
+// An editor's requests about a program's text, answered by the modules of the page's own editor.
 
 import { hex } from "../bench/numbers.js";
 import { conditionsOf, instructionsOf } from "../help/manual.js";
@@ -6,7 +6,6 @@ import { SourceMap } from "../machine/source_map.js";
 import { AllFaultsOfTexts } from "../text/all_faults.js";
 import { DIRECTIVES, namesOf, partsOf, tokensOf, wordAt } from "../text/assembly.js";
 import { PARTS } from "../text/folding.js";
-import { KnownFaults } from "../text/known_faults.js";
 import { changesOf, faultOfLayout, formattedLines } from "../text/program_format.js";
 import { definitionOf, faultOfRenaming, nameAt, referencesOf } from "../text/references.js";
 import { sentText } from "../text/text_fault.js";
@@ -26,7 +25,7 @@ import * as say from "../../words/server.js";
  * @typedef {import("./lsp_protocol.js").Range} Range
  * @typedef {import("./text_bench.js").TextBench} TextBench
  * @typedef {import("./token_codes.js").ColouredWord} ColouredWord
- * @typedef {{ map: SourceMap, bytes: () => Int16Array }} Assembled where lines are, and what bytes they put
+ * @typedef {{ map: SourceMap, bytes: () => Int16Array }} Assembled the addresses of lines, and their bytes
  */
 
 /** Kinds of symbols. */
@@ -36,7 +35,7 @@ const CONSTANT = 14;
 const TYPES = { comment: "comment", instruction: "keyword", directive: "macro", register: "variable", number: "number" };
 
 /**
- * Returns where each name of a program is used.
+ * Returns the places where each name of a program is used.
  * @param {string[]} lines
  * @returns {Map<string, Range[]>}
  */
@@ -57,9 +56,9 @@ export class ProgramLanguage {
   /**
    * @param {TextBench} bench
    * @param {ManualSection[]} manual
-   * @param {(number: number) => string} wordsOf gives the words of a refusal
-   * @param {(uri: string) => string | null} boardOf gives the text of the board that a program is for
-   * @param {() => Promise<void>} pause lets others have their turn
+   * @param {(number: number) => string} wordsOf returns the message of a refusal
+   * @param {(uri: string) => string | null} boardOf returns the text of the board that a program is for
+   * @param {() => Promise<void>} pause yields to others
    */
   constructor(bench, manual, wordsOf, boardOf, pause) {
     this.parts = PARTS.program;
@@ -69,8 +68,7 @@ export class ProgramLanguage {
     this.wordsOf = wordsOf;
     this.boardOf = boardOf;
     this.pause = pause;
-    this.known = new KnownFaults();
-    /** @type {{ text: string, assembled: Assembled | null } | null} what was asked for last */
+    /** @type {{ text: string, assembled: Assembled | null } | null} the last request */
     this.last = null;
     this.isInstruction = (/** @type {string} */ word) => this.instructions.has(word);
     this.isHead = (/** @type {string} */ word) => this.instructions.has(word) || DIRECTIVES.includes(word);
@@ -89,16 +87,17 @@ export class ProgramLanguage {
       return ask();
     };
     const all = new AllFaultsOfTexts({
-      refuse: (_, part) => inTurn(() => this.bench.refuseProgram(part)),
+      wiring: async () => null,
+      errors: (sent) => inTurn(() => this.bench.errors(sent)),
+      refuse: (sent) => inTurn(() => this.bench.refuseProgram(sent)),
       map: (sent) => inTurn(() => this.bench.read(sent).map),
       roms: () => inTurn(() => this.bench.wired.roms),
-      boardFault: async () => null,
-    }, this.instructions, this.wordsOf, this.known);
+    }, { instructions: this.instructions, tables: new Map() }, this.wordsOf);
     return all.ofProgram(text, isWanted);
   }
 
   /**
-   * The bytes of a program, and where its lines stand; null where it has faults.
+   * Returns the bytes of a program, and the addresses of its lines; null if it has errors.
    * @param {OpenText} open
    */
   assembled({ text }) {
@@ -127,7 +126,7 @@ export class ProgramLanguage {
   }
 
   /**
-   * Where a line stands, its bytes and cycles; "" where it puts no byte.
+   * Returns the address, bytes and cycles of a line; "" if it puts no byte.
    * @param {string} text
    * @param {number} line from 1
    * @param {Assembled} assembled
@@ -164,7 +163,7 @@ export class ProgramLanguage {
   }
 
   /**
-   * The name at a place that can have another one.
+   * Returns the name at a place that can be renamed.
    * @param {OpenText} open
    * @param {Position} position
    */

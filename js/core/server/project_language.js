@@ -1,4 +1,4 @@
-// What an editor asks of a project file: its errors, and links to the files that it names.
+// An editor's requests about a project file: its errors, and links to the files that it names.
 
 import { filesNamed } from "../project/project_toml.js";
 import { PARTS } from "../text/folding.js";

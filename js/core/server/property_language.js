@@ -1,4 +1,4 @@
-// What an editor asks of a text of properties: read by the one reader of properties, with the names of the board and the program.
+// An editor's requests about a text of properties: read by the one reader of properties, with the names of the board and the program.
 
 import { readCampaign } from "../explore/campaign.js";
 import { subjectOf } from "../explore/subject.js";
@@ -17,7 +17,7 @@ import { colouredWords } from "./token_codes.js";
  */
 
 const PROPERTY = 7;
-/** Lines that say what must hold. */
+/** Lines of properties. */
 const MUST_HOLD = /^(never|always|at|after|every|reach|model|while|once|@\S+|.*\bonly after)\b/;
 /** `from STATE of FILE`. */
 const OF_FILE = /^([ \t]*from[ \t]+\S+[ \t]+of[ \t]+)(\S.*)$/;

@@ -1,5 +1,5 @@
-// The requests of editors, each by its method: what they ask is checked, asked of the language of the text, and put into the form of the
-// protocol.
+// The requests of editors, each by its method: their parameters are checked, the language of the text answers, and the answer is put into
+// the form of the protocol.
 
 import { capabilitiesFor, clientOf, RUN_TEST } from "./capabilities.js";
 import { codeLensOf } from "./code_lens.js";

@@ -1,4 +1,4 @@
-// What a selection grows to, step by step: the word, larger stretches of its line, the line, the parts of the text that have it, all of it.
+// The steps by which a selection grows: the word, larger stretches of its line, the line, the enclosing parts of the text, all of it.
 
 import { wordAt } from "../text/assembly.js";
 import { foldsOf } from "./folding_ranges.js";
@@ -11,7 +11,7 @@ import { foldsOf } from "./folding_ranges.js";
  */
 
 /**
- * Whether a range has all of another one, and more.
+ * Returns whether a range contains another one, and more.
  * @param {Range} outer
  * @param {Range} inner
  */

@@ -1,4 +1,4 @@
-// What an editor asks of a text of tests: read by the one reader of tests, with the names of the board and the program.
+// An editor's requests about a text of tests: read by the one reader of tests, with the names of the board and the program.
 
 import { readSources } from "../testing/test_text.js";
 import { COLOURS } from "../text/test_colours.js";
@@ -21,7 +21,7 @@ const FUNCTION = 12;
 const HEAD = /^([ \t]*)(test|steps)([ \t]+)(\S.*)$/;
 
 /**
- * Returns what the lines of a text begin.
+ * Returns the symbols that the lines of a text define.
  * @param {string[]} lines
  * @returns {Head[]}
  */

@@ -1,5 +1,4 @@
-// Tests that an editor has run: one test, after those that save the states that it goes on from, on board and program as they are in the
-// editor.
+// Tests that an editor runs: one test, after those that save its starting states, on board and program as they are in the editor.
 
 import { Cancelled } from "../bench/faults.js";
 import { runTests } from "../testing/test_suite.js";
@@ -13,7 +12,7 @@ import * as say from "../../words/server.js";
  * @typedef {import("./diagnostics.js").ShownFault} ShownFault
  * @typedef {import("./open_text.js").OpenText} OpenText
  *
- * What came of a test in words, whether it passed, and the line that failed with the address of its text, if one did.
+ * The result of a test in words, whether it passed, and the line that failed with the address of its text, if one did.
  * @typedef {{ words: string, hasPassed: boolean, failure: { uri: string, fault: ShownFault } | null }} Ran
  */
 
@@ -26,23 +25,23 @@ const notRun = (words) => ({ words, hasPassed: false, failure: null });
 export class TestRuns {
   /**
    * @param {import("../engine/engine_host.js").EngineHost} engine
-   * @param {(number: number) => string} wordsOf gives the words of a refusal
+   * @param {(number: number) => string} wordsOf returns the message of a refusal
    * @param {(uri: string) => BesideTexts} besideOf
-   * @param {() => Promise<void>} pause lets others have their turn
+   * @param {() => Promise<void>} pause yields to others
    */
   constructor(engine, wordsOf, besideOf, pause) {
     this.engine = engine;
     this.wordsOf = wordsOf;
     this.besideOf = besideOf;
     this.pause = pause;
-    /** How many runs have begun: a new one ends the one before it. */
+    /** The number of runs begun: a new one ends the one before it. */
     this.begun = 0;
   }
 
   /**
    * @param {OpenText} open
    * @param {string} name of the test
-   * @param {import("./connection.js").Asked} asked which ends the run if it is cancelled
+   * @param {import("./connection.js").Asked} asked cancels the run if it is cancelled
    * @returns {Promise<Ran>}
    */
   async run({ uri, lines, text }, name, asked) {
@@ -68,7 +67,7 @@ export class TestRuns {
   }
 
   /**
-   * Runs one test; a run that another one ends is a cancelled request.
+   * Runs one test; a run that a later one ends is a cancelled request.
    * @param {import("../testing/test_suite.js").TestedTexts} texts
    * @param {() => Promise<boolean>} goesOn
    * @param {{ name: string, source: string }} only

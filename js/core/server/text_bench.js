@@ -1,7 +1,7 @@
-// What the bench says of texts, for a server: on sessions in memory, of which none is kept.
+// The bench's answers about texts, for a server: on sessions in memory, none of which is kept.
 
 import { readBoard, refusalOf } from "../bench/answers.js";
-import { findBoardFault } from "../bench/board_fault.js";
+import { readErrors, readWiring } from "../bench/text_judgement.js";
 import { sentText } from "../text/text_fault.js";
 import { ALL_ROMS, faultOfText, readProgram } from "../engine/program_check.js";
 
@@ -25,7 +25,7 @@ export class TextBench {
   }
 
   /**
-   * A session with a board; where its text is refused, or there is none, with all ROMs.
+   * Returns a session with a board; if its text is rejected, or there is none, with all ROMs.
    * @param {string | null} text
    * @returns {Wired}
    */
@@ -53,9 +53,20 @@ export class TextBench {
     return refusalOf(this.engine.ask(file, lines).answers[0]);
   }
 
-  /** @param {string} text of a board, as it is sent */
-  refuseBoard(text) {
-    return this.refusal(this.empty, `wire\n${text}.\n`);
+  /**
+   * Returns the error of a board; null if there is none.
+   * @param {string} text as it is sent
+   */
+  wiring(text) {
+    return readWiring(this.engine.ask(this.empty, `wiring\n${text}.\n`).answers[0]);
+  }
+
+  /**
+   * Returns the errors of a program's lines.
+   * @param {string} text as it is sent
+   */
+  errors(text) {
+    return readErrors(this.engine.ask(this.empty, `errors\n${text}.\n`).answers);
   }
 
   /** @param {string} text of a program, as it is sent */
@@ -64,18 +75,21 @@ export class TextBench {
   }
 
   /**
-   * @param {string} text of a board, as it is sent
-   * @param {number} number
+   * Returns the calls that ask this bench about texts.
+   * @returns {import("../text/all_faults.js").Asked}
    */
-  boardFault(text, number) {
-    return findBoardFault(text, number, (part) => {
-      const refusal = this.refuseBoard(part);
-      return refusal ? refusal.number : 0;
-    });
+  asked() {
+    return {
+      wiring: async (sent) => this.wiring(sent),
+      errors: async (sent) => this.errors(sent),
+      refuse: async (sent) => this.refuseProgram(sent),
+      map: async (sent) => this.read(sent).map,
+      roms: async () => this.wired.roms,
+    };
   }
 
   /**
-   * Returns the answers to `map` of a program; null if it is refused.
+   * Returns the answers to `map` of a program; null if it is rejected.
    * @param {string} sent
    */
   map(sent) {
@@ -85,7 +99,7 @@ export class TextBench {
   }
 
   /**
-   * What the bench makes of a program.
+   * Returns the bench's map of a program.
    * @param {string} sent
    * @returns {Program}
    */

@@ -1,7 +1,7 @@
 // The kinds of words of a text as editors colour them, in the numbers of the protocol.
 
 /**
- * A word with its kind: its line from 0, its characters, and whether it is defined there, and never changes.
+ * A word with its kind: its line from 0, its characters, and whether it is defined there, and is constant.
  * @typedef {{ line: number, from: number, to: number, type: string, isDeclaration?: boolean, isReadonly?: boolean }} ColouredWord
  */
 
@@ -14,7 +14,7 @@ const STYLES = {
 };
 
 /**
- * Returns the coloured words of lines, by what colours one line.
+ * Returns the coloured words of lines, given the function that colours one line.
  * @param {string[]} lines
  * @param {(line: string) => { from: number, to: number, style: string }[]} colours
  * @returns {ColouredWord[]}
@@ -42,7 +42,7 @@ export function tokenCodes(words) {
 }
 
 /**
- * Returns what makes the numbers of a text out of those before it: nothing, or one stretch in the place of another.
+ * Returns the edit between two encodings of a text: none, or one stretch in place of another.
  * @param {number[]} before
  * @param {number[]} after
  * @returns {{ start: number, deleteCount: number, data: number[] }[]}

@@ -1,4 +1,4 @@
-// The coloured words of texts, as they were told last, so that an editor can ask for what changed.
+// The coloured words of texts, as last reported, so that an editor can ask for the changes.
 
 import { codeEdits, tokenCodes } from "./token_codes.js";
 
@@ -13,8 +13,8 @@ const MOST_TEXTS = 32;
 
 export class TokenMemory {
   constructor() {
-    /** @type {Map<string, { resultId: string, data: number[] }>} what was told last of each text, by its address */
-    this.told = new Map();
+    /** @type {Map<string, { resultId: string, data: number[] }>} the last report on each text, by its address */
+    this.sent = new Map();
     this.count = 0;
   }
 
@@ -25,9 +25,9 @@ export class TokenMemory {
   keep(uri, data) {
     this.count += 1;
     const resultId = String(this.count);
-    this.told.delete(uri);
-    this.told.set(uri, { resultId, data });
-    if (this.told.size > MOST_TEXTS) this.told.delete([...this.told.keys()][0]);
+    this.sent.delete(uri);
+    this.sent.set(uri, { resultId, data });
+    if (this.sent.size > MOST_TEXTS) this.sent.delete([...this.sent.keys()][0]);
     return resultId;
   }
 
@@ -41,13 +41,13 @@ export class TokenMemory {
   }
 
   /**
-   * What changed since a result; all words if that result is not the last one.
+   * Returns the changes since a result, or all words if that result is not the last one.
    * @param {OpenText} open
    * @param {ColouredWord[]} words
    * @param {unknown} previous
    */
   since(open, words, previous) {
-    const before = this.told.get(open.uri);
+    const before = this.sent.get(open.uri);
     if (!before || before.resultId !== previous) return this.all(open, words);
     const data = tokenCodes(words);
     return { resultId: this.keep(open.uri, data), edits: codeEdits(before.data, data) };

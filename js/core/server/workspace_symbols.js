@@ -1,4 +1,4 @@
-// The names of all texts that are open, and of those of their projects, found by a part of them.
+// The names of all open texts, and of those of their projects, found by a part of them.
 
 import { fileNameOf } from "./beside_language.js";
 
@@ -7,15 +7,16 @@ import { fileNameOf } from "./beside_language.js";
  * @typedef {import("./open_text.js").OpenText} OpenText
  */
 
-/** As many names are given. */
+/** The most names in an answer. */
 const MOST_NAMES = 512;
 
 /**
- * Whether a name has a query in it: its letters in their order, whatever their case; in a name of several words all of it.
+ * Returns whether a name matches a query: it contains its letters in their order, whatever their case; a name of several words contains all
+ * of it.
  * @param {string} name
  * @param {string} query
  */
-export function fits(name, query) {
+export function matches(name, query) {
   const low = name.toLowerCase();
   if (low.includes(" ")) return low.includes(query.toLowerCase());
   let at = 0;
@@ -35,7 +36,7 @@ export function workspaceSymbols(server, query) {
     const language = server.languageOf(open);
     const symbols = language && language.symbols ? language.symbols(open) : [];
     const containerName = fileNameOf(open.uri);
-    return symbols.filter(({ name }) => fits(name, query)).map(({ name, kind, selectionRange }) => (
+    return symbols.filter(({ name }) => matches(name, query)).map(({ name, kind, selectionRange }) => (
       { name, kind, containerName, location: { uri: open.uri, range: selectionRange } }));
   }).slice(0, MOST_NAMES);
 }

@@ -1,6 +1,6 @@
-// Bytes as letters of ASCII.
+// Bytes as ASCII letters.
 
-/** So many bytes are letters at once. */
+/** The bytes that are converted at once. */
 const PIECE = 8192;
 
 /** @param {Uint8Array} bytes */
@@ -11,7 +11,7 @@ export function toBase64(bytes) {
 }
 
 /**
- * It throws where the text is none of bytes.
+ * Throws if the text is not base64.
  * @param {string} text
  */
 export function fromBase64(text) {

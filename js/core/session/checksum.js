@@ -1,8 +1,8 @@
-// The checksum that POSIX's `cksum` prints, so that whoever has a file can see by a command of the system that it is whole.
+// The checksum that POSIX's `cksum` prints, so that anyone with a file can check by a system command that it is complete.
 
 const POLYNOMIAL = 0x04c11db7;
 
-/** What each value of a byte does to the remainder. */
+/** The effect of each byte value on the remainder. */
 const STEPS = Uint32Array.from({ length: 256 }, (_, value) => {
   let left = value << 24;
   for (let bit = 0; bit < 8; bit++) left = left < 0 ? (left << 1) ^ POLYNOMIAL : left << 1;
@@ -18,7 +18,7 @@ function sumWith(sum, byte) {
 }
 
 /**
- * The sum of some bytes: their remainder, with their count after them, as a number without a sign.
+ * Returns the checksum of some bytes: their remainder, with their count after them, as an unsigned number.
  * @param {Uint8Array} bytes
  */
 export function checksum(bytes) {

@@ -1,5 +1,5 @@
-// The picture of an example in the gallery: its front, small, as its text tells it. Which lamps are lit depends on the program, so some
-// are drawn lit: the first of each colour, and the digits of a display.
+// The picture of an example in the gallery: its front panel, small, as its text describes it. The program decides which lamps are on, so
+// some are drawn on: the first of each colour, and the digits of a display.
 
 import { partLines } from "../bench/part_lines.js";
 import { Face } from "../board/face.js";
@@ -18,7 +18,7 @@ import { upTo } from "../bench/numbers.js";
 
 const WIDTH = 120;
 const GAP = 4;
-/** Where the pips of a die stand, in the order of its lamps: columns from the left and rows from the top, 0 to 2. */
+/** The places of a die's pips, in the order of its lamps: columns from the left and rows from the top, 0 to 2. */
 const PIPS = [[0, 0], [2, 0], [0, 1], [1, 1], [2, 1], [0, 2], [2, 2]];
 
 class Drawing {
@@ -29,7 +29,7 @@ class Drawing {
     /** @type {Shape[]} */
     this.shapes = [];
     this.bottom = GAP;
-    /** @type {Set<string>} the colours of which one lamp is lit */
+    /** @type {Set<string>} the colours of single lamps */
     this.litColours = new Set();
     /** @type {Set<number>} the lamps that are drawn */
     this.drawn = new Set();
@@ -46,8 +46,8 @@ class Drawing {
    * @param {number} size
    */
   lamp(lamp, x, y, size) {
-    const told = this.face.colours.get(lamp);
-    const colour = told ? told.text : "red";
+    const faceText = this.face.colours.get(lamp);
+    const colour = faceText ? faceText.text : "red";
     const isLit = !this.litColours.has(colour);
     this.litColours.add(colour);
     this.drawn.add(lamp);
@@ -61,7 +61,7 @@ class Drawing {
       else if (group.kind === "die") this.drawAt(upTo(7).map((at) => ({ lamp: group.first + at, column: PIPS[at][0], row: PIPS[at][1] })));
       else {
         const { first, rows, columns } = group;
-        // What is scanned has the colours of its columns.
+        // A scanned group has the colours of its columns.
         const lampAt = (/** @type {number} */ at) => first + (isScanned(group) ? at % columns : at);
         this.drawAt(upTo(rows * columns).map((at) => ({ lamp: lampAt(at), column: at % columns, row: Math.floor(at / columns) })));
       }

@@ -1,12 +1,12 @@
-// Names and words that others wrote, as they are shown: a link must not make them look like words of the page.
+// Names and words that others wrote, for display: a link must not make them look like the page's own words.
 
 /** So long a name can be in its field, too. */
 const LONGEST_NAME = 60;
-/** Control characters, marks that turn the direction of a text, ends of lines, and marks that nobody sees. */
+/** Control characters, marks that turn the direction of a text, ends of lines, and invisible marks. */
 const UNSEEN = /[\p{Cc}\p{Bidi_Control}\u200b\u2028\u2029\u2060\ufeff]/gu;
 
 /**
- * A text without such characters, in one line, and cut.
+ * Returns a text without such characters, in one line, and cut.
  * @param {string} text
  */
 export function shortName(text) {

@@ -1,5 +1,5 @@
-// What a file holds that is chosen or dropped: a project, a session, a board, a program, tests, properties, lines for the bench, or an
-// image of ROM. Its first bytes tell it, and else its name.
+// The content of a file that is chosen or dropped: a project, a session, a board, a program, tests, properties, lines for the bench, or an
+// image of ROM. Its first bytes show it, and else its name.
 
 import { readInputs } from "../bench/inputs.js";
 import { PROJECT_FILE } from "../project/project_toml.js";
@@ -10,18 +10,18 @@ import { isProject } from "./project_file.js";
 import * as say from "../../words/session.js";
 
 /**
- * Texts of a file: null where it has none of that kind. `lines` are those for the bench that are left. `isGuess`: neither the name nor
- * the text says that it is a program.
+ * The texts of a file: null if it has none of that kind. `lines` are the remaining lines for the bench. `isGuess`: neither the name nor the
+ * text identifies it as a program.
  * @typedef {{ board: string | null, program: string | null, tests: string | null, properties: string | null, lines: string,
  *   isGuess?: boolean }} FileTexts
  *
  * @typedef {{ kind: "project" } | { kind: "session" } | { kind: "texts", texts: FileTexts } | { kind: "image", bytes: Int16Array }} Opened
  */
 
-/** A file is nothing that the bench has, in words. */
+/** A file is of no use to the bench, in words. */
 export class NotForTheBench extends Error {}
 
-/** What a session file begins with. */
+/** The first bytes of a session file. */
 const SESSION_NAME = "MCS4BEN1";
 const IMAGES = /\.(bin|rom)$/i;
 const HEX_FILES = /\.(hex|ihx|ihex)$/i;
@@ -29,7 +29,7 @@ const BOARDS = /\.toml$/i;
 const TESTS = /\.test$/i;
 const PROPERTIES = /\.props$/i;
 const PROGRAMS = /\.(asm|s|src|a4|4004)$/i;
-/** Texts whose kind is found by what stands in them. */
+/** Texts whose kind is found by their contents. */
 const TEXTS = /(^[^.]*|\.(txt|text))$/i;
 
 /**
@@ -41,11 +41,11 @@ function refusal(why) {
 }
 
 /**
- * A text as UTF-8 has it, or else of one byte a letter; null where it is none.
+ * Decodes a text as UTF-8, or else one byte a letter; null if it is no text.
  * @param {Uint8Array} bytes
  */
 function textOf(bytes) {
-  // Any other control character is in no text.
+  // Any other control character does not occur in a text.
   if (bytes.some((byte) => byte < 32 && ![9, 10, 12, 13, 26].includes(byte))) return null;
   try {
     return new TextDecoder("utf-8", { fatal: true }).decode(bytes);
@@ -55,7 +55,7 @@ function textOf(bytes) {
 }
 
 /**
- * The texts among lines for the bench, the last one of each kind, and the lines that are left.
+ * Returns the texts among lines for the bench, the last one of each kind, and the remaining lines.
  * @param {string} script
  * @returns {FileTexts}
  */
@@ -110,7 +110,7 @@ function openText(name, text) {
 }
 
 /**
- * What a file holds; it throws where that is nothing for the bench.
+ * Returns the content of a file. Throws if the bench cannot use it.
  * @param {string} name of the file
  * @param {Uint8Array} bytes
  * @returns {Opened}

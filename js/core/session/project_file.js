@@ -1,5 +1,5 @@
-// A project: the session's file, its name and the texts of the editors in one file, which is a text. The manual ("A project file") says
-// what each line of it is. (Its parts as the files of a folder: project_parts.js.)
+// A project: the session's file, its name and the texts of the editors in one text file. The manual ("A project file") describes its lines.
+// (project_parts.js has its parts as the files of a folder.)
 
 import { checksum } from "./checksum.js";
 import { shortName } from "./names.js";
@@ -9,8 +9,8 @@ import { LONGEST_KEPT } from "../text/text_fault.js";
 import * as say from "../../words/session.js";
 
 /**
- * @typedef {{ name: string, boardText: string, programText: string, testText?: string, propertiesText?: string }} Texts without tests
- *   or properties the file has no text of them
+ * @typedef {{ name: string, boardText: string, programText: string, testText?: string, propertiesText?: string }} Texts without tests or
+ * properties the file has no such text
  * @typedef {import("../debug/breakpoints.js").KeptBreakpoint} KeptBreakpoint
  * `watched` is the list of *Values*, each as it is kept.
  * @typedef {Texts & { breakpoints?: KeptBreakpoint[], watched?: string[] }} DebuggedTexts
@@ -19,23 +19,23 @@ import * as say from "../../words/session.js";
  */
 
 const FIRST_LINE = "fethsaim project 1";
-/** A text ends at a line with a dot alone, as one that is sent to the bench does. */
+/** A text ends at a line with only a dot, like one that is sent to the bench. */
 const DOT = ".";
 const LAST_LINE = "end";
 const SUM_LINE = /^cksum \d+$/;
-/** So many bytes stand in a line of the session; a line of zeros is left out. */
+/** The bytes in a line of the session; a line of zeros is left out. */
 const BYTES_OF_LINE = 16;
 /** No project has more bytes: its texts and its session have far less. */
 export const LONGEST_PROJECT = 4 << 20;
 
-/** Why bytes are no project, in words. */
+/** Says why bytes are not a project, in words. */
 export class NotAProject extends Error {}
 
-/** One of its texts is longer than any that the editors take. */
+/** One of its texts is longer than the editors accept. */
 export class TextTooLong extends NotAProject {}
 
 /**
- * Which text is too long for a project and for a link, in words; "" where none is.
+ * Returns which text is too long for a project and for a link, in words; "" if none is.
  * @param {{ boardText: string, programText: string, testText?: string, propertiesText?: string }} texts
  */
 export function wordsOfLength({ boardText, programText, testText = "", propertiesText = "" }) {
@@ -49,7 +49,7 @@ export function wordsOfLength({ boardText, programText, testText = "", propertie
 // --- writing ---
 
 /**
- * The lines of a text. In a line of dots alone one more dot stands in the file, so that none of them ends the text.
+ * Returns the lines of a text. A line of only dots has one more dot in the file, so that none of them ends the text.
  * @param {Word} word
  * @param {string} text
  */
@@ -60,7 +60,7 @@ function linesOfText(word, text) {
 }
 
 /**
- * A line is told to have no end where the last one of a text has none.
+ * A note says that the last line of a text has no line feed.
  * @param {Word} word
  * @param {string} text
  */
@@ -82,7 +82,7 @@ function linesOfFile(file) {
 }
 
 /**
- * A carriage return before the end of a line says nothing, to the bench neither.
+ * A carriage return before the end of a line has no meaning, as in the bench.
  * @param {string} text
  */
 function plainLines(text) {
@@ -118,7 +118,7 @@ export function projectText(project) {
 // --- reading ---
 
 /**
- * Whether bytes begin as those of a project do.
+ * Returns whether bytes begin as those of a project do.
  * @param {Uint8Array} bytes
  */
 export function isProject(bytes) {
@@ -166,7 +166,7 @@ export class Lines {
 }
 
 /**
- * Its first two lines are looked at, and its last one.
+ * Only its first two lines and its last one are checked.
  * @param {string} text
  */
 function checkWhole(text) {
@@ -218,7 +218,7 @@ function readText(lines, word, open) {
 }
 
 /**
- * Reads a name, its texts, and its breakpoints and values, where it has some. Rejects texts that the editors would never take.
+ * Reads a name, its texts, and its breakpoints and values, if it has some. Rejects texts that the editors would never accept.
  * @param {Lines} lines
  * @param {boolean} [takesLong] whether longer texts are read, too
  * @returns {DebuggedTexts}
@@ -256,7 +256,7 @@ function readFile(lines, size) {
 }
 
 /**
- * What is in a project; it throws where bytes are none.
+ * Returns the content of a project. Throws if the bytes are no project.
  * @param {Uint8Array} bytes
  * @param {number} size how many bytes a session file has
  * @param {boolean} [takesLong] whether texts that are too long for the editors are read, too

@@ -1,5 +1,6 @@
 // A project as the files of a folder, which other programs edit, and the texts of such files as parts of a project.
 
+import { linesOf } from "../bench/inputs.js";
 import { breakpointOfLine, linesOfBreakpoints } from "../debug/breakpoint_lines.js";
 import { MOST_BREAKPOINTS } from "../debug/breakpoints.js";
 import { NotAProject } from "./project_file.js";
@@ -19,11 +20,6 @@ export const PART_NAMES = {
   breakpoints: "breakpoints", values: "values", session: "session.mcs", name: "name",
 };
 
-/** @param {string[]} lines */
-function textOfLines(lines) {
-  return lines.map((line) => `${line}\n`).join("");
-}
-
 /**
  * Returns the project file of such a folder.
  * @param {Project} project
@@ -33,11 +29,11 @@ function projectFileOf({ testText, propertiesText }) {
   const values = {
     board, program, ...(testText ? { tests: [tests] } : {}), ...(propertiesText ? { properties: [properties] } : {}),
   };
-  return textOfLines([say.ABOUT_PROJECT_FILE, ...Object.entries(values).map(([key, value]) => [key, JSON.stringify(value)].join(" = "))]);
+  return linesOf([say.ABOUT_PROJECT_FILE, ...Object.entries(values).map(([key, value]) => [key, JSON.stringify(value)].join(" = "))]);
 }
 
 /**
- * Returns the files of a project; those that would be empty are left out, but for the board and the program.
+ * Returns the files of a project, without empty ones other than the board and the program.
  * @param {Project} project
  * @returns {ProjectPart[]}
  */
@@ -46,8 +42,8 @@ export function partsOfProject(project) {
   const texts = [
     { name: PART_NAMES.tests, content: testText },
     { name: PART_NAMES.properties, content: propertiesText },
-    { name: PART_NAMES.breakpoints, content: textOfLines(linesOfBreakpoints(breakpoints)) },
-    { name: PART_NAMES.values, content: textOfLines(watched) },
+    { name: PART_NAMES.breakpoints, content: linesOf(linesOfBreakpoints(breakpoints)) },
+    { name: PART_NAMES.values, content: linesOf(watched) },
   ];
   return [
     { name: PART_NAMES.project, content: projectFileOf(project) },
@@ -70,7 +66,7 @@ function linesIn(text) {
 }
 
 /**
- * Reads a text of breakpoints; a line that is none is an error.
+ * Reads a text of breakpoints; any other line is an error.
  * @param {string} text
  * @returns {KeptBreakpoint[]}
  */

@@ -1,4 +1,4 @@
-// ROM in files: an image of a file comes into ROM, and what stands in ROM goes into one.
+// ROM in files: loads an image from a file into ROM, and saves ROM to one.
 
 import { readBoard } from "../bench/answers.js";
 import { counted, hex } from "../bench/numbers.js";
@@ -8,7 +8,7 @@ import { textsOfBytes } from "../text/assembling.js";
 import * as say from "../../words/session.js";
 
 /**
- * What loading and saving ROMs calls.
+ * The calls that loading and saving ROMs makes.
  * @typedef {object} RomCalls
  * @property {(lines: string) => Promise<string[]>} ask Resolves to the bench's answers to questions.
  * @property {(lines: string) => Promise<string | null>} act Serves lines that change the session. Resolves to the first answer, null if
@@ -31,7 +31,7 @@ export class RomFiles {
   }
 
   /**
-   * Puts the bytes of an image into ROM; nothing else changes. Gives what was done, in words; "" where it failed, which is told.
+   * Puts the bytes of an image into ROM; nothing else changes. Returns a message; "" if it failed, which is reported.
    * @param {string} name of the file
    * @param {Int16Array} bytes
    */
@@ -46,23 +46,22 @@ export class RomFiles {
     const answer = await this.calls.act(textsOfBytes(bytes).map((text) => `asm\n${text}.\n`).join(""));
     const first = bytes.findIndex((byte) => byte !== NONE);
     const count = bytes.filter((byte) => byte !== NONE).length;
-    const stand = count === 1 ? "stands" : "stand";
-    return answer === null ? "" : say.bytesInRom(counted(count, "byte"), name, stand, hex(first, 3));
+    return answer === null ? "" : say.bytesInRom(counted(count, "byte"), name, count === 1, hex(first, 3));
   }
 
-  /** The bytes of all ROMs that the board has. A list goes on behind the end of a ROM. */
+  /** Returns the bytes of all ROMs of the board. A list continues after the end of a ROM. */
   async bytes() {
     const chips = await this.chips();
     const listed = bytesOf(await this.calls.ask(listsOf(PAGES.filter((page) => chips.includes(page)))));
     return listed.map((byte, at) => (chips.includes(Math.floor(at / PAGE_BYTES)) ? byte : NONE));
   }
 
-  /** What stands in ROM, in Intel HEX. */
+  /** Resolves to the bytes of ROM in Intel HEX. */
   async hex() {
     return (await this.chips()).length === 0 ? "" : hexOf(await this.bytes());
   }
 
-  /** What stands in ROM, byte by byte from 000 up to the end of the last ROM; where there is none it reads as 0. */
+  /** Resolves to the bytes of ROM from 000 to the end of the last chip; a missing chip reads as 0. */
   async image() {
     const end = (Math.max(-1, ...(await this.chips())) + 1) * PAGE_BYTES;
     return Uint8Array.from((await this.bytes()).subarray(0, end), (byte) => Math.max(0, byte));

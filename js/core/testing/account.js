@@ -1,6 +1,6 @@
-// What the runs of tests do, counted by the bench (`count`, `trace`) before each of them is done: how often each instruction is begun and
-// jumps, the cycles of each, how long each call takes until it comes back, and how long a lamp takes after a key. A tool that prints no
-// profile takes an account that counts less.
+// The work of test runs, counted by the bench (`count`, `trace`) before each of them is done: how often each instruction begins and jumps,
+// the cycles of each, how long each call takes until it returns, and how long a lamp takes after a key. A tool that prints no profile uses
+// an account that counts less.
 
 import { ADDRESSES } from "../bench/rom_bytes.js";
 import { readTraced } from "../engine/tracing.js";
@@ -19,7 +19,7 @@ import { cyclesOf, isCall, isReturn, targetOf } from "../engine/rom_codes.js";
 export const MOST_LEVELS = 3;
 
 export class Account {
-  /** @param {Uint8Array} codes what stands in ROM */
+  /** @param {Uint8Array} codes the contents of ROM */
   constructor(codes) {
     this.codes = codes;
     this.runs = new Float64Array(ADDRESSES);
@@ -38,7 +38,7 @@ export class Account {
     this.waiting = { key: "", pressed: 0, first: 0, last: 0 };
   }
 
-  /** Whether the cycles of instructions, calls and keys are counted. */
+  /** Returns whether the cycles of instructions, calls and keys are counted. */
   get keepsTimes() {
     return true;
   }
@@ -49,7 +49,7 @@ export class Account {
   }
 
   /**
-   * What is asked before a run of so many cycles.
+   * Returns the queries before a run of this many cycles.
    * @param {number} cycles
    */
   questions(cycles) {
@@ -59,18 +59,18 @@ export class Account {
   /**
    * @param {Answers} answers
    * @param {number} elapsed the cycles of the test before the run
-   * @param {() => Answers} askAll asks for all instructions of the run
+   * @param {() => Answers} askAll queries all instructions of the run
    */
   take(answers, elapsed, askAll) {
     const links = this.count(answers.takeCounts());
-    const told = answers.takeTrace().lines;
+    const lines = answers.takeTrace().lines;
     if (this.waiting.key !== "") this.followLamps(answers.takeTrace().lines, elapsed);
-    // A JMS or a BBL after which the return addresses are those of before has no line.
-    this.followLinks(told.length === links ? told : askAll().takeTrace().lines, elapsed);
+    // No line reports a JMS or a BBL that leaves the return addresses unchanged.
+    this.followLinks(lines.length === links ? lines : askAll().takeTrace().lines, elapsed);
   }
 
   /**
-   * Counts what a run begins; gives how many JMS and BBL are among it.
+   * Counts the instructions of a run; returns how many JMS and BBL are among them.
    * @param {Counted[]} counts
    */
   count(counts) {
@@ -97,7 +97,7 @@ export class Account {
   }
 
   /**
-   * From one routine into another, and back. Of four calls one inside the other the first one has no way back.
+   * From one routine into another, and back. Of four nested calls the first one has no way back.
    * @param {string[]} lines
    * @param {number} elapsed
    */
@@ -113,7 +113,7 @@ export class Account {
   }
 
   /**
-   * Leaves the routine that was entered last. One that is called within itself counts once; one that a test ends before is not entered.
+   * Leaves the routine that was entered last. A recursive routine counts once; one that the test's end interrupts is not entered.
    * @param {number} time
    */
   leave(time) {
@@ -126,7 +126,7 @@ export class Account {
   }
 
   /**
-   * What writes a port takes one cycle.
+   * Counts an instruction that writes a port; it takes one cycle.
    * @param {string[]} lines
    * @param {number} elapsed
    */
@@ -162,7 +162,7 @@ export class Account {
   }
 
   /**
-   * The last instruction was not done to its end: its last cycle was never one of this test.
+   * The last instruction was not completed: its last cycle did not belong to this test.
    * @param {number} address
    */
   cutShort(address) {
@@ -177,7 +177,7 @@ export class Account {
   }
 }
 
-/** Counts how often each instruction is begun and jumps, for the coverage; it keeps no times. */
+/** Counts how often each instruction begins and jumps, for the coverage; it records no times. */
 export class LineAccount extends Account {
   get keepsTimes() {
     return false;
@@ -194,7 +194,7 @@ export class LineAccount extends Account {
   }
 }
 
-/** Counts nothing: the bench is asked nothing before a run. */
+/** Counts nothing: the bench is not queried before a run. */
 export class NoAccount extends Account {
   get keepsTimes() {
     return false;

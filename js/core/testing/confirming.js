@@ -1,4 +1,4 @@
-// Whether a test that was written of a find is judged as the find says.
+// Checks that the result of a counterexample's test is the expected one.
 
 import { runTests } from "./test_suite.js";
 
@@ -8,11 +8,11 @@ import { runTests } from "./test_suite.js";
  * @param {import("./prepared.js").Texts} texts
  * @param {string} test
  * @param {boolean} isGoal
- * @param {() => Promise<void>} breathe lets other work in
+ * @param {() => Promise<void>} yieldToMessages yields to other work
  */
-export async function isConfirmed(engine, { boardText, programText }, test, isGoal, breathe) {
+export async function isConfirmed(engine, { boardText, programText }, test, isGoal, yieldToMessages) {
   const { faults, outcomes } = await runTests(engine, { boardText, programText, testText: test }, async () => {
-    await breathe();
+    await yieldToMessages();
     return true;
   });
   return faults.length === 0 && outcomes.every(({ failure }) => (failure === null) === isGoal);

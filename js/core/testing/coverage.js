@@ -1,4 +1,4 @@
-// Which lines of a program were run, by the counts of an account: each with its count and, for a conditional jump, its ways.
+// The lines of a program that ran, from the counts of an account: each with its count and, for a conditional jump, its branch directions.
 
 import { withTenths } from "../bench/numbers.js";
 import { hasWays, isCall, targetOf } from "../engine/rom_codes.js";
@@ -8,14 +8,14 @@ import * as say from "../../words/testing.js";
  * @typedef {import("../machine/source_map.js").SourceMap} SourceMap
  * @typedef {import("./account.js").Account} Account
  * @typedef {{ line: number, count: number, isJump: boolean, taken: number }} Covered a line that is an instruction
- * @typedef {{ from: number, to: number }} Stretch lines below each other that were never run
- * @typedef {{ label: string, line: number, count: number }} Subroutine a label that a JMS goes to, and how often it was run
+ * @typedef {{ from: number, to: number }} Stretch adjacent lines that were never run
+ * @typedef {{ label: string, line: number, count: number }} Subroutine a label that a JMS calls, and how often it was run
  * @typedef {{ lines: Covered[], instructions: number, run: number, ways: number, waysRun: number, never: Stretch[],
  *   subroutines: Subroutine[] }} Coverage
  */
 
 /**
- * The lines that are instructions; one of bytes (DB) counts where it was run.
+ * The lines that are instructions; a line of bytes (DB) counts if it was run.
  * @param {Account} account
  * @param {SourceMap} map
  * @returns {Covered[]}
@@ -33,7 +33,7 @@ function coveredLines({ codes, runs, taken }, map) {
 }
 
 /**
- * Returns the labels that a JMS of these lines goes to, by rising addresses.
+ * Returns the labels that a JMS of these lines calls, by rising addresses.
  * @param {Account} account
  * @param {SourceMap} map
  * @param {Covered[]} lines
@@ -74,7 +74,7 @@ export function coverageOf(account, map) {
 }
 
 /**
- * A part of all, in words: `20 of 21 instructions were run (95.2 %)`.
+ * Returns a share in words: `20 of 21 instructions were run (95.2 %)`.
  * @param {Coverage} coverage
  */
 export function wordsOfCoverage({ instructions, run, ways, waysRun }) {

@@ -7,7 +7,7 @@ import * as say from "../../words/testing.js";
  * @typedef {import("./coverage.js").Coverage} Coverage
  * @typedef {import("./coverage.js").Covered} Covered
  *
- * The text of a program, and how many lines of its file stand before it.
+ * The text of a program, and how many lines of its file precede it.
  * @typedef {{ text: string, before: number }} ProgramText
  */
 
@@ -16,7 +16,7 @@ const COUNT_WIDTH = 10;
 const WAYS_WIDTH = 13;
 
 /**
- * Returns a line with blanks in the place of tabs.
+ * Returns a line with blanks in place of tabs.
  * @param {string} text
  */
 function expanded(text) {
@@ -25,7 +25,7 @@ function expanded(text) {
   return line;
 }
 
-/** @type {(jump: Covered) => boolean} whether a conditional jump was run, and went one way each time */
+/** @type {(jump: Covered) => boolean} whether a conditional jump was run, and always went the same way */
 const isOneWay = ({ isJump, count, taken }) => isJump && count > 0 && (taken === 0 || taken === count);
 
 /**
@@ -40,7 +40,7 @@ function rowOf(source, covered) {
 }
 
 /**
- * Returns the source with its counts, then a summary, the lines that were never run, and the jumps that went one way each time.
+ * Returns the source with its counts, then a summary, the lines that were never run, and the jumps that always went the same way.
  * @param {Coverage} coverage
  * @param {ProgramText} program
  */
@@ -52,7 +52,7 @@ export function coverageText(coverage, { text, before }) {
   const ends = [
     "", wordsOfCoverage(coverage),
     ...(never.length > 0 ? [say.neverRun(never.join(", "), never.length > 1 || never[0].includes(" "))] : []),
-    ...(oneWay.length > 0 ? [say.oneWayAlone(oneWay.join(", "), oneWay.length > 1)] : []),
+    ...(oneWay.length > 0 ? [say.oneDirectionOnly(oneWay.join(", "), oneWay.length > 1)] : []),
   ];
   return `${[...rows, ...ends].join("\n")}\n`;
 }
@@ -61,9 +61,9 @@ export function coverageText(coverage, { text, before }) {
 const record = (name, values) => `${name}:${values.join(",")}`;
 
 /**
- * Returns the coverage in LCOV's format; its functions are the labels that a JMS goes to.
+ * Returns the coverage in LCOV's format; its functions are the labels that a JMS calls.
  * @param {Coverage} coverage
- * @param {{ name: string, before: number }} program its file, and how many lines of it stand before the text
+ * @param {{ name: string, before: number }} program its file, and how many lines of it precede the text
  */
 export function lcovOf({ lines, subroutines, instructions, run, ways, waysRun }, { name, before }) {
   const branches = lines.filter(({ isJump }) => isJump).flatMap(({ line, count, taken }) => (

@@ -1,10 +1,10 @@
-// The last instructions of a session under test, a line each as a trace has them: what was done in its last cycles is done once more,
-// on a copy of what it was before.
+// The last instructions of a session under test, a line each as in a trace: its last cycles are done once more, on a copy of the earlier
+// state.
 
 import { runLines } from "../engine/key_queue.js";
 import { InstructionTexts } from "../trace/instruction_texts.js";
 import { TraceLines } from "../trace/trace_lines.js";
-import { TOLD_CYCLES } from "./test_session.js";
+import { SHOWN_CYCLES } from "./test_session.js";
 import * as say from "../../words/testing.js";
 
 /**
@@ -14,15 +14,15 @@ import * as say from "../../words/testing.js";
  * @typedef {import("./test_session.js").TestSession} TestSession
  */
 
-/** So many instructions are told, and the next one. */
-const MOST_TOLD = 12;
+/** The most instructions that are listed, in addition to the next one. */
+const MOST_SHOWN = 12;
 
 /**
- * Where the told part begins: how much of what was done goes before it, and how many cycles of the run there.
+ * Returns the start of the listed part: the number of actions before it, and the cycles of the run there.
  * @param {Done[]} done
  */
 function beginOf(done) {
-  let left = TOLD_CYCLES;
+  let left = SHOWN_CYCLES;
   let begin = { at: done.length, from: 0 };
   for (let at = done.length - 1; at >= 0 && left > 0; at--) {
     const { cycles } = done[at];
@@ -39,7 +39,7 @@ function beginOf(done) {
  * @returns {string[]}
  */
 export function lastInstructions(session, { board, map }) {
-  const { engine, kept, account: { codes } } = session;
+  const { engine, kept } = session;
   const { done } = kept;
   if (done.length === 0) return [];
   const { at: begin, from } = beginOf(done);
@@ -47,7 +47,7 @@ export function lastInstructions(session, { board, map }) {
   const linesOfDone = (/** @type {Done} */ { line, cycles }) => (line === "run" ? runLines(cycles) : `${line}\n`);
   engine.serve(file, done.slice(0, begin).map(linesOfDone).join("") + (from > 0 ? runLines(from) : ""), file);
   let elapsed = kept.elapsed + done.slice(0, begin).reduce((sum, { cycles }) => sum + cycles, from);
-  const trace = new TraceLines(engine, board, new InstructionTexts(codes, { map, source: null }));
+  const trace = new TraceLines(engine, board, new InstructionTexts({ map, source: null }));
   const lines = trace.secondCycle(file, elapsed);
   done.slice(begin).forEach(({ line, cycles }, at) => {
     const left = at === 0 ? cycles - from : cycles;
@@ -56,6 +56,6 @@ export function lastInstructions(session, { board, map }) {
     engine.serve(file, line === "run" ? runLines(left) : `${line}\n`, file);
     elapsed += left;
   });
-  const last = [...lines.slice(-MOST_TOLD), say.comesNext(trace.next(session.file, elapsed))];
+  const last = [...lines.slice(-MOST_SHOWN), say.comesNext(trace.next(session.file, elapsed))];
   return last.flatMap((each) => each.split("\n"));
 }

@@ -1,4 +1,4 @@
-// Which label a session under test has passed last, and when: all that was done in the test is done once more, and counted by pieces.
+// The label that a session under test passed last, and the time: all that was done in the test is done once more, and counted by pieces.
 
 import { LONGEST_RUN } from "../engine/key_queue.js";
 import { Answers, readTraced } from "../engine/tracing.js";
@@ -9,11 +9,11 @@ import * as say from "../../words/testing.js";
  * @typedef {import("../machine/source_map.js").SourceMap} SourceMap
  * @typedef {import("./test_session.js").Done} Done
  * @typedef {import("./test_session.js").TestSession} TestSession
- * @typedef {{ address: number, cycles: number }} Passed after so many cycles of the test
+ * @typedef {{ address: number, cycles: number }} Passed after this many cycles of the test
  */
 
 /**
- * What was done in a test, in pieces as long as the bench takes.
+ * Yields the work of a test, in pieces as long as the bench accepts.
  * @param {Done[]} done
  * @returns {Generator<Done>}
  */
@@ -25,7 +25,7 @@ function* piecesOf(done) {
 }
 
 /**
- * The last time that one of some addresses was passed; null where none was.
+ * Returns the last time that one of some addresses was passed; null if none was.
  * @param {TestSession} session
  * @param {Set<number>} addresses
  * @returns {Passed | null}

@@ -1,4 +1,4 @@
-// What tests are run on: a session in memory with the texts of a board and a program, and their names; or what is refused of them.
+// The initial state of tests: a session in memory with the texts of a board and a program, and their names; or the errors of the texts.
 
 import { readBoard, refusalOf } from "../bench/answers.js";
 import { matchAnswers, readInputs } from "../bench/inputs.js";
@@ -13,15 +13,15 @@ import { romCodes } from "../engine/rom_codes.js";
  * @typedef {import("../engine/engine_host.js").EngineHost} Engine
  * @typedef {{ boardText: string, programText: string }} Texts
  *
- * What is wrong with a text: its line (0 where none is known), and why; `number` is that of a refusal by the bench, 0 for none. `file` is
- * the name of a text of tests.
+ * The error of a text: its line (0 if unknown), and the reason; `number` is that of a refusal by the bench, 0 for none. `file` is the name
+ * of a text of tests.
  * @typedef {{ text: "board" | "program" | "tests" | "properties", file?: string, line: number, number: number, words: string }} TextFault
- * @typedef {{ file: Uint8Array, names: Names & { map: SourceMap }, codes: Uint8Array }} Prepared the session, the names, and what
- *   stands in ROM
+ * @typedef {{ file: Uint8Array, names: Names & { map: SourceMap }, codes: Uint8Array }} Prepared the session, the names, and the contents
+ * of ROM
  */
 
 /**
- * What cannot be right with the names of keys and lamps, and with the displays.
+ * Returns the errors in the names of keys and lamps, and in the displays.
  * @param {Face} face
  * @param {import("../bench/answers.js").Board} board
  * @returns {TextFault[]}

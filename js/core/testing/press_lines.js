@@ -7,10 +7,10 @@ import { keysOf } from "./test_text.js";
 /**
  * @typedef {import("../board/face.js").Face} Face
  *
- * How long each key is down, and how long it is up behind that, in cycles.
+ * How long each key is down, and how long it is up after that, in cycles.
  * @typedef {{ down: number, up: number }} Pace
  *
- * The lines, the last of which asks what the lamps show; or the first name that no key has.
+ * The lines, the last of which asks for the lamps; or the first name that is not a key.
  * @typedef {{ lines: string[], unknown: string | null }} PressLines
  */
 
@@ -18,7 +18,7 @@ import { keysOf } from "./test_text.js";
 export const USUAL_PACE = { down: TOOL_KEY_DOWN_CYCLES, up: TOOL_KEY_UP_CYCLES };
 
 /**
- * Returns lines for keys. A word that is no name is taken letter by letter.
+ * Returns lines for keys. A word that is not a name is read letter by letter.
  * @param {Face} face
  * @param {string} text names with blanks between them
  * @param {Pace} pace

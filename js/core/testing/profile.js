@@ -1,4 +1,4 @@
-// Where the cycles of tests go, by the counts of an account: a row for each label, and one for each key that was pressed.
+// The cycles of tests by label and key, by the counts of an account: a row for each label, and one for each key that was pressed.
 
 /**
  * @typedef {import("../machine/source_map.js").SourceMap} SourceMap
@@ -6,8 +6,8 @@
  * @typedef {import("./account.js").Calls} Calls
  * @typedef {import("./account.js").KeyTimes} KeyTimes
  *
- * The cycles from a label up to the next one (`own`), and of those that a JMS goes to how often, with all that they call; the label ""
- * is for what stands before all labels, at the address -1.
+ * The cycles from a label up to the next one (`own`), and how often a JMS calls it, with the cycles of all that it calls; the label "" is
+ * for the code before all labels, at the address -1.
  * @typedef {{ label: string, address: number, own: number, calls: Calls | null }} ProfileRow
  * @typedef {{ total: number, rows: ProfileRow[], begunBefore: number, keys: (KeyTimes & { key: string })[] }} Profile
  */
@@ -32,6 +32,6 @@ export function profileOf({ own, calls, keys, total, begunBefore }, map) {
     while (at + 1 < rows.length && rows[at + 1].address <= address) at += 1;
     rows[at].own += cycles;
   });
-  const told = rows.filter((row) => row.own > 0).sort((one, other) => other.own - one.own);
-  return { total, rows: told, begunBefore, keys: [...keys].map(([key, times]) => ({ key, ...times })) };
+  const shown = rows.filter((row) => row.own > 0).sort((one, other) => other.own - one.own);
+  return { total, rows: shown, begunBefore, keys: [...keys].map(([key, times]) => ({ key, ...times })) };
 }

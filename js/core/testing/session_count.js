@@ -1,8 +1,8 @@
-// Counts the next cycles of a session: which lines of its program are run, and where the cycles go.
+// Counts the next cycles of a session: the lines of its program that run, and where the cycles go.
 
 import { romCodes } from "../engine/rom_codes.js";
 import { sessionProgram } from "../engine/session_program.js";
-import { withoutStops } from "../engine/wave_recorder.js";
+import { withoutStops } from "../engine/without_stops.js";
 import { Account } from "./account.js";
 import { coverageOf } from "./coverage.js";
 import { profileOf } from "./profile.js";
@@ -16,13 +16,13 @@ import { TestSession } from "./test_session.js";
  * @typedef {import("./prepared.js").TextFault} TextFault
  * @typedef {import("./profile.js").Profile} Profile
  *
- * What the cycles were, after how many of them the session stopped, and why ("end" where nothing stopped it).
+ * The counts, after how many cycles the session stopped, and why ("end" if nothing stopped it).
  * @typedef {{ coverage: Coverage, profile: Profile, elapsed: number, stop: string }} Counted
  * @typedef {{ faults: TextFault[], other: OtherByte | null, counted: Counted | null }} SessionCount without `counted` nothing was run
  */
 
 /**
- * Counts the cycles that come next on a session; the state stays as it is. Breakpoints and watches do not matter.
+ * Counts the next cycles of a session; the state is unchanged. Breakpoints and watches are ignored.
  * @param {EngineHost} engine
  * @param {State} state
  * @param {string} programText

@@ -27,7 +27,7 @@ export function described(name) {
 const placeOf = ({ source, line }) => `${source}:${line}`;
 
 /**
- * Returns the lines below `not ok`: what is wrong, where, and what the session was then.
+ * Returns the lines below `not ok`: the error, its place, and the state of the session then.
  * @param {Failure} failure
  */
 function diagnosis(failure) {
@@ -41,7 +41,7 @@ function diagnosis(failure) {
 }
 
 /**
- * Returns the result of a test; before the first one the head stands.
+ * Returns the result of a test; the head precedes the first one.
  * @param {Outcome} outcome
  * @param {number} number of the test, from 1
  * @param {number} total
@@ -61,7 +61,7 @@ export function tapOfTests(outcomes) {
 }
 
 /**
- * Returns what is wrong in a failed test, for people who read it beside a run; "" for one that passed.
+ * Returns the error of a failed test, for people who watch a run; "" for one that passed.
  * @param {Outcome} outcome
  */
 export function failureLine({ name, failure }) {

@@ -1,4 +1,4 @@
-// Runs tests: each on a session of its own in memory. Without a document: the page's worker and node call it.
+// Runs tests: each on a session of its own in memory. Both the page's worker and node call it.
 
 import { counted, hex } from "../bench/numbers.js";
 import { itemsOf, valueIn } from "../bench/state_line.js";
@@ -8,7 +8,7 @@ import { cyclesOf } from "../engine/rom_codes.js";
 import { TOOL_KEY_DOWN_CYCLES, TOOL_KEY_UP_CYCLES } from "../time/mcs4_time.js";
 import { lastInstructions } from "./last_instructions.js";
 import { wordsOfPassed } from "./last_passed.js";
-import { Paper } from "./paper.js";
+import { Printout } from "./printout.js";
 import { TestSession } from "./test_session.js";
 import { keysOf } from "./test_text.js";
 import * as say from "../../words/testing.js";
@@ -25,14 +25,14 @@ import * as say from "../../words/testing.js";
  * @typedef {import("./test_text.js").Step} Step
  * @typedef {import("./test_text.js").Test} Test
  *
- * What is wrong: the line of the step with its text and the name of its source, and why; what the session was by then: the cycles of the
- * test, lamps and registers as `state` tells them, the last instructions; and the bytes of its file, null where it was not begun.
+ * An error: the line of the step with its text and the name of its source, and the reason; the state of the session then: the cycles of the
+ * test, lamps and registers as `state` reports them, the last instructions; and the bytes of its file, null if it was not begun.
  * @typedef {{ source: string, line: number, text: string, words: string, cycles: number, lamps: string, registers: string, trace: string[],
  *   file: Uint8Array | null }} Failure
  * @typedef {{ name: string, line: number, cycles: number, failure: Failure | null }} Outcome
  */
 
-/** How often it is looked for what an eye sees. */
+/** The interval at which the perceived lamps are checked. */
 const LOOK_CYCLES = 1000;
 
 /** @param {Step} step */
@@ -46,22 +46,22 @@ export class TestRun {
    * @param {Engine} engine
    * @param {Prepared} prepared
    * @param {Account} account
-   * @param {() => Promise<void>} breathe
+   * @param {() => Promise<void>} yieldToMessages
    * @param {import("../board/face.js").Printer | null} [printer] that tests ask for
    */
-  constructor(engine, prepared, account, breathe, printer = null) {
+  constructor(engine, prepared, account, yieldToMessages, printer = null) {
     this.engine = engine;
     this.prepared = prepared;
     this.account = account;
-    this.breathe = breathe;
+    this.yieldToMessages = yieldToMessages;
     this.printer = printer;
-    /** @type {Map<string, { file: Uint8Array, codes: number[] }>} the states that were saved, and what was printed by then */
+    /** @type {Map<string, { file: Uint8Array, codes: number[] }>} the saved states, and the printout of each */
     this.states = new Map();
     /** The number of the text whose states they are. */
     this.textNumber = 1;
     this.down = TOOL_KEY_DOWN_CYCLES;
     this.up = TOOL_KEY_UP_CYCLES;
-    /** Whether a test may put other bytes into ROM, so that each one reads them again. */
+    /** True if a test may load other bytes into ROM, so that each one reads them again. */
     this.changesRom = true;
     /** @type {(session: TestSession) => void} takes the session of each test at its end */
     this.ran = () => {};
@@ -77,15 +77,15 @@ export class TestRun {
     this.textNumber = textNumber;
     const begun = from === "" ? { file: this.prepared.file, codes: [] } : this.states.get(from);
     if (!begun) {
-      const words = say.stateNotThere(from, savedBy);
+      const words = say.stateMissing(from, savedBy);
       const [step] = steps;
       const failure = { ...placeOf(step), words, cycles: 0, lamps: "", registers: "", trace: [], file: null };
       return { name, line, cycles: 0, failure };
     }
     this.account.codes = this.prepared.codes;
-    const paper = this.printer && new Paper(this.printer, begun.codes);
-    const session = new TestSession(this.engine, begun.file, this.account, this.breathe, paper);
-    // Another test may have put other bytes into ROM.
+    const paper = this.printer && new Printout(this.printer, begun.codes);
+    const session = new TestSession(this.engine, begun.file, this.account, this.yieldToMessages, paper);
+    // Another test may have loaded other bytes into ROM.
     if (from !== "" && this.changesRom) session.readCodes();
     this.down = TOOL_KEY_DOWN_CYCLES;
     this.up = TOOL_KEY_UP_CYCLES;
@@ -98,7 +98,7 @@ export class TestRun {
   /**
    * @param {TestSession} session
    * @param {Step[]} steps
-   * @param {string[]} within where they stand, the innermost first: what is repeated, and shared steps
+   * @param {string[]} within where they are, the innermost first: repeated and shared steps
    * @returns {Promise<Failure | null>}
    */
   async runSteps(session, steps, within) {
@@ -111,7 +111,7 @@ export class TestRun {
       }
       const words = await this.do(session, action);
       const where = within.length > 0 ? `; in ${within.join(", in ")}` : "";
-      if (words !== "") return { ...placeOf(step), words: words + where, ...this.toldOf(session) };
+      if (words !== "") return { ...placeOf(step), words: words + where, ...this.reportOf(session) };
     }
     return null;
   }
@@ -131,16 +131,16 @@ export class TestRun {
     for (let turn = 1; turn <= action.times; turn++) {
       const failure = await this.runSteps(session, action.steps, [say.turnOf(turn, action.times, line), ...within]);
       if (failure) return failure;
-      await this.breathe();
+      await this.yieldToMessages();
     }
     return null;
   }
 
   /**
-   * What a session is where a test has failed.
+   * Returns the state of a session in which a test has failed.
    * @param {TestSession} session
    */
-  toldOf(session) {
+  reportOf(session) {
     const [state] = session.ask("state\n");
     const registers = ["acc", "cy", "pc", "dcl", "test", "r"].map((key) => `${key} ${valueIn(state, key)}`).join(" ");
     return {
@@ -151,7 +151,7 @@ export class TestRun {
   }
 
   /**
-   * Does a step; gives what is wrong, "" for nothing.
+   * Does a step; returns the error, "" for none.
    * @param {TestSession} session
    * @param {Exclude<Action, { steps: Step[] }>} action
    * @returns {Promise<string>}
@@ -159,7 +159,7 @@ export class TestRun {
   async do(session, action) {
     if (action.kind === "run") return this.advance(session, action.cycles);
     if (action.kind === "until") return this.until(session, action.condition, action.cycles);
-    if (action.kind === "expect") return session.look(action.condition).told;
+    if (action.kind === "expect") return session.look(action.condition).message;
     if ("keys" in action) return this.doKeys(session, action.keys, action.kind);
     if (action.kind === "set") {
       for (const command of action.commands) session.command(command);
@@ -190,7 +190,7 @@ export class TestRun {
     return stop === "code" ? say.runStopped(session.elapsed, this.wordsOfCode(session)) : "";
   }
 
-  /** @param {TestSession} session stands before a code that is not an instruction */
+  /** @param {TestSession} session is at a code that is not an instruction */
   wordsOfCode({ counter }) {
     return say.beforeCode(this.named(counter));
   }
@@ -202,7 +202,7 @@ export class TestRun {
   }
 
   /**
-   * The key that a value names now; or why there is none, in words.
+   * Returns the key that a value names now; or why there is none, in words.
    * @param {TestSession} session
    * @param {ChosenKey} chosen
    * @returns {{ key: Key | undefined, words: string }}
@@ -241,7 +241,7 @@ export class TestRun {
   }
 
   /**
-   * Runs till a condition holds at the end of an instruction. At a label a run goes on, to the next time that it is reached.
+   * Runs until a condition holds at the end of an instruction. At a label a run continues to the next time that it is reached.
    * @param {TestSession} session
    * @param {Condition} condition
    * @param {number} within
@@ -252,10 +252,10 @@ export class TestRun {
     if (!isLabel && session.look(condition).holds) return "";
     const end = begun + within;
     const stop = isLabel ? await this.untilLabel(session, condition, end) : await this.untilChange(session, condition, end);
-    const { holds, told } = session.look(condition);
+    const { holds, message } = session.look(condition);
     if (holds) return "";
-    if (stop === "code") return say.runStoppedAt(session.elapsed - begun, this.wordsOfCode(session), told);
-    return say.didNotCome(within, told, wordsOfPassed(session, this.prepared.names.map, condition));
+    if (stop === "code") return say.runStoppedAt(session.elapsed - begun, this.wordsOfCode(session), message);
+    return say.didNotCome(within, message, wordsOfPassed(session, this.prepared.names.map, condition));
   }
 
   /**
@@ -276,7 +276,7 @@ export class TestRun {
   }
 
   /**
-   * What the condition is about is traced; first for a short time, since it may come soon.
+   * Traces the condition's places, first for a short time, because it may become true soon.
    * @param {TestSession} session
    * @param {Condition} condition
    * @param {number} end
@@ -284,9 +284,9 @@ export class TestRun {
   async untilChange(session, condition, end) {
     if (condition.needs.includes("seen") || condition.needs.includes("printed")) return this.untilSeen(session, condition, end);
     let stop = "end";
-    // What no trace tells (TEST, a cycle that is owed) can change with the first cycle alone.
+    // The values that no trace reports (TEST, a pending second cycle) can change with the first cycle only.
     let piece = condition.places.length > 0 ? 1000 : 1;
-    const beside = { ...session.told(condition).beside, owed: "0" };
+    const beside = { ...session.readCondition(condition).beside, owed: "0" };
     for (; session.elapsed < end && stop === "end"; piece = piece < 10000 ? piece * 10 : LONGEST_RUN) {
       const most = end - session.elapsed;
       piece = Math.min(piece, most);
@@ -298,7 +298,7 @@ export class TestRun {
   }
 
   /**
-   * What an eye sees of a display whose digits are lit by turns, and what is printed: it is looked at every so many cycles.
+   * Samples a multiplexed display as perceived, and the printout, at a fixed number of cycles.
    * @param {TestSession} session
    * @param {Condition} condition
    * @param {number} end
@@ -313,10 +313,10 @@ export class TestRun {
   }
 
   /**
-   * How long it takes, at most so many cycles, until the condition holds; 0 where it does not within a piece.
+   * Returns how long it takes, at most this many cycles, until the condition holds; 0 if it does not within a piece.
    * @param {TestSession} session
    * @param {Condition} condition
-   * @param {Beside} beside what no run changes
+   * @param {Beside} beside the values that no run changes
    * @param {number} piece
    * @param {number} most
    */

@@ -1,5 +1,5 @@
-// A session under test: in memory, with what was done on it since a moment that is kept, so that the last instructions can be told. Each
-// run is counted before it is done.
+// A session under test: in memory, with the work since a stored moment, so that the last instructions can be reported. Each run is counted
+// before it is done.
 
 import { SEEN_QUESTION } from "../engine/seen_text.js";
 import { readCounter, readRegisters } from "../bench/answers.js";
@@ -13,37 +13,37 @@ import { Answers, readTraced, valuesOf } from "../engine/tracing.js";
  * @typedef {import("../conditions/condition_language.js").Beside} Beside
  * @typedef {import("../conditions/condition_language.js").Condition} Condition
  * @typedef {import("../engine/engine_host.js").EngineHost} Engine
- * @typedef {import("./paper.js").Paper} Paper
- * @typedef {{ line: string, cycles: number }} Done a command, or a run of so many cycles ("run")
- * @typedef {{ file: Uint8Array, elapsed: number, done: Done[] }} Kept a moment, and what was done since
+ * @typedef {import("./printout.js").Printout} Printout
+ * @typedef {{ line: string, cycles: number }} Done a command, or a run of these cycles ("run")
+ * @typedef {{ file: Uint8Array, elapsed: number, done: Done[] }} Kept a moment, and the work since then
  */
 
-/** What was done in the last so many cycles can be told. */
-export const TOLD_CYCLES = 26;
+/** The last cycles whose instructions can be listed. */
+export const SHOWN_CYCLES = 26;
 
 export class TestSession {
   /**
    * @param {Engine} engine
    * @param {Uint8Array} file how it begins
    * @param {Account} account
-   * @param {() => Promise<void>} breathe between pieces of long work; it throws where the work is cancelled
-   * @param {Paper | null} paper what is printed, where a test asks for it
+   * @param {() => Promise<void>} yieldToMessages between pieces of long work; throws if the work is cancelled
+   * @param {Printout | null} paper the printout, if a test asks for it
    */
-  constructor(engine, file, account, breathe, paper = null) {
+  constructor(engine, file, account, yieldToMessages, paper = null) {
     this.engine = engine;
     this.file = file.slice();
-    /** The session before the last run, whose bytes the next run takes. */
+    /** The session before the last run, whose bytes the next run reuses. */
     this.past = file.slice();
     this.account = account;
-    this.breathe = breathe;
+    this.yieldToMessages = yieldToMessages;
     this.paper = paper;
     this.elapsed = 0;
     this.marked = 0;
-    /** How many cycles the last run did, 0 where none was done. */
+    /** The cycles of the last run, 0 if there was none. */
     this.ran = 0;
     /** @type {Kept} */
     this.kept = { file: file.slice(), elapsed: 0, done: [] };
-    /** How it began, and all that was done since; runs that follow each other are one. */
+    /** Its beginning, and all that was done since; consecutive runs are joined. */
     this.begun = file;
     /** @type {Done[]} */
     this.all = [];
@@ -55,7 +55,7 @@ export class TestSession {
     this.beginsOwing = this.owed === "1";
   }
 
-  /** What was printed, where a test asks for it. */
+  /** Returns the codes that were printed, if a test asks for them. */
   get codes() {
     return this.paper ? this.paper.codes : [];
   }
@@ -73,7 +73,7 @@ export class TestSession {
   }
 
   /**
-   * A command other than a run, which is accepted.
+   * Serves a command other than a run, which is accepted.
    * @param {string} line
    */
   command(line) {
@@ -85,13 +85,13 @@ export class TestSession {
     this.all.push({ line, cycles: 0 });
   }
 
-  /** Bytes in ROM are others now. */
+  /** Bytes in ROM have changed. */
   readCodes() {
     this.account.codes = romCodes(this.engine, this.file);
   }
 
   /**
-   * Runs for so many cycles, or up to an earlier stop; gives why it stopped.
+   * Runs for this many cycles, or up to an earlier stop; returns why it stopped.
    * @param {number} cycles
    */
   async run(cycles) {
@@ -100,14 +100,14 @@ export class TestSession {
       const { cycles: done, end } = this.runPiece(piece);
       left -= done;
       if (end !== "end") return end;
-      await this.breathe();
+      await this.yieldToMessages();
     }
     return "end";
   }
 
-  /** @param {number} cycles at most so many as a line takes */
+  /** @param {number} cycles at most the limit of a line */
   runPiece(cycles) {
-    if (cycles >= TOLD_CYCLES) this.spare.set(this.file);
+    if (cycles >= SHOWN_CYCLES) this.spare.set(this.file);
     const { account, engine, file, paper, past } = this;
     const asked = paper ? paper.questions(cycles) : "";
     const answers = new Answers(engine.serve(file, `${asked}${account.questions(cycles)}run ${cycles}\nregs\n`, past).answers);
@@ -121,7 +121,7 @@ export class TestSession {
     [this.file, this.past] = [past, file];
     this.takeRegisters(answers.take());
     this.ran = ran.cycles;
-    if (ran.cycles >= TOLD_CYCLES) {
+    if (ran.cycles >= SHOWN_CYCLES) {
       const { file: old } = this.kept;
       this.kept = { file: this.spare, elapsed: this.elapsed, done: [] };
       this.spare = old;
@@ -149,11 +149,11 @@ export class TestSession {
   }
 
   /**
-   * Returns the values of a condition's places, and what it asks besides.
+   * Returns the values of a condition's places, and what else it asks for.
    * @param {Condition} condition
    * @returns {{ values: string[], beside: Beside }}
    */
-  told({ places, needs }) {
+  readCondition({ places, needs }) {
     const seen = needs.includes("seen") ? this.ask(SEEN_QUESTION) : [];
     const asksKeys = needs.includes("keys");
     const trace = places.length > 0 ? `trace 1 ${places.join(" ")}\n` : "";
@@ -165,12 +165,12 @@ export class TestSession {
   }
 
   /**
-   * Whether a condition holds now; else `told` says what is, and what has to be.
+   * Returns whether a condition holds now; if not, `message` says what is, and what must be.
    * @param {Condition} condition
    */
   look(condition) {
-    const { values, beside } = this.told(condition);
-    return { holds: condition.holds(values, beside), told: condition.tell(values, beside) };
+    const { values, beside } = this.readCondition(condition);
+    return { holds: condition.holds(values, beside), message: condition.explain(values, beside) };
   }
 
   /** The test is over. */

@@ -1,5 +1,5 @@
-// Tests of a program: their texts are read, they are run, and what they have run is counted. Without a document: the page's worker calls
-// it, and node (mcs4 test, cover and profile).
+// Tests of a program: reads their texts, runs them, and counts their coverage. The page's worker and node (mcs4 test, cover and profile)
+// call it.
 //
 //     const report = await runTests(engine, { boardText, programText, testText }, async (done, total) => true);
 
@@ -21,23 +21,23 @@ import { readSources } from "./test_text.js";
  * @typedef {import("./test_text.js").Source} Source
  * @typedef {import("./test_text.js").Test} Test
  * @typedef {{ boardText: string, programText: string, testText?: string, sources?: Source[] }} TestedTexts with a text of tests, or several
- *   with their names
+ * with their names
  *
- * What is counted (of less than an Account the coverage or the profile is empty); what takes each outcome, with its number, as its test
- * ends; what takes the session of each test; and the one test that is run, by its name and its source, after those that lead to the state
- * that it goes on from.
+ * The options: what is counted (with less than an Account the coverage or the profile is empty); the receiver of each result, with its
+ * number, when its test ends; the receiver of the session of each test; and the only test to run, by its name and its source, after those
+ * that lead to its starting state.
  * @typedef {{ Counting?: typeof Account, ended?: (outcome: Outcome, number: number, total: number) => void,
  *   ran?: (session: import("./test_session.js").TestSession) => void, only?: { name: string, source: string } | null }} Options
  *
- * What came of tests; with faults nothing was run.
+ * The results of tests; with errors nothing was run.
  * @typedef {{ faults: TextFault[], outcomes: Outcome[], coverage: Coverage | null, profile: Profile | null }} Report
  */
 
-/** Between two looks whether to go on pass so many milliseconds at least. */
+/** The least milliseconds between two checks whether to continue. */
 const BREATH_TIME = 40;
 
 /**
- * What is wrong with the texts; nothing is run.
+ * Returns the errors of the texts, and runs nothing.
  * @param {Engine} engine
  * @param {TestedTexts} texts
  */
@@ -52,7 +52,7 @@ export function readTested(engine, texts) {
 }
 
 /**
- * Returns whether any of some steps, and of the steps within them, does an action of a kind.
+ * Returns whether any of some steps, including nested ones, does an action of a kind.
  * @param {import("./test_text.js").Step[]} steps
  * @param {(action: Action) => boolean} isWanted
  * @returns {boolean}
@@ -62,7 +62,7 @@ function someStep(steps, isWanted) {
 }
 
 /**
- * Returns the test that saves the state that another one goes on from; undefined if that begins at power-on.
+ * Returns the test that saves another one's starting state; undefined if that begins at power-on.
  * @param {Test[]} tests
  * @param {Test} test
  */
@@ -83,7 +83,7 @@ function leadingTo(tests, isWanted) {
   return tests.filter((test) => wanted.has(test));
 }
 
-/** @type {(action: Action) => boolean} whether its condition is about what is printed */
+/** @type {(action: Action) => boolean} whether its condition is about the printout */
 const asksForPaper = (action) => "condition" in action && action.condition.needs.includes("printed");
 
 /** @type {(action: Action) => boolean} */
@@ -93,7 +93,7 @@ const changesRom = (action) => action.kind === "set" && action.changesRom;
  * Runs tests.
  * @param {Engine} engine
  * @param {TestedTexts} texts
- * @param {(done: number, total: number) => Promise<boolean>} goesOn is told how many tests are done, and says whether to go on
+ * @param {(done: number, total: number) => Promise<boolean>} goesOn receives how many tests are done, and returns whether to continue
  * @param {Options} [options]
  * @returns {Promise<Report>}
  */
@@ -107,13 +107,13 @@ export async function runTests(engine, texts, goesOn, options = {}) {
   /** @type {Outcome[]} */
   const outcomes = [];
   let last = performance.now();
-  const breathe = async () => {
+  const yieldToMessages = async () => {
     if (performance.now() - last < BREATH_TIME) return;
     if (!(await goesOn(outcomes.length, tests.length))) throw new Cancelled();
     last = performance.now();
   };
   const printer = tests.some(({ steps }) => someStep(steps, asksForPaper)) ? prepared.names.face.printer : null;
-  const run = new TestRun(engine, prepared, account, breathe, printer);
+  const run = new TestRun(engine, prepared, account, yieldToMessages, printer);
   run.ran = ran;
   run.changesRom = tests.some(({ steps }) => someStep(steps, changesRom));
   if (tests.length > 1) engine.keep(prepared.file);
@@ -121,7 +121,7 @@ export async function runTests(engine, texts, goesOn, options = {}) {
     const saving = savingOf(tests, test);
     outcomes.push(await run.run(test, saving ? saving.name : ""));
     ended(outcomes[outcomes.length - 1], outcomes.length, tests.length);
-    await breathe();
+    await yieldToMessages();
   }
   account.codes = prepared.codes;
   const { map } = prepared.names;

@@ -1,6 +1,5 @@
-// Texts of tests: their tests with their steps, and what cannot be right in them. Shared steps of a text can be done by those after it;
-// states are those of one text.
-// The manual ("The lines of a test") has the language.
+// Texts of tests: their tests with their steps, and the errors in them. Shared steps of a text can be used by the texts after it; states
+// belong to one text. The manual ("The lines of a test") describes the language.
 
 import { durationOf, wholeDuration } from "../conditions/durations.js";
 import { expressionOf, testConditionOf } from "../conditions/condition_language.js";
@@ -14,7 +13,7 @@ import * as say from "../../words/testing.js";
 /**
  * @typedef {import("../conditions/condition_language.js").Condition} Condition
  * @typedef {import("../conditions/condition_language.js").Names} Names
- * @typedef {{ name: string, text: string }} Source a text of tests with the name of its file, "" where it has none
+ * @typedef {{ name: string, text: string }} Source a text of tests with the name of its file, "" if it has none
  * @typedef {{ file: string, line: number, column: number, words: string }} Fault `column` counts from 0, -1 if none is known
  * @typedef {{ name: string, key: import("../board/key_place.js").Key, press: string, release: string }} Key with the commands that move it
  *
@@ -22,7 +21,7 @@ import * as say from "../../words/testing.js";
  * key whose name is the value.
  * @typedef {{ word: string, place: string, probe: string, keys: Key[] }} ChosenKey
  *
- * What a step does.
+ * The action of a step.
  * @typedef {{ kind: "from" | "save", state: string } | { kind: "press" | "release" | "keys", keys: (Key | ChosenKey)[] }
  *   | { kind: "pace", down: number, up: number } | { kind: "run", cycles: number }
  *   | { kind: "until", condition: Condition, cycles: number } | { kind: "expect", condition: Condition }
@@ -30,18 +29,18 @@ import * as say from "../../words/testing.js";
  *   | { kind: "repeat", times: number, steps: Step[] } | { kind: "do", name: string, steps: Step[] }} Action
  * @typedef {{ source: Source, line: number, text: string, action: Action }} Step
  *
- * Shared steps, with how many lines are done by them, what is repeated as often as it is.
+ * Returns shared steps expanded, with the number of lines that they execute; repeated steps count as often as they are repeated.
  * @typedef {{ source: Source, name: string, line: number, steps: Step[], lines: number }} Shared
  * @typedef {{ textNumber: number, name: string, line: number, from: string, steps: Step[] }} Test `textNumber` counts the texts from 1;
  *   `from` is the state that it begins with, "" for none
  * @typedef {{ tests: Test[], faults: Fault[] }} TestText
  */
 
-/** What is repeated is done so often at most, and all of a test comes to so many lines. */
+/** The most repetitions, and the most lines of a test with all its repetitions. */
 const MOST_TIMES = 100000;
 const MOST_LINES = 1000000;
 
-/** What is wrong with a line, and from which of its columns on. */
+/** An error of a line, with its first column. */
 class BadLine extends Error {
   /**
    * @param {string} words
@@ -79,7 +78,7 @@ export function namedKey(name, key) {
 }
 
 /**
- * The names of a board's keys with the commands that move them, in the order of the face; last what is at TEST.
+ * Returns the names of a board's keys with the commands that move them, in the order of the front panel; last the switch at TEST.
  * @param {import("../board/face.js").Face} face
  * @returns {Map<string, Key>}
  */
@@ -112,14 +111,14 @@ class TestReader {
     this.sharing = null;
     /** @type {Step[]} the steps that the next one is added to */
     this.steps = [];
-    /** @type {{ line: number, times: number, outer: Step[] }[]} what is repeated and has no end yet, the outermost first */
+    /** @type {{ line: number, times: number, outer: Step[] }[]} the repetitions that have no end yet, the outermost first */
     this.repeats = [];
-    /** How many lines are done by the test, or by the shared steps, so far. */
+    /** The number of lines of the test, or of the shared steps, so far. */
     this.lines = 0;
     this.hasBegun = false;
   }
 
-  /** @returns {Test} the one that is being read */
+  /** @returns {Test} the current one */
   get test() {
     return this.tests[this.tests.length - 1];
   }
@@ -142,7 +141,7 @@ class TestReader {
         if (!(fault instanceof BadLine)) throw fault;
         const column = fault.column < 0 ? -1 : fault.column + whole[at].length - whole[at].trimStart().length;
         this.addFault(at + 1, fault.message, Math.min(column, whole[at].trimEnd().length - 1));
-        // What is no text of tests has no lines of one.
+        // A text that is not one of tests has no lines of one.
         if (!this.hasBegun && /^[\t -~]*$/.test(lines[at])) return;
       }
     }
@@ -165,7 +164,7 @@ class TestReader {
   }
 
   /**
-   * From a mark with blanks around it on, but in the name of a test, and where a key has the mark as its name.
+   * Returns where the comment begins: at a mark with blanks around it, except in the name of a test, or if a key has the mark as its name.
    * @param {string} line
    */
   withoutComment(line) {
@@ -198,7 +197,7 @@ class TestReader {
     }
   }
 
-  /** A test, or shared steps, begin: what came before has ended. */
+  /** A test, or shared steps, begin: the former one has ended. */
   begin() {
     this.closeRepeats();
     this.hasBegun = true;
@@ -228,10 +227,10 @@ class TestReader {
     this.sharing = { source, name, line, steps: this.steps, lines: 0 };
     this.shared.set(name, this.sharing);
     if (name === "") fail(say.STEPS_NAME);
-    if (before) fail(say.stepsAlready(name, before.line, before.source.name === source.name ? "" : before.source.name));
+    if (before) fail(say.stepsDefinedTwice(name, before.line, before.source.name === source.name ? "" : before.source.name));
   }
 
-  // --- what is repeated ---
+  // --- repetitions ---
 
   closeRepeats() {
     for (const { line } of this.repeats.splice(0)) this.addFault(line, say.NO_END);
@@ -246,7 +245,7 @@ class TestReader {
   }
 
   /**
-   * So many lines more are done, as often as what is repeated here.
+   * Counts `count` more lines, as often as they are repeated here.
    * @param {number} more
    */
   addLines(more) {
@@ -289,11 +288,11 @@ class TestReader {
   readDo(words) {
     if (words.length !== 2) fail(say.DO_FORM);
     const [, name] = words;
-    if (this.sharing && this.sharing.name === name) fail(say.stepsOfThemselves(name));
+    if (this.sharing && this.sharing.name === name) fail(say.stepsUseThemselves(name));
     const there = [...this.shared.keys()].filter((each) => each !== "" && (!this.sharing || each !== this.sharing.name));
     const found = this.shared.get(name);
     if (!found) {
-      const which = say.stepsThere(there.join(" "), name);
+      const which = say.knownSteps(there.join(" "), name);
       return fail(say.noSteps(name, which));
     }
     this.addLines(found.lines);
@@ -315,7 +314,7 @@ class TestReader {
     if (kind === "until") return this.readUntil(text, begin);
     if (kind === "expect") return { kind, condition: this.readCondition(text.slice(begin), begin) };
     if (kind === "set") return { kind, ...this.readSet(text.slice(begin), begin) };
-    if (kind === "mark" || kind === "reset") return rest.length === 0 ? { kind } : fail(say.standsAlone(kind));
+    if (kind === "mark" || kind === "reset") return rest.length === 0 ? { kind } : fail(say.takesNoArgument(kind));
     return fail(say.noForm(kind.slice(0, 30), say.FIRST_WORDS));
   }
 
@@ -336,7 +335,7 @@ class TestReader {
       return { kind, state };
     }
     if (this.test.steps.length > 1 || this.repeats.length > 0) fail(say.FROM_FORM);
-    const there = this.savedBy.size > 0 ? say.statesThere([...this.savedBy.keys()].join(" ")) : "";
+    const there = this.savedBy.size > 0 ? say.knownStates([...this.savedBy.keys()].join(" ")) : "";
     if (!before) fail(say.noSuchState(state, there));
     if (before === this.test) fail(say.OWN_STATE);
     this.test.from = state;
@@ -344,7 +343,7 @@ class TestReader {
   }
 
   /**
-   * Names of keys; for `keys` a word that is none is taken letter by letter.
+   * Returns names of keys; for `keys` a word that is not a name is read letter by letter.
    * @param {"press" | "release" | "keys"} kind
    * @param {string[]} words
    * @returns {Action}
@@ -360,7 +359,7 @@ class TestReader {
   }
 
   /**
-   * A word that names a key by a value: `{r4}` the one whose name the value is, `{r4:red,green}` one of these; null where it is none.
+   * Reads a word that names a key by a value: `{r4}` the key whose name is the value, `{r4:red,green}` one of these; null if it is none.
    * @param {string} word
    * @returns {ChosenKey | null}
    */
@@ -379,7 +378,7 @@ class TestReader {
 
   /**
    * @param {string} name
-   * @param {string} word in which it stands
+   * @param {string} word that contains it
    * @returns {never}
    */
   noKey(name, word) {
@@ -413,7 +412,7 @@ class TestReader {
   }
 
   /**
-   * @param {string} text what follows `set`
+   * @param {string} text the text after `set`
    * @param {number} begin its column in the line
    */
   readSet(text, begin) {
@@ -440,7 +439,7 @@ function readPace(words) {
 }
 
 /**
- * What steps do, without shared steps: the lines of these stand in the place of `do`.
+ * Returns the steps without shared steps: the lines of these replace `do`.
  * @param {Step[]} steps
  * @returns {{ text: string, action: Action }[]}
  */

@@ -1,9 +1,9 @@
-// Words that are meant by one that is nearly so.
+// Suggestions for misspelled words.
 
 import * as say from "../../words/text.js";
 
 /**
- * How many letters have to be put in, taken away, changed, or changed with their neighbour to make one word of the other.
+ * Returns the edit distance of two words: how many letters must be inserted, deleted, changed, or swapped with their neighbour.
  * @param {string} one
  * @param {string} other
  */
@@ -23,7 +23,7 @@ export function distance(one, other) {
 }
 
 /**
- * The words that are most like another one, at most two; none where none is much like it.
+ * Returns the words that are most like another one, at most two; none if none is similar.
  * @param {string} wanted
  * @param {Iterable<string>} words
  * @returns {string[]}
@@ -37,7 +37,7 @@ export function mostAlike(wanted, words) {
 }
 
 /**
- * A question for the words that may be meant; "" where there is none.
+ * Returns a question that suggests words; "" if there are none.
  * @param {string[]} words
  */
 export function meant(words) {

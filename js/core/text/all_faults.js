@@ -1,10 +1,9 @@
-// All that is wrong in the texts of a board and of a program, with its places and words, as every editor shows it: the page's, and those
+// All errors in the texts of a board and of a program, with their places and messages, as every editor shows them: the page's, and those
 // that ask the language server.
 
 import { faceFaults } from "../board/face.js";
 import { SourceMap } from "../machine/source_map.js";
-import { faultsOfBoard } from "./board_words.js";
-import { KnownFaults } from "./known_faults.js";
+import { errorOfBoard } from "./board_error.js";
 import { LACKS_ROM, findProgramFaults, lacksOfRom } from "./program_faults.js";
 import { alignedText, faultsOfLines, sentText } from "./text_fault.js";
 
@@ -14,18 +13,20 @@ import { alignedText, faultsOfLines, sentText } from "./text_fault.js";
  * @typedef {import("./program_faults.js").AllFaults} AllFaults
  * @typedef {import("./text_fault.js").Fault} Fault
  *
- * What is asked of the bench: how a text is refused, if it is; the answers to `map` of a program; the numbers of the ROMs that the board
- * has; the lines of a board's text that make it refused by a number.
- * @typedef {{ refuse: (word: "asm" | "wire", text: string) => Promise<Refusal | null>, map: (sent: string) => Promise<string[]>,
- *   roms: () => Promise<Set<number>>, boardFault: (sent: string, number: number) => Promise<import("./text_fault.js").Lines | null>
- * }} Asked
+ * @typedef {object} Asked the questions to the bench
+ * @property {(sent: string) => Promise<import("../bench/text_judgement.js").BoardError | null>} wiring returns the error in a board's text;
+ * null if there is none
+ * @property {(sent: string) => Promise<import("../bench/text_judgement.js").LineError[]>} errors returns the errors of a program's lines
+ * @property {(sent: string) => Promise<Refusal | null>} refuse returns how a program is rejected on the board, if it is
+ * @property {(sent: string) => Promise<string[]>} map returns the answers to `map` of a program
+ * @property {() => Promise<Set<number>>} roms returns the numbers of the ROMs that the board has
  */
 
-/** Refusals of texts have numbers up to here. */
+/** The last number of the refusals of texts. */
 const LAST_OF_TEXTS = 42;
 
 /**
- * A refusal of a text; null for any other one.
+ * Returns the refusal of a text; null for any other answer.
  * @param {Refusal | null} refusal
  */
 export function refusalOfText(refusal) {
@@ -35,25 +36,25 @@ export function refusalOfText(refusal) {
 export class AllFaultsOfTexts {
   /**
    * @param {Asked} asked
-   * @param {Map<string, Instruction>} instructions
-   * @param {(number: number) => string} wordsOf gives the words of a refusal
-   * @param {KnownFaults} [known] what the bench said of lines before
+   * @param {{ instructions: Map<string, Instruction>, tables: Map<string, Map<string, string>> }} manual its instructions, and the values
+   *   of the keys of a board's tables
+   * @param {(number: number) => string} wordsOf returns the message of a refusal
    */
-  constructor(asked, instructions, wordsOf, known = new KnownFaults()) {
-    this.known = known;
+  constructor(asked, { instructions, tables }, wordsOf) {
     this.asked = asked;
     this.instructions = instructions;
+    this.tables = tables;
     this.wordsOf = wordsOf;
   }
 
   /**
    * @param {string} text
    * @param {() => boolean} isWanted
-   * @returns {Promise<AllFaults | undefined>} undefined where it is not wanted any more
+   * @returns {Promise<AllFaults | undefined>} undefined if it is no longer wanted
    */
   async ofProgram(text, isWanted) {
-    const found = await findProgramFaults(text, this.instructions, this.wordsOf,
-      async (part) => (isWanted() ? this.asked.refuse("asm", part) : undefined), this.known);
+    const found = await findProgramFaults(text, this.instructions, this.wordsOf, this.asked);
+    if (!isWanted()) return undefined;
     if (!found || !found.rest || found.rest.number !== LACKS_ROM || found.faults.length > 0) return found;
     const sent = sentText(text, ";");
     const map = new SourceMap(await this.asked.map(sent), sent);
@@ -63,34 +64,20 @@ export class AllFaultsOfTexts {
   /**
    * @param {string} text
    * @param {() => boolean} isWanted
-   * @returns {Promise<AllFaults | undefined>} undefined where it is not wanted any more
+   * @returns {Promise<AllFaults | undefined>} undefined if it is no longer wanted
    */
   async ofBoard(text, isWanted) {
     const unsent = faultsOfLines(text, "#");
     if (unsent.length > 0) return { faults: unsent, areAll: true, rest: null };
-    const refusal = await this.asked.refuse("wire", sentText(text, "#"));
+    const error = await this.asked.wiring(sentText(text, "#"));
     if (!isWanted()) return undefined;
-    if (!refusal) return { faults: [], areAll: true, rest: null };
-    const faults = faultsOfBoard(alignedText(text, "#"));
-    if (faults.some(({ number }) => number === refusal.number)) return { faults, areAll: true, rest: null };
-    return { faults: [await this.ofPart(text, refusal.number)], areAll: false, rest: null };
-  }
-
-  /**
-   * The part of a board's text that is refused by a number, found by taking parts away.
-   * @param {string} text
-   * @param {number} number
-   * @returns {Promise<Fault>}
-   */
-  async ofPart(text, number) {
-    const found = await this.asked.boardFault(sentText(text, "#"), number);
-    const line = found ? found.from : 1;
-    return { number, line, from: 0, to: (text.split("\n")[line - 1] || "").length, words: this.wordsOf(number) };
+    if (!error) return { faults: [], areAll: true, rest: null };
+    return { faults: [errorOfBoard(alignedText(text, "#"), error, this.tables, this.wordsOf)], areAll: false, rest: null };
   }
 }
 
 /**
- * What a board's comments tell and what is not understood: the board can be wired all the same.
+ * Returns the errors in a board's comments; the board can be applied nevertheless.
  * @param {string} text
  * @returns {Fault[]}
  */

@@ -1,4 +1,4 @@
-// The lines by which a program comes into ROM with nothing else beside it: as few commands as can be.
+// The lines that load a program into ROM and nothing else: as few commands as possible.
 
 import { counted, hex, upTo } from "../bench/numbers.js";
 import { PAGES, PAGE_BYTES } from "../bench/rom_bytes.js";
@@ -6,20 +6,20 @@ import { LONGEST_TEXT } from "./text_fault.js";
 import * as say from "../../words/text.js";
 
 /**
- * What a program does not fill: how many bytes it puts, and the addresses of the bytes that stand in ROM beside it and are not 0.
+ * The bytes outside a program: its number of bytes, and the addresses at which ROM is not 0 outside it.
  * @typedef {{ size: number, left: number[] }} Leftovers
  */
 
-/** So many bytes stand in a line, whose characters are at most 255. */
+/** The most bytes in a line, whose characters are at most 255. */
 const MOST_ON_LINE = 60;
-/** So many zeros do. */
+/** The most zeros in a line. */
 const MOST_ZEROS = 126;
 
 /** @type {(address: number) => number} the ROM that an address belongs to */
 const pageOf = (address) => Math.floor(address / PAGE_BYTES);
 
 /**
- * Stretches of addresses that follow each other, each as its first address and its length.
+ * Returns consecutive addresses as ranges, each as its first address and its length.
  * @param {number[]} addresses rising
  * @returns {{ from: number, count: number }[]}
  */
@@ -35,10 +35,10 @@ function stretchesOf(addresses) {
 }
 
 /**
- * Statements that put bytes from an address on.
+ * Returns statements that put bytes from an address on.
  * @param {number} from
  * @param {number[]} bytes
- * @param {number} most so many on a line
+ * @param {number} most the maximum on a line
  */
 function statementsOf(from, bytes, most) {
   const lines = [`ORG 0x${hex(from, 3)}\n`];
@@ -47,7 +47,7 @@ function statementsOf(from, bytes, most) {
 }
 
 /**
- * Statements that put 0 at addresses.
+ * Returns statements that put 0 at addresses.
  * @param {number[]} addresses rising
  * @returns {string[]} lines in pairs or more, each stretch as one text
  */
@@ -74,9 +74,9 @@ function statementsForRoms(bytes, pages) {
 }
 
 /**
- * Returns the texts of `asm` that put bytes into ROM, each as long as a text can be. Of several texts each one has a byte of each ROM, so
- * that the bench rejects all of them if the board lacks one of these.
- * @param {Int16Array} bytes by their addresses, less than 0 where there is none
+ * Returns the texts of `asm` that put bytes into ROM, each as long as a text can be. Each of several texts has a byte for each ROM, so that
+ * the bench rejects all of them if the board lacks one.
+ * @param {Int16Array} bytes by their addresses, negative if there is none
  * @returns {string[]}
  */
 export function textsOfBytes(bytes) {
@@ -98,7 +98,7 @@ export function textsOfBytes(bytes) {
 }
 
 /**
- * The texts of `asm` that put a program into ROM, and 0 at other addresses: one, where all of it has room in one text; the program's own
+ * Returns the texts of `asm` that put a program into ROM, and 0 at other addresses: one, if all of it fits in one text; the program's own
  * is the last one.
  * @param {string} program as it is sent
  * @param {number[]} addresses rising
@@ -107,7 +107,7 @@ export function textsOfBytes(bytes) {
 export function programTexts(program, addresses) {
   const texts = [program];
   for (const piece of clearing(addresses)) {
-    // The program's own text comes first in its text, so that its lines keep their numbers.
+    // The program's own lines are first in its text, so that they keep their numbers.
     if (texts[0].length + piece.length <= LONGEST_TEXT) texts[0] += piece;
     else texts.unshift(piece);
   }
@@ -115,7 +115,7 @@ export function programTexts(program, addresses) {
 }
 
 /**
- * What "assemble only" leaves, in words.
+ * Returns what "assemble only" leaves unchanged, in words.
  * @param {Leftovers} leftovers
  * @param {string} counter as it is written
  */

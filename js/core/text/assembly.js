@@ -1,11 +1,12 @@
-// A line of a program's text, cut into its words. What is right in it the bench alone says; this is for colours, help, and words of faults.
+// A line of a program's text, split into its words. Only the bench decides whether it is right; this is for colours, help, and words of
+// errors.
 
 /**
- * A word and where it stands in its line.
+ * A word and its place in its line.
  * @typedef {{ text: string, from: number, to: number }} Word
  *
- * A line's parts: a label or the name that it defines, whether it defines one by `=`, the first word of its statement, the operands of
- * that (of a definition its value), and where its comment begins.
+ * A line's parts: a label or the name that it defines, whether it defines one by `=`, the first word of its statement, the operands of that
+ * (of a definition its value), and where its comment begins.
  * @typedef {{ label: Word | null, defines: boolean, head: Word | null, operands: Word[], comment: number }} Parts
  *
  * @typedef {"comment" | "label" | "instruction" | "directive" | "register" | "number" | "name" | "unknown"} Kind
@@ -20,7 +21,7 @@ export const NAME = /^[A-Za-z_][A-Za-z0-9_]*$/;
 export const LONGEST_NAME = 16;
 
 /**
- * The word in a stretch of a line, without the blanks round it; null where there is none.
+ * Returns the word in a stretch of a line, without the blanks around it; null if there is none.
  * @param {string} line
  * @param {number} from
  * @param {number} to
@@ -35,7 +36,7 @@ function wordIn(line, from, to) {
 }
 
 /**
- * The words between commas; one that is missing is an empty word at its place.
+ * Returns the words between commas; a missing one is an empty word at its place.
  * @param {string} line
  * @param {number} from
  * @param {number} to
@@ -52,7 +53,7 @@ function operandsIn(line, from, to) {
   return words;
 }
 
-/** @type {Map<string, Parts>} lines that were cut before: a text is cut anew after each edit */
+/** @type {Map<string, Parts>} lines that were split before: a text is split again after each edit */
 const known = new Map();
 const MOST_KNOWN = 8192;
 const LONGEST_KNOWN = 255;
@@ -94,7 +95,7 @@ function cut(line) {
 }
 
 /**
- * What an operand is by its form.
+ * Returns the kind of an operand, by its form.
  * @param {string} text
  * @returns {Kind}
  */
@@ -105,7 +106,7 @@ export function kindOfOperand(text) {
 }
 
 /**
- * The words of a line with their kinds, as they stand in it.
+ * Returns the words of a line with their kinds, in order.
  * @param {string} line
  * @param {(word: string) => boolean} isInstruction
  * @returns {Token[]}
@@ -140,7 +141,7 @@ export function namesOf(lines) {
 }
 
 /**
- * The word of letters and digits round a place of a line; null where there is none.
+ * Returns the word of letters and digits around a place of a line; null if there is none.
  * @param {string} line
  * @param {number} at
  * @returns {Word | null}

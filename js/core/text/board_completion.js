@@ -1,5 +1,5 @@
-// What a word of a board's text that is being typed can become: a part with all its keys, a key, or a value, of the lines that the board
-// has so far.
+// The completions of a word that is typed in a board's text: a part with all its keys, a key, or a value, of the lines that the board has
+// so far.
 
 import { MOST, linesOf } from "../bench/board_form.js";
 import { upTo } from "../bench/numbers.js";
@@ -15,11 +15,11 @@ import * as say from "../../words/text.js";
  * @typedef {import("../bench/board_form.js").BoardLine} BoardLine
  */
 
-/** What stands before the caret where a value is typed: its key, an array that is open, a quote that is open, and the value so far. */
+/** The text before the caret if a value is typed: its key, an array that is open, a quote that is open, and the value so far. */
 const VALUE = /(\w+)\s*=\s*(?:\[(?:[^\][\]"]|"[^"\n]*")*)?("?)([\w.]*)$/;
 
 /**
- * What a line is, in words.
+ * Returns the description of a line.
  * @param {BoardLine} line
  */
 function wordsOfLine({ name, kind, isInput }) {
@@ -28,7 +28,7 @@ function wordsOfLine({ name, kind, isInput }) {
   return kind === "ram" ? say.lineOfRam(third, second, first) : say.bitOfChain(second, first);
 }
 
-/** So many characters before the caret are looked at. */
+/** The most characters before the caret that are searched. */
 const MOST_BEFORE = 2000;
 
 /** The parts of a board's text, as far as it can be read. */
@@ -46,7 +46,7 @@ class Parts {
   }
 
   /**
-   * What a key can have as its value; the names of lines and ports stand in quotes.
+   * Returns the possible values of a key; names of lines and ports are in quotes.
    * @param {string} table
    * @param {string} key
    * @returns {{ list: Fitting[], isQuoted: boolean }}
@@ -68,7 +68,7 @@ class Parts {
   }
 
   /**
-   * Each part, with all its keys, as one that can be wired where the board has the lines for it.
+   * Returns each part, with all its keys, with wires if the board has the lines for it.
    * @returns {Fitting[]}
    */
   templates() {

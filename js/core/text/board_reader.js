@@ -1,7 +1,6 @@
-// A board's text, read as far as it is TOML of the form that boards have, with the place of each key and value; what is not is told. The
-// bench alone says whether a text is right: this finds the words for what it refuses.
+// A board's text, read as far as it is TOML in the form of boards, with the place of each key and value; the rest is reported. Only the
+// bench decides whether a text is right: this finds the words for what it rejects.
 
-import { NOT_TOML } from "../bench/board_fault.js";
 import { RANGES } from "../bench/board_form.js";
 import { tomlWords } from "./toml_words.js";
 import * as say from "../../words/text.js";
@@ -11,22 +10,23 @@ import * as say from "../../words/text.js";
  * @typedef {import("./toml_words.js").TomlWord} TomlWord
  * @typedef {string | number | boolean | Value[] | Entry} Inner
  *
- * Where something ends: its last line, and the character behind it there.
+ * The end of something: its last line, and the character after it there.
  * @typedef {{ line: number, to: number }} End
  *
- * A value with its place, of an array or a table the opening bracket, and where it ends; `whole` is false for a number that is not an
- * integer.
+ * A value with its place, of an array or a table the opening bracket, and its end; `whole` is false for a number that is not an integer.
  * @typedef {{ inner: Inner, whole: boolean, line: number, from: number, to: number, end: End }} Value
  * @typedef {{ name: string, line: number, from: number, to: number, value: Value }} Key
  *
  * A table with its place, and its keys; one that is written as a value has an end.
  * @typedef {{ table: string, line: number, from: number, to: number, keys: Key[], end?: End }} Entry
  *
- * @typedef {{ entries: Entry[], others: Key[], keys: Key[], faults: Fault[] }} BoardText the tables, the keys at the top that are no
- * tables, all keys at the top, and what is not TOML
+ * @typedef {{ entries: Entry[], others: Key[], keys: Key[], faults: Fault[] }} BoardText the tables, the keys at the top that are not
+ * tables, all keys at the top, and the errors of TOML
  */
 
-/** So many brackets and braces are open at a time, at most: a board has three. */
+/** The refusal of a text that is not TOML. */
+const NOT_TOML = 20;
+/** The most brackets and braces that are open at a time: a board has three. */
 const DEEPEST = 32;
 const INTEGER = /^[+-]?(0|[1-9](_?\d)*)$|^0x[0-9A-Fa-f](_?[0-9A-Fa-f])*$|^0o[0-7]+$|^0b[01]+$/;
 
@@ -56,7 +56,7 @@ export class BoardReader {
     this.faults = [];
     /** @type {Entry | null} the table that keys go into */
     this.open = null;
-    /** How many brackets and braces are open in the value that is read. */
+    /** The number of open brackets and braces in the value that is read. */
     this.depth = 0;
   }
 
@@ -64,7 +64,7 @@ export class BoardReader {
     return this.words[this.at];
   }
 
-  /** @returns {End} where the word ends that was taken last */
+  /** @returns {End} the end of the word that was read last */
   get lastEnd() {
     const { line, to } = this.words[this.at - 1];
     return { line, to };
@@ -77,7 +77,7 @@ export class BoardReader {
 
   /**
    * @param {string} mark
-   * @param {string} words what is wrong where it is missing
+   * @param {string} words the error if it is missing
    */
   take(mark, words) {
     if (!this.isMark(mark)) throw new NotToml(this.word, this.word.fault || words);
@@ -99,9 +99,9 @@ export class BoardReader {
   }
 
   /**
-   * The first word of the line after the one at fault.
+   * Returns the first word of the line after the wrong one.
    * @param {number} line
-   * @param {number} begun the first word of the statement at fault, whose words alone are looked at
+   * @param {number} begun the first word of the wrong statement, whose words alone are examined
    */
   lineAfter(line, begun) {
     let at = begun;
@@ -146,7 +146,7 @@ export class BoardReader {
   }
 
   /**
-   * Tables that are written as values; false where a value is none.
+   * Reads tables that are written as values; returns false if a value is not a table.
    * @param {string} name
    * @param {Inner} inner
    */
@@ -188,7 +188,7 @@ export class BoardReader {
   }
 
   /**
-   * Reads what brackets or braces have inside; too many of them are a fault.
+   * Reads the contents of brackets or braces; too deep nesting is an error.
    * @template Read
    * @param {() => Read} read
    * @returns {Read}
@@ -268,7 +268,7 @@ export function readBoardText(text) {
 }
 
 /**
- * The parts that have lines, as far as the text tells them; of chips no more than there can be.
+ * Returns the parts that have lines, as far as the text lists them; of chips no more than there can be.
  * @param {Entry[]} entries
  */
 export function partsWithLines(entries) {

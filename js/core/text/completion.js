@@ -1,4 +1,4 @@
-// What a word of a program that is being typed can become.
+// The completions of a word that is being typed in a program.
 
 import { DIRECTIVES, namesOf, partsOf } from "./assembly.js";
 import { operandsOfForm } from "./program_words.js";
@@ -6,19 +6,19 @@ import { operandsOfForm } from "./program_words.js";
 /**
  * @typedef {import("../help/manual.js").Instruction} Instruction
  *
- * A word that fits, and what it is.
+ * A word that fits, and its description.
  * @typedef {{ text: string, what: string }} Fitting
- * @typedef {{ from: number, to: number, list: Fitting[] }} Completion the characters of the line that it takes the place of
+ * @typedef {{ from: number, to: number, list: Fitting[] }} Completion the characters of the line that it replaces
  */
 
 const MOST_FITTING = 60;
-/** Between a form and what it does. */
+/** Between a form and its description. */
 const COLUMN = "   ";
 const REGISTERS = [...Array(16).keys()].map((number) => `R${number}`);
 const PAIRS = [...Array(8).keys()].map((number) => `P${number}`);
 
 /**
- * Words of which nothing is said.
+ * Words without a description.
  * @param {string[]} words
  * @returns {Fitting[]}
  */
@@ -27,11 +27,11 @@ export function alone(words) {
 }
 
 /**
- * The words that begin as what stands before the caret does, whatever its case.
+ * Returns the words that begin like the text before the caret, whatever its case.
  * @param {string} line
  * @param {number} at
  * @param {Fitting[]} words
- * @param {RegExp} begins what has been typed of a word
+ * @param {RegExp} begins the typed part of a word
  * @returns {Completion}
  */
 export function fitting(line, at, words, begins = /\w*$/) {
@@ -54,7 +54,7 @@ export function completeProgram(lines, line, at, instructions) {
   const before = text.slice(0, at);
   const { head, comment } = partsOf(before);
   if (comment < before.length) return { from: at, to: at, list: [] };
-  // The word that is being typed is no name of its own.
+  // The word that is being typed is not a name of its own.
   const others = namesOf(lines.map((each, number) => (number === line ? before : each)));
   if (!head || head.to === at) {
     const mnemonics = [...instructions].map(([name, { form, does }]) => ({ text: name, what: form.slice(name.length) + COLUMN + does }));

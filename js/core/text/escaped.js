@@ -1,4 +1,5 @@
-// Texts of others as a terminal may show them: what would move its cursor, change its title or turn the direction of a line is written out.
+// Texts of others, made safe for a terminal: characters that would move its cursor, change its title or turn the direction of a line are
+// written out.
 
 // eslint-disable-next-line no-control-regex
 const UNSHOWN = /[\u0000-\u0008\u000b-\u001f\u007f-\u009f\u061c\u200e\u200f\u2028-\u202e\u2066-\u2069]/g;

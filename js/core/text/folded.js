@@ -1,11 +1,11 @@
-// Paragraphs in lines of a width: each line ends between two words.
+// Paragraphs in lines of a given width: each line ends between two words.
 
 /**
  * Folds a paragraph. A word that is longer than a line has a line of its own.
  * @param {string} text
  * @param {number} width
- * @param {string} [first] what stands before its first line
- * @param {string} [others] what stands before the other ones
+ * @param {string} [first] the prefix of its first line
+ * @param {string} [others] the prefix of the others
  */
 export function folded(text, width, first = "", others = first) {
   const lines = [first];
@@ -23,7 +23,7 @@ export function folded(text, width, first = "", others = first) {
 export const QUOTED = "    ";
 
 /**
- * Folds each line of a message that is too long; what goes on is indented.
+ * Folds each line of a message that is too long; continuations are indented.
  * @param {string} message
  * @param {number} width
  */

@@ -1,11 +1,10 @@
-// Which lines of a text fold away below a line: a part of a program from its label on, a table of a board, a test, lines of comment.
-// Without a document.
+// The lines of a text that fold away below a line: a part of a program from its label on, a table of a board, a test, comment lines.
 
 /**
- * @typedef {(line: number) => string | undefined} LineAt a line of the text, from 0; undefined behind the last one
+ * @typedef {(line: number) => string | undefined} LineAt a line of the text, from 0; undefined after the last one
  *
- * What begins a part of a text: `mark` its comments, `head` a part; `isNested`: a head right behind a line of the part belongs to it, as
- * the label of a loop does to its subroutine.
+ * The beginnings of a text's parts: `mark` of its comments, `head` of a part; `isNested`: a head directly after a line of the part belongs
+ * to it, as the label of a loop belongs to its subroutine.
  * @typedef {{ mark: string, head: RegExp, isNested: boolean }} Parts
  */
 
@@ -22,7 +21,7 @@ function isBlank(text) {
 }
 
 /**
- * Whether a line is nothing but a comment.
+ * Returns whether a line is nothing but a comment.
  * @param {string | undefined} text
  * @param {Parts} parts
  */
@@ -31,7 +30,7 @@ function isComment(text, { mark }) {
 }
 
 /**
- * Whether a part begins here that belongs to no other: behind a blank line or a comment.
+ * Returns whether a part begins here that belongs to no other: after a blank line or a comment.
  * @param {LineAt} lineAt
  * @param {number} line
  * @param {Parts} parts
@@ -42,21 +41,21 @@ function isOuter(lineAt, line, parts) {
 }
 
 /**
- * Whether a part that begins before a line ends there.
+ * Returns whether a part that begins before a line ends there.
  * @param {LineAt} lineAt
  * @param {number} line
  * @param {Parts} parts
- * @param {boolean} isOwn whether the part belongs to no other
+ * @param {boolean} isOwn whether the part is not nested
  */
 function ends(lineAt, line, parts, isOwn) {
   const text = lineAt(line) || "";
   if (parts.head.test(text)) return !isOwn || isOuter(lineAt, line, parts);
-  // A comment at the margin behind a blank line is about what comes.
+  // A comment at the margin after a blank line belongs to what follows.
   return text.startsWith(parts.mark) && isBlank(lineAt(line - 1));
 }
 
 /**
- * The last line that folds away below a line; the line itself where none does.
+ * Returns the last line that folds away below a line; the line itself if none does.
  * @param {LineAt} lineAt
  * @param {number} line from 0
  * @param {Parts} parts
@@ -77,7 +76,7 @@ export function lastFolded(lineAt, line, parts) {
 }
 
 /**
- * The innermost line below which a line folds away with others; -1 where there is none.
+ * Returns the innermost line below which a line folds away with others; -1 if there is none.
  * @param {LineAt} lineAt
  * @param {number} line
  * @param {Parts} parts

@@ -9,10 +9,10 @@ import * as say from "../../words/text.js";
  * How a gap is filled: by blanks, or by tabs as far as they go, with a stop at each multiple of `tabSize`.
  * @typedef {{ tabSize: number, insertSpaces: boolean }} Layout
  *
- * A line, cut: the name that it defines by `=` with its value, or a label and a statement; "" for what it lacks.
+ * A line, split: the name that it defines by `=` with its value, or a label and a statement; "" for what it lacks.
  * @typedef {{ name: string, value: string, label: string, head: string, operands: string, comment: string, indent: number }} CutLine
  *
- * The place of a new text in a line, from 0.
+ * The position of a new text in a line, from 0.
  * @typedef {{ line: number, from: number, to: number, text: string }} Change
  */
 
@@ -72,7 +72,7 @@ function cut(line, isHead, layout) {
 }
 
 /**
- * Returns the length of the longest name among the definitions that follow each other with each line; 0 for any other line.
+ * Returns the length of the longest name among the definitions adjacent to each line; 0 for any other line.
  * @param {(CutLine | null)[]} lines
  */
 function widthsOf(lines) {
@@ -103,7 +103,7 @@ function codeOf({ name, value, label, head, operands }, width, layout) {
 /**
  * Returns the column of a comment.
  * @param {number} end of the code before it, 0 for none
- * @param {number} indent of the comment as it is
+ * @param {number} indent of the present comment
  * @param {number} last column of the comment in the line before, 0 if that begins in no column of comments
  */
 function columnOfComment(end, indent, last) {
@@ -146,7 +146,7 @@ export function faultOfLayout(lines) {
 }
 
 /**
- * Returns what changes from some lines to others, a change for each line that differs: the characters between those that stay.
+ * Returns the changes from some lines to others, one for each line that differs: the characters between those that stay.
  * @param {string[]} before
  * @param {string[]} after as many lines
  * @returns {Change[]}

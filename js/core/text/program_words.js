@@ -1,4 +1,4 @@
-// What is wrong in a line of a program that the bench has refused: the word at fault, and what was expected.
+// The error in a line of a program that the bench has rejected: the wrong word, and what was expected.
 
 import { meant, mostAlike } from "./alike.js";
 import { LAST_ADDRESS } from "../bench/numbers.js";
@@ -10,10 +10,10 @@ import * as say from "../../words/text.js";
  * @typedef {import("./assembly.js").Word} Word
  * @typedef {import("../help/manual.js").Instruction} Instruction
  *
- * What is known of the program: the instructions by their mnemonics, and its names with their lines.
+ * The knowledge of the program: the instructions by their mnemonics, and its names with their lines.
  * @typedef {{ instructions: Map<string, Instruction>, names: Map<string, number> }} Facts
  *
- * The word at fault, and what was expected; where the cure is known, what can take the place of the word.
+ * The wrong word, and what was expected; if the fix is known, the replacement of the word.
  * @typedef {{ word: Word | null, words: string, cures?: string[] }} Found
  */
 
@@ -22,16 +22,16 @@ import * as say from "../../words/text.js";
  * @type {Record<string, { what: string, most: number }>}
  */
 const OPERANDS = {
-  Pk: { what: say.A_PAIR, most: 0 },
-  Rk: { what: say.A_REGISTER, most: 0 },
-  c: { what: say.A_CONDITION, most: 15 },
-  d: { what: say.A_VALUE, most: 15 },
-  b: { what: say.A_BYTE, most: 255 },
-  t: { what: say.AN_ADDRESS, most: LAST_ADDRESS },
+  Pk: { what: say.PAIR_OPERAND, most: 0 },
+  Rk: { what: say.REGISTER_OPERAND, most: 0 },
+  c: { what: say.CONDITION_OPERAND, most: 15 },
+  d: { what: say.VALUE_OPERAND, most: 15 },
+  b: { what: say.BYTE_OPERAND, most: 255 },
+  t: { what: say.ADDRESS_OPERAND, most: LAST_ADDRESS },
 };
 
 /**
- * Returns what an operand is, by its letters in the manual's table.
+ * Returns the meaning of an operand, by its letters in the manual's table.
  * @param {string} kind
  */
 export function wordsOfOperand(kind) {
@@ -39,7 +39,7 @@ export function wordsOfOperand(kind) {
 }
 
 /**
- * What other assemblers write as a number: how it is written here, and words about that; null for anything else.
+ * Converts a number of another assembler: returns its spelling here, with words about that, or null for anything else.
  * @param {string} text
  * @returns {{ number: string, words: string } | null}
  */
@@ -58,7 +58,7 @@ function foreignNumber(text) {
 }
 
 /**
- * What is written as other assemblers write numbers, or as a calculation.
+ * Returns a number in the spelling of other assemblers, or a calculation, in the spelling here.
  * @param {string} text
  */
 function wordsOfNumber(text) {
@@ -72,7 +72,7 @@ function wordsOfNumber(text) {
 }
 
 /**
- * The number as it is written here, where it is written as other assemblers do; none where it is not.
+ * Returns the number in this bench's spelling, if it is in another assembler's; none if it is not.
  * @param {string} text
  */
 function curesOfNumber(text) {
@@ -81,7 +81,7 @@ function curesOfNumber(text) {
 }
 
 /**
- * What was found of a word, with its cures where there are any.
+ * Returns the message about a word, with its fixes if there are any.
  * @param {Word | null} word
  * @param {string} words
  * @param {string[]} cures
@@ -92,7 +92,7 @@ function curable(word, words, cures) {
 }
 
 /**
- * What a word cannot be as a name; "" where it can.
+ * Returns the reason that a word cannot be a name; "" if it can.
  * @param {string} text
  * @param {Facts} facts
  */
@@ -106,7 +106,7 @@ function wordsOfName(text, { instructions }) {
 }
 
 /**
- * What one operand has to be, where it is not.
+ * Returns what an operand must be, if it is not.
  * @param {string} head
  * @param {string} kind its letters in the table
  * @param {Word} word
@@ -161,7 +161,7 @@ function faultOfHead({ label, operands }, head, { instructions }) {
 }
 
 /**
- * Whether a statement can begin with a word.
+ * Returns whether a statement can begin with a word.
  * @param {string} word
  * @param {Facts["instructions"]} instructions
  */
@@ -171,7 +171,7 @@ function isHead(word, instructions) {
 }
 
 /**
- * What takes the place of another assembler's instruction: a condition has a comma before the address.
+ * Returns the replacement of another assembler's instruction: a condition has a comma before the address.
  * @param {string} other
  */
 function asHead(other) {
@@ -249,7 +249,7 @@ function faultOfValue({ head, operands, defines, label }, { instructions }) {
 }
 
 /**
- * The last operand that is a name, or the last one of all.
+ * Returns the last operand that is a name, or the last one of all.
  * @param {Parts} parts
  */
 function target({ operands }) {
@@ -271,7 +271,7 @@ function faultOfUnknown({ operands }, { names }) {
 }
 
 /**
- * What is wrong in a line, by the number of its refusal; null where no more can be told than the number's own words.
+ * Returns the error in a line, by the number of its refusal, or null if the refusal's own message says all.
  * @param {string} line
  * @param {number} number
  * @param {Facts} facts
@@ -281,7 +281,7 @@ export function wordsOfProgramLine(line, number, facts) {
   const parts = partsOf(line);
   if (number === 30) return faultOfForm(parts, facts);
   if (number === 31 && parts.label) {
-    return { word: parts.label, words: say.definedAlready(parts.label.text, facts.names.get(parts.label.text)) };
+    return { word: parts.label, words: say.definedBefore(parts.label.text, facts.names.get(parts.label.text)) };
   }
   if (number === 32) return faultOfUnknown(parts, facts);
   if (number === 33) return faultOfValue(parts, facts);
@@ -290,6 +290,6 @@ export function wordsOfProgramLine(line, number, facts) {
     const head = parts.head.text.toUpperCase();
     return { word, words: say.otherPage(word ? word.text : say.IT, head) };
   }
-  if (number === 35) return { word: parts.head, words: say.BYTE_ALREADY };
+  if (number === 35) return { word: parts.head, words: say.BYTE_TWICE };
   return null;
 }

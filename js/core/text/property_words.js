@@ -1,4 +1,4 @@
-// Words of a text of properties: what a word does, by the manual, and what it can become, with the names of the board and the program.
+// Words of a text of properties: their descriptions in the manual, and their completions, with the names of the board and the program.
 
 import { alone, completeWord, conditionForms, fittings, formsOfTables, saidOf, wordsOfCondition, wordsUpTo } from "./test_words.js";
 import * as say from "../../words/text.js";
@@ -13,15 +13,15 @@ import * as say from "../../words/text.js";
  */
 
 const SECTIONS = [say.MAY_CHANGE, say.MUST_HOLD];
-/** What a line begins with, before a condition. */
+/** The words that begin a line, before a condition. */
 const BEFORE = /^(never|always|reach)$/;
-/** What properties cannot ask for. */
+/** The words of tests that properties cannot use. */
 const OF_TESTS = new Set(["cycles", "printed", "test", "key"]);
-/** What can stand behind a condition. */
+/** The words that can follow a condition. */
 const AFTER = ["for", "only after"];
 
 /**
- * What the manual says of the lines of properties.
+ * Returns the manual's forms for lines of properties.
  * @param {ManualSection[]} manual
  * @returns {PropertyForms}
  */
@@ -41,7 +41,7 @@ export function firstProperties({ keys, lamps }) {
 }
 
 /**
- * The words of a line from where its condition begins; null where it has none.
+ * Returns the words of a line from its condition on; null if it has none.
  * @param {string[]} words
  */
 function conditionOf(words) {
@@ -51,7 +51,7 @@ function conditionOf(words) {
 }
 
 /**
- * What can stand after some words of a line.
+ * Returns the words that can follow some words of a line.
  * @param {string[]} before
  * @param {string} begun the word that is being typed
  * @param {TestNames} names
@@ -82,7 +82,7 @@ export function completeProperty(lines, line, at, names, forms) {
 }
 
 /**
- * What a word of a line means; "" where there is nothing to say.
+ * Returns the help for a word of a line; "" if there is none.
  * @param {string[]} lines
  * @param {number} line from 0
  * @param {number} at
@@ -91,6 +91,6 @@ export function completeProperty(lines, line, at, names, forms) {
 export function helpForProperty(lines, line, at, forms) {
   const words = wordsUpTo(lines[line], at);
   if (words.length === 0) return "";
-  const told = words.length === 1 && forms.lines.find(({ word }) => word === words[0]);
-  return told ? `${told.form}: ${told.does}` : saidOf(forms.conditions, words[words.length - 1]);
+  const known = words.length === 1 && forms.lines.find(({ word }) => word === words[0]);
+  return known ? `${known.form}: ${known.does}` : saidOf(forms.conditions, words[words.length - 1]);
 }

@@ -1,4 +1,4 @@
-// Where a name of a program stands: where it is defined, where it is used, and the text in which it has another name.
+// The places of a program's name: its definition, its uses, and the text in which it is renamed.
 
 import { DIRECTIVES, LONGEST_NAME, NAME, PAIR, REGISTER, namesOf, partsOf, wordAt } from "./assembly.js";
 import * as say from "../../words/text.js";
@@ -33,7 +33,7 @@ export function referencesOf(lines, name) {
 }
 
 /**
- * The name of a program that stands at a place; "" where none does.
+ * Returns the name of a program at a place; "" if there is none.
  * @param {string[]} lines
  * @param {number} line from 0
  * @param {number} at
@@ -46,7 +46,7 @@ export function nameAt(lines, line, at) {
 }
 
 /**
- * Where a name is defined.
+ * Returns the definition of a name.
  * @param {string[]} lines
  * @param {string} name
  */
@@ -55,7 +55,7 @@ export function definitionOf(lines, name) {
 }
 
 /**
- * Why a name cannot have another one, in words; "" where it can.
+ * Returns why a name cannot be renamed, in words; "" if it can.
  * @param {string[]} lines
  * @param {string} name
  * @param {string} wanted

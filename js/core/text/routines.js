@@ -1,18 +1,17 @@
-// The routines of a program: which lines each one can come to, which routines it calls by JMS, and from where it is called. The first
-// statement begins one, and so does each label that a JMS names. A way ends at BBL, at JIN (where it leads to is not in the text), at data
-// and at ORG.
+// The routines of a program: the lines that each one can reach, the routines that it calls by JMS, and its callers. The first statement
+// begins one, and so does each label that a JMS names. A way ends at BBL, at JIN (its target is not in the text), at data and at ORG.
 
 import { namesOf, partsOf } from "./assembly.js";
 
 /**
- * A routine, by the label that begins it ("" for none), with its first and last line, from 0; the last one is that up to which it goes on
- * without a line of another one.
+ * A routine, by the label that begins it ("" for none), with its first and last line, from 0; no line up to the last one belongs to another
+ * routine.
  * @typedef {{ name: string, line: number, from: number, to: number, last: number }} Routine `from` and `to` are the characters of its label
  *
  * A statement: its word in upper case, and the line that its target begins at, -1 for none.
  * @typedef {{ head: string, target: number }} Statement
  *
- * The place of the target in a line that calls.
+ * The position of the target in a line with a call.
  * @typedef {{ line: number, from: number, to: number }} CallPlace
  */
 
@@ -25,7 +24,7 @@ export class Routines {
     this.parts = lines.map(partsOf);
     this.names = namesOf(lines);
     this.statements = this.parts.map((parts) => this.statementOf(parts));
-    /** @type {Map<number, Set<number>>} what each routine comes to, by its first line */
+    /** @type {Map<number, Set<number>>} the lines that each routine reaches, by its first line */
     this.reached = new Map();
     this.routines = this.findRoutines();
   }
@@ -63,7 +62,7 @@ export class Routines {
   }
 
   /**
-   * Returns the lines of the statements that can come after one.
+   * Returns the lines of the possible successors of a statement.
    * @param {number} line
    */
   after(line) {
@@ -73,7 +72,7 @@ export class Routines {
   }
 
   /**
-   * Returns the lines of the statements that a routine comes to.
+   * Returns the lines of the statements that a routine reaches.
    * @param {number} begin its line
    * @returns {Set<number>}
    */
@@ -93,7 +92,7 @@ export class Routines {
   }
 
   /**
-   * Returns the last line up to which all statements are of one routine.
+   * Returns the last line up to which all statements belong to one routine.
    * @param {number} begin its line
    */
   lastOf(begin) {
@@ -104,13 +103,13 @@ export class Routines {
   }
 
   /**
-   * Returns the routine that a line begins, or one that comes to it; null if none does.
+   * Returns the routine that a line begins, or one that reaches it; null if none does.
    * @param {number} line
    */
   routineAt(line) {
     const own = this.routines.find((each) => each.line === line);
     const inside = this.routines.filter((each) => this.linesOf(each.line).has(line));
-    // The nearest one above it, if it is one of several.
+    // The nearest one above it, if it is in several.
     return own || inside.filter((each) => each.line <= line).pop() || inside[0] || null;
   }
 
@@ -156,7 +155,7 @@ export class Routines {
   }
 
   /**
-   * Returns the routine that a call is in: each one that comes to it, else that of the nearest label above it.
+   * Returns the routines that contain a call: each one that reaches it, or that of the nearest label above it.
    * @param {number} line
    * @returns {Routine[]}
    */
@@ -188,7 +187,7 @@ export class Routines {
   }
 
   /**
-   * Returns how often each label is called, and how often it is named otherwise.
+   * Returns how often each label is called, and how often it is used otherwise.
    * @returns {Map<string, { calls: number, others: number }>}
    */
   uses() {

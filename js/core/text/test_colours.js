@@ -5,8 +5,8 @@ import { WORDS } from "../conditions/parser.js";
 /** @typedef {{ from: number, to: number, style: string }} Coloured the characters of a line that have a style */
 
 /**
- * The words that a line begins with; what else is a word of the language; the line that is a name; in which lines no comment stands behind
- * the words; and whether a line may begin with a condition.
+ * The words that begin a line; the other words of the language; the line that is a name; the lines without comments after their words; and
+ * whether a line may begin with a condition.
  */
 const TESTS = {
   first: /^(test|steps|from|save|press|release|keys|pace|run|until|expect|mark|set|reset|do|repeat|end)$/,
@@ -39,13 +39,13 @@ function styleOf(word, isFirst, { first, others, isFree }) {
 }
 
 /**
- * Whether a comment begins at a word.
+ * Returns whether a comment begins at a word.
  * @param {string} rest of the line, from the word on
- * @param {string} first the first word of the line, "" where it is this one
+ * @param {string} first the first word of the line, "" if it is this one
  * @param {typeof TESTS} language
  */
 function isComment(rest, first, language) {
-  // Behind words of keys the mark may be a key's name.
+  // After words of keys the mark may be a key's name.
   return /^[#;]/.test(rest) && (first === "" || (!language.whole.test(first) && /^[#;](\s|$)/.test(rest)));
 }
 

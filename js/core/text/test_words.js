@@ -1,4 +1,4 @@
-// Words of a text of tests: what a word does, by the manual, and what it can become, with the names of the board and the program.
+// Words of a text of tests: their descriptions in the manual, and their completions, with the names of the board and the program.
 
 import { piecesOf, plain } from "../help/manual.js";
 import * as say from "../../words/text.js";
@@ -11,7 +11,7 @@ import * as say from "../../words/text.js";
  */
 
 /**
- * A form of a line or of a condition, as the manual writes it, its first word, and what it does.
+ * A form of a line or of a condition, as the manual writes it, its first word, and its description.
  * @typedef {{ word: string, form: string, does: string }} Form
  * @typedef {{ steps: Form[], conditions: Form[] }} TestForms
  */
@@ -38,7 +38,7 @@ export function formsOfTables(manual, title) {
 }
 
 /**
- * What the manual says of conditions, wherever one can stand.
+ * Returns the manual's forms of conditions, wherever they are allowed.
  * @param {ManualSection[]} manual
  */
 export function conditionForms(manual) {
@@ -47,7 +47,7 @@ export function conditionForms(manual) {
 }
 
 /**
- * What the manual says of the lines of tests.
+ * Returns the manual's forms for lines of tests.
  * @param {ManualSection[]} manual
  * @returns {TestForms}
  */
@@ -69,7 +69,7 @@ export function fittings(forms) {
 export const alone = (words) => words.map((text) => ({ text, what: "" }));
 
 /**
- * What can stand after some words of a line.
+ * Returns the words that can follow some words of a line.
  * @param {string[]} before
  * @param {string} begun the word that is being typed
  * @param {TestNames} names
@@ -85,15 +85,15 @@ function wordsAfter(before, begun, { keys, lamps, labels }, forms) {
   return wordsOfCondition(before.slice(1), { keys, lamps, labels }, forms.conditions, ["within"]);
 }
 
-/** What joins conditions. */
+/** The words that join conditions. */
 const JOINS = new Set(["and", "or", "&&", "||"]);
 
 /**
- * What can stand next in a condition.
+ * Returns the words that can be next in a condition.
  * @param {string[]} before its words so far
  * @param {TestNames} names
  * @param {Form[]} conditions
- * @param {string[]} after what can stand behind it
+ * @param {string[]} after the words that can follow it
  * @returns {Fitting[]}
  */
 export function wordsOfCondition(before, { keys, lamps, labels }, conditions, after) {
@@ -109,10 +109,10 @@ export function wordsOfCondition(before, { keys, lamps, labels }, conditions, af
 }
 
 /**
- * What the word that is being typed can become.
+ * Returns the completions of the word that is being typed.
  * @param {string} line
  * @param {number} at
- * @param {(before: string[], begun: string) => Fitting[]} fitting what can stand after some words
+ * @param {(before: string[], begun: string) => Fitting[]} fitting returns the words that can follow others
  * @returns {Completion}
  */
 export function completeWord(line, at, fitting) {
@@ -138,7 +138,7 @@ export function completeTest(lines, line, at, names, forms) {
 }
 
 /**
- * The words of a line up to a place, that at the place as the last one; none where no word stands there, or in a comment.
+ * Returns the words of a line up to a place, that at the place as the last one; none if no word is there, or in a comment.
  * @param {string} line
  * @param {number} at
  */
@@ -150,17 +150,17 @@ export function wordsUpTo(line, at) {
 }
 
 /**
- * What a table of forms says of a word.
+ * Returns the text of a table of forms for a word.
  * @param {Form[]} forms
  * @param {string} word
  */
 export function saidOf(forms, word) {
-  const told = forms.find((form) => form.word === word) || forms.find((form) => kindOf(form.word) === kindOf(word));
-  return told ? `${told.form}: ${told.does}` : "";
+  const known = forms.find((form) => form.word === word) || forms.find((form) => kindOf(form.word) === kindOf(word));
+  return known ? `${known.form}: ${known.does}` : "";
 }
 
 /**
- * What a word of a line means; "" where there is nothing to say.
+ * Returns the help for a word of a line; "" if there is none.
  * @param {string[]} lines
  * @param {number} line from 0
  * @param {number} at
@@ -170,23 +170,14 @@ export function helpForTest(lines, line, at, { steps, conditions }) {
   const words = wordsUpTo(lines[line], at);
   if (words.length === 0) return "";
   if (words.length > 1) return /^(until|expect)$/.test(words[0]) ? saidOf(conditions, words[words.length - 1]) : "";
-  const told = steps.find(({ word }) => word === words[0]);
-  return told ? `${told.form}: ${told.does}` : "";
+  const known = steps.find(({ word }) => word === words[0]);
+  return known ? `${known.form}: ${known.does}` : "";
 }
 
 /**
- * Places of one kind differ in their numbers, for which the manual has letters: `ram.1.0x20` is as `ram.B.S`.
+ * Places of one kind differ in their numbers, for which the manual has letters: `ram.1.0x20` is `ram.B.S`.
  * @param {string} word
  */
 function kindOf(word) {
   return word.replace(/^@.*/, "@").replace(/0x[0-9A-Fa-f]+|\d+|\b[A-Z]\b/g, "0");
-}
-
-/**
- * Returns the test that a board begins with: its first key turns on its first lamp.
- * @param {{ keys: string[], lamps: string[] }} names of the board
- */
-export function firstTest({ keys: [key], lamps: [lamp] }) {
-  if (key === undefined) return say.ABOUT_TESTS + (lamp === undefined ? say.TEST_OF_CYCLES : say.testOfLamp(lamp));
-  return say.ABOUT_TESTS + (lamp === undefined ? say.testOfKeyAlone(key) : say.testOfKey(key, lamp));
 }

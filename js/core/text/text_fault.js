@@ -1,27 +1,25 @@
-// A text as it is sent, and its lines that cannot be sent. It is sent line for line, without comments and indentation, so these take no
-// room there, and any character may stand in a comment. Everywhere else one that is not of ASCII is at fault.
+// A text as it is sent, and the lines that cannot be sent. It is sent line for line, without comments and indentation, so comments take no
+// room there and may contain any character. Elsewhere a character outside ASCII is an error.
 
-import { LONGEST_LINE } from "../bench/inputs.js";
+import { LINE_TOO_LONG, LONGEST_LINE, NOT_ASCII } from "../bench/inputs.js";
 import * as say from "../../words/text.js";
 
 /**
  * @typedef {{ from: number, to: number }} Lines lines of a text, counted from 1
  *
- * A fault: the number of its refusal (0 where there is none), its line from 1, the characters of the line from `from` to `to`, in words;
- * where its cure is known, what can take the place of these characters.
+ * An error: the number of its refusal (0 if there is none), its line from 1, the characters of the line from `from` to `to`, in words; if
+ * its fix is known, the replacement of these characters.
  * @typedef {{ number: number, line: number, from: number, to: number, words: string, cures?: string[] }} Fault
  *
- * @typedef {";" | "#"} CommentMark what a comment begins with: in a program, in a board's text
+ * @typedef {";" | "#"} CommentMark the beginning of a comment: in a program, in a board's text
  */
 
-/** What a text has at most as it is sent, a line feed counted for each line. */
+/** The longest text that can be sent, with a line feed for each line. */
 export const LONGEST_TEXT = 16384;
-/** What a text has at most with its comments and indentation, in characters. */
+/** The longest text with its comments and indentation, in characters. */
 export const LONGEST_KEPT = 65536;
-/** Refusals: of a line, of a text, of a character. */
-const LINE_TOO_LONG = 12;
+/** The refusal of a text. */
 export const TEXT_TOO_LONG = 13;
-const NOT_ASCII = 14;
 
 /**
  * @param {number} number of the refusal
@@ -34,7 +32,7 @@ export function faultAt(number, { line, from, to }, words) {
 }
 
 /**
- * Where the comment of a line begins; its length where it has none. In a board's text the mark may stand in a string.
+ * Returns the position of a line's comment, or the line's length if it has none. In a board's text the mark may be inside a string.
  * @param {string} line
  * @param {CommentMark} mark
  */
@@ -47,7 +45,7 @@ export function commentAt(line, mark) {
 }
 
 /**
- * Lines as comments, or without their mark where all of them are comments; blank lines stay.
+ * Returns lines as comments, or without their mark if all of them are comments; blank lines stay.
  * @param {string[]} lines
  * @param {CommentMark | string} mark
  */
@@ -58,7 +56,7 @@ export function commented(lines, mark) {
 }
 
 /**
- * A line in which each character has its place, and what is not of ASCII in its comment is a blank.
+ * Returns a line in which each character keeps its place, and characters outside ASCII in its comment are blanks.
  * @param {string} line
  * @param {CommentMark} mark
  */
@@ -80,7 +78,7 @@ export function bare(text) {
 }
 
 /**
- * A line as it is sent. What is left of a line is never a dot alone, which would end the text.
+ * Returns a line as it is sent. It never becomes only a dot, which would end the text.
  * @param {string} line
  * @param {CommentMark} mark
  */
@@ -97,13 +95,13 @@ export function sentLine(line, mark) {
 function changedLines(text, change) {
   if (text === "") return "";
   const lines = text.replace(/\r\n?/g, "\n").split("\n");
-  // A last line of blanks is one that ends, too.
+  // A last line of blanks ends a text, too.
   if (lines[lines.length - 1] === "") lines.pop();
   return lines.map((line) => `${change(line)}\n`).join("");
 }
 
 /**
- * A text whose lines have their lengths, and no character beyond ASCII in comments: in it faults have their places.
+ * Returns a text whose lines keep their lengths, without characters outside ASCII in comments: errors have their places in it.
  * @param {string} text
  * @param {CommentMark} mark
  */
@@ -122,7 +120,7 @@ export function sentText(text, mark) {
 }
 
 /**
- * What a character is that is not of ASCII, and what may stand there.
+ * Returns the name of a character outside ASCII, and what is allowed there.
  * @param {string} character
  */
 function wordsOfCharacter(character) {
@@ -137,7 +135,7 @@ function wordsOfCharacter(character) {
 }
 
 /**
- * @param {string} line in which each character has its place
+ * @param {string} line in which each character keeps its place
  * @param {string} sent
  * @param {number} at its number
  * @returns {Fault | null}
@@ -156,7 +154,7 @@ function faultOfLine(line, sent, at) {
 }
 
 /**
- * Whether each line of a text can be sent: most texts need no closer look.
+ * Returns whether each line of a text can be sent: most texts need no closer check.
  * @param {string} text
  * @param {string[]} sentLines
  */
@@ -165,7 +163,7 @@ function canBeSent(text, sentLines) {
 }
 
 /**
- * The lines of a text that cannot be sent; last the one from which on it is too long.
+ * Returns the lines of a text that cannot be sent; last the one from which on it is too long.
  * @param {string} text
  * @param {CommentMark} mark
  * @returns {Fault[]}

@@ -1,4 +1,4 @@
-// Words about the words of a text, for one who points at them or has the caret there: from the manual's tables.
+// Help for the words of a text, at the pointer or the caret: from the manual's tables.
 
 import { counted } from "../bench/numbers.js";
 import { PAIR, REGISTER, namesOf, partsOf, wordAt } from "./assembly.js";
@@ -11,7 +11,7 @@ import * as say from "../../words/text.js";
  */
 
 /**
- * What an instruction is: its form, words, cycles, what it does, and what becomes of the carry where that is not said.
+ * Returns the help for an instruction: its form, words, cycles, effect, and the carry if the effect does not say.
  * @param {Instruction} instruction
  */
 export function wordsOfInstruction(instruction) {
@@ -22,7 +22,7 @@ export function wordsOfInstruction(instruction) {
 }
 
 /**
- * Returns what an instruction does, and what becomes of the carry where that is not said.
+ * Returns the effect of an instruction, and of the carry if that is not mentioned.
  * @param {Instruction} instruction
  */
 export function doesOf({ does }) {
@@ -30,7 +30,7 @@ export function doesOf({ does }) {
 }
 
 /**
- * What a register or a pair is.
+ * Returns the help for a register or a pair.
  * @param {string} word
  */
 export function wordsOfRegister(word) {
@@ -40,21 +40,21 @@ export function wordsOfRegister(word) {
 }
 
 /**
- * What a directive is; "" for another word.
+ * Returns the help for a directive; "" for any other word.
  * @param {string} word in upper case
  */
 export function wordsOfDirective(word) {
-  if (word === "ORG") return say.ORG_IS;
-  return word === "DB" ? say.DB_IS : "";
+  if (word === "ORG") return say.ORG_HELP;
+  return word === "DB" ? say.DB_HELP : "";
 }
 
 /**
- * What a word of a program is; "" where there is nothing to say.
+ * Returns the help for a word of a program; "" if there is none.
  * @param {string[]} lines
  * @param {number} line from 0
  * @param {number} at
  * @param {Map<string, Instruction>} instructions
- * @param {(name: string) => string} meaningOf gives what a name is, where that is known
+ * @param {(name: string) => string} meaningOf returns the meaning of a name, if known
  */
 export function helpForProgram(lines, line, at, instructions, meaningOf) {
   const text = lines[line] || "";
@@ -92,7 +92,8 @@ export function boardTables(manual) {
 }
 
 /**
- * The table that a line of a board's text stands in; "" at the top. Of the keys `columns` alone has an array that is no array of tables.
+ * Returns the table that contains a line of a board's text; "" at the top. Of the keys only `columns` has an array that is not an array of
+ * tables.
  * @param {string[]} lines
  * @param {number} line from 0
  */
@@ -105,7 +106,7 @@ export function tableAt(lines, line) {
 }
 
 /**
- * What a word of a board's text is.
+ * Returns the help for a word of a board's text.
  * @param {string[]} lines
  * @param {number} line from 0
  * @param {number} at

@@ -1,9 +1,9 @@
-// The words of a TOML text, each with its place; what cannot be one is told.
+// The words of a TOML text, each with its place; invalid ones are reported.
 
 import * as say from "../../words/text.js";
 
 /**
- * A word: a mark, a string without its quotes, a bare word, or the end of a line; `fault` says in words why it is none.
+ * A word: a mark, a string without its quotes, a bare word, or the end of a line; `fault` says in words why it is invalid.
  * @typedef {{ kind: "mark" | "string" | "bare" | "end" | "bad", text: string, line: number, from: number, to: number,
  *   fault: string }} TomlWord
  */
@@ -14,7 +14,7 @@ const BARE = /^[A-Za-z0-9_+:-]+(\.[A-Za-z0-9_+:-]+)*/;
 const STRING = /^"((?:\\.|[^"\\])*)"|^'([^']*)'/;
 
 /**
- * The next word of a line, from a place on.
+ * Reads the next word of a line, from an index on.
  * @param {string} text
  * @param {number} line
  * @param {number} from

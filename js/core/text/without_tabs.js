@@ -3,7 +3,7 @@
 const TAB_WIDTH = 8;
 
 /**
- * A text with blanks in the place of its tabs, of which each ends at a multiple of eight.
+ * Returns a text with blanks in place of its tabs; a tab ends at a multiple of eight.
  * @param {string} text
  */
 export function withoutTabs(text) {

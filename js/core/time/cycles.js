@@ -1,12 +1,12 @@
-// Cycles for people: how many since a reset, since the last stop and between two marks, with the time that a real 4004 takes for them.
+// Cycles for people: the number since a reset, since the last stop and between two marks, with the time that a real 4004 takes for them.
 
 import { counted } from "../bench/numbers.js";
 import { CYCLE_US } from "./mcs4_time.js";
 import * as say from "../../words/time.js";
 
 /**
- * What is kept beside a session: the cycles in all, those up to the last reset and up to the beginning of the last stretch of time, and
- * those at marks, of which there are at most two.
+ * The counts of a session: the cycles in all, those up to the last reset and up to the beginning of the last stretch of time, and those at
+ * marks, of which there are at most two.
  * @typedef {{ total: number, reset: number, from: number, marks: number[] }} KeptCycles
  */
 
@@ -35,13 +35,13 @@ export class Cycles {
     this.reset = reset;
     this.from = from;
     this.marks = marks;
-    /** Whether time stands still: what comes next is another stretch. */
+    /** True if time is paused: what follows is another stretch. */
     this.stands = true;
   }
 
   /**
-   * Takes what the bench has counted.
-   * @param {{ total: number, reset: number }} told
+   * Takes over the bench's counts.
+   * @param {{ total: number, reset: number }} counts
    */
   take({ total, reset }) {
     if (total !== this.total && this.stands) {
@@ -52,7 +52,7 @@ export class Cycles {
     this.reset = reset;
   }
 
-  /** Time stands still. */
+  /** Notes that time is paused. */
   stop() {
     this.stands = true;
   }
@@ -63,7 +63,7 @@ export class Cycles {
   }
 
   /** The cycles since a reset, in the last stretch, and from the first mark to the second or to here; null without a mark. */
-  get told() {
+  get counts() {
     const [first, second = this.total] = this.marks;
     return {
       sinceReset: this.total - this.reset,

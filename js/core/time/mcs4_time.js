@@ -1,18 +1,18 @@
-// The times of the 4004, of a screen, of an eye and of keys, each with its unit in its name. Who needs one takes it from here.
+// The times of the 4004, of a screen, of the eye and of keys, each with its unit in its name.
 
 /** Eight periods of the clock, 1.35 microseconds each, are a cycle; in tenths of a microsecond. */
 export const CYCLE_TENTHS_US = 108;
 export const CYCLE_US = CYCLE_TENTHS_US / 10;
-/** Divided once, so that it is the number nearest to 0.0108. */
+/** Divided once, for the number nearest to 0.0108. */
 export const CYCLE_MS = CYCLE_TENTHS_US / 10000;
 /** 92,592.6 cycles, rounded. */
 export const CYCLES_PER_SECOND = 92593;
 
-/** A frame of a screen that shows 60 in a second, and the whole cycles in it. */
+/** A frame of a screen with 60 in a second, and the whole cycles in it. */
 export const FRAME_MS = 1000 / 60;
 export const FRAME_CYCLES = 1543;
 
-/** An eye follows a lamp within this time: by then 1 - 1/e of a change is seen. */
+/** The eye follows a lamp within this time: by then 1 - 1/e of a change is seen. */
 export const EYE_MS = 30;
 export const EYE_CYCLES = 2778;
 

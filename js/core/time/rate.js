@@ -1,4 +1,4 @@
-// How many cycles a second are done, taken over half a second.
+// The rate of cycles per second, measured over half a second.
 
 const MEASURED = 500;
 
@@ -8,11 +8,11 @@ export class Rate {
     this.since = now;
     this.cycles = 0;
     /** Cycles a second, 0 until it is known. */
-    this.told = 0;
+    this.perSecond = 0;
   }
 
   /**
-   * Whether another rate is told now.
+   * Returns whether another rate is reported now.
    * @param {number} cycles that were done
    * @param {number} now milliseconds
    */
@@ -20,7 +20,7 @@ export class Rate {
     this.cycles += cycles;
     const time = now - this.since;
     if (time < MEASURED) return false;
-    this.told = (this.cycles / time) * 1000;
+    this.perSecond = (this.cycles / time) * 1000;
     this.since = now;
     this.cycles = 0;
     return true;

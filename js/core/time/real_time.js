@@ -1,28 +1,28 @@
-// Real time: how many cycles are due. What a page that is hidden, held up or asleep has missed is left out. For a key cycles are lent: they
-// are done before their time, and owed less afterwards.
+// Real time: how many cycles are due. The time in which a page was hidden, blocked or asleep is left out. For a key press cycles are
+// simulated early, and later frames make up for them.
 
 import { CYCLES_PER_SECOND, FRAME_MS } from "./mcs4_time.js";
 
-/** A frame owes at most so many: what a slow browser has missed is left out. */
+/** The most cycles of a frame: what a slow browser has missed is left out. */
 export const MOST_DUE = 20000;
 /** For a key time may run ahead by this many milliseconds: a frame, which is when lamps can follow. */
 export const MOST_AHEAD = FRAME_MS;
-/** Frames that are so many milliseconds apart: time stood still between them. */
+/** Frames this many milliseconds apart: time was paused between them. */
 export const LONG_GAP = 1000;
 
 export class RealTime {
   /**
    * From these times on, in milliseconds, nothing is owed.
    * @param {number} now the clock of the frames
-   * @param {number} wall the clock on the wall, which goes on while a machine sleeps
+   * @param {number} wall the wall clock, which continues while a machine sleeps
    */
   constructor(now, wall) {
     this.before = now;
     this.seen = wall;
     this.wasHidden = false;
-    /** The cycles that are owed; what was lent counts below 0. */
+    /** The cycles that are due; negative after a key press. */
     this.owed = 0;
-    /** How many cycles, or instructions, a second owes. */
+    /** The cycles, or instructions, that are due in a second. */
     this.perSecond = CYCLES_PER_SECOND;
   }
 
@@ -32,7 +32,7 @@ export class RealTime {
   }
 
   /**
-   * The same from these times on; what was lent is forgotten.
+   * Restarts at these times; cycles simulated early are forgotten.
    * @param {number} now
    * @param {number} wall
    */
@@ -49,7 +49,7 @@ export class RealTime {
   }
 
   /**
-   * Goes on after a time that is left out; null where nothing is, or the milliseconds and whether the page was hidden.
+   * Continues after a gap that is left out; returns null if nothing is, or the milliseconds and whether the page was hidden.
    * @param {number} now
    * @param {number} wall
    * @returns {{ gap: number, wasHidden: boolean } | null}
@@ -66,7 +66,7 @@ export class RealTime {
   /**
    * The cycles that are due at this time; they count as done.
    * @param {number} now
-   * @param {number} [ahead] so many milliseconds are lent
+   * @param {number} [ahead] milliseconds are simulated early
    */
   due(now, ahead = 0) {
     this.owed += (Math.max(0, now - this.before) / 1000) * this.perSecond;

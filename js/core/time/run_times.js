@@ -1,4 +1,4 @@
-// How long the runs in some answers took: their cycles, and the time that a 4004 takes for them.
+// The durations of the runs in some answers: their cycles, and the time that a 4004 takes for them.
 
 import { readRun } from "../bench/answers.js";
 import { CYCLE_TENTHS_US } from "./mcs4_time.js";
@@ -8,7 +8,7 @@ import * as say from "../../words/time.js";
  * Returns the place where a run stopped, in words, by the digits of the counter.
  * @typedef {(counter: string) => string} PlaceOf
  *
- * The time of each run, with where or why it stopped, and that of all; or why there is none, in words.
+ * The time of each run, with where or why it stopped, and the total; or why there is none, in words.
  * @typedef {{ runs: string[], sum: string, words: string }} RunTimes
  */
 

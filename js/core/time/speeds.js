@@ -1,9 +1,9 @@
-// How fast time runs: as in the real chip, a part of that, an instruction a second, or as fast as this machine can.
+// The speeds of time: as in the real chip, a fraction of that, an instruction a second, or as fast as this machine can.
 
 import * as say from "../../words/time.js";
 
 /**
- * `part`: time is so many times slower than real time; `byInstruction`: one instruction each second.
+ * `part`: time is this many times slower than real time; `byInstruction`: one instruction each second.
  * @typedef {{ id: string, words: string, part: number, byInstruction: boolean, isFull: boolean }} Speed
  */
 
@@ -19,7 +19,7 @@ function speed(id, words, some = {}) {
 
 export const REAL = speed("real", say.REAL_TIME);
 
-/** In the order in which they are offered. */
+/** In the order of the menu. */
 export const SPEEDS = [
   REAL,
   speed("tenth", "1/10", { part: 10 }),
@@ -35,7 +35,7 @@ export function speedOf(id) {
 }
 
 /**
- * Whether an eye can follow the line that runs.
+ * Returns whether the eye can follow the line that runs.
  * @param {Speed} each
  */
 export function isFollowed({ part, byInstruction }) {
@@ -43,7 +43,7 @@ export function isFollowed({ part, byInstruction }) {
 }
 
 /**
- * Whether a finger is too fast for the program: keys stay as they are put then, as while time stands still.
+ * Returns whether a finger is too fast for the program: then a click toggles a key, as while time is paused.
  * @param {Speed} each
  */
 export function keepsKeys({ part, byInstruction }) {

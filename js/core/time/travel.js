@@ -1,4 +1,4 @@
-// Going on to a goal, back and forward in time, and what the status says of it.
+// Moves to a goal, back and forward in time, and the status texts about them.
 
 import { wordsOfGone } from "../../words/stops.js";
 import * as say from "../../words/time.js";
@@ -15,22 +15,22 @@ import * as say from "../../words/time.js";
  */
 
 /**
- * What moves through time call.
+ * The calls that moves through time make.
  * @typedef {object} TravelCalls
  * @property {() => Promise<void>} stand Pauses time; resolves once it is paused.
  * @property {() => { board: string, program: string, watched: string[] }} texts Returns the texts whose names a condition may have, and
  *   the watched values.
- * @property {(goal: Goal | null) => void} aim Keeps the goal with the session while it is looked for; null once it is not.
+ * @property {(goal: Goal | null) => void} aim Stores the goal with the session while it is searched for; null once it is not.
  * @property {<Result extends ServedLines>(words: string, work: (ways: Ways) => Promise<Result>) => Promise<Result | null>} change Does
- *   work that changes the session, keeps and shows its result. `words` name the work while it can be cancelled. Resolves to null if it
+ *   work that changes the session, saves and shows its result. `words` name the work while it can be cancelled. Resolves to null if it
  *   was cancelled or failed, which is then reported.
  * @property {(goal: Goal) => void} runTo Lets time run to a goal that the bench has.
- * @property {(tally: Tally) => void} counted Reports what breakpoints did.
+ * @property {(tally: Tally) => void} counted Reports the work of breakpoints.
  * @property {(stop: Stop, goal: Goal) => string} reasonOf Returns the message about why time stopped on its way to a goal.
  * @property {() => string} where Returns the counter with its name and its line, as words.
  * @property {(id: number) => import("../debug/breakpoints.js").Breakpoint | undefined} breakpoint Returns the breakpoint with an id;
  *   undefined if there is none.
- * @property {(words: string) => void} tell Shows a message in the status line.
+ * @property {(words: string) => void} showMessage Shows a message in the status line.
  */
 
 export class Travel {
@@ -44,20 +44,20 @@ export class Travel {
   }
 
   /**
-   * Time passes until a goal is reached, or something else stops it: at once where that is near, else it runs.
+   * Runs until a goal is reached, or something else stops it: at once if the goal is near, otherwise in running time.
    * @param {Goal} goal
    */
   async goOn(goal) {
     await this.calls.stand();
     if (goal.kind === "when") await this.bench.call("takeNames", [this.calls.texts()]);
     this.calls.aim(goal);
-    const told = await this.calls.change(say.LOOKING_FOR_GOAL, (ways) => this.bench.call("goOn", [goal], ways));
+    const result = await this.calls.change(say.LOOKING_FOR_GOAL, (ways) => this.bench.call("goOn", [goal], ways));
     this.calls.aim(null);
-    if (!told) return;
-    const { cycles, isReached, end, id, returns } = told.found;
-    this.calls.counted(told.tally);
+    if (!result) return;
+    const { cycles, isReached, end, id, returns } = result.found;
+    this.calls.counted(result.tally);
     if (end === "bound") this.calls.runTo(goal);
-    else this.calls.tell(this.calls.reasonOf({ why: isReached ? "goal" : end, cycles, id, returns }, goal));
+    else this.calls.showMessage(this.calls.reasonOf({ why: isReached ? "goal" : end, cycles, id, returns }, goal));
   }
 
   /** @param {BackGoal} goal */
@@ -65,12 +65,12 @@ export class Travel {
     await this.calls.stand();
     if (goal.kind === "when") await this.bench.call("takeNames", [this.calls.texts()]);
     const gone = await this.calls.change(say.REPEATING_PAST, (ways) => this.bench.call("goBack", [goal], ways));
-    if (gone) this.calls.tell(wordsOfGone(goal, gone, this.calls.where(), this.calls.breakpoint(gone.id)));
+    if (gone) this.calls.showMessage(wordsOfGone(goal, gone, this.calls.where(), this.calls.breakpoint(gone.id)));
   }
 
   async goForward() {
     await this.calls.stand();
     const gone = await this.calls.change(say.GOING_FORWARD, () => this.bench.call("goForward", []));
-    if (gone) this.calls.tell(wordsOfGone({ kind: "forward" }, gone, this.calls.where()));
+    if (gone) this.calls.showMessage(wordsOfGone({ kind: "forward" }, gone, this.calls.where()));
   }
 }

@@ -1,4 +1,4 @@
-// The lines of a trace for an instruction, up to what it does: its label, the cycles before it, its address, bytes and text.
+// The lines of a trace for an instruction, up to its effect: its label, the cycles before it, its address, bytes and text.
 
 import { hex } from "../bench/numbers.js";
 import { ADDRESSES } from "../bench/rom_bytes.js";
@@ -10,16 +10,18 @@ import { wordsOf } from "../engine/rom_codes.js";
  * @typedef {import("../engine/engine_host.js").State} State
  * @typedef {import("../machine/source_map.js").SourceMap} SourceMap
  *
- * The names of a program, with the lines of its source if they are wanted; `before` is how many lines of its file come before them.
+ * The names of a program, with the lines of its source if they are wanted; `before` is how many lines of its file precede them.
  * @typedef {{ map: SourceMap, source: { lines: string[], before: number } | null }} TraceNames
  */
 
 const WIDTH = 25;
 const WIDTH_OF_SOURCE = 42;
 const TAB = 8;
-/** JUN, JMS, JCN and ISZ of two words in a line of the listing; their target comes last. */
+/** JUN, JMS, JCN and ISZ of two words in a line of the listing; their target is last. */
 const JUMP = /^(?=.{10}(?:JUN|JMS|JCN|ISZ) )(.{7}[^ ].*)0x([0-9A-F]{3})$/;
 const LAST_ADDRESS = ADDRESSES - 1;
+/** The position of the byte at its address in a line of the listing. */
+const CODE_IN_LINE = /** @type {const} */ ([4, 6]);
 
 /**
  * Returns the cycles before an instruction, as a line of a trace begins.
@@ -60,12 +62,10 @@ function textRoundTheEnd(code, second) {
 }
 
 export class InstructionTexts {
-  /**
-   * @param {Uint8Array} codes the bytes in ROM
-   * @param {TraceNames | null} names
-   */
-  constructor(codes, names) {
-    this.codes = codes;
+  /** @param {TraceNames | null} names */
+  constructor(names) {
+    /** The first bytes of the instructions whose texts were read. */
+    this.codes = new Uint8Array(ADDRESSES);
     this.names = names;
     this.width = names && names.source ? WIDTH_OF_SOURCE : WIDTH;
     /** @type {Map<number, { label: string, text: string }>} by address */
@@ -81,7 +81,12 @@ export class InstructionTexts {
   read(engine, state, addresses) {
     const news = addresses.filter((address) => !this.known.has(address));
     if (news.length === 0) return;
-    const { answers } = engine.ask(state, linesOf(news.map((address) => `list 0x${hex(address, 3)} 1`)));
+    // An instruction at the last address may have its second byte at the first one.
+    const listed = news.includes(LAST_ADDRESS) ? [...news, 0] : news;
+    const { answers } = engine.ask(state, linesOf(listed.map((address) => `list 0x${hex(address, 3)} 1`)));
+    listed.forEach((address, at) => {
+      this.codes[address] = parseInt(answers[at].slice(...CODE_IN_LINE), 16);
+    });
     news.forEach((address, at) => this.known.set(address, this.linesAt(address, answers[at])));
   }
 
@@ -101,7 +106,7 @@ export class InstructionTexts {
   }
 
   /**
-   * Puts the label of a jump's target in the place of its address.
+   * Replaces the address of a jump's target by its label.
    * @param {string} text
    */
   withTarget(text) {
@@ -111,7 +116,7 @@ export class InstructionTexts {
   }
 
   /**
-   * Puts the line of the source that begins at an address, with its number, in the place of a text.
+   * Replaces a text by the line of the source that begins at an address, with its number.
    * @param {string} text
    * @param {number} address
    */
@@ -124,7 +129,7 @@ export class InstructionTexts {
   }
 
   /**
-   * Returns the lines of an instruction whose text was read, up to what it does.
+   * Returns the lines of an instruction whose text was read, up to its effect.
    * @param {number} cycles before it
    * @param {number} address
    */
@@ -134,7 +139,7 @@ export class InstructionTexts {
   }
 
   /**
-   * Returns such a line with other words in the place of an instruction.
+   * Returns such a line with other words in place of an instruction.
    * @param {number} cycles
    * @param {string} words
    */

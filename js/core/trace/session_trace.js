@@ -1,9 +1,8 @@
-// The trace of a session from here on, piece by piece, on a copy of its state.
+// The trace of a session from now on, piece by piece, on a copy of its state.
 
 import { readBoard, readRun } from "../bench/answers.js";
 import { LONGEST_RUN } from "../engine/key_queue.js";
-import { romCodes } from "../engine/rom_codes.js";
-import { withoutStops } from "../engine/wave_recorder.js";
+import { withoutStops } from "../engine/without_stops.js";
 import { InstructionTexts } from "./instruction_texts.js";
 import { TraceLines } from "./trace_lines.js";
 import * as say from "../../words/trace.js";
@@ -14,10 +13,10 @@ import * as say from "../../words/trace.js";
  * @typedef {import("./instruction_texts.js").TraceNames} TraceNames
  *
  * Is called between pieces of long work.
- * @typedef {() => Promise<any>} Breathe
+ * @typedef {() => Promise<any>} YieldToMessages
  */
 
-/** The first lines come soon, however many cycles there are. */
+/** The first lines appear soon, however many cycles there are. */
 const FIRST_PIECE = 500;
 const PIECE = 10000;
 const NO_STOP = "end";
@@ -27,16 +26,16 @@ const NO_STOP = "end";
  * @param {EngineHost} engine
  * @param {State} state is moved on
  * @param {number} cycles
- * @param {Breathe} breathe
+ * @param {YieldToMessages} yieldToMessages
  */
-async function runOn(engine, state, cycles, breathe) {
+async function runOn(engine, state, cycles, yieldToMessages) {
   for (let done = 0; done < cycles;) {
     const [answer] = engine.serve(state, `run ${Math.min(LONGEST_RUN, cycles - done)}\n`, state).answers;
     const ran = readRun(answer);
     if (!ran) throw new Error(`the bench answered a run by: ${answer}`);
     done += ran.cycles;
     if (ran.end !== NO_STOP) return { cycles: done, end: ran.end };
-    await breathe();
+    await yieldToMessages();
   }
   return { cycles, end: NO_STOP };
 }
@@ -45,13 +44,12 @@ export class SessionTrace {
   /**
    * @param {EngineHost} engine
    * @param {State} state
-   * @param {Breathe} breathe
+   * @param {YieldToMessages} yieldToMessages
    */
-  constructor(engine, state, breathe) {
+  constructor(engine, state, yieldToMessages) {
     this.engine = engine;
     this.begun = state;
-    this.breathe = breathe;
-    this.codes = romCodes(engine, state);
+    this.yieldToMessages = yieldToMessages;
     this.board = readBoard(engine.ask(state, "board\n").answers);
   }
 
@@ -72,12 +70,12 @@ export class SessionTrace {
    * @param {TraceNames | null} names
    */
   async* last(count, cycles, names) {
-    const { engine, breathe } = this;
-    const stop = await runOn(engine, this.begun.slice(), cycles, breathe);
+    const { engine, yieldToMessages } = this;
+    const stop = await runOn(engine, this.begun.slice(), cycles, yieldToMessages);
     // An instruction takes two cycles at most, and the session may begin within one.
     const from = Math.max(0, stop.cycles - 2 * count - 2);
     const state = withoutStops(engine, this.begun);
-    await runOn(engine, state, from, breathe);
+    await runOn(engine, state, from, yieldToMessages);
     /** @type {string[]} */
     const lines = [];
     for await (const piece of this.lines(state, { from, to: stop.cycles, end: stop.end }, names)) lines.push(...piece);
@@ -86,20 +84,20 @@ export class SessionTrace {
   }
 
   /**
-   * Yields the lines of a range of cycles; behind them, that of the instruction before which the session stops.
+   * Yields the lines of a range of cycles; after them, that of the instruction before which the session stops.
    * @param {State} state is moved on
    * @param {{ from: number, to: number, end: string }} range and why the session stops at its end
    * @param {TraceNames | null} names
    */
   async* lines(state, { from, to, end }, names) {
-    const { engine, board, codes } = this;
-    const trace = new TraceLines(engine, board, new InstructionTexts(codes, names));
+    const { engine, board } = this;
+    const trace = new TraceLines(engine, board, new InstructionTexts(names));
     let stop = { at: from, end };
     yield trace.secondCycle(state, from);
     for (let piece = FIRST_PIECE; stop.at < to && stop.end === end; piece = PIECE) {
       const some = Math.min(piece, to - stop.at);
       yield trace.ofRun(state, some, stop.at);
-      const ran = await runOn(engine, state, some, this.breathe);
+      const ran = await runOn(engine, state, some, this.yieldToMessages);
       const at = stop.at + ran.cycles;
       stop = { at, end: at < to ? ran.end : end };
     }

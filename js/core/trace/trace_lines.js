@@ -1,7 +1,7 @@
-// A trace: a line for each instruction that a run begins, with what it changes. The bench is asked before the run; nothing is run here.
+// A trace: a line for each instruction of a run, with its changes. The bench is asked before the run; nothing is run here.
 
+import { MOST_PLACES } from "../bench/inputs.js";
 import { valueIn } from "../bench/state_line.js";
-import { MOST_PLACES } from "../conditions/condition_language.js";
 import { cyclesOf } from "../engine/rom_codes.js";
 import { Answers, readTraced, valuesOf } from "../engine/tracing.js";
 import { upTo } from "../bench/numbers.js";
@@ -20,7 +20,7 @@ import * as say from "../../words/trace.js";
  * @typedef {{ places: TracePlace[], values: string[], rows: Map<number, string> }} Group
  */
 
-/** The registers that are asked for with the counter, the accumulator and the carry. */
+/** The registers that are queried with the counter, the accumulator and the carry. */
 const SHOWN_REGISTERS = 13;
 const MAIN_PLACES = ["pc", "acc", "cy", ...upTo(SHOWN_REGISTERS).map((at) => `r${at}`)];
 /** A row of these is ` PPP A C R R ..`. */
@@ -41,7 +41,7 @@ function changedRegisters(row, before) {
 }
 
 /**
- * Takes a row of a group of places; returns its changes.
+ * Reads a row of a group of places; returns its changes.
  * @param {Group} group
  * @param {string | undefined} row undefined if nothing changes
  */
@@ -82,9 +82,9 @@ export class TraceLines {
   }
 
   /**
-   * Returns what a run does, an instruction each, with its label on a line of its own.
+   * Returns the trace of a run, an instruction a line, with labels on lines of their own.
    * @param {State} state
-   * @param {number} cycles of the run, at most as many as the bench takes
+   * @param {number} cycles of the run, at most as many as the bench accepts
    * @param {number} elapsed the cycles before it
    */
   ofRun(state, cycles, elapsed) {
@@ -133,7 +133,7 @@ export class TraceLines {
   }
 
   /**
-   * Returns the line of the instruction that comes next, up to what it does.
+   * Returns the line of the next instruction, up to its effect.
    * @param {State} state
    * @param {number} elapsed
    */

@@ -1,6 +1,7 @@
-// The places whose changes a trace reports behind each instruction, in their order.
+// The places whose changes a trace reports after each instruction, in order.
 
 import { hex, upTo } from "../bench/numbers.js";
+import { WRR } from "../engine/rom_codes.js";
 
 /**
  * @typedef {import("../bench/answers.js").Board} Board
@@ -14,7 +15,6 @@ import { hex, upTo } from "../bench/numbers.js";
 
 const WRM = 0xE0;
 const WMP = 0xE1;
-const WRR = 0xE2;
 /** The first of the four instructions that write status characters. */
 const WR0 = 0xE4;
 
@@ -42,7 +42,7 @@ function placesOfChip(bank, chip, begins) {
 }
 
 /**
- * Returns the places of the ROMs that have outputs. What comes in at their inputs is no change.
+ * Returns the places of the ROMs that have outputs. A change at their inputs is not the program's.
  * @param {Board} board
  */
 function placesOfRoms({ roms }) {

@@ -1,5 +1,6 @@
-// Decoders: rows that are made of several lines of a recording. That of a shift register (4003) has the bit that comes in at each clock,
-// and the bits of the register once it is at rest. That of the key matrix has the rows that are driven, and the keys that answer.
+// Decoders: rows that are computed from several lines of a recording. The decoder of a shift register (4003) shows the bit that is shifted
+// in at each clock, and the bits of the register once it is at rest. That of the key matrix shows the driven rows, and the keys that
+// answer.
 
 import { countUpTo } from "./growing.js";
 import * as say from "../../words/waves.js";
@@ -10,7 +11,7 @@ import * as say from "../../words/waves.js";
  * @typedef {import("./wave_words.js").Base} Base
  */
 
-/** A register is at rest after so many cycles without a clock. */
+/** A register is at rest after this many cycles without a clock. */
 export const REST = 16;
 
 /** Values in the track of a shift register. A bit is one of two numbers in turn: equal bits that follow each other are two changes. */
@@ -38,7 +39,7 @@ export function lastRise(clock, until) {
 }
 
 /**
- * Makes the track of a shift register longer, by what comes after a moment.
+ * Extends the track of a shift register by what follows a moment.
  * @param {{ clock: Track, data: Track, rise: number }} from `rise`: the last rise of the clock up to `after`, -1 for none
  * @param {Track} track
  * @param {number} after
@@ -72,7 +73,7 @@ function textOfBits(bits, base) {
 }
 
 /**
- * What a shift register's value is in words: the bit that came in, or the bits that it has at rest.
+ * Returns the text of a shift register's value: the bit that was shifted in, or the bits at rest.
  * @param {number} value of its track
  * @param {number[]} bits
  * @param {Base} base
@@ -85,7 +86,7 @@ export function shiftText(value, bits, base) {
  * The numbers of the bits that are 1.
  * @param {number} value
  * @param {number} from the first bit
- * @param {number} to the one behind the last
+ * @param {number} to the one after the last
  */
 function onesOf(value, from, to) {
   const found = [];
@@ -94,7 +95,7 @@ function onesOf(value, from, to) {
 }
 
 /**
- * What a key scan has found: the rows that are driven, the columns that answer, and the name of each key that answers. A key has a
+ * Returns the result of a key scan: the rows that are driven, the columns that answer, and the name of each key that answers. A key has a
  * column and a row, so its name is known if one row is driven.
  * @param {WaveLine} line
  * @param {number} value of its track

@@ -3,11 +3,11 @@
 /** @typedef {Uint16Array | Uint32Array | Float64Array} Numbers */
 
 const ROOM_AT_FIRST = 64;
-/** So many are dropped at the beginning before the rest is moved there. */
+/** The most elements that are dropped at the beginning before the rest is moved there. */
 const MOST_DROPPED = 4096;
 
 /**
- * How many of some rising numbers are at most this one.
+ * Returns how many of some rising numbers are at most this one.
  * @param {ArrayLike<number>} numbers
  * @param {number} most
  */
@@ -23,7 +23,7 @@ export function countUpTo(numbers, most) {
 
 /** @template {Numbers} Kind */
 export class Growing {
-  /** @param {Kind} numbers those that it begins with; the array is its own from here on */
+  /** @param {Kind} numbers the initial ones; the array is owned from now on */
   constructor(numbers) {
     this.numbers = numbers;
     this.from = 0;
@@ -56,12 +56,12 @@ export class Growing {
     this.numbers = larger;
   }
 
-  /** The last one goes. */
+  /** Removes the last one. */
   pop() {
     this.to -= 1;
   }
 
-  /** @param {number} count so many go at the beginning */
+  /** @param {number} count the number to remove at the beginning */
   drop(count) {
     this.from += count;
     if (this.from < MOST_DROPPED || this.from < this.count) return;
@@ -70,20 +70,20 @@ export class Growing {
     this.from = 0;
   }
 
-  /** @param {number} count so many stay */
+  /** @param {number} count the number that stays */
   cut(count) {
     this.to = this.from + count;
   }
 
   /**
-   * Those that there are now, until the next one comes or goes.
+   * Returns the current elements, until the next one is added or dropped.
    * @returns {Kind}
    */
   get all() {
     return /** @type {Kind} */ (this.numbers.subarray(this.from, this.to));
   }
 
-  /** All of them, of which none is here any more. */
+  /** Returns all of them, and forgets them. */
   take() {
     const taken = /** @type {Kind} */ (this.all.slice());
     this.from = this.to = 0;

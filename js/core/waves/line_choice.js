@@ -7,16 +7,16 @@ import * as say from "../../words/waves.js";
  * @typedef {import("../bench/answers.js").Board} Board
  * @typedef {import("./wave_lines.js").WaveLine} WaveLine
  *
- * The lines of a board with the values that were asked for, and the numbers of the lines that were asked for, in that order.
+ * The lines of a board with the requested values, and the numbers of the requested lines, in that order.
  * @typedef {{ lines: WaveLine[], chosen: number[] }} LineChoice
  */
 
-/** What a name is that no line has. */
+/** An error: a name that no line has. */
 export class NoLine extends Error {}
 
 /** @type {(line: WaveLine) => boolean} whether a line is a bit of the board */
 const isBit = ({ kind }) => kind === "level" || kind === "key" || kind === "test";
-/** @type {(line: WaveLine) => boolean} whether a line needs not be asked for by a name of its own */
+/** @type {(line: WaveLine) => boolean} whether a line need not be requested by its own name */
 const isOffered = (line) => isBit(line) || line.kind === "pc" || line.kind === "label";
 
 /**
@@ -30,7 +30,7 @@ export function offeredNames(board, text, hasLabels) {
 }
 
 /**
- * Returns what a lamp or a key is called without the names of the board's text, `lamp0` or `key2.3`; "" for another line.
+ * Returns the plain name of a lamp or a key, without the board's names, `lamp0` or `key2.3`; "" for another line.
  * @param {WaveLine} line
  * @param {number} number of the lamp
  */

@@ -1,21 +1,22 @@
-// A recording that goes on while time runs: what is kept of it, and what is told. Without a document.
+// A recording that continues while time runs: what is kept of it, and what is reported.
 
 import { Waves } from "./wave_recording.js";
-import { cyclesText, grouped, microseconds } from "./wave_words.js";
+import { grouped } from "./wave_words.js";
+import { wordsOfCycles } from "../time/cycles.js";
 import * as say from "../../words/waves.js";
 
 /**
  * @typedef {import("../engine/live_recorder.js").LivePart} LivePart
  * @typedef {import("../engine/wave_recorder.js").Recorded} Recorded
  *
- * What is kept: so many cycles in all, of them at most so many behind the trigger; the words of the trigger, "" for none; whether time
- * stops where it ends.
+ * The limits: the cycles in all, and how many of them follow the trigger; the words of the trigger, "" for none; whether time stops at the
+ * end.
  * @typedef {{ most: number, behind: number, trigger: string, stopsTime: boolean }} LiveChoice
  */
 
 export class LiveWaves {
   /**
-   * @param {Recorded} recorded what it begins with
+   * @param {Recorded} recorded its beginning
    * @param {LiveChoice} choice
    */
   constructor(recorded, choice) {
@@ -46,13 +47,13 @@ export class LiveWaves {
     this.over = "lost";
   }
 
-  /** How much is kept, which changes all the time. */
+  /** Returns how much is stored, which changes all the time. */
   get kept() {
     const { waves } = this;
-    return waves.cycles === 0 ? "" : say.span(cyclesText(waves.span), microseconds(waves.span));
+    return waves.cycles === 0 ? "" : wordsOfCycles(waves.span);
   }
 
-  /** What it is at, in words that change seldom. */
+  /** Returns its status, in words that change seldom. */
   get words() {
     const { waves, triggered, over } = this;
     const { trigger } = this.choice;

@@ -1,4 +1,4 @@
-// What is measured of a line at a moment: for how long it has its value, and of a bit the time from an edge to the next one of its kind.
+// The measurements of a line at a moment: for how long it has its value, and of a bit the time from an edge to the next one of its kind.
 
 import { wordsOfCycles } from "../time/cycles.js";
 import { CYCLE_US } from "../time/mcs4_time.js";
@@ -41,6 +41,6 @@ export function frequencyText(period) {
  * @param {Measure} measure
  */
 export function measureText(value, { from, to, isWhole, period }) {
-  const told = say.hasValueFor(value, isWhole, wordsOfCycles(to - from));
-  return period === 0 ? told : say.withPeriod(told, wordsOfCycles(period), frequencyText(period));
+  const valueWords = say.hasValueFor(value, isWhole, wordsOfCycles(to - from));
+  return period === 0 ? valueWords : say.withPeriod(valueWords, wordsOfCycles(period), frequencyText(period));
 }

@@ -24,7 +24,7 @@ function begun(name, attributes) {
  * An element.
  * @param {string} name
  * @param {Record<string, string | number>} attributes
- * @param {string} [content] what is in it, as it is written
+ * @param {string} [content] its content, escaped
  */
 function tag(name, attributes, content) {
   return content === undefined ? `<${begun(name, attributes)}/>` : `<${begun(name, attributes)}>${content}</${name}>`;
@@ -118,7 +118,7 @@ export class SvgContext {
     this.dash = lengths.length === 0 ? {} : { "stroke-dasharray": lengths.join(" ") };
   }
 
-  /** The text of the file. */
+  /** Returns the text of the file. */
   get text() {
     const [width, height] = this.size;
     const look = { width, height, "font-family": "monospace", "font-size": 12 };

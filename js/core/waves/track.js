@@ -1,5 +1,5 @@
-// What one line of a recording was over time: its value at the beginning, and each moment at which it became another one. A track without
-// values is one of a single bit, which changes to and fro.
+// One line of a recording over time: its value at the beginning, and each moment at which it changed. A track without values is a single
+// bit, which alternates.
 
 import { Growing, countUpTo } from "./growing.js";
 
@@ -20,7 +20,7 @@ export function emptyTrack(width) {
 }
 
 export class Track {
-  /** @param {TrackData} data its arrays are the track's own from here on */
+  /** @param {TrackData} data its arrays are the track's own from now on */
   constructor({ first, moments, values }) {
     this.first = first;
     this.moments = new Growing(moments);
@@ -30,7 +30,7 @@ export class Track {
   }
 
   /**
-   * The value after so many changes.
+   * Returns the value after this many changes.
    * @param {number} count
    * @returns {number}
    */
@@ -45,7 +45,7 @@ export class Track {
   }
 
   /**
-   * It has this value from a moment on, which is not before the last one. What is changed back at the same moment has not changed.
+   * Sets the value from a moment on, which is not before the last one. A change that is undone at the same moment is no change.
    * @param {number} value
    * @param {number} moment
    */
@@ -62,7 +62,7 @@ export class Track {
   }
 
   /**
-   * What came after it.
+   * Appends what follows.
    * @param {TrackData} data
    */
   append({ moments, values }) {
@@ -70,7 +70,7 @@ export class Track {
   }
 
   /**
-   * It begins at a moment: what was before is forgotten.
+   * Moves the beginning to a moment: what was before is forgotten.
    * @param {number} moment
    */
   beginAt(moment) {
@@ -81,7 +81,7 @@ export class Track {
   }
 
   /**
-   * It ends at a moment: what came after is forgotten.
+   * Moves the end to a moment: what came after is forgotten.
    * @param {number} moment
    */
   endAt(moment) {
@@ -92,7 +92,7 @@ export class Track {
   }
 
   /**
-   * All of it; it goes on from its end.
+   * Returns all of it; it continues from its end.
    * @returns {TrackData}
    */
   take() {

@@ -1,5 +1,5 @@
-// What a recording waits for, in words: an edge of a line (`rom0.2 rises`, `lamp 3 falls`, `r5 changes`), or a condition,
-// which it waits to become true (`r9 = 9`, `lamp 3 on`, `display 42`, `@LABEL`: conditions/condition_language.js). Without a document.
+// The trigger of a recording, in words: an edge of a line (`rom0.2 rises`, `lamp 3 falls`, `r5 changes`), or a condition, which must become
+// true (`r9 = 9`, `lamp 3 on`, `display 42`, `@LABEL`: conditions/condition_language.js).
 
 import { tracedConditionOf } from "../conditions/condition_language.js";
 import { isDecoder } from "./decoders.js";
@@ -11,8 +11,8 @@ import * as say from "../../words/waves.js";
  * @typedef {import("./wave_lines.js").WaveLine} WaveLine
  * @typedef {"rises" | "falls" | "changes"} Edge
  *
- * `edge`: of the lines `members`, by their numbers; else `places` are those of `trace` that tell whether it holds, and `address` is where
- * the counter has to come to, if it is that and no more, else -1.
+ * `edge`: of the lines `members`, by their numbers; otherwise `places` are those of `trace` that decide whether it holds, and `address` is
+ * the counter that makes it true if it is that alone, otherwise -1.
  * @typedef {{ edge: Edge | "", members: number[], places: string[], address: number, holds: (values: string[]) => boolean }} Trigger
  */
 
@@ -26,14 +26,14 @@ export function plain(text) {
 }
 
 /**
- * The line that words name: `rom0.2`, `rom0` (the port), `lamp 3`, `lamp minus`, `minus`, `key 7`, `r5`, `ram 0 0x12`; -1 for none.
+ * Returns the line that words name: `rom0.2`, `rom0` (the port), `lamp 3`, `lamp minus`, `minus`, `key 7`, `r5`, `ram 0 0x12`; -1 for none.
  * @param {string} text
  * @param {WaveLine[]} lines
  */
 export function lineNamed(text, lines) {
   const wanted = plain(text);
-  /** @type {(fits: (line: WaveLine) => boolean) => number} */
-  const find = (fits) => lines.findIndex(fits);
+  /** @type {(matches: (line: WaveLine) => boolean) => number} */
+  const find = (matches) => lines.findIndex(matches);
   const tries = [
     find(({ name }) => plain(name) === wanted),
     find(({ name, kind }) => kind === "port" && plain(name.replace(/\[.*/, "")) === wanted),
@@ -47,7 +47,7 @@ export function lineNamed(text, lines) {
 }
 
 /**
- * What the edge of words is one of, "" where they tell no edge.
+ * Returns the line whose edge the words name, or "" if they name no edge.
  * @param {string} text
  */
 export function namedInEdge(text) {
@@ -59,7 +59,7 @@ export function namedInEdge(text) {
  * @param {string} text
  * @param {WaveLine[]} lines
  * @param {Names} names
- * @returns {{ trigger: Trigger | null, fault: string }} no words are no trigger, and no fault
+ * @returns {{ trigger: Trigger | null, fault: string }} empty text is no trigger, and no error
  */
 export function readTrigger(text, lines, names) {
   if (text.trim() === "") return { trigger: null, fault: "" };

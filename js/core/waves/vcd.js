@@ -9,9 +9,9 @@ import { isDecoder } from "./decoders.js";
 const UNITS = CYCLE_TENTHS_US;
 /** More lines than a recording can have: a change is one number, of its moment and its line. */
 const LINES = 8192;
-/** So many lines of the file are one part of it: a text has not room for all that a long recording has. */
+/** The lines in one part of the file: a single text has no room for a long recording. */
 const LINES_OF_PART = 100000;
-/** Letters that begin no value in the file: a reader that does not know one kind of value takes nothing else for one then. */
+/** Letters that begin no value in the file: so a reader that does not know one kind of value mistakes nothing else for it. */
 const LETTERS = "ACDEFGHIJKLMNOPQSTUVWY";
 
 /**
@@ -25,7 +25,7 @@ function codeOf(number) {
 }
 
 /**
- * What a line is in the file.
+ * Returns the kind of a line in the file.
  * @param {Waves} waves
  * @param {number} line
  */
@@ -33,17 +33,17 @@ function kindOf({ lines }, line) {
   return lines[line].kind === "label" || isDecoder(lines[line]) ? "string 1" : `wire ${lines[line].width}`;
 }
 
-/** Writes a recording as a VCD file. One that is recorded piece by piece is written so, too. */
+/** Writes a recording as a VCD file, also piece by piece. */
 export class VcdText {
   /**
    * @param {Waves} waves
-   * @param {number[]} chosen the lines, by their numbers, in the order in which the file has them
+   * @param {number[]} chosen the lines, by their numbers, in the order of the file
    */
   constructor(waves, chosen) {
     this.waves = waves;
     this.chosen = chosen;
     this.codes = chosen.map((_, at) => codeOf(at));
-    /** Where the recording began; the file's time begins there, too. */
+    /** The beginning of the recording, which is the file's time 0. */
     this.begun = waves.from;
     /** The last moment that the file has. */
     this.written = waves.from;
@@ -84,7 +84,7 @@ export class VcdText {
     ].join("\n")}\n`;
   }
 
-  /** Yields the changes that the recording holds, in parts. */
+  /** Yields the changes in the recording, in parts. */
   * changes() {
     const { waves, chosen } = this;
     const tracks = chosen.map((line) => waves.trackOf(line));
@@ -132,7 +132,7 @@ function changesOf(waves, chosen) {
 /**
  * Yields the file of a whole recording, in parts.
  * @param {Waves} waves
- * @param {number[]} chosen the lines, by their numbers, in the order in which the file has them
+ * @param {number[]} chosen the lines, by their numbers, in the order of the file
  */
 export function* vcdParts(waves, chosen) {
   const text = new VcdText(waves, chosen);

@@ -12,7 +12,7 @@ const PCM = 1;
 const CHANNELS = 1;
 
 /**
- * Writes the letters of a name.
+ * Writes the characters of a name.
  * @param {Uint8Array} bytes
  * @param {number} at
  * @param {string} letters

@@ -1,4 +1,4 @@
-// What a recording can have, and what of it is shown.
+// The lines that a recording can have, and those that are shown.
 
 import { isDecoder } from "./decoders.js";
 import { plain } from "./trigger.js";
@@ -11,9 +11,9 @@ import * as say from "../../words/waves.js";
  * @typedef {import("./wave_recording.js").Waves} Waves
  */
 
-/** So many lines are shown where none were chosen yet. */
+/** The most lines that are shown before any were chosen. */
 const MOST_AT_FIRST = 16;
-/** So many characters of RAM are offered at once. */
+/** The most RAM nibbles that are offered at once. */
 const MOST_CHARACTERS = 64;
 
 /**
@@ -26,8 +26,8 @@ export function catalogOf(board, text) {
 }
 
 /**
- * The lines that are shown at first: those bits that change, in their order, then the decoders that do, the counter and the label; where no
- * bit changes, the first ones.
+ * Returns the lines that are shown at first: the bits that change, in their order, then the decoders that do, the counter and the label; if
+ * no bit changes, the first ones.
  * @param {Waves} waves
  */
 export function firstChoice(waves) {
@@ -40,7 +40,7 @@ export function firstChoice(waves) {
 }
 
 /**
- * The names of values, which are recorded where they are asked for, among those that are chosen.
+ * Returns the names of the values that are recorded on request, among those that are chosen.
  * @param {WaveLine[]} offered
  * @param {Set<string>} chosen
  */
@@ -49,7 +49,8 @@ export function valuesAmong(offered, chosen) {
 }
 
 /**
- * The lines that a text means: the one of this name, else those that have it in their name, their title, or the title of their group.
+ * Returns the lines that match a text: the one of this name, or those with the text in their name, their title, or the title of their
+ * group.
  * @param {WaveLine[]} offered
  * @param {string} text
  */
@@ -61,11 +62,11 @@ function fitting(offered, text) {
 }
 
 /**
- * What is offered for some words. Characters of RAM are many: only those that are looked for are offered, or chosen.
+ * Returns the lines offered for some words. RAM characters are many: only those that match or are chosen are offered.
  * @param {WaveLine[]} offered
  * @param {string} text
  * @param {Set<string>} chosen
- * @returns {{ lines: WaveLine[], more: string }} and what is said of those that are not offered
+ * @returns {{ lines: WaveLine[], more: string }} and a note about those that are not offered
  */
 export function found(offered, text, chosen) {
   const isAll = text.trim() === "";
@@ -80,7 +81,7 @@ export function found(offered, text, chosen) {
 }
 
 /**
- * What a group of lines is called.
+ * Returns the name of a group of lines.
  * @param {string} group
  */
 export function titleOf(group) {

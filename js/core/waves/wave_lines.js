@@ -1,5 +1,5 @@
-// The lines of a board that are recorded, and what else a recording can have: their names, and where the bench tells each of them. The
-// page and `mcs4 wave` have the same names in the same order.
+// The lines of a board that are recorded, and what else a recording can have: their names, and the places in the bench's reports. The page
+// and `mcs4 wave` have the same names in the same order.
 
 import { BITS } from "../bench/board_form.js";
 import { numberOf, upTo } from "../bench/numbers.js";
@@ -10,19 +10,19 @@ import * as say from "../../words/waves.js";
 
 /**
  * @typedef {import("../bench/answers.js").Board} Board
- * @typedef {import("../board/face.js").Told} Told
+ * @typedef {import("../board/face.js").FaceText} FaceText
  * @typedef {"level" | "key" | "test" | "value" | "port" | "shift" | "scan" | "pc" | "label"} WaveKind
  *
- * A line, or a number. `title` is what the board's text calls it, "" for nothing else than its name; `group` is the part of the board that
- * it belongs to. `places`: of a level the line of the board (of a lamp the one that it is at), of a key its row and column, of a value the
- * places of `trace` that tell its digits, the highest first, of a key scan the names of its keys, row by row; `members`: the levels that
- * it is made of, by their numbers among the lines: of a port its own, the lowest first, of a shift register its clock, its data and its
- * bits, of a key scan its columns and its rows. `width`: how many bits it has. `columns`: how many of them are columns of a key scan.
+ * A line, or a number. `title` is its name in the board's text, "" for none; `group` is the part of the board that it belongs to. `places`:
+ * for a level the line of the board (for a lamp its line), for a key its row and column, for a value the places of `trace` with its digits,
+ * the highest first, for a key scan the names of its keys, row by row; `members`: the levels that it consists of, by their numbers among
+ * the lines: for a port its own, the lowest first, for a shift register its clock, its data and its bits, for a key scan its columns and
+ * its rows. `width`: its number of bits. `columns`: how many of them are columns of a key scan.
  * @typedef {{ name: string, title: string, group: string, kind: WaveKind, places: string[], members: number[], width: number,
  *   columns: number }} WaveLine
  */
 
-/** A name of the board's text that can stand in a VCD file as it is. */
+/** A name of the board's text that is valid in a VCD file. */
 const PLAIN = /^[A-Za-z0-9_]+$/;
 /** A number of more bits is not exact. */
 const MOST_BITS = 50;
@@ -39,13 +39,13 @@ function made(name, group, kind, rest = {}) {
 }
 
 /**
- * The name of a lamp or a key, by the name that the board's text tells; one that cannot stand in a file is its title.
+ * Returns the name of a lamp or a key, from the name in the board's text; one that is not valid in a file is its title.
  * @param {string} group
  * @param {string} ending
- * @param {Told | undefined} told
+ * @param {FaceText | undefined} faceText
  */
-function namesOf(group, ending, told) {
-  const text = told ? told.text : "";
+function namesOf(group, ending, faceText) {
+  const text = faceText ? faceText.text : "";
   return PLAIN.test(text) ? { name: `${group}.${text}`, title: "" } : { name: `${group}${ending}`, title: text };
 }
 
@@ -107,8 +107,9 @@ function portsOf(lines, face) {
     if (kind === "level" && group !== "lamps") ports.set(group, [...(ports.get(group) || []), at]);
   });
   return [...ports].filter(([, { length }]) => length <= MOST_BITS).map(([group, members]) => {
-    const told = face.ports.get(group);
-    return made(`${group}[${members.length - 1}:0]`, "numbers", "port", { members, width: members.length, title: told ? told.text : "" });
+    const faceText = face.ports.get(group);
+    return made(`${group}[${members.length - 1}:0]`, "numbers", "port", { members, width: members.length,
+    title: faceText ? faceText.text : "" });
   });
 }
 
@@ -130,8 +131,8 @@ function decodersOf({ chains, matrix }, lines, face) {
   if (!matrix) return decoders;
   const { chain, first, rows, columns } = matrix;
   const places = upTo(rows).flatMap((row) => columns.map((_, column) => {
-    const told = face.keys.get(`${row} ${column}`);
-    return told ? told.text : `${row}.${column}`;
+    const faceText = face.keys.get(`${row} ${column}`);
+    return faceText ? faceText.text : `${row}.${column}`;
   }));
   const members = numbers([...columns, ...bitsOf(chain, first, rows)]);
   return [...decoders, made("scan.keys", "decoders", "scan",
@@ -146,7 +147,7 @@ const PAIR_WIDTH = 8;
 const WIDTHS = { cy: 1, dcl: 3, src: 8 };
 
 /**
- * A value that is asked for by its name: a register, a pair, a character of RAM, a status character; null where there is none of it.
+ * Returns a requested value by its name: a register, a pair, a RAM character, a status character; null if there is none.
  * @param {string} text
  * @param {Board} board
  * @returns {WaveLine | null}
@@ -178,8 +179,8 @@ export function characterNames({ banks }) {
 }
 
 /**
- * The lines of a board, in their order: those of the ROMs, the RAM chips, the chains, the lamps, the keys, TEST, the ports as numbers, the
- * decoders, the values that are asked for, the counter, and, where the program's labels are known, the label.
+ * Returns the lines of the board, in their order: those of the ROMs, the RAM chips, the chains, the lamps, the keys, TEST, the ports as
+ * numbers, the decoders, the requested values, the counter, and, if the program's labels are known, the label.
  * @param {Board} board
  * @param {string} text of the board, which has names
  * @param {boolean} hasLabels
@@ -196,7 +197,7 @@ export function linesOfBoard(board, text, hasLabels, values = []) {
 }
 
 /**
- * Whether a line is shown as boxes with its values in them, as all that are more than one bit are.
+ * Returns whether a line is shown as boxes with its values in them, as all that are more than one bit are.
  * @param {WaveLine} line
  */
 export function isText({ kind, width }) {

@@ -1,4 +1,4 @@
-// The program of a recording: its lines and labels, where its text is what stands in ROM.
+// The program of a recording: its lines and labels, if its text is what is in ROM.
 
 import { SourceMap } from "../machine/source_map.js";
 
@@ -21,7 +21,7 @@ export function programInWaves(map, text) {
 /**
  * @param {Checked} checked
  * @param {string} text
- * @returns {RecordedProgram | null} null where the text is not what stands in ROM
+ * @returns {RecordedProgram | null} null if the text is not what is in ROM
  */
 export function recordedProgram({ map, refusal, difference }, text) {
   const source = new SourceMap(map, text);

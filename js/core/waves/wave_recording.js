@@ -1,5 +1,5 @@
-// A recording, as the page reads it: what each line was at a moment, where it has changed, and which instruction was there. One that is
-// made while time runs becomes longer at its end, and forgets its beginning.
+// A recording, as the page reads it: each line at a moment, its changes, and the instruction at a moment. A recording of running time grows
+// at its end, and forgets its beginning.
 
 import { ADDRESSES } from "../bench/rom_bytes.js";
 import { deriveShift, lastRise, scanText, shiftText } from "./decoders.js";
@@ -12,12 +12,12 @@ import { valueText } from "./wave_words.js";
  * @typedef {import("../engine/wave_recorder.js").RecordedPart} RecordedPart
  * @typedef {import("./wave_lines.js").WaveLine} WaveLine
  * @typedef {import("./wave_words.js").Base} Base
- * @typedef {{ address: number, listed: string, line: number, source: string, isSecond: boolean, isEnd: boolean }} Instruction what was
- *   done at a moment: its address, its line of the listing, and its line of the source with its number (0 for none); whether it is the
- *   second cycle of an instruction; whether it comes next, at the end of the recording
+ * @typedef {{ address: number, listed: string, line: number, source: string, isSecond: boolean, isEnd: boolean }} Instruction the work at a
+ * moment: its address, its line of the listing, and its line of the source with its number (0 for none); whether it is the second cycle of
+ * an instruction; whether it is the next one, at the end of the recording
  */
 
-/** The kinds of lines that are made of other lines, or of the instructions. */
+/** The kinds of lines that are computed from other lines, or from the instructions. */
 const DERIVED = new Set(["pc", "label", "port", "shift", "scan"]);
 
 /**
@@ -35,9 +35,9 @@ function labelsBelow(labels) {
 }
 
 export class Waves {
-  /** @param {Recorded} recorded its arrays belong to this from here on */
+  /** @param {Recorded} recorded its arrays belong to this from now on */
   constructor({ from, cycles, isStuck, isOwed, lines, tracks, moments, counters, listing, program }) {
-    /** Where it begins and ends, in cycles. */
+    /** The begin and the end, in cycles. */
     this.from = from;
     this.cycles = cycles;
     this.isStuck = isStuck;
@@ -50,7 +50,7 @@ export class Waves {
     this.program = program;
     this.sources = program ? program.text.split("\n") : [];
     this.below = labelsBelow(program ? program.labels : []);
-    /** @type {Map<number, Track>} the tracks of lines that are made of others, as far as they were asked for */
+    /** @type {Map<number, Track>} the tracks of computed lines, as far as they were asked for */
     this.derived = new Map();
     /** @type {Map<number, number>} the last rise of the clock of a shift register, if the recording begins after it */
     this.rises = new Map();
@@ -58,14 +58,14 @@ export class Waves {
     this.base = "hex";
   }
 
-  /** How many cycles there are. */
+  /** Returns how many cycles there are. */
   get span() {
     return this.cycles - this.from;
   }
 
   // --- more and less of it ---
 
-  /** @param {RecordedPart} part what came after it */
+  /** @param {RecordedPart} part the continuation */
   append({ cycles, isStuck, tracks, moments, counters, listing }) {
     const before = this.cycles;
     tracks.forEach((data, line) => this.tracks[line].append(data));
@@ -74,7 +74,7 @@ export class Waves {
     this.cycles = cycles;
     this.isStuck = isStuck;
     for (const [line, track] of this.derived) {
-      // What was done at the moment itself may have changed it again.
+      // The work at the moment itself may have changed it again.
       track.endAt(before - 1);
       this.derive(line, track, before - 1);
     }
@@ -93,7 +93,7 @@ export class Waves {
     this.counters.push(counter);
   }
 
-  /** @param {number} moment what was before it is forgotten */
+  /** @param {number} moment earlier parts are forgotten */
   beginAt(moment) {
     if (moment <= this.from) return;
     this.from = moment;
@@ -105,7 +105,7 @@ export class Waves {
     this.counters.drop(count);
   }
 
-  /** @param {number} moment what came after it is forgotten */
+  /** @param {number} moment later parts are forgotten */
   endAt(moment) {
     if (moment >= this.cycles) return;
     this.cycles = moment;
@@ -116,7 +116,7 @@ export class Waves {
     this.counters.cut(count);
   }
 
-  // --- what each line was ---
+  // --- values ---
 
   /**
    * @param {number} line
@@ -135,8 +135,8 @@ export class Waves {
   }
 
   /**
-   * The value of a line that is made of others: of a port by its lines, of the counter and the label by the instructions. A shift register
-   * is at rest at the beginning.
+   * Returns the value of a computed line: of a port by its lines, of the counter and the label by the instructions. A shift register is at
+   * rest at the beginning.
    * @param {number} line
    * @param {number} moment
    */
@@ -151,7 +151,7 @@ export class Waves {
   }
 
   /**
-   * Makes the track of such a line longer, by what comes after a moment.
+   * Extends the track of such a line by what follows a moment.
    * @param {number} line
    * @param {Track} track
    * @param {number} after
@@ -205,7 +205,7 @@ export class Waves {
   }
 
   /**
-   * The moments at which a line has changed.
+   * Returns the moments at which a line has changed.
    * @param {number} line
    */
   changesOf(line) {
@@ -256,7 +256,7 @@ export class Waves {
   }
 
   /**
-   * The next change of a line after a moment; undefined where there is none.
+   * Returns the next change of a line after a moment; undefined if there is none.
    * @param {number} line
    * @param {number} moment
    * @returns {number | undefined}

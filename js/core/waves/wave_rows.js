@@ -1,5 +1,5 @@
-// How the rows of the waves are arranged: their order, their own names and colours, and groups of them. All of it is kept by the names of
-// the lines, so that it holds for the next recording, too.
+// The arrangement of the rows of waves: their order, their own names and colours, and groups of them. All of it is stored by the names of
+// the lines, so that it applies to the next recording, too.
 
 /**
  * @typedef {import("./wave_lines.js").WaveLine} WaveLine
@@ -7,7 +7,7 @@
  * @typedef {{ title?: string, colour?: RowColour | "", group?: string }} RowLook
  * @typedef {{ order: string[], looks: Record<string, RowLook>, folded: string[] }} KeptRows
  *
- * A row: a line by its number and name, or, with the number -1, the heading of a group. `title` is what is shown.
+ * A row: a line by its number and name, or, with the number -1, the heading of a group. `title` is the displayed text.
  * @typedef {{ line: number, name: string, title: string, colour: RowColour | "", group: string, isFolded: boolean }} WaveRow
  */
 
@@ -17,7 +17,7 @@ export class WaveRows {
   /** @param {Partial<KeptRows>} [kept] */
   constructor(kept = {}) {
     const { order = [], looks = {}, folded = [] } = kept;
-    /** The names of lines in the order of their rows, as far as somebody has chosen it. */
+    /** Returns the names of lines in the order of their rows, as far as the user has chosen it. */
     this.order = order;
     this.looks = new Map(Object.entries(looks));
     this.folded = new Set(folded);
@@ -43,14 +43,14 @@ export class WaveRows {
 
   /**
    * @param {string} name of a line
-   * @param {RowLook} look what of it becomes another one
+   * @param {RowLook} look the changed properties
    */
   change(name, look) {
     this.looks.set(name, { ...this.lookOf(name), ...look });
   }
 
   /**
-   * Returns names in the order of their rows: one that has no place yet is behind the one that it is behind on the board.
+   * Returns names in the order of their rows: a name without a row follows its predecessor on the board.
    * @param {string[]} names in the order of the board
    */
   ordered(names) {
@@ -60,7 +60,7 @@ export class WaveRows {
     names.forEach((name, at) => {
       if (!placed.has(name)) found.splice(at === 0 ? 0 : found.indexOf(names[at - 1]) + 1, 0, name);
     });
-    // A group is where its first row is.
+    // A group is at its first row.
     const groups = [...new Set(found.map((name) => this.groupOf(name) || ` ${name}`))];
     const members = new Map(groups.map((group) => [group, /** @type {string[]} */ ([])]));
     for (const name of found) (members.get(this.groupOf(name) || ` ${name}`) || []).push(name);
@@ -70,7 +70,7 @@ export class WaveRows {
   /**
    * Returns the rows of the lines that are shown.
    * @param {WaveLine[]} lines all lines of the recording
-   * @param {number[]} chosen those that are shown, by their numbers
+   * @param {number[]} chosen the visible ones, by their numbers
    * @returns {WaveRow[]}
    */
   arrange(lines, chosen) {
@@ -89,7 +89,7 @@ export class WaveRows {
   }
 
   /**
-   * Moves a row, or a group by its heading, to where another row is. A row that comes into a group becomes part of it.
+   * Moves a row, or a group by its heading, to the place of another row. A row that moves into a group joins it.
    * @param {WaveRow[]} rows
    * @param {string[]} names of all lines that are shown, in the order of their rows
    * @param {number} at

@@ -1,5 +1,4 @@
-// Looking for a value or an edge in a recording: `9` of the line that is marked, `r5 = 9`, `rom0 != 0`, `lamp15 rises`, `@LABEL`. Without a
-// document.
+// The search of a recording for a value or an edge: `9` of the marked line, `r5 = 9`, `rom0 != 0`, `lamp15 rises`, `@LABEL`.
 
 import { numberOf } from "../bench/numbers.js";
 import { isDecoder, scannedBy } from "./decoders.js";
@@ -10,9 +9,9 @@ import * as say from "../../words/waves.js";
 /**
  * @typedef {import("./wave_recording.js").Waves} Waves
  *
- * What is looked for: a line, by its number, and whether a value of it is one of those that are; with `each` every change to such a value
- * counts, else only one from a value that is none.
- * @typedef {{ line: number, fits: (value: number) => boolean, each: boolean }} Search
+ * A search: a line, by its number, and whether a value matches; with `each` every change to a matching value counts, otherwise only one
+ * from a value that does not match.
+ * @typedef {{ line: number, matches: (value: number) => boolean, each: boolean }} Search
  */
 
 /** @type {Record<string, (is: number, than: number) => boolean>} */
@@ -45,25 +44,25 @@ function labelOf(waves, name) {
  * @param {string} text
  * @param {Waves} waves
  * @param {number} marked the line that is marked, -1 for none
- * @returns {{ search: Search | null, fault: string }} a fault in words, where it cannot be read
+ * @returns {{ search: Search | null, fault: string }} an error in words, if it cannot be read
  */
 export function readSearch(text, waves, marked) {
-  const told = text.trim();
-  if (told === "") return no(say.whatIsWanted(say.SEARCH_FORMS));
-  if (told.startsWith("@")) {
-    const label = labelOf(waves, told.slice(1));
+  const trimmed = text.trim();
+  if (trimmed === "") return no(say.searchQuestion(say.SEARCH_FORMS));
+  if (trimmed.startsWith("@")) {
+    const label = labelOf(waves, trimmed.slice(1));
     const counter = waves.lines.findIndex(({ kind }) => kind === "pc");
-    if (!label) return no(say.noLabel(told.slice(1)));
-    return { search: { line: counter, fits: (value) => value === label.address, each: false }, fault: "" };
+    if (!label) return no(say.noLabel(trimmed.slice(1)));
+    return { search: { line: counter, matches: (value) => value === label.address, each: false }, fault: "" };
   }
-  const edge = /^(?:(.*\S)\s+)?(rises|falls|changes)$/.exec(told);
+  const edge = /^(?:(.*\S)\s+)?(rises|falls|changes)$/.exec(trimmed);
   if (edge) return readEdge(edge[1], edge[2], waves, marked);
-  const compared = /^(.*?)\s*(!=|<=|>=|=|<|>)\s*(\S+)$/.exec(told);
-  return compared ? readValue(compared[1], compared[2], compared[3], waves, marked) : readValue("", "=", told, waves, marked);
+  const compared = /^(.*?)\s*(!=|<=|>=|=|<|>)\s*(\S+)$/.exec(trimmed);
+  return compared ? readValue(compared[1], compared[2], compared[3], waves, marked) : readValue("", "=", trimmed, waves, marked);
 }
 
 /**
- * The line of a name, that which is marked where there is none; words where there is no such line.
+ * Returns the line of a name, or the marked one if there is no name; words if there is no such line.
  * @param {string} name
  * @param {Waves} waves
  * @param {number} marked
@@ -86,7 +85,7 @@ function readEdge(name, edge, waves, marked) {
   const { width } = waves.lines[line];
   if (edge !== "changes" && isDecoder(waves.lines[line])) return no(say.isDecoded(waves.lines[line].name));
   if (edge !== "changes" && width > 1) return no(say.isNumber(waves.lines[line].name));
-  return { search: { line, fits: EDGES[edge], each: true }, fault: "" };
+  return { search: { line, matches: EDGES[edge], each: true }, fault: "" };
 }
 
 /**
@@ -108,11 +107,11 @@ function readValue(name, sign, value, waves, marked) {
   if (Number.isNaN(number)) return no(say.noNumber(value, say.SEARCH_FORMS));
   const most = 2 ** width - 1;
   if (kind !== "label" && number > most) return no(say.hasBits(called, width, most));
-  return { search: { line, fits: (/** @type {number} */ is) => COMPARISONS[sign](is, number), each: false }, fault: "" };
+  return { search: { line, matches: (/** @type {number} */ is) => COMPARISONS[sign](is, number), each: false }, fault: "" };
 }
 
 /**
- * A key that answers a key scan.
+ * Reads a key that answers a key scan.
  * @param {import("./wave_lines.js").WaveLine} decoder
  * @param {number} line its number
  * @param {string} sign
@@ -121,23 +120,23 @@ function readValue(name, sign, value, waves, marked) {
  */
 function readDecoded(decoder, line, sign, key) {
   if (sign !== "=" || !decoder.places.includes(key)) return no(say.isDecoded(decoder.name));
-  return { search: { line, fits: (value) => scannedBy(decoder, value).keys.includes(key), each: false }, fault: "" };
+  return { search: { line, matches: (value) => scannedBy(decoder, value).keys.includes(key), each: false }, fault: "" };
 }
 
 /**
- * The moment of what is looked for that is next after a moment, or before it; -1 where there is none.
+ * Returns the next match after a moment, or before it; -1 if there is none.
  * @param {Waves} waves
  * @param {Search} search
  * @param {number} moment
  * @param {boolean} isForward
  */
-export function find(waves, { line, fits, each }, moment, isForward) {
+export function find(waves, { line, matches, each }, moment, isForward) {
   const track = waves.trackOf(line);
   const changes = track.moments.all;
   const by = isForward ? 1 : -1;
   for (let at = isForward ? countUpTo(changes, moment) : countUpTo(changes, moment - 1) - 1; at >= 0 && at < changes.length; at += by) {
-    if (fits(track.valueBehind(at + 1)) && (each || !fits(track.valueBehind(at)))) return changes[at];
+    if (matches(track.valueBehind(at + 1)) && (each || !matches(track.valueBehind(at)))) return changes[at];
   }
   // It may be so from the beginning on.
-  return !isForward && !each && moment > waves.from && fits(track.first) ? waves.from : -1;
+  return !isForward && !each && moment > waves.from && matches(track.first) ? waves.from : -1;
 }

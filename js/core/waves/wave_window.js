@@ -1,10 +1,10 @@
-// Which part of a recording is seen, and where the two cursors stand. All are moments: numbers of cycles.
+// The visible part of a recording, and the positions of the two cursors. All are moments: numbers of cycles.
 
-/** So many cycles are seen at least. */
+/** The fewest cycles that are visible. */
 const CLOSEST = 10;
-/** So many are seen of a recording that goes on. */
+/** The cycles that are visible of a recording in progress. */
 const USUAL = 20000;
-/** An edge that is so near to a click, in pixels, is meant by it. */
+/** The distance in pixels within which a click selects an edge. */
 const NEAR = 7;
 
 /** @typedef {import("./wave_recording.js").Waves} Waves */
@@ -20,22 +20,22 @@ function within(number, least, most) {
 
 export class WaveWindow {
   /**
-   * @param {number} end where the recording ends
-   * @param {number} [begin] where it begins
+   * @param {number} end the end of the recording
+   * @param {number} [begin] its beginning
    */
   constructor(end, begin = 0) {
     this.begin = begin;
     this.end = end;
     this.from = begin;
     this.span = Math.max(1, end - begin);
-    /** How many pixels it is wide. */
+    /** The width in pixels. */
     this.width = 1;
     this.cursors = [begin, begin];
     /** The cursor that is moved. */
     this.active = 0;
   }
 
-  /** How many cycles there are. */
+  /** Returns how many cycles there are. */
   get all() {
     return Math.max(1, this.end - this.begin);
   }
@@ -48,7 +48,7 @@ export class WaveWindow {
     return this.cursors[this.active];
   }
 
-  /** How many cycles are between the cursors. */
+  /** Returns how many cycles are between the cursors. */
   get between() {
     return Math.abs(this.cursors[1] - this.cursors[0]);
   }
@@ -64,7 +64,7 @@ export class WaveWindow {
   }
 
   /**
-   * Makes the part that is seen smaller, or larger by a factor below 1; what stands at a moment stays there.
+   * Zooms out, or in by a factor below 1; the moment stays where it is on the screen.
    * @param {number} factor
    * @param {number} moment in cycles
    */
@@ -80,8 +80,8 @@ export class WaveWindow {
   }
 
   /**
-   * The recording has become longer, or has forgotten its beginning: what is seen, and a cursor, go along with its end where that is where
-   * they stood. All is seen as long as it is short.
+   * Follows a recording that has grown, or has forgotten its beginning: the visible part and the cursors move with the end if they were
+   * there. All is visible as long as it is short.
    * @param {number} begin
    * @param {number} end
    */
@@ -95,13 +95,13 @@ export class WaveWindow {
     this.goTo(wasAtEnd ? end - this.span : this.from);
   }
 
-  /** Shows all of a recording that stands still, unless somebody has chosen a part of it. */
+  /** Shows all of a finished recording, unless somebody has chosen a part of it. */
   fit() {
     if (this.to >= this.end && this.span >= Math.min(USUAL, this.all)) this.showAll();
   }
 
   /**
-   * What is around a moment is seen, and cursor A stands there.
+   * Shows the surroundings of a moment, and puts cursor A there.
    * @param {number} moment
    */
   showAround(moment) {
@@ -111,7 +111,7 @@ export class WaveWindow {
   }
 
   /**
-   * Cursors that went along with the end, as nobody has moved them, come to two moments.
+   * Moves cursors that followed the end, because nobody has moved them, to two moments.
    * @param {number} first
    * @param {number} second
    */
@@ -127,7 +127,7 @@ export class WaveWindow {
   }
 
   /**
-   * Moves the active cursor, and sees to it that it is seen.
+   * Moves the active cursor, and scrolls so that it is visible.
    * @param {number} moment
    */
   move(moment) {
@@ -137,7 +137,7 @@ export class WaveWindow {
   }
 
   /**
-   * The moment that is meant by a place: an edge of a line that is near to it, else the cycle that is there.
+   * Returns the moment for a position: that of a near edge of a line, otherwise the cycle there.
    * @param {number} x
    * @param {Waves} waves
    * @param {number} line -1 for none

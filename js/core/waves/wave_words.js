@@ -1,7 +1,7 @@
-// What is told of recordings, in words.
+// Texts about recordings.
 
 import { countOf, counted } from "../bench/numbers.js";
-import { CYCLE_TENTHS_US } from "../time/mcs4_time.js";
+import { timeOfCycles, wordsOfCycles } from "../time/cycles.js";
 import * as say from "../../words/waves.js";
 
 /**
@@ -30,26 +30,17 @@ export function grouped(number) {
   return String(number).replace(/\B(?=(\d{3})+$)/g, ",");
 }
 
-/**
- * Returns the time of cycles in microseconds, exact.
- * @param {number} cycles
- */
-export function microseconds(cycles) {
-  const tenths = cycles * CYCLE_TENTHS_US;
-  return `${grouped(Math.floor(tenths / 10))}.${tenths % 10}`;
-}
-
 /** @param {number} cycles */
 export function cyclesText(cycles) {
   return counted(cycles, "cycle");
 }
 
 /**
- * What lies between two cursors.
+ * Returns the text about the span between two cursors.
  * @param {number} cycles
  */
 export function betweenText(cycles) {
-  return say.aToB(cyclesText(cycles), microseconds(cycles));
+  return say.aToB(wordsOfCycles(cycles));
 }
 
 /** @param {Instruction} instruction */
@@ -61,17 +52,17 @@ export function instructionText({ listed, line, source, isSecond, isEnd }) {
 }
 
 /**
- * A cursor: where it stands, and the instruction there.
+ * A cursor: its moment, and the instruction there.
  * @param {string} name
  * @param {number} moment
  * @param {Waves} waves
  */
 export function cursorText(name, moment, waves) {
-  return say.cursorAt(name, grouped(moment), microseconds(moment), instructionText(waves.instructionAt(moment)));
+  return say.cursorAt(name, grouped(moment), timeOfCycles(moment), instructionText(waves.instructionAt(moment)));
 }
 
 /**
- * The same for those who do not see it, with the value of the chosen line.
+ * Returns the same for screen readers, with the value of the chosen line.
  * @param {number} moment
  * @param {Waves} waves
  * @param {number} line -1 for none
@@ -88,13 +79,13 @@ export function spokenText(moment, waves, line) {
  */
 export function recordedText({ span, isStuck }, wanted, isBefore) {
   if (span === 0 && isBefore) return say.NOTHING_BEFORE;
-  const told = say.recordedSpan(cyclesText(span), microseconds(span));
-  if (isStuck) return say.thenNoInstruction(told);
-  return span < wanted ? say.noFurtherBack(told) : told;
+  const recorded = say.recordedSpan(cyclesText(span), timeOfCycles(span));
+  if (isStuck) return say.thenNoInstruction(recorded);
+  return span < wanted ? say.noFurtherBack(recorded) : recorded;
 }
 
 /**
- * The number of cycles that a text tells, or 0 where it is not one from 1 to the most.
+ * Returns the number of cycles in a text, or 0 if it is not from 1 to the maximum.
  * @param {string} text
  */
 export function readCycles(text) {

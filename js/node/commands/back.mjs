@@ -1,4 +1,4 @@
-// `mcs4 back`: makes a session as it was some commands ago.
+// `mcs4 back`: restores a session to its state some commands ago.
 import { spawn } from "node:child_process";
 import { once } from "node:events";
 import { closeSync, constants, fsyncSync, openSync, writeSync } from "node:fs";
@@ -13,11 +13,11 @@ const MOST_COMMANDS = 99999;
 /** The places in a session file, as docs/FORMAT.md has them. */
 const PLACES = { active: 8, slots: [16, 81936], log: 16384, logSize: 65536 };
 const COMMITTED = 1;
-/** The status of flock where another one has the lock. */
+/** The status of flock if another process has the lock. */
 const IS_LOCKED = 75;
 
 /**
- * Takes the lock that mcs4 takes on a file that it serves, until it is let go or this process ends.
+ * Takes the lock that mcs4 takes on a file that it serves, until it is released or this process ends.
  * @param {string} session its file
  */
 async function lock(session) {
@@ -65,7 +65,7 @@ function endLog(session, place) {
 }
 
 /**
- * Goes back, or says how far that is possible.
+ * Goes back, or reports how far that is possible.
  * @param {string} session its file
  * @param {number} count of the commands, 0 to say how far
  */

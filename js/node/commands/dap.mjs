@@ -4,7 +4,7 @@ import { DebugAdapter } from "../../core/adapter/debug_adapter.js";
 import { Engine } from "../../core/engine/engine.js";
 import { needWords, untilItEnds } from "../arguments.mjs";
 import { host } from "../debug_host.mjs";
-import { endOf, listen } from "../message_server.mjs";
+import { endOf, listen, sayAtTerminal } from "../message_server.mjs";
 import { dataOfPage, moduleOfPage } from "../page_parts.mjs";
 
 const end = endOf("dap");
@@ -12,7 +12,7 @@ const end = endOf("dap");
 async function serve() {
   const connection = new AdapterConnection((bytes) => process.stdout.write(bytes));
   const adapter = new DebugAdapter(connection, await Engine.load(moduleOfPage()), dataOfPage(), { ...host, end });
-  // The client has gone without a disconnect, or sends what cannot be read: what was done is kept.
+  // The client has gone without a disconnect, or sends unreadable data: the work so far is saved.
   listen(connection, (words) => {
     connection.turn.then(() => adapter.leave()).then((left) => end(1, words || left));
   });
@@ -23,6 +23,7 @@ async function serve() {
 /** @type {import("./table.mjs").CommandModule["run"]} */
 export function run(_, positionals) {
   needWords(positionals, []);
+  sayAtTerminal("dap");
   process.stdin.on("error", () => process.exit(1));
   serve().catch((fault) => end(1, fault instanceof Error ? fault.message : String(fault)));
   return untilItEnds();

@@ -19,7 +19,7 @@ import { NO_BREAKPOINTS_FILE } from "../../words/commands.js";
 
 const isByHand = process.stdin.isTTY === true && process.stdout.isTTY === true;
 
-/** The commands of a script: which line is refused is told with its number. */
+/** The commands of a script: a rejected line is reported with its number. */
 async function runScript(prompt, at) {
   let isRefused = false;
   for await (const line of createInterface({ input: process.stdin, crlfDelay: Infinity })) {
@@ -30,7 +30,7 @@ async function runScript(prompt, at) {
   return isRefused ? 1 : 0;
 }
 
-/** The view as the commands of the prompt have it, once it is there. */
+/** The view for the commands of the prompt, once it exists. */
 const views = { toggle: () => views.own.toggle(), turn: (isOn) => views.own.turn(isOn), own: null };
 
 /** Serves lines of a terminal; Ctrl-L and another size draw the view again. Returns the exit status. */
@@ -54,7 +54,7 @@ async function runByHand(prompt, holder) {
   return status;
 }
 
-/** Debugs what is given: the names of files, undefined for none; returns the exit status. */
+/** Debugs the given files (undefined for none); returns the exit status. */
 async function serve(given) {
   const engine = await Engine.load(moduleOfPage());
   const data = dataOfPage();
@@ -85,7 +85,7 @@ async function serve(given) {
   }
 }
 
-/** Returns the names of board, program and session: those that are given, and those of the project. */
+/** Returns the names of board, program and session: the given ones, and those of the project. */
 async function namesOf(folder, words) {
   if (words.length > 1 && folder !== undefined) needWords(words, [], 1);
   const project = await projectFor(folder, words, 2);

@@ -1,4 +1,4 @@
-// `mcs4 display`: prints what a board's display shows, by answers about its lamps.
+// `mcs4 display`: prints the text of a board's display, from answers about its lamps.
 import { linesOf } from "../../core/bench/inputs.js";
 import { shownAnswers } from "../../core/board/shown_answers.js";
 import { needWords, projectFor } from "../arguments.mjs";

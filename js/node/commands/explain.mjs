@@ -1,4 +1,4 @@
-// `mcs4 explain`: prints what was refused of a script, where, and why.
+// `mcs4 explain`: prints which lines of a script were rejected, and why.
 import { answeredScript } from "../../core/bench/answered_script.js";
 import { linesOf } from "../../core/bench/inputs.js";
 import { otherAnswers } from "../../words/commands.js";

@@ -12,7 +12,7 @@ import { NO_FINDS, NO_REPORT } from "../../words/commands.js";
 /** Begin the files that are written. */
 const FINDS_BEGIN = "# Found by ";
 const REPORT_BEGIN = "{\"form\":\"explore 1\"";
-/** The most that options can be, and what they are if they are not given. */
+/** The maximum of each option, and its default. */
 const SECONDS = { most: 86400, usual: 10 };
 const JOBS = { most: 64, usual: 1 };
 const SEED = { most: 99999999, usual: 1 };

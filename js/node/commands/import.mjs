@@ -20,15 +20,18 @@ async function tryOnBench(name, source, text) {
   const engine = await startEngine();
   const unsent = faultsOfText("program", text);
   const { refusal } = unsent.length > 0 ? { refusal: null } : readProgram(engine, sentText(text, ";"));
-  const faults = refusal ? [{ text: /** @type {const} */ ("program"), ...refusal, words: "" }] : unsent;
-  if (faults.length > 0) throw await errorOfTexts(engine, { program: { name, text: source, before: 0 } }, faults);
+  if (!refusal && unsent.length === 0) return;
+  // The message of a refusal: that of a line would be about our own spelling.
+  const { wordsOfRefusal } = await import("../refused_texts.mjs");
+  const faults = refusal ? [{ text: /** @type {const} */ ("program"), ...refusal, words: wordsOfRefusal(refusal.number) }] : unsent;
+  throw await errorOfTexts(engine, { program: { name, text: source, before: 0 } }, faults);
 }
 
 /** @type {import("./table.mjs").CommandModule["run"]} */
 export async function run(values, words) {
   needWords(words, ["PROGRAM"]);
   const [name] = words;
-  // A letter for each byte: comments keep theirs.
+  // One character for each byte: comments keep theirs.
   const source = new GivenTexts().read(name, MOST_GIVEN).toString("latin1").replace(MARK, "");
   const { text, faults } = importProgram(source);
   if (faults.length > 0) throw new CommandError(faults.map(({ line, words: why }) => `${name}:${line}: ${why}`).join("\n"));

@@ -3,7 +3,7 @@ import { Connection } from "../../core/server/connection.js";
 import { LanguageServer } from "../../core/server/language_server.js";
 import { Engine } from "../../core/engine/engine.js";
 import { needWords, untilItEnds } from "../arguments.mjs";
-import { endOf, listen } from "../message_server.mjs";
+import { endOf, listen, sayAtTerminal } from "../message_server.mjs";
 import { dataOfPage, moduleOfPage } from "../page_parts.mjs";
 import { isInside, readUserText } from "../user_files.mjs";
 
@@ -33,6 +33,7 @@ async function serve() {
 /** @type {import("./table.mjs").CommandModule["run"]} */
 export function run(_, positionals) {
   needWords(positionals, []);
+  sayAtTerminal("lsp");
   process.stdout.on("error", () => process.exit(1));
   process.stdin.on("error", () => process.exit(1));
   serve().catch((fault) => end(1, fault instanceof Error ? fault.message : String(fault)));

@@ -1,4 +1,4 @@
-// `mcs4 new` at a terminal. (The starter runs the program itself where there is none.)
+// `mcs4 new` at a terminal. (Without one the starter runs the program itself.)
 import { needWords } from "../arguments.mjs";
 import { servePrompt } from "../session_terminal.mjs";
 

@@ -4,7 +4,7 @@ import { codesOf } from "../../core/engine/rom_codes.js";
 import { listsOf, PAGES } from "../../core/bench/rom_bytes.js";
 import { differences } from "../../core/bench/begun_script.js";
 import { missingOf } from "../../core/board/face_board.js";
-import { sorted } from "../../core/board/face.js";
+import { byLine } from "../../core/board/face.js";
 import { Panel } from "../../core/panel/terminal_panel.js";
 import { Screen, hasRoom, middleRows } from "../../core/panel/screen.js";
 import { otherBoard } from "../../words/commands.js";
@@ -24,11 +24,11 @@ import { openProgram } from "../program_on_file.mjs";
  */
 
 const FAILED = 1;
-/** Between two pictures are so many milliseconds. */
+/** The milliseconds between two pictures. */
 const FRAME = 100;
 
 /**
- * Returns the names of board, session and program: those that are given, and those of the project.
+ * Returns the names of board, session and program: the given ones, and those of the project.
  * @param {import("./table.mjs").Values} values
  * @param {string[]} words
  */
@@ -55,7 +55,7 @@ async function answersOf(session, lines) {
 }
 
 /**
- * Reads the texts, which have to be those of the session: its board and the bytes in its ROM.
+ * Reads the texts, which must be those of the session: its board and the bytes in its ROM.
  * @param {SessionProgram} session
  * @param {string} name of the session
  * @param {{ board: GivenText, program: GivenText | null }} texts
@@ -72,17 +72,17 @@ async function knowTexts(session, name, texts) {
 }
 
 /**
- * Returns the first thing that the face tells and the board lacks, if nothing hangs on it; "" for none.
+ * Returns the first part that the front panel mentions and the board lacks, if nothing depends on it; "" for none.
  * @param {Awaited<ReturnType<typeof knowTexts>>} known
  * @param {number} before the lines of the file before the text
  */
 function noteOf({ board, face }, before) {
-  const [note] = sorted([...face.faults, ...missingOf(face, board)]);
+  const [note] = byLine([...face.faults, ...missingOf(face, board)]);
   return note ? noteOfBoard(note.line + before, note.words) : "";
 }
 
 /**
- * Draws what is seen now.
+ * Draws the present picture.
  * @param {PanelTerminal} terminal
  * @param {Panel} panel
  * @param {Screen} screen
@@ -95,7 +95,7 @@ async function show(terminal, panel, screen) {
 }
 
 /**
- * Takes the keys that are typed until the next picture is due; if time is paused, each key has a picture of its own.
+ * Reads the keys that are typed until the next picture is due; if time is paused, each key has a picture of its own.
  * @param {PanelTerminal} terminal
  * @param {Panel} panel
  * @param {number} next when that is
@@ -110,7 +110,7 @@ async function takeKeys(terminal, panel, next) {
 }
 
 /**
- * Shows the panel until it is ended; returns the exit status.
+ * Shows the panel until it ends; returns the exit status.
  * @param {PanelTerminal} terminal
  * @param {Panel} panel
  */
@@ -134,7 +134,7 @@ export async function run(values, words) {
   const board = texts.text(names.board, "wire");
   const program = names.program === undefined ? null : texts.text(names.program, "asm");
   texts.read(names.session, MOST_GIVEN);
-  // Where there is none, the terminal stays as it is.
+  // If there is none, the terminal is unchanged.
   programPath();
   const terminal = new PanelTerminal();
   const session = await openProgram("open", names.session);

@@ -1,4 +1,4 @@
-// `mcs4 project`: takes a project of the page apart into files of a folder, and puts such files together.
+// `mcs4 project`: splits a project of the page into files of a folder, and joins such files.
 import { existsSync, realpathSync, statSync } from "node:fs";
 import { basename, join } from "node:path";
 import { LONGEST_PROJECT, NotAProject, projectText, readProject, wordsOfLength } from "../../core/session/project_file.js";
@@ -14,11 +14,11 @@ import { isInside, needOwnFile, readUserFile, writeNewFiles, writeUserFile } fro
 
 const PROJECT_BEGINS = "fethsaim project ";
 const SESSION_BEGINS = "MCS4BEN1";
-/** The kinds of texts that a project of the page has one of. */
+/** The kinds of texts of which a project of the page has one. */
 const LISTED = /** @type {const} */ (["tests", "properties"]);
 
 /**
- * Returns what an act returns; what is no project is an error with the name of its file.
+ * Returns the result of an action; if a text is not a project, throws an error with the name of its file.
  * @template Result
  * @param {string} name
  * @param {() => Result} act
@@ -32,7 +32,7 @@ function ofFile(name, act) {
 }
 
 /**
- * Takes a project apart.
+ * Splits a project into files.
  * @param {string} name
  * @param {string} folder
  */
@@ -70,7 +70,7 @@ function readText(folder, name) {
 }
 
 /**
- * Returns the names of the texts: those that the project file names, else those that are there.
+ * Returns the names of the texts: those in the project file, or those that exist.
  * @param {string} folder
  * @returns {Promise<{ board: string, program: string, tests: string, properties: string }>} "" for a text that there is not
  */
@@ -119,7 +119,7 @@ function nameOf(folder) {
 }
 
 /**
- * Reads what a text of a folder lists; nothing if it is not there.
+ * Reads the list in a text of a folder; nothing if the text does not exist.
  * @template Item
  * @param {string} folder
  * @param {string} part
@@ -131,7 +131,7 @@ function listIn(folder, part, read) {
 }
 
 /**
- * Puts a project together.
+ * Joins files into a project.
  * @param {string} folder
  * @param {string} name of the project
  */
@@ -159,7 +159,7 @@ export async function run(values, [action, ...words]) {
   if (action !== "split" && action !== "join") throw new UsageError(say.neitherSplitNorJoin(action));
   needWords(words, action === "split" ? ["FILE", "FOLDER"] : ["FOLDER", "FILE"]);
   const [from, to] = words;
-  // A signal must not leave a part of what is written.
+  // A signal must not leave a partly written file.
   endOnSignals();
   if (action === "split") split(from, to);
   else await joinFiles(from, to);

@@ -1,22 +1,46 @@
 // `mcs4 prove`: proves that properties hold for all inputs, by the program mcs4-prove; a counterexample is confirmed by the bench.
-import { statusOf, tapOf } from "../../core/prove/verdicts.js";
+import { statusOf, tapHead, tapOfJudged } from "../../core/prove/verdicts.js";
 import { namesWithProperties, needCount, needWords } from "../arguments.mjs";
 import { GivenTexts } from "../given_texts.mjs";
 import { print } from "../output.mjs";
-import { proveTexts } from "../proving.mjs";
+import { ProgressLine } from "../progress_line.mjs";
+import { beginProving } from "../proving.mjs";
+import { provingSoFar } from "../../words/prove.js";
 
-/** The most states that are searched, and how many if nothing is said. */
+/** The most states that are searched, and the default. */
 const STATES = { most: 999999999, usual: 1000000 };
 
+/** The most memory for them, in MB. */
+const MOST_MEMORY = 1000000;
+
 /** @type {import("./table.mjs").CommandModule["run"]} */
-export async function run({ folder, most: word }, positionals) {
+export async function run({ folder, most: word, memory: size }, positionals) {
   const most = word === undefined ? STATES.usual : needCount("N", word, STATES.most);
+  const memory = size === undefined ? 0 : needCount("MB", size, MOST_MEMORY);
   const names = await namesWithProperties(folder, positionals);
   needWords(names, ["BOARD", "PROGRAM", "PROPERTIES"], 3, true);
   const texts = new GivenTexts();
   const [board, program] = [texts.text(names[0], "wire"), texts.text(names[1], "asm")];
   const properties = texts.source(names[2]);
-  const judged = await proveTexts({ board, program, properties }, most);
-  print(tapOf(judged, properties.name));
-  return statusOf(judged);
+  return proveAll(await beginProving({ board, program, properties }, { most, memory }), properties.name);
+}
+
+/**
+ * Judges all properties, and prints the result of each as soon as it is known; returns the exit status.
+ * @param {import("../../core/prove/judging.js").Judging} judging
+ * @param {string} file of the properties
+ */
+async function proveAll(judging, file) {
+  const { total } = judging;
+  const line = new ProgressLine();
+  const all = [];
+  for (const at of Array(total).keys()) {
+    line.begin((seconds) => provingSoFar(at + 1, total, judging.textOf(at), seconds));
+    const judged = /** @type {import("../../core/prove/verdicts.js").Judged} */ (await judging.next());
+    line.clear();
+    print((at === 0 ? tapHead(total) : "") + tapOfJudged(judged, at, file));
+    all.push(judged);
+  }
+  line.end();
+  return statusOf(all);
 }

@@ -1,4 +1,4 @@
-// `mcs4 resume`: goes on with a script that was killed.
+// `mcs4 resume`: continues a script that was killed.
 import { spawn } from "node:child_process";
 import { once } from "node:events";
 import { refusalOf } from "../../core/bench/answers.js";
@@ -6,14 +6,14 @@ import { begunScript } from "../../core/bench/begun_script.js";
 import { changedMeanwhile, notBegun, sessionRefused, sessionWasRefused } from "../../words/commands.js";
 import { needWords } from "../arguments.mjs";
 import { GivenTexts, MOST_GIVEN, MOST_SCRIPT } from "../given_texts.mjs";
-import { breathe, openSession, programPath, startEngine } from "../native_program.mjs";
+import { yieldToMessages, openSession, programPath, startEngine } from "../native_program.mjs";
 import { CommandError, printBytes, printError } from "../output.mjs";
 import { wordsOfRefusal } from "../refused_texts.mjs";
 
 const OPENED = /^session \d+\n/;
 
 /**
- * Prints answers as they come; returns the first line, if that says that the session is not open.
+ * Prints answers as they arrive; returns the first line, if that says that the session is not open.
  * @param {import("node:stream").Readable} stream
  */
 async function printAnswers(stream) {
@@ -49,7 +49,7 @@ async function serveOn(session, bytes) {
 }
 
 /**
- * Returns the bytes behind some lines.
+ * Returns the bytes after some lines.
  * @param {Buffer} bytes
  * @param {number} lines
  */
@@ -69,11 +69,11 @@ export async function run(_, positionals) {
   const texts = new GivenTexts();
   const bytes = texts.read(scriptName, MOST_SCRIPT);
   const before = texts.read(session, MOST_GIVEN);
-  // Where there is none, that is said before all else.
+  // If there is none, that is reported first.
   programPath();
   const engine = await startEngine();
   const { lines, words, differing } = await begunScript(
-    engine, await openSession(engine, texts, session), bytes.toString("latin1"), breathe,
+    engine, await openSession(engine, texts, session), bytes.toString("latin1"), yieldToMessages,
   );
   if (words !== "") throw new CommandError(notBegun(session, scriptName, words, differing));
   if (!texts.read(session, MOST_GIVEN).equals(before)) throw new CommandError(changedMeanwhile(session));

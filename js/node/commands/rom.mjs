@@ -7,15 +7,13 @@ import { NotARecord, NotAnImage, hexOf, readBytes, readHex } from "../../core/be
 import { textsOfBytes } from "../../core/text/assembling.js";
 import * as say from "../../words/commands.js";
 import { needWords } from "../arguments.mjs";
-import { GivenTexts, MOST_GIVEN } from "../given_texts.mjs";
+import { GivenTexts, MOST_ANSWERS, MOST_GIVEN, STANDARD_INPUT } from "../given_texts.mjs";
 import { CommandError, UsageError, print, printBytes } from "../output.mjs";
 import { readStream } from "../user_files.mjs";
 
 /** @typedef {import("../../core/bench/rom_formats.js").ImageForm} ImageForm */
 
-const MOST_ANSWERS = 67108864;
-const STANDARD_INPUT = 0;
-/** @type {Record<string, ImageForm[]>} the forms that each action takes */
+/** @type {Record<string, ImageForm[]>} the forms that each action accepts */
 const FORMS = { load: ["hex", "srec", "bnpf", "binary"], ask: [], save: ["hex", "bnpf"] };
 const READERS = { hex: readHex, srec: readSRecords, bnpf: readBnpf };
 
@@ -91,7 +89,7 @@ function ask(words) {
 }
 
 /**
- * Returns the bytes of a range in answers, of which the later ones hold.
+ * Returns the bytes of a range in answers; later ones take precedence.
  * @param {string} answers
  * @param {{ first: number, count: number }} range
  */

@@ -11,7 +11,7 @@ import { errorOfTexts, startEngine } from "../native_program.mjs";
 import { printFile } from "../output.mjs";
 
 /**
- * Returns a text with its comments, or without them if the bench takes it only so.
+ * Returns a text with its comments, or without them if the bench only accepts it so.
  * @param {string} text
  * @param {import("../../core/text/text_fault.js").CommentMark} mark
  */

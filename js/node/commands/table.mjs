@@ -1,10 +1,11 @@
-// The table of commands: argument parsing, help, manual pages and completions are made of it. Its sentences are in js/words/commands.js, by
-// the same names. A command's module exports `run(values, positionals)`, which returns its exit status or a promise of it.
+// The table of commands, from which argument parsing, help, manual pages and completions are made. Its sentences are in
+// js/words/commands.js, by the same names. A command's module exports `run(values, positionals)`, which returns its exit status or a
+// promise of it.
 
 /**
  * @typedef {import("../../words/commands.js").CommandName} CommandName
  *
- * An option, as `parseArgs` of node:util takes it. `value` is what help calls its value.
+ * An option, in the form of `parseArgs` of node:util. `value` is the name of its value in the help.
  * @typedef {{ type: "string" | "boolean", short?: string, multiple?: boolean, value?: string }} Option
  *
  * The values of options by their long names, and the other arguments.
@@ -147,8 +148,8 @@ export const COMMANDS = {
   },
   prove: {
     group: "tests",
-    usage: ["[-C FOLDER] [BOARD PROGRAM] [PROPERTIES] [--most N]"],
-    options: { folder: FOLDER, most: { type: "string", value: "N" } },
+    usage: ["[-C FOLDER] [BOARD PROGRAM] [PROPERTIES] [--most N] [--memory MB]"],
+    options: { folder: FOLDER, most: { type: "string", value: "N" }, memory: { type: "string", value: "MB" } },
     load: () => import("./prove.mjs"),
   },
   resume: {

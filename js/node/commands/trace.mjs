@@ -1,9 +1,10 @@
-// `mcs4 trace`: prints what a session does from here on, an instruction a line.
+// `mcs4 trace`: prints the next instructions of a session, one a line.
+import { romCodes } from "../../core/engine/rom_codes.js";
 import { SessionTrace } from "../../core/trace/session_trace.js";
 import { excludeEachOther } from "../../words/commands.js";
 import { needCount, needWords, projectFor } from "../arguments.mjs";
 import { GivenTexts } from "../given_texts.mjs";
-import { breathe, openSession, programOf, startEngine } from "../native_program.mjs";
+import { yieldToMessages, openSession, programOf, startEngine } from "../native_program.mjs";
 import { UsageError, print } from "../output.mjs";
 
 const MOST_CYCLES = 100000;
@@ -30,8 +31,9 @@ export async function run(values, words) {
   const texts = new GivenTexts();
   const program = programName === undefined ? null : texts.text(programName, "asm");
   const engine = await startEngine();
-  const trace = new SessionTrace(engine, await openSession(engine, texts, session), breathe);
-  const map = program && await programOf(engine, trace.codes, program);
+  const state = await openSession(engine, texts, session);
+  const trace = new SessionTrace(engine, state, yieldToMessages);
+  const map = program && await programOf(engine, romCodes(engine, state), program);
   const source = program && values.names === undefined ? { lines: program.text.split("\n"), before: program.before } : null;
   const names = map && { map, source };
   const pieces = last > 0 ? trace.last(last, cycles, names) : trace.next(cycles, names);

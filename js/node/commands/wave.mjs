@@ -3,7 +3,7 @@ import { readBoard } from "../../core/bench/answers.js";
 import { hasOutput } from "../../core/board/face_board.js";
 import { Face } from "../../core/board/face.js";
 import { romCodes } from "../../core/engine/rom_codes.js";
-import { withoutStops } from "../../core/engine/wave_recorder.js";
+import { withoutStops } from "../../core/engine/without_stops.js";
 import { neededLines, recordPieces } from "../../core/engine/wave_stream.js";
 import { faultsOfNames, wiredBoard } from "../../core/testing/prepared.js";
 import { NoLine, chooseLines, offeredNames } from "../../core/waves/line_choice.js";
@@ -13,7 +13,7 @@ import { wavOf } from "../../core/waves/wav.js";
 import * as say from "../../words/commands.js";
 import { needCount, needWords, projectFor } from "../arguments.mjs";
 import { GivenTexts } from "../given_texts.mjs";
-import { breathe, errorOfTexts, openSession, programOf, startEngine } from "../native_program.mjs";
+import { yieldToMessages, errorOfTexts, openSession, programOf, startEngine } from "../native_program.mjs";
 import { CommandError, UsageError, print, printError } from "../output.mjs";
 import { needOwnFile, writeUserFile } from "../user_files.mjs";
 
@@ -31,7 +31,7 @@ const MOST_CYCLES = 10000000;
 const WAV_BEGINS = "RIFF";
 
 /**
- * Returns the names of the texts of board and program: those that are given, else those of the project that is named.
+ * Returns the names of the texts of board and program: the given ones, or those of the named project.
  * @param {Values} values
  */
 async function textsFor({ folder, board, names }) {
@@ -40,7 +40,7 @@ async function textsFor({ folder, board, names }) {
 }
 
 /**
- * Rejects a board's text that is not the session's board, or whose comments name what the board lacks.
+ * Rejects a board's text that differs from the session's board, or whose comments name parts that the board lacks.
  * @param {Wired["engine"]} engine
  * @param {GivenText} given
  * @param {string[]} wanted the answers to `board`
@@ -77,7 +77,7 @@ async function wired(session, { board: boardName, program: programName }) {
 const textOf = ({ boardText }) => (boardText ? boardText.text : "");
 
 /**
- * Returns what `choose` returns; a line that the board lacks is an error.
+ * Returns the result of `choose`; a line that the board lacks is an error.
  * @template Result
  * @param {() => Result} choose
  */
@@ -106,7 +106,7 @@ async function printVcd(opened, cycles, words) {
   const { lines, chosen } = neededLines(all.lines, all.chosen);
   /** @type {VcdText | null} */
   let text = null;
-  for await (const waves of recordPieces(engine, state, { lines, program, cycles }, breathe)) {
+  for await (const waves of recordPieces(engine, state, { lines, program, cycles }, yieldToMessages)) {
     if (!text) {
       text = new VcdText(waves, chosen);
       print(text.head());
@@ -149,7 +149,7 @@ async function writeWav(opened, cycles, word, name) {
   const { lines, chosen } = neededLines(all.lines, all.chosen);
   const edges = [];
   let [level, done] = [-1, 0];
-  for await (const waves of recordPieces(engine, state, { lines, program: null, cycles }, breathe)) {
+  for await (const waves of recordPieces(engine, state, { lines, program: null, cycles }, yieldToMessages)) {
     if (level < 0) level = waves.numberAt(chosen[0], 0);
     for (const edge of waves.changesOf(chosen[0])) edges.push(edge);
     done = waves.cycles;

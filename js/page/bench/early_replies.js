@@ -1,5 +1,6 @@
-// A second way for a reply to the page. Chromium hands a page its worker's messages only at the next frame once a key was pressed, but not
-// those of a broadcast channel. These can be lost, in a page that was frozen say: so each reply comes the usual way as well.
+// A second way for a reply to reach the page. After a key press Chromium delivers its worker's messages to a page only at the next frame,
+// but those of a broadcast channel at once. These can be lost, for example in a page that was frozen: so each reply is also sent the usual
+// way.
 
 /**
  * @typedef {import("../../core/bench/bench_client.js").WorkerLike} WorkerLike
@@ -12,7 +13,7 @@ function secretName() {
 }
 
 /**
- * The channel of that name, or null where there is none: in older browsers, and in Firefox where the data of sites are blocked.
+ * Returns the channel of that name, or null if there is none: in older browsers, and in Firefox if the data of sites are blocked.
  * @param {string} name
  */
 function channelOf(name) {
@@ -25,7 +26,7 @@ function channelOf(name) {
 }
 
 /**
- * Starts a worker whose early replies are heard as its other messages are.
+ * Starts a worker whose early replies are handled like its other messages.
  * @param {string} address
  * @returns {WorkerLike}
  */
@@ -47,11 +48,11 @@ export function startWorker(address) {
 }
 
 /**
- * In the worker: what tells a reply early. It copies what the reply holds.
+ * Returns the worker's sender of early replies. It copies the contents of the reply.
  * @param {string} name the worker's own
  * @returns {(early: Early) => void}
  */
-export function earlyTeller(name) {
+export function earlySender(name) {
   const channel = channelOf(name);
   return (early) => channel && channel.postMessage(early);
 }

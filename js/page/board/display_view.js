@@ -1,4 +1,4 @@
-// The displays of a board: digits of seven segments, drawn, and what they show in words.
+// The displays of a board: drawn digits of seven segments, and their text.
 
 import { Announcer } from "../../core/board/announcer.js";
 import { Cell, Switch, block, element } from "../ui/dom.js";
@@ -19,17 +19,17 @@ const SHAPES = [
   "M5 3 8 1h20l3 2-4 4H9z", "M32 4l2 3v20l-2 2-3-3V8z", "M32 31l2 2v20l-2 3-3-4V34z", "M5 57l4-4h18l4 4-3 2H8z",
   "M4 31l3 3v18l-3 4-2-3V33z", "M4 4l3 4v18l-3 3-2-2V7z", "M5 30l4-3h18l4 3-4 3H9z", "M38 54h5v5h-5z",
 ];
-/** A digit that is drawn. It changes the page only where a segment is brighter or darker now than it was before. */
+/** A drawn digit. It changes the page only if the brightness of a segment has changed. */
 class Digit {
   /**
-   * @param {boolean} isSign whether it is a minus alone
+   * @param {boolean} isSign whether it has only a minus
    * @param {boolean} hasPoint
    */
   constructor(isSign, hasPoint) {
-    /** How bright each segment is, and whether it counts as lit. */
+    /** The brightness of each segment, and whether it counts as on. */
     this.shines = SHAPES.map(() => 0);
     this.lit = 0;
-    /** The pattern that alone is shown; NOT_LIT where segments shine by their parts. */
+    /** The pattern of a steady digit; NOT_LIT if segments have duty cycles. */
     this.whole = 0;
     this.node = document.createElementNS(SVG, "svg");
     this.node.setAttribute("viewBox", isSign ? "2 0 32 60" : "0 0 44 60");
@@ -43,7 +43,7 @@ class Digit {
     });
   }
 
-  /** @param {number} pattern what is lit at this instant, or stands still */
+  /** @param {number} pattern the segments that are on at this instant, or steadily */
   set(pattern) {
     const lit = pattern === NOT_LIT ? 0 : pattern;
     if (lit === this.whole) return;
@@ -54,7 +54,7 @@ class Digit {
 
   /**
    * @param {import("../../core/board/brightness.js").SeenDigit} seen
-   * @param {number} turns it is lit in one of so many turns
+   * @param {number} turns it is on in one of this many turns
    */
   shine(seen, turns) {
     if (seen.whole !== NOT_LIT) {
@@ -66,8 +66,8 @@ class Digit {
   }
 
   /**
-   * @param {number} lit the segments that count as lit
-   * @param {number[]} parts of the time for which each segment is lit
+   * @param {number} lit the segments that count as on
+   * @param {number[]} parts the duty cycle of each segment
    */
   shineBy(lit, parts) {
     this.whole = NOT_LIT;
@@ -75,8 +75,8 @@ class Digit {
   }
 
   /**
-   * @param {number} lit the segments that count as lit
-   * @param {number[]} parts of the time for which each segment is lit
+   * @param {number} lit the segments that count as on
+   * @param {number[]} parts the duty cycle of each segment
    */
   show(lit, parts) {
     for (let at = 0; at < this.segments.length; at++) {
@@ -104,7 +104,7 @@ class Display {
 
   /** @param {import("../../core/board/brightness.js").SeenDigit[]} seen */
   shine(seen) {
-    // By turns each of them can be lit for its part of the time alone.
+    // In turn each of them can be on for its part of the time only.
     const turns = isScanned(this.group) ? this.group.rows : 1;
     seen.forEach((digit, index) => this.digits[index].shine(digit, turns));
   }
@@ -118,8 +118,8 @@ export class DisplayView {
     this.minus = -1;
     this.words = new Cell(block("digits"));
     this.text = new DisplayText([], []);
-    const told = new Cell(block("display-told"));
-    this.announcer = new Announcer((text) => told.set(text));
+    const status = new Cell(block("display-status"));
+    this.announcer = new Announcer((text) => status.set(text));
   }
 
   /**
@@ -143,12 +143,12 @@ export class DisplayView {
     this.announcer.begin();
   }
 
-  /** @param {string} marks a `*` for each lamp that is lit at this instant */
+  /** @param {string} marks a `*` for each lamp that is on at this instant */
   show(marks) {
     if (this.displays.length === 0) return;
     for (const display of this.displays) display.show(marks);
     this.sign.set(this.minus >= 0 && isLit(marks, this.minus) ? MINUS : 0);
-    this.tell(this.text.read(marks));
+    this.showText(this.text.read(marks));
   }
 
   /** @param {import("../../core/board/brightness.js").Brightness} brightness */
@@ -156,11 +156,11 @@ export class DisplayView {
     if (this.displays.length === 0) return;
     this.displays.forEach((display, at) => display.shine(brightness.digits[at]));
     if (this.minus >= 0) this.shineSign(brightness, this.minus);
-    this.tell(this.text.words(brightness.patterns, (lamp) => brightness.isOn[lamp]));
+    this.showText(this.text.words(brightness.patterns, (lamp) => brightness.isOn[lamp]));
   }
 
   /**
-   * The minus is of the display: where it stands still, it does not fade as a lamp does.
+   * The minus belongs to the display: a steady one does not fade as a lamp does.
    * @param {import("../../core/board/brightness.js").Brightness} brightness
    * @param {number} lamp
    */
@@ -171,8 +171,8 @@ export class DisplayView {
   }
 
   /** @param {{ number: string, names: string }} words */
-  tell({ number, names }) {
+  showText({ number, names }) {
     this.words.set(number);
-    this.announcer.tell(names ? `${number} ${names}` : number);
+    this.announcer.announce(names ? `${number} ${names}` : number);
   }
 }

@@ -1,11 +1,11 @@
-// The front of a board: its title, its displays and lamps, and its keys, with what is at its TEST pin.
+// The front panel of a board: its title, its displays and lamps, and its keys, with the switch at its TEST pin.
 
 import { hintOfKeys, keysOf } from "../../core/board/board_keys.js";
 import { Brightness } from "../../core/board/brightness.js";
 import { EYE_MS } from "../../core/time/mcs4_time.js";
 import { DisplayView } from "./display_view.js";
 import { Cell, block, button, element, oneStop, pressedSwitch, setStop } from "../ui/dom.js";
-import { Face, moreThan, sorted } from "../../core/board/face.js";
+import { Face, moreThan, byLine } from "../../core/board/face.js";
 import { missingOf } from "../../core/board/face_board.js";
 import { KeysDown } from "../../core/board/key_place.js";
 import { LampsView } from "./lamps_view.js";
@@ -14,15 +14,15 @@ import * as say from "../../words/board.js";
 /**
  * @typedef {import("../../core/bench/answers.js").Board} Board
  * @typedef {import("../../core/board/board_keys.js").BoardKey} BoardKey
- * @typedef {import("../../core/engine/shining.js").Shone} Shone
+ * @typedef {import("../../core/engine/brightness_meter.js").LitShares} LitShares
  * @typedef {BoardKey & { button: HTMLButtonElement, down: import("../ui/dom.js").Switch }} ShownKey
  */
 
-/** So many faults are told. */
+/** The most errors that are shown. */
 const MOST_FAULTS = 20;
 
 /**
- * Whether nothing is wired at all: what can be begun with is offered then.
+ * Returns whether nothing is wired at all: then ways to begin are offered.
  * @param {Board} board
  */
 function isBare({ roms, banks, chains, lamps }) {
@@ -37,29 +37,29 @@ const SHORT_LEGEND = 4;
 export class FrontView {
   /**
    * @param {(button: HTMLButtonElement, key: BoardKey) => void} listen makes a button press its key
-   * @param {(face: string, number: number) => void} watch how long lamps are lit is asked for from here on, by this face
+   * @param {(face: string, number: number) => void} watch requests how long lamps are on, for this front panel
    */
   constructor(listen, watch) {
     this.listen = listen;
     this.watch = watch;
-    /** @type {ShownKey[]} with what is at TEST, if the face tells that */
+    /** @type {ShownKey[]} with the switch at TEST, if the front panel has one */
     this.keys = [];
     this.down = new KeysDown();
     /** The level of the TEST pin. */
     this.level = "";
-    /** What `lamps` told last. */
+    /** The last answer to `lamps`. */
     this.marks = "";
-    /** What the face was read from. */
-    this.told = "";
+    /** The comments from which the front panel was read. */
+    this.faceComments = "";
     this.columns = 1;
     this.lamps = new LampsView();
     this.display = new DisplayView();
-    /** How many faces were drawn: the number of the last one. */
+    /** The number of front panels drawn, and so the number of the last one. */
     this.faces = 0;
     this.brightness = new Brightness(new Face(""), 0);
-    /** Whether lamps are shown as an eye sees them, and not as they are at an instant. */
+    /** True if lamps are shown as perceived, and not as they are at an instant. */
     this.isShining = false;
-    this.shineTold = new Cell(block("shine-told"));
+    this.brightnessStatus = new Cell(block("brightness-status"));
     this.block = block("keys");
     oneStop(this.block, () => this.columns);
   }
@@ -70,21 +70,21 @@ export class FrontView {
    * @param {Face} face
    */
   draw(board, face) {
-    this.told = face.told;
+    this.faceComments = face.comments;
     this.marks = "";
     this.drawFace(board, face);
   }
 
   /**
-   * Draws another face of the same board, if it is another one. A text without any face may be one that is just being written: the board
-   * keeps its face then until it is wired.
+   * Draws a changed front panel of the same board. A text without a front panel may be one that is just being written: the board keeps its
+   * old one until it is wired.
    * @param {Board} board
    * @param {Face} face
    */
   change(board, face) {
     this.drawFaults(board, face);
-    if (this.told === face.told || face.told === "") return;
-    this.told = face.told;
+    if (this.faceComments === face.comments || face.comments === "") return;
+    this.faceComments = face.comments;
     this.drawFace(board, face);
     this.showLamps(this.marks);
   }
@@ -101,22 +101,22 @@ export class FrontView {
     this.faces += 1;
     this.brightness = new Brightness(face, board.lamps.length);
     this.isShining = false;
-    block("shine-told").hidden = board.lamps.length === 0;
-    this.watch(face.told, this.faces);
+    block("brightness-status").hidden = board.lamps.length === 0;
+    this.watch(face.comments, this.faces);
     this.drawKeys(board, face);
     this.drawFaults(board, face);
   }
 
   /**
-   * What the comments tell and what is not understood, or is not on the board.
+   * Shows the errors of the front panel's comments: malformed ones, and parts that the board lacks.
    * @param {Board} board
    * @param {Face} face
    */
   drawFaults(board, face) {
-    const faults = sorted([...face.faults, ...missingOf(face, board)]);
+    const faults = byLine([...face.faults, ...missingOf(face, board)]);
     const root = block("face-faults");
-    const told = faults.slice(0, MOST_FAULTS).map(({ line, words }) => say.lineOfBoard(line, words));
-    root.replaceChildren(...[...told, moreThan(faults, MOST_FAULTS)].filter(Boolean).map((words) => element("li", {}, words)));
+    const messages = faults.slice(0, MOST_FAULTS).map(({ line, words }) => say.lineOfBoard(line, words));
+    root.replaceChildren(...[...messages, moreThan(faults, MOST_FAULTS)].filter(Boolean).map((words) => element("li", {}, words)));
     root.hidden = faults.length === 0;
   }
 
@@ -132,7 +132,7 @@ export class FrontView {
     this.block.replaceChildren(...this.keys.map((key) => key.button));
     this.block.hidden = this.keys.length === 0;
     block("typing-label").hidden = this.keys.length === 0;
-    // What the face shows is turned there.
+    // The content of the front panel is rotated there.
     button("test").hidden = face.test !== null;
     setStop(this.block);
     block("keys-hint").textContent = isBare(board) ? "" : hintOfKeys(this.keys);
@@ -157,33 +157,33 @@ export class FrontView {
     return { ...boardKey, button: node, down: pressedSwitch(node) };
   }
 
-  /** @param {string} marks a `*` for each lamp that is lit at this instant */
+  /** @param {string} marks a `*` for each lamp that is on at this instant */
   showLamps(marks) {
     this.marks = marks;
     this.isShining = false;
-    this.shineTold.set(say.AT_INSTANT);
+    this.brightnessStatus.set(say.AT_INSTANT);
     this.lamps.show(marks);
     this.display.show(marks);
   }
 
   /**
-   * Shows what an eye sees of the time that has passed.
-   * @param {string} marks what is lit at its end
-   * @param {Shone} shone
-   * @param {number} time that it took, in milliseconds
+   * Shows the perceived lamps of the time that has passed.
+   * @param {string} marks the lamps that are on at its end
+   * @param {LitShares} litShares
+   * @param {number} time the duration, in milliseconds
    */
-  shine(marks, shone, time) {
+  shine(marks, litShares, time) {
     if (!this.isShining) this.brightness.begin(this.marks);
     this.isShining = true;
     this.marks = marks;
-    this.shineTold.set(AS_SEEN);
-    this.brightness.add(shone, time);
+    this.brightnessStatus.set(AS_SEEN);
+    this.brightness.add(litShares, time);
     this.lamps.shine(this.brightness);
     this.display.shine(this.brightness);
   }
 
   /**
-   * Which keys are down, as the bench tells it.
+   * Shows the keys that are down, as the bench reports them.
    * @param {string[]} down
    */
   showKeys(down) {

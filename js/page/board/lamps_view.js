@@ -1,4 +1,4 @@
-// The lamps of a board: where its face tells a place for them, there; all others in rows, with their names or those of their lines.
+// The lamps of a board: at their positions if the front panel gives them; all others in rows, with their names or those of their lines.
 
 import { block, element } from "../ui/dom.js";
 import { shineOf } from "../../core/board/brightness.js";
@@ -14,7 +14,7 @@ import * as say from "../../words/board.js";
  * @typedef {import("../../core/board/seen_lamps.js").SeenLamp} SeenLamp
  */
 
-/** A lamp that is drawn. It changes the page only where it is brighter or darker now than it was before. */
+/** A drawn lamp. It changes the page only if its brightness has changed. */
 class Lamp {
   /**
    * @param {SeenLamp} seen
@@ -34,8 +34,8 @@ class Lamp {
   }
 
   /**
-   * @param {number} part of the time for which it is lit
-   * @param {boolean} isOn whether it counts as lit
+   * @param {number} part its duty cycle
+   * @param {boolean} isOn whether it counts as on
    */
   show(part, isOn) {
     if (part !== this.part) this.showShine(shineOf(part));
@@ -106,13 +106,13 @@ export class LampsView {
 
   /** @param {number} at */
   nameOf(at) {
-    const told = this.face && this.face.lamps.get(at);
-    return told ? told.text.replace(/_/g, " ") : "";
+    const faceText = this.face && this.face.lamps.get(at);
+    return faceText ? faceText.text.replace(/_/g, " ") : "";
   }
 
   /**
    * @param {number} at
-   * @param {string} name what it is called where it has none
+   * @param {string} name its default name
    */
   lamp(at, name) {
     return this.add(at, lampAt(at), this.nameOf(at) || name, this.lines[at]);
@@ -140,9 +140,9 @@ export class LampsView {
   }
 
   /**
-   * One whose rows are lit by turns: each of its lamps can be lit for its part of the time alone.
+   * A multiplexed group: each of its lamps can be on for its part of the time only.
    * @param {Group} group
-   * @param {number} number of those that are scanned
+   * @param {number} number of the scanned ones
    */
   drawScanned(group, number) {
     return listOf(group, (at, words) => {
@@ -167,7 +167,7 @@ export class LampsView {
   }
 
   /**
-   * Lamps without a place: those with names, and between them the unnamed ones, a row for each port.
+   * Lamps without a position: those with names, and between them the unnamed ones, a row for each port.
    * @param {number[]} loose
    */
   drawRows(loose) {
@@ -182,14 +182,14 @@ export class LampsView {
     }
     return rows.map(({ port, cells }) => {
       const list = element("ul", {}, ...cells);
-      const told = this.face && this.face.ports.get(port);
+      const faceText = this.face && this.face.ports.get(port);
       list.setAttribute("aria-label", port || say.LAMPS);
       if (!port) return element("div", { className: "lamp-row named" }, list);
-      return element("div", { className: "lamp-row" }, element("b", { title: port }, told ? told.text : port), list);
+      return element("div", { className: "lamp-row" }, element("b", { title: port }, faceText ? faceText.text : port), list);
     });
   }
 
-  /** @param {string} marks a `*` for each lamp that is lit at this instant */
+  /** @param {string} marks a `*` for each lamp that is on at this instant */
   show(marks) {
     for (const lamp of this.lamps) {
       const isOn = lamp.seen.isLit(marks);

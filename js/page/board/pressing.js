@@ -1,4 +1,4 @@
-// Fingers on keys: pointers, the keyboard, and what they mean while time runs and while it stands still.
+// Fingers on keys: pointers, the keyboard, and their effect while time runs and while it is paused.
 
 import { textOfKey } from "../../core/board/key_place.js";
 
@@ -8,38 +8,38 @@ import { textOfKey } from "../../core/board/key_place.js";
  */
 
 /**
- * What fingers and the keyboard call.
+ * The calls that fingers and the keyboard make.
  * @typedef {object} PressingCalls
  * @property {() => boolean} isRunning Returns whether time runs, so that keys wait for their time.
- * @property {(key: Key) => boolean} isDown Returns whether a key will be down after all that was asked for.
- * @property {(key: Key) => void} press A key goes down when its time comes, while time runs.
- * @property {(key: Key) => void} release A key goes up when its time comes, while time runs.
+ * @property {(key: Key) => boolean} isDown Returns whether a key will be down after all requests.
+ * @property {(key: Key) => void} press Moves a key down when its turn comes, while time runs.
+ * @property {(key: Key) => void} release Moves a key up when its turn comes, while time runs.
  * @property {(word: "press" | "release", key: Key) => void} change Presses or releases a key at once, while time is paused.
- * @property {(event: KeyboardEvent) => BoardKey | undefined} meant Returns the key of the board that a key of the keyboard stands for;
- *   undefined if none, or if something else wants it.
+ * @property {(event: KeyboardEvent) => BoardKey | undefined} meant Returns the board's key for a key of the keyboard; undefined if none, or
+ * if something else wants it.
  */
 
 /**
- * What a finger has done to a key: whether the key is to stay so when the finger goes, and what takes it back.
+ * The press of a key by a finger: whether the key stays when the finger is lifted, and the function that undoes it.
  * @typedef {{ key: Key, stays: boolean, takeBack: () => void }} Held
  */
 
-/** A finger on the glass presses after so many milliseconds, or when it goes: one that swipes over the page has been told by then. */
+/** A finger on the glass presses after this many milliseconds, or when it is lifted: a swipe over the page is recognised by then. */
 const SWIPE_TIME = 60;
-/** A click that comes so many milliseconds after a finger went is the finger's own, whatever it says of itself. */
+/** A click within this many milliseconds after a finger was lifted comes from the finger, whatever its type. */
 const TAP_TIME = 500;
 
 export class Pressing {
   /** @param {PressingCalls} calls */
   constructor(calls) {
     this.calls = calls;
-    /** @type {Map<string, Held>} the keys that a finger holds, by their texts */
+    /** @type {Map<string, Held>} the keys that a finger presses, by their texts */
     this.held = new Map();
     /** @type {Map<number, number>} the timers of fingers that may be swiping, by pointer */
     this.resting = new Map();
   }
 
-  /** Forgets the fingers: the keys are others now. */
+  /** Forgets the fingers: the keys have changed. */
   forget() {
     this.held.clear();
     for (const timer of this.resting.values()) clearTimeout(timer);
@@ -62,7 +62,7 @@ export class Pressing {
     });
     button.addEventListener("pointerup", (event) => {
       lifted = event.timeStamp;
-      // A tap was shorter than the time that tells it from a swipe.
+      // A tap was shorter than the time that distinguishes it from a swipe.
       if (this.lift(event.pointerId)) this.down(boardKey, false);
       this.up(key);
     });
@@ -94,7 +94,7 @@ export class Pressing {
   }
 
   /**
-   * A finger rests on a key: it is pressed in a moment, unless the browser takes the finger for a swipe.
+   * A finger rests on a key: it is pressed in a moment, unless the browser recognises a swipe.
    * @param {number} pointer
    * @param {BoardKey} boardKey
    */
@@ -106,7 +106,7 @@ export class Pressing {
   }
 
   /**
-   * A finger goes; whether it had pressed nothing so far.
+   * A finger is lifted; returns whether it had pressed nothing so far.
    * @param {number} pointer
    */
   lift(pointer) {
@@ -115,7 +115,7 @@ export class Pressing {
   }
 
   /**
-   * A switch stays as a press puts it, and so does a key that is pressed with Shift.
+   * A switch stays in its new position, and so does a key that is pressed with Shift.
    * @param {Pick<BoardKey, "key" | "isSwitch">} boardKey
    * @param {boolean} hasShift
    */
@@ -149,7 +149,7 @@ export class Pressing {
   }
 
   /**
-   * The finger goes. Where time stands still meanwhile, the key goes up when it runs on.
+   * The finger is lifted. If time is paused meanwhile, the key goes up when it resumes.
    * @param {Key} key
    */
   up(key) {
@@ -164,7 +164,7 @@ export class Pressing {
     for (const { key } of [...this.held.values()]) this.up(key);
   }
 
-  /** The keys of the keyboard press the keys of the board, where nothing else on the page wants them. */
+  /** The keys of the keyboard press the keys of the board, unless something else on the page wants them. */
   listenToKeyboard() {
     /** @type {Map<string, Key>} */
     const typedAt = new Map();
@@ -181,7 +181,7 @@ export class Pressing {
       typedAt.delete(event.code);
       if (key !== undefined) this.up(key);
     });
-    // What goes up elsewhere is not told to this page.
+    // A release elsewhere is not reported to this page.
     addEventListener("blur", () => {
       typedAt.clear();
       this.allUp();
@@ -190,7 +190,7 @@ export class Pressing {
 }
 
 /**
- * Whether an element wants a key of the keyboard for itself.
+ * Returns whether an element wants a key of the keyboard for itself.
  * @param {EventTarget | null} target
  * @param {string} typed
  */

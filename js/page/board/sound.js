@@ -1,4 +1,4 @@
-// The buzzer of a board: what its line does in real time is heard, by Web Audio, once that is asked for.
+// The buzzer of a board: the edges of its line in real time become sound, by Web Audio, once that is switched on.
 
 import { CYCLES_PER_SECOND } from "../../core/time/mcs4_time.js";
 import { Cell, block, button, onClick, pressedSwitch } from "../ui/dom.js";
@@ -10,27 +10,27 @@ import * as say from "../../words/board.js";
  */
 
 /**
- * What the buzzer calls.
+ * The calls that the buzzer makes.
  * @typedef {object} SoundCalls
- * @property {(line: string) => void} listen Asks the bench to report the edges of a line from here on; "" for none.
+ * @property {(line: string) => void} listen Asks the bench to report the edges of a line from now on; "" for none.
  * @property {() => boolean} isReal Returns whether time runs at the speed of the real chip; else nothing is heard.
  */
 
-/** What is played at once, in cycles: 45 ms. */
+/** The cycles that are played at once: 45 ms. */
 const PIECE_CYCLES = 4200;
-/** So many seconds pass from a cycle to its sound; what would be later than that is left out. */
+/** The seconds from a cycle to its sound; a later sound is left out. */
 const AHEAD = 0.09;
 const MOST_AHEAD = 0.4;
 const LOUDNESS = 0.12;
-/** What is lower is not heard, and a line that stands at 1 is none of it. */
+/** The lowest audible pitch; a line that stays at 1 has none. */
 const LEAST_PITCH = 30;
 
-/** What plays samples one after the other. */
+/** Plays samples, one block after the other. */
 class Player {
   constructor() {
     this.context = new AudioContext();
     this.pieces = new SoundPieces(PIECE_CYCLES);
-    /** Up to where there is sound. */
+    /** The end of the sound so far. */
     this.end = 0;
     const loudness = new GainNode(this.context, { gain: LOUDNESS });
     const filter = new BiquadFilterNode(this.context, { type: "highpass", frequency: LEAST_PITCH });
@@ -43,7 +43,7 @@ class Player {
     const samples = this.pieces.add(heard);
     const now = this.context.currentTime;
     if (!samples || this.end > now + MOST_AHEAD) return;
-    // Before it runs, a context's time stands at 0.
+    // Before it runs, a context's time is 0.
     if (this.end <= now) this.end = now + AHEAD;
     const buffer = this.context.createBuffer(1, samples.length, CYCLES_PER_SECOND);
     buffer.copyToChannel(samples, 0);
@@ -59,15 +59,15 @@ export class Sound {
   constructor(calls) {
     this.calls = calls;
     this.line = "";
-    /** @type {Player | null} where it is wanted */
+    /** @type {Player | null} null while sound is off */
     this.player = null;
-    this.told = new Cell(block("sound-told"));
+    this.status = new Cell(block("sound-status"));
     this.pressed = pressedSwitch(button("sound-button"));
     onClick(button("sound-button"), () => this.turn());
   }
 
   /**
-   * Another board or face: its buzzer, null where it has none.
+   * Sets the buzzer of another board or front panel, null if it has none.
    * @param {{ place: string, name: string } | null} buzzer
    */
   draw(buzzer) {
@@ -83,12 +83,12 @@ export class Sound {
   turn() {
     if (this.player) this.mute();
     else if (typeof AudioContext === "function") this.begin();
-    else this.told.set(say.NO_SOUND);
+    else this.status.set(say.NO_SOUND);
   }
 
   begin() {
     this.player = new Player();
-    this.player.context.resume().catch(() => this.told.set(say.NO_SOUND));
+    this.player.context.resume().catch(() => this.status.set(say.NO_SOUND));
     this.check();
   }
 
@@ -98,11 +98,11 @@ export class Sound {
     this.check();
   }
 
-  /** Whether it is heard may be another than before. */
+  /** Checks again whether the buzzer is heard. */
   check() {
     const isOn = this.player !== null;
     this.pressed.set(isOn);
-    this.told.set(isOn && !this.calls.isReal() ? say.SILENT : "");
+    this.status.set(isOn && !this.calls.isReal() ? say.SILENT : "");
     this.calls.listen(isOn && this.calls.isReal() ? this.line : "");
   }
 

@@ -18,9 +18,9 @@ import * as say from "../../words/board.js";
  * @typedef {(Switch | undefined)[]} Levels the lines of a port or of a chain that are drawn
  */
 
-/** How far from a pin it is still the pin that is pointed at. */
+/** The largest distance from a pin at which the pointer counts as on it. */
 const REACH = 9;
-/** How long the leg of a chip is, and how wide half its notch. */
+/** The length of a chip's leg, and half the width of its notch. */
 const LEG = 7;
 const NOTCH = 6;
 /** A small board has room around it, for parts that are dropped there. */
@@ -35,13 +35,13 @@ export class WiringView {
     this.words = block("wiring-words");
     /** @type {Map<string, Switch>} whether a line is at 1, by its name; the pin TEST is "" */
     this.levels = new Map();
-    /** @type {Map<string, SVGElement>} parts and pins by their names, in the order in which they are drawn */
+    /** @type {Map<string, SVGElement>} parts and pins by their names, in drawing order */
     this.items = new Map();
     /** @type {Map<string, Part>} */
     this.parts = new Map();
-    /** @type {Map<string, string[]>} the pins that a line goes to */
+    /** @type {Map<string, string[]>} the pins of each line */
     this.takers = new Map();
-    /** @type {WeakMap<Element, string>} the part or the pin that an element is drawn for */
+    /** @type {WeakMap<Element, string>} the part or the pin of an element */
     this.names = new WeakMap();
     /** @type {{ mask: string, levels: Levels }[]} the lines of each ROM, with its port in the board's text */
     this.roms = [];
@@ -50,31 +50,31 @@ export class WiringView {
     /** @type {Map<string, Levels>} the lines of each RAM chip, by `bank.chip` */
     this.rams = new Map();
     this.marked = "";
-    /** The part or the pin that the Tab key comes to. */
+    /** The part or the pin that the Tab key reaches. */
     this.stop = "";
     /** @type {Ports | null} */
     this.ports = null;
     /** @type {Map<string, string>} */
     this.ramPorts = new Map();
     this.isTestHigh = false;
-    /** Whether a part is being dragged: until it is dropped the picture has the size that it had. */
+    /** True if a part is being dragged: until it is dropped the picture keeps its size. */
     this.isHeld = false;
-    /** What the picture shows of its plane. */
+    /** The visible part of the picture's plane. */
     this.viewBox = "";
     /** A wire that is being drawn. */
     this.pencil = drawn("path", { class: "wire pencil" });
   }
 
-  /** Another board is wired: what was told of the one before is not of it. */
+  /** Another board is wired: levels of the former one do not apply. */
   forget() {
     this.ports = null;
     this.ramPorts.clear();
   }
 
-  /** Levels are shown while the picture is in front; what was told last, when it comes there. */
+  /** Levels are shown while the picture is in front; when it comes to the front, those of the last report. */
   showLevels() {
     const { ports } = this;
-    // While a session is opened, its first levels may come before its board is drawn.
+    // While a session is opened, its first levels may arrive before its board is drawn.
     if (ports && ports.roms.length === this.roms.length && ports.chains.length === this.chains.length) {
       this.roms.forEach(({ mask, levels }, at) => setAll(levels, (line) => isHighAtRom(mask, ports.roms[at], line)));
       this.chains.forEach((levels, at) => setAll(levels, (bit) => ports.chains[at][bit] === "1"));
@@ -87,8 +87,8 @@ export class WiringView {
    * Draws another board.
    * @param {Board} board
    * @param {import("../../core/board/wiring.js").Appearance} look
-   * @param {{ moved: import("../../core/board/wiring.js").Moved, isWired: boolean }} how what was dragged stands where; and whether this
-   *   board is the one that is wired, so that its lines have levels
+   * @param {{ moved: import("../../core/board/wiring.js").Moved, isWired: boolean }} how the positions of dragged parts; and whether this
+   * board is the wired one, so that its lines have levels
    */
   draw(board, look, { moved, isWired }) {
     const { parts, wires, ...size } = drawBoard(board, look, moved);
@@ -120,7 +120,7 @@ export class WiringView {
     if (this.isShown()) this.showLevels();
   }
 
-  /** @param {Board | null} board null where it is not wired */
+  /** @param {Board | null} board null if it is not wired */
   groupLevels(board) {
     const { roms, chains, banks } = board || { roms: [], chains: [], banks: [] };
     /** @type {(owner: string, count: number) => Levels} */
@@ -132,9 +132,9 @@ export class WiringView {
   }
 
   /**
-   * A wire, and around it what is pointed at for it.
+   * A wire, and around it the area for the pointer.
    * @param {Wire} wire
-   * @param {string} d where it runs
+   * @param {string} d its path
    * @param {Map<string, SVGElement[]>} nodes
    */
   drawWire(wire, d, nodes) {
@@ -172,7 +172,7 @@ export class WiringView {
   }
 
   /**
-   * A pin with its label inside the part; that of a lamp is the lamp.
+   * A pin with its label inside the part; the pin of a lamp is the lamp.
    * @param {Part} part
    * @param {Pin} pin
    * @param {Map<string, SVGElement[]>} nodes
@@ -198,7 +198,7 @@ export class WiringView {
   }
 
   /**
-   * What a pin is wired to.
+   * Returns the name of what a pin is wired to.
    * @param {Pin} pin
    */
   wordsOfPin({ id, line }) {
@@ -208,7 +208,7 @@ export class WiringView {
   }
 
   /**
-   * The part or the pin that an element is drawn for; "" for none.
+   * Returns the part or the pin of an element; "" for none.
    * @param {Element | null} node
    */
   nameAt(node) {
@@ -241,7 +241,7 @@ export class WiringView {
   }
 
   /**
-   * What is chosen, the pin that a wire begins at, and those where it can end.
+   * Shows the selection, the pin where a wire begins, and the pins where it can end.
    * @param {string} chosen
    * @param {string} begun
    * @param {Set<string>} ends
@@ -258,7 +258,7 @@ export class WiringView {
   }
 
   /**
-   * The wire that is being drawn, from a pin to where the pointer is.
+   * Draws the wire in progress, from a pin to the pointer.
    * @param {string} name of the pin, "" for no wire
    * @param {import("../../core/board/wiring.js").Point | null} to
    */
@@ -268,7 +268,7 @@ export class WiringView {
   }
 
   /**
-   * A point on the screen as one of the picture.
+   * Converts a point on the screen to one of the picture.
    * @param {{ clientX: number, clientY: number }} event
    */
   pointOf({ clientX, clientY }) {
@@ -280,7 +280,7 @@ export class WiringView {
   }
 
   /**
-   * Marks the part that the caret in the board's text stands at.
+   * Marks the part at the caret in the board's text.
    * @param {string} name `rom 1`, `ram 0`, `lamp 3`, `test`; "" for none
    */
   mark(name) {
@@ -303,7 +303,7 @@ export class WiringView {
     if (this.isShown()) this.showLevels();
   }
 
-  /** @param {Ram} told */
+  /** @param {Ram} ram */
   showRam({ ports }) {
     for (const [name, digit] of ports) this.ramPorts.set(name, digit);
     if (this.isShown()) this.showLevels();
@@ -317,7 +317,7 @@ export class WiringView {
 }
 
 /**
- * The pins that each line goes to.
+ * The pins of each line.
  * @param {Wire[]} wires
  */
 function takersOf(wires) {

@@ -1,5 +1,5 @@
 // The table of commands: all that the page can do. Toolbar, menus, palette, the list of keys in the help and the keys themselves are made
-// of it.
+// from it.
 
 import { SPEEDS } from "../../core/time/speeds.js";
 import { KEYBOARD } from "../../words/help.js";
@@ -19,18 +19,18 @@ import * as say from "../../words/page_commands.js";
  *   act: (calls: CommandCalls) => void, whyNot: (calls: CommandCalls) => string }} Command
  *
  * @typedef {"find" | "replace" | "line" | "comment" | "complete" | "define" | "uses" | "rename" | "fold" | "unfold" | "foldAll" |
- *   "unfoldAll" | "undo" | "redo"} TextAct what is done in a text
+ * "unfoldAll" | "undo" | "redo"} TextAct an action in a text
  */
 
 /**
- * What commands call of the page. A call that opens or sends something reports itself if it fails.
+ * The page's calls for commands. A call that opens or sends something reports itself if it fails.
  * @typedef {object} CommandCalls
  * @property {() => boolean} isRunning Returns whether time runs.
  * @property {() => void} runOrStop Lets time run, or pauses it.
  * @property {() => void} step Serves a step of one instruction.
  * @property {(goal: import("../../core/debug/goals.js").Goal) => void} goOn Lets time pass until a goal is reached.
  * @property {(goal: import("../../core/engine/going_back.js").BackGoal) => void} goBack Goes back to a goal.
- * @property {() => void} goForward Returns to where the last way back began.
+ * @property {() => void} goForward Returns to where the last move back began.
  * @property {() => boolean} canGoForward Returns whether there is a way forward.
  * @property {() => void} runToCursor Lets time run to the line of the caret in the source.
  * @property {(line: string) => void} serve Serves one line of the bench and logs its answer.
@@ -62,7 +62,7 @@ import * as say from "../../words/page_commands.js";
  * @property {() => boolean} hasKeys Returns whether the board has a key matrix.
  * @property {(id: string) => void} togglePanel Shows or hides a panel by its id.
  * @property {(id: string) => void} fullPanel Makes a panel as large as the page, or as small as before.
- * @property {() => void} resetLayout Puts all panels where they are at first.
+ * @property {() => void} resetLayout Moves all panels to their initial places.
  * @property {() => void} toggleHelp Opens the help at the word at the caret, or closes it.
  * @property {() => void} examples Opens the list of examples.
  * @property {() => void} welcome Opens the cards of the first visit.
@@ -106,7 +106,7 @@ function pressing(id, group, button, shown, why = say.NOT_NOW, some = {}) {
  * @param {CommandId} id
  * @param {TextAct} what
  * @param {string[]} keys
- * @param {boolean} [isSource] whether it is one of the source
+ * @param {boolean} [isSource] whether it belongs to the source
  */
 function inText(id, what, keys, isSource = false) {
   return command(id, "text", (calls) => calls.inText(what), { keys, place: isSource ? "source" : "texts",
@@ -159,7 +159,7 @@ const BOARD = [
   command("board.apply", "board", (calls) => calls.send("board"), { keys: ["Ctrl+Enter"], place: "board" }),
   command("board.type", "board", (calls) => calls.toggle("typing")),
   pressing("board.sound", "board", "sound-button", "front", say.NO_BUZZER),
-  pressing("board.tear", "board", "tear-paper", "front", say.NO_PRINTER),
+  pressing("board.tear", "board", "clear-printout", "front", say.NO_PRINTER),
   pressing("board.first", "board", "first-board", "front", say.HAS_BOARD),
   pressing("board.draw", "board", "first-drawing", "front", say.HAS_BOARD),
 ];
@@ -269,7 +269,7 @@ const HELP = [
 ];
 
 /**
- * A command that is one of several alike.
+ * Returns one of several similar commands.
  * @param {string} id
  * @param {string} words
  * @param {Command["group"]} group

@@ -1,16 +1,16 @@
-// Panels that have nothing to show yet say what they are for, and offer the one command that fills them.
+// Empty panels say what they are for, and offer the one command that fills them.
 
 import { block, element, onClick } from "../ui/dom.js";
 import { commandOf } from "./command_table.js";
 import * as say from "../../words/page_commands.js";
 
-/** The list or picture of each panel, which its words stand behind, and the command that they offer. */
+/** The list or picture of each panel, which its text follows, and the command that is offered. */
 const FILLS = {
   "watched-list": "debug.watch", "breakpoint-list": "debug.breakpoint", "waves": "waves.record", "log": "debug.console",
 };
 
 /**
- * Puts words and a button behind the list of each panel. The style sheet shows them while the list is empty.
+ * Puts words and a button after the list of each panel. The style sheet shows them while the list is empty.
  * @param {(command: import("./command_table.js").Command) => void} act
  */
 export function fillEmptyPanels(act) {

@@ -1,4 +1,4 @@
-// The list of keys in the help: the keys of commands, out of the table of commands, before other keys of the same section.
+// The list of keys in the help: the keys of commands, from the table of commands, before other keys of the same section.
 
 import { COMMANDS } from "./command_table.js";
 import { KEYBOARD } from "../../words/help.js";
@@ -10,7 +10,7 @@ import * as say from "../../words/page_commands.js";
  */
 
 /**
- * Returns a row for each command that has keys: its keys, and what they do.
+ * Returns a row for each command that has keys: its keys, and its name.
  * @returns {string[][]}
  */
 export function keyRows() {
@@ -19,7 +19,7 @@ export function keyRows() {
 }
 
 /**
- * Puts the table of keys before the tables of the section of the keyboard.
+ * Inserts the table of keys before the tables of the section of the keyboard.
  * @param {ManualSection[]} manual
  * @returns {ManualSection[]}
  */

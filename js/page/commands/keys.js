@@ -9,7 +9,7 @@ import { COMMANDS, commandOf } from "./command_table.js";
  */
 
 /**
- * Returns the name of a key with what is held beside it, as the table of commands has it. Command counts as Control.
+ * Returns the name of a key with its modifiers, as the table of commands has it. Command counts as Control.
  * @param {Typed} event
  */
 export function keyNameOf({ key, ctrlKey, metaKey, altKey, shiftKey }) {
@@ -21,7 +21,7 @@ export function keyNameOf({ key, ctrlKey, metaKey, altKey, shiftKey }) {
 const EVERYWHERE = new Map(COMMANDS.filter(({ place }) => place === "everywhere").flatMap((each) => each.keys.map((key) => [key, each])));
 
 /**
- * Returns the command of a key that works everywhere; none where another part has taken the key.
+ * Returns the command of a key that works everywhere; none if another part has handled the key.
  * @param {Typed & { defaultPrevented: boolean }} event
  * @returns {Command | undefined}
  */
@@ -30,7 +30,7 @@ export function commandOfKey(event) {
 }
 
 /**
- * Listens to the keys that work everywhere. Where a dialog is open they do nothing, and what the browser would do with them neither.
+ * Listens to the keys that work everywhere. While a dialog is open they do nothing, nor do their defaults in the browser.
  * @param {(command: Command) => void} act
  * @param {() => boolean} isClosed
  * @param {Pick<Window, "addEventListener">} target
@@ -45,7 +45,7 @@ export function listenToKeys(act, isClosed, target = window) {
 }
 
 /**
- * Returns the keys of a command as an editor names them, with what they do.
+ * Returns the keys of a command as an editor names them, with its action.
  * @template Editor
  * @param {CommandId} id
  * @param {(editor: Editor) => void} act

@@ -2,10 +2,10 @@
 
 import { element } from "../ui/dom.js";
 import { icon } from "../ui/icons.js";
-import { putBelow } from "../ui/told_at.js";
+import { putBelow } from "../ui/popup_message.js";
 
 /**
- * An item: its id, if it has one; its words, icon and key; what it does. One of several alternatives says whether it is chosen; one that is
+ * An item: its id, if it has one; its words, icon and key; its action. One of several alternatives says whether it is chosen; one that is
  * only for narrow windows is in the toolbar itself elsewhere.
  * @typedef {{ id?: string, words: string, icon?: import("../ui/icons.js").IconName, key?: string, act: () => void,
  *   isChosen?: () => boolean, isNarrow?: boolean }} MenuItem
@@ -16,7 +16,7 @@ class MenuList {
   /**
    * @param {string} id
    * @param {string} label its name
-   * @param {() => void} close closes the menu, from which an item was chosen or which was left
+   * @param {() => void} close closes the menu, after a choice or when it is left
    */
   constructor(id, label, close) {
     this.close = close;
@@ -115,7 +115,7 @@ export class MenuView {
   constructor(button, id, label, items) {
     this.button = button;
     this.menu = new MenuList(id, label, () => {
-      // Who has chosen by the keyboard goes on at the button.
+      // A keyboard user continues at the button.
       if (this.node.contains(document.activeElement)) this.button.focus();
       this.show(false);
     });
@@ -154,7 +154,7 @@ export class MenuView {
   }
 }
 
-/** A menu at a point of the window, of what is there. */
+/** Opens a menu at a point of the window, for the element there. */
 export class ContextMenu {
   /**
    * @param {string} id
@@ -183,7 +183,7 @@ export class ContextMenu {
     this.menu.focus(0);
   }
 
-  /** The keyboard goes back to where it was. */
+  /** Returns the focus to where it was. */
   close() {
     if (this.before instanceof HTMLElement) this.before.focus();
     this.menu.show(false);

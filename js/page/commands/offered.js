@@ -1,7 +1,7 @@
-// Whether a button can be used once its text or panel is in front.
+// Enables a button once its text or panel is in front.
 
 /**
- * Whether something is a text or a panel that is only behind another one.
+ * Returns whether an element is a text or a panel that is only behind another one.
  * @param {Element} node
  */
 function isBehind(node) {
@@ -9,7 +9,7 @@ function isBehind(node) {
 }
 
 /**
- * Returns whether a button is offered: it is enabled, and neither it nor what it stands in is hidden.
+ * Returns whether a button is offered: it is enabled, and neither it nor its container is hidden.
  * @param {HTMLButtonElement} button
  */
 export function isOffered(button) {

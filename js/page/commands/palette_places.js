@@ -1,4 +1,4 @@
-// Where the palette can go to: the texts, labels, addresses, lines of the source, projects and examples.
+// The places that the palette can go to: the texts, labels, addresses, lines of the source, projects and examples.
 
 import { goalOf } from "../../core/machine/go_to.js";
 import { hex } from "../../core/bench/numbers.js";
@@ -10,11 +10,11 @@ import * as say from "../../words/page_commands.js";
  */
 
 /**
- * What the places of the palette call.
+ * The calls that the places of the palette make.
  * @typedef {object} PlaceCalls
  * @property {() => SourceMap | null} map Returns the map of the program in ROM; null if the source is not in ROM.
  * @property {() => string[]} examples Returns the names of the examples.
- * @property {() => { id: string, name: string }[]} projects Returns the ids and names of the projects that are kept.
+ * @property {() => { id: string, name: string }[]} projects Returns the ids and names of the saved projects.
  * @property {(name: string) => void} show Brings a text to the front, by the name of its tab.
  * @property {(line: number) => void} line Shows a line of the source, from 1.
  * @property {(address: number) => void} address Shows the line of an address in source and listing.
@@ -28,7 +28,7 @@ const LINE = /^:\s*(\d+)$/;
 const entry = (words, hint, act, isFound = false) => ({ words, hint, why: "", keys: [], isFound, act });
 
 /**
- * Returns what a typed number, address or name with a number is.
+ * Returns the place of a typed number, address or name with a number.
  * @param {string} wanted
  * @param {PlaceCalls} calls
  */
@@ -43,7 +43,7 @@ function typedPlace(wanted, calls) {
 
 /**
  * Returns all that one can go to.
- * @param {string} wanted what was typed
+ * @param {string} wanted the typed text
  * @param {PlaceCalls} calls
  * @returns {Entry[]}
  */

@@ -1,8 +1,8 @@
-// What the palette finds: entries that have all words of the query, those that begin with them first.
+// The search of the palette: entries that have all words of the query, those that begin with them first.
 
 /**
- * An entry: its words; what is said beside it; why it cannot be done, "" if it can; its keys and its icon; what it does. One that `isFound`
- * was found by another search, so that it is listed whatever its words are.
+ * An entry: its words; the text next to it; why it cannot be done, "" if it can; its keys and its icon; its action. If `isFound`, another
+ * search has found it, so it is listed whatever its words are.
  * @typedef {{ words: string, hint: string, why: string, keys: string[], icon?: import("../ui/icons.js").IconName, isFound?: boolean,
  *   act: () => void }} Entry
  */
@@ -14,7 +14,7 @@ export function wordsOfQuery(query) {
 
 /**
  * Returns how well an entry fits: 0 if the whole query begins it, 1 if each word begins one of its words, 2 if each is in it, 3 if each is
- * in it or in what is said beside it, or -1.
+ * in it or in the text next to it, or -1.
  * @param {Entry} entry
  * @param {string[]} wanted
  */

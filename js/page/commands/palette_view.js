@@ -1,5 +1,5 @@
-// The command palette: a field that filters commands, or places to go to, and the list of what it finds. It follows the pattern of a
-// combobox with a listbox (ARIA): the field keeps the focus, arrows choose, Enter does what is chosen.
+// The command palette: a field that filters commands, or places to go to, and the list of matches. It follows the pattern of a combobox
+// with a listbox (ARIA): the field keeps the focus, arrows choose, Enter does the chosen entry.
 
 import { element } from "../ui/dom.js";
 import { icon } from "../ui/icons.js";
@@ -8,12 +8,12 @@ import * as say from "../../words/page_commands.js";
 
 /**
  * @typedef {import("./palette_search.js").Entry} Entry
- * @typedef {{ commands: () => Entry[], places: (wanted: string) => Entry[] }} Sources what it lists
+ * @typedef {{ commands: () => Entry[], places: (wanted: string) => Entry[] }} Sources its entries
  */
 
-/** What the field begins with where commands are wanted. */
+/** The sign at the beginning of the field if commands are wanted. */
 export const COMMAND_SIGN = ">";
-/** So many entries are drawn at most. */
+/** The most entries that are drawn. */
 const MOST_DRAWN = 500;
 const PAGE = 8;
 
@@ -35,20 +35,22 @@ export class PaletteView {
     this.list.addEventListener("click", (event) => this.clicked(event));
     // A press on an entry leaves the focus in the field.
     this.list.addEventListener("pointerdown", (event) => event.preventDefault());
-    // A click beside it closes it.
+    // A click outside closes it.
     this.dialog.addEventListener("click", (event) => event.target === this.dialog && this.dialog.close());
   }
 
-  /** @param {string} begin what stands in the field at first */
+  /** @param {string} begin the initial text of the field */
   open(begin) {
     if (this.dialog.open) return;
     this.field.value = begin;
     this.draw();
     this.dialog.showModal();
     this.field.focus();
+    // WebKit puts the caret before text that a script has written.
+    this.field.setSelectionRange(begin.length, begin.length);
   }
 
-  /** Whether commands are wanted, not places. */
+  /** Returns whether commands are wanted, not places. */
   get isCommands() {
     return this.field.value.startsWith(COMMAND_SIGN);
   }
@@ -83,7 +85,7 @@ export class PaletteView {
     return made;
   }
 
-  /** What it lists is another list; what is chosen stays chosen. */
+  /** Lists the entries again; the selected one stays selected. */
   refresh() {
     if (!this.dialog.open || this.isCommands) return;
     const { chosen } = this;
@@ -131,7 +133,7 @@ export class PaletteView {
   }
 
   /**
-   * Closes and does an entry. One that cannot be done now says why, and it stays open.
+   * Closes and does an entry. A disabled one says why, and the palette stays open.
    * @param {number} at
    */
   act(at) {

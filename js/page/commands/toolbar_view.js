@@ -1,4 +1,4 @@
-// The toolbar: a row of buttons and menus, made of the table of commands.
+// The toolbar: a row of buttons and menus, made from the table of commands.
 
 import { block, element, onClick } from "../ui/dom.js";
 import { icon } from "../ui/icons.js";
@@ -13,7 +13,7 @@ import * as say from "../../words/page_commands.js";
  * @typedef {import("../ui/tooltips.js").Tooltips} Tooltips
  */
 
-/** @typedef {{ id: string, tip?: string, isWide?: boolean }} ButtonLook `isWide`: its word is seen */
+/** @typedef {{ id: string, tip?: string, isWide?: boolean }} ButtonLook `isWide`: its word is visible */
 
 /** The ids of buttons, by their commands. */
 const TRANSPORT = {
@@ -24,7 +24,7 @@ const FILE = {
   "project.open": "open-button", "project.save": "save-button", "project.saveSession": "save-session-button",
   "project.export": "export-button", "project.print": "print-button", "project.all": "projects-button",
 };
-/** What the toolbar itself has, and in a narrow window the menu. */
+/** The buttons of the toolbar that a narrow window has in the menu. */
 const NARROW = {
   "project.examples": "examples-narrow", "project.share": "share-narrow", "settings.palette": "palette-narrow",
   "go.notices": "notices-narrow", "help.open": "help-narrow", "help.welcome": "welcome-narrow",
@@ -73,7 +73,7 @@ export class ToolbarView {
   }
 
   /**
-   * The run button says what it does.
+   * The run button shows what a click does.
    * @param {boolean} isRunning
    */
   showRunning(isRunning) {
@@ -103,7 +103,7 @@ export class ToolbarView {
     return made;
   }
 
-  /** The menu of files; in a narrow window it has what else the toolbar has. */
+  /** Returns the menu of files; in a narrow window it has the rest of the toolbar. */
   fileMenu() {
     /** @type {(command: Command, id: string, isNarrow: boolean) => import("./menu_view.js").MenuItem} */
     const item = (command, id, isNarrow) => ({ id, words: command.words, icon: command.icon, key: command.keys[0], isNarrow,

@@ -1,4 +1,4 @@
-// The board that is drawn: it is the text of the editor Board, and its picture stands in Wiring.
+// The drawn board: its text is in the editor Board, and its picture in Wiring.
 
 import { wantsKey } from "../board/pressing.js";
 import { button, isDialogOpen, onClick } from "../ui/dom.js";
@@ -17,7 +17,7 @@ import { PictureZoom } from "./picture_zoom.js";
  */
 
 /**
- * What the picture calls of the page.
+ * The calls that the picture makes to the page.
  * @typedef {object} PictureOwnCalls
  * @property {() => boolean} isInFront Returns whether the picture is in front; behind, it is drawn later.
  * @property {() => void} putInFront Brings the picture to the front.
@@ -26,13 +26,13 @@ import { PictureZoom } from "./picture_zoom.js";
  * @property {(part: string) => void} find Shows the lines of a part in the text; the part is named as in the picture: `rom 1`.
  * @property {() => KeptSession | null} session Returns the session that is shown, whose record has the moved parts; null if there is
  *   none.
- * @property {() => void} touched The user has moved parts, so the session is to be kept.
+ * @property {() => void} touched The user has moved parts, so the session must be saved.
  * @property {(fault: unknown) => void} failed Reports an error that a call threw.
  */
 
 /** @typedef {DrawingCalls & PictureOwnCalls} PictureCalls */
 
-/** So many milliseconds after the last edit the picture follows the text. */
+/** The milliseconds after the last edit when the picture follows the text. */
 const PAUSE = 300;
 
 export class DrawingController {
@@ -88,7 +88,7 @@ export class DrawingController {
   }
 
   /**
-   * While the picture is in front, Ctrl Z is its own wherever no text is typed.
+   * While the picture is in front, Ctrl Z belongs to it unless a text has the focus.
    * @param {KeyboardEvent} event
    */
   typed(event) {
@@ -136,8 +136,8 @@ export class DrawingController {
   }
 
   /**
-   * A part comes from the shelf to a point of the sheet: with its head there. One that comes into a part that is there already, as a lamp
-   * does beside others, stays there.
+   * Adds a part from the shelf with its head at a point of the sheet. A part that joins an existing one, as a lamp joins others, stays
+   * there.
    * @param {import("../../core/drawing/acts.js").Act} act
    * @param {import("../../core/board/wiring.js").Point | null} point
    */
@@ -160,7 +160,7 @@ export class DrawingController {
     this.drawing.say(await this.calls.wire());
   }
 
-  /** Where parts stand that were dragged; it is kept with the session in the browser. */
+  /** Returns the positions of dragged parts, which are saved with the session in the browser. */
   get kept() {
     const session = this.calls.session();
     return (session && session.record.places) || [];
@@ -175,7 +175,7 @@ export class DrawingController {
     this.view.showPicture();
   }
 
-  /** All parts stand where they come by themselves. */
+  /** Moves all parts to their default positions. */
   tidy() {
     this.view.moved.clear();
     this.view.showPicture();

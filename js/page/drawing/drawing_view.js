@@ -1,4 +1,4 @@
-// What stands around the picture of a board: the shelf of parts, what can be set of the part that is chosen, and what was done.
+// The surroundings of a board's picture: the shelf of parts, the fields of the selected part, and the last action.
 
 import { Cell, block, button, element, field, onClick } from "../ui/dom.js";
 import { buzzerOf, lampColours } from "../../core/board/face_board.js";
@@ -16,19 +16,19 @@ import * as say from "../../words/drawing.js";
  */
 
 /**
- * What the shelf, the buttons and the fields of the drawing call.
+ * The calls that the shelf, the buttons and the fields of the drawing make.
  * @typedef {object} ViewCalls
  * @property {(act: Act) => void} act Does an act on the board's text, if the bench accepts it.
  * @property {(which: "undo" | "redo") => void} undoOrRedo Undoes the last step, or repeats it.
  * @property {() => void} wire Sends the text as the board, which becomes a new one.
  * @property {(part: string) => void} find Shows the lines of a part in the text; the part is named as in the picture: `rom 1`.
- * @property {() => void} tidy Forgets how parts were moved, so each is where the picture puts it.
+ * @property {() => void} tidy Forgets how parts were moved, so each is at its default position.
  * @property {() => void} scanKeys Inserts a routine that scans the keys into the source.
  * @property {(act: Act, point: Point | null) => void} drop Adds a part at a point of the sheet, or at its usual place, and goes to it.
  */
 
 const WITH_DIGITS = new Set(["digit", "segments", "scanned"]);
-/** Parts that come to a line that they are dropped on. */
+/** Parts that are wired to a line that they are dropped on. */
 const AT_LINES = new Set(["lamp", "buzzer"]);
 
 export class DrawingView {
@@ -39,17 +39,17 @@ export class DrawingView {
   constructor(picture, calls) {
     this.picture = picture;
     this.calls = calls;
-    this.told = new Cell(block("drawing-told"));
+    this.status = new Cell(block("drawing-status"));
     this.state = new Cell(block("drawing-state"));
     /** @type {Map<Shelved, HTMLButtonElement>} */
     this.shelf = new Map();
-    /** What is drawn, by which it is compared. */
+    /** A text of the drawing, for comparison. */
     this.drawn = "";
     /** @type {import("../../core/board/wiring.js").Moved} */
     this.moved = new Map();
     /** @type {Shown | null} */
     this.shown = null;
-    /** The fields that are drawn, and what they are compared by. */
+    /** The drawn fields, and the key by which they are compared. */
     this.form = "";
     /** @type {(HTMLInputElement | HTMLSelectElement)[]} */
     this.fields = [];
@@ -97,7 +97,7 @@ export class DrawingView {
 
   /**
    * @param {Shelved} part
-   * @param {string} [line] that it comes to, "" for the next one that is free
+   * @param {string} [line] for it, "" for the next free one
    * @returns {Act}
    */
   actOf(part, line = "") {
@@ -108,7 +108,7 @@ export class DrawingView {
   /** @param {Shown} shown */
   show(shown) {
     this.shown = shown;
-    this.told.set(shown.said);
+    this.status.set(shown.said);
     this.showState(shown);
     this.showPicture();
     this.showShelf(shown);
@@ -121,7 +121,7 @@ export class DrawingView {
     button("drawing-wire").classList.toggle("due", fault === "" && !isWired);
   }
 
-  /** Draws the board where it is another one, or another part was dragged. */
+  /** Draws the board if it has changed, or another part was dragged. */
   showPicture() {
     const { shown, moved } = this;
     if (!shown) return;
@@ -144,7 +144,7 @@ export class DrawingView {
   }
 
   /**
-   * The fields of what is chosen. Where they are the same, they stay, with the values that they have now: one goes on typing in them.
+   * Shows the fields of the selection. If they are the same, they stay, with their present values, so that typing is not interrupted.
    * @param {Shown} shown
    */
   showFields({ fields: { title, part, fields, buttons }, fault }) {
@@ -155,7 +155,7 @@ export class DrawingView {
   }
 
   /**
-   * Words that are being typed stay, also where they were refused.
+   * Text that is being typed stays, also if it was rejected.
    * @param {HTMLInputElement | HTMLSelectElement} node
    * @param {string} value
    */
@@ -166,7 +166,7 @@ export class DrawingView {
   }
 
   /**
-   * Draws other fields; the one that has the focus keeps it, where there is another one of its name.
+   * Draws other fields; the focus stays if there is a field of the same name.
    * @param {string} title
    * @param {string} part
    * @param {Field[]} fields
@@ -202,7 +202,7 @@ export class DrawingView {
 
   /**
    * @param {Field} what
-   * @param {number} at its place among the fields
+   * @param {number} at its index among the fields
    * @param {boolean} disabled
    */
   fieldNode({ label, options }, at, disabled) {

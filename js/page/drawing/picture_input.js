@@ -1,29 +1,29 @@
-// What mouse, fingers and keys do on the picture of a board: a wire is drawn from pin to pin, by dragging or by one click after the other;
-// a part is dragged; arrows go from part to part and from pin to pin.
+// Mouse, fingers and keys on the picture of a board: a wire is drawn from pin to pin, by dragging or by two clicks; a part is dragged;
+// arrows move from part to part and from pin to pin.
 
 /**
  * @typedef {import("../board/wiring_view.js").WiringView} WiringView
  *
- * What the pointer holds: a part or a pin, where it went down, and where the part stood.
+ * What the pointer holds: a part or a pin, where it went down, and the position of the part.
  * @typedef {import("../../core/board/wiring.js").Point} Point
  * @typedef {{ name: string, isPart: boolean, at: Point, stood: Point, isDragged: boolean }} Held
  */
 
 /**
- * What mouse, fingers and keys on the picture call. Parts and pins are named as in the picture.
+ * The calls for mouse, fingers and keys on the picture. Parts and pins are named as in the picture.
  * @typedef {object} InputCalls
  * @property {(name: string) => void} pressed A part or a pin was pressed.
  * @property {(from: string, to: string) => void} wired A wire was dragged from one pin to another.
  * @property {(part: string, point: Point) => void} moved A part is dragged to a point of the picture, in its units.
- * @property {() => void} dropped The part that was dragged stays where it is.
- * @property {(name: string) => void} deleted The part or the wire is to be removed.
- * @property {() => void} left What was begun is given up: a wire, a choice.
+ * @property {() => void} dropped The dragged part stays where it is.
+ * @property {(name: string) => void} deleted The part or the wire is to be deleted.
+ * @property {() => void} left The begun wire or the selection is given up.
  * @property {(which: "undo" | "redo") => void} undoOrRedo Undoes the last step, or repeats it.
  */
 
 /** So far the pointer moves until something is dragged. */
 const SLACK = 4;
-/** So far a part goes by a key. */
+/** The distance that a key moves a part. */
 const STEP = 12;
 /** @type {Record<string, { x: number, y: number }>} */
 const ARROWS = { ArrowLeft: { x: -1, y: 0 }, ArrowRight: { x: 1, y: 0 }, ArrowUp: { x: 0, y: -1 }, ArrowDown: { x: 0, y: 1 } };
@@ -38,7 +38,7 @@ export class PictureInput {
     this.calls = calls;
     /** @type {Held | null} */
     this.held = null;
-    /** @type {Set<string>} the pins where the wire that is begun can end */
+    /** @type {Set<string>} the pins where the begun wire can end */
     this.ends = new Set();
     this.begun = "";
     const { root } = view;
@@ -72,7 +72,7 @@ export class PictureInput {
     const name = this.view.nameAt(/** @type {Element} */ (event.target));
     const part = this.view.parts.get(name);
     this.held = { name, isPart: part !== undefined, at: this.view.pointOf(event), stood: part || { x: 0, y: 0 }, isDragged: false };
-    // What goes on outside the picture is told here, too.
+    // Events outside the picture are reported here, too.
     if (event.pointerType !== "touch") this.view.root.setPointerCapture(event.pointerId);
     if (name) this.view.focus(name);
   }
@@ -86,11 +86,11 @@ export class PictureInput {
     }
     const now = view.pointOf(event);
     if (!held.isDragged && Math.hypot(now.x - held.at.x, now.y - held.at.y) < SLACK) return;
-    // A finger that moves scrolls; it draws wires from pins alone.
+    // A finger scrolls; it draws wires only from pins.
     if (held.name === "" || (held.isPart && event.pointerType === "touch")) return;
     if (!held.isDragged && !held.isPart && this.begun !== held.name) this.calls.pressed(held.name);
     held.isDragged = true;
-    // The picture stays as large as it is until the part is dropped: where it stands is told by the pointer.
+    // The picture keeps its size until the part is dropped: the pointer determines its position.
     view.isHeld = held.isPart;
     if (held.isPart) this.calls.moved(held.name, { x: held.stood.x + now.x - held.at.x, y: held.stood.y + now.y - held.at.y });
     else view.drawPencil(held.name, now);
@@ -114,7 +114,7 @@ export class PictureInput {
     else this.calls.left();
   }
 
-  /** The browser takes the pointer for its own, as to scroll: a part stays where it is by then. */
+  /** The browser takes over the pointer, for example to scroll: the part stays where it is. */
   cancel() {
     const { held } = this;
     this.release();
@@ -135,7 +135,7 @@ export class PictureInput {
   }
 
   /**
-   * Whether a key does something here.
+   * Returns whether a key does something here.
    * @param {KeyboardEvent} event
    */
   does(event) {
@@ -159,7 +159,8 @@ export class PictureInput {
   }
 
   /**
-   * An arrow goes to the next part or pin; while a wire is drawn, to the next pin where it can end, and round; with Shift a part goes.
+   * An arrow moves to the next part or pin; while a wire is drawn, to the next pin where it can end, and around; with Shift it moves the
+   * part.
    * @param {KeyboardEvent} event
    * @param {string} name
    */

@@ -1,10 +1,10 @@
-// How large the picture of a board is: as wide as its panel, or larger or smaller by buttons, keys and the wheel.
+// The size of a board's picture: as wide as its panel, or larger or smaller by buttons, keys and the wheel.
 
 import { button, onClick } from "../ui/dom.js";
 
-/** What a button, a key or a turn of the wheel zooms by. */
+/** The zoom factor of a button, a key or a turn of the wheel. */
 const STEP = 1.25;
-/** Beside the size that it is drawn for; where not all of it is seen by then, it is smaller until it is. */
+/** Relative to its natural size; if it does not fit, the picture is smaller until it does. */
 const SMALLEST = 0.35;
 const LARGEST = 4;
 /** Sizes that differ by less are the same. */
@@ -29,13 +29,13 @@ export class PictureZoom {
     return picture ? picture.getBoundingClientRect() : new DOMRect();
   }
 
-  /** Its size now, beside the one that it is drawn for. */
+  /** Returns its present size, relative to the natural one. */
   get scale() {
     const width = parseFloat(this.root.style.getPropertyValue("--picture-width"));
     return width > 0 ? this.box.width / width : 0;
   }
 
-  /** The smallest and the largest size that a step comes to; neither is on the other side of the one now. */
+  /** Returns the smallest and the largest size of a step; the present size is between them. */
   get bounds() {
     const { root, scale, box } = this;
     const height = parseFloat(getComputedStyle(root).maxHeight) || root.clientHeight;
@@ -44,9 +44,9 @@ export class PictureZoom {
   }
 
   /**
-   * What is seen at a place of the panel stays there.
+   * Zooms; the point at a place of the panel stays there.
    * @param {number} factor
-   * @param {{ x: number, y: number }} [at] its middle where none is told
+   * @param {{ x: number, y: number }} [at] by default, its middle
    */
   zoom(factor, at = { x: this.root.clientWidth / 2, y: this.root.clientHeight / 2 }) {
     const { root, scale } = this;
@@ -65,7 +65,7 @@ export class PictureZoom {
     this.showBounds();
   }
 
-  /** A button that does no more says so, and keeps the focus. */
+  /** A button at its limit says so, and keeps the focus. */
   showBounds() {
     const { scale, bounds: { least, most } } = this;
     this.smaller.setAttribute("aria-disabled", String(scale <= least + NEARLY));

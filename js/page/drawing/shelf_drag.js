@@ -1,5 +1,5 @@
-// A part is dragged from the shelf onto the sheet, by mouse, pen or finger: it comes to where it is dropped, a lamp or a buzzer dropped on
-// a line is wired to it. A click adds a part at its usual place, and Shift and Enter go to it on the sheet, where arrows move it.
+// Dragging a part from the shelf onto the sheet, by mouse, pen or finger: it is added where it is dropped; a lamp or a buzzer dropped on a
+// line is wired to it. A click adds a part at its usual place. Shift and Enter move the focus to it on the sheet, where arrows move it.
 
 import { element } from "../ui/dom.js";
 
@@ -13,11 +13,11 @@ import { element } from "../ui/dom.js";
  * @typedef {object} ShelfCalls
  * @property {(place: Place) => boolean} isSheet whether the sheet is there
  * @property {(part: Shelved, place: Place) => void} dropped a part was dropped on the sheet
- * @property {(part: Shelved) => void} goTo a part is added, and gets the keyboard on the sheet
- * @property {(isOver: boolean) => void} over whether a part that is dragged is over the sheet
+ * @property {(part: Shelved) => void} goTo a part is added, and gets the focus on the sheet
+ * @property {(isOver: boolean) => void} over whether a dragged part is over the sheet
  */
 
-/** So far the pointer moves until a part is dragged. */
+/** The distance that the pointer moves until a part is dragged. */
 const SLACK = 6;
 
 export class ShelfDrag {
@@ -27,7 +27,7 @@ export class ShelfDrag {
     /** @type {Held | null} */
     this.held = null;
     this.wasDragged = false;
-    /** What follows the pointer. */
+    /** The picture that follows the pointer. */
     this.ghost = element("div", { id: "shelf-ghost", hidden: true });
     document.body.append(this.ghost);
     addEventListener("keydown", (event) => {

@@ -1,8 +1,8 @@
-// Properties on the page: their text with its faults, a button that looks for what breaks them, in a worker of its own, and what was found.
+// Properties on the page: their text with its errors, a button that searches for counterexamples, in a worker of its own, and the results.
 
 import { countOfFaults } from "../../core/bench/words.js";
 import { Cell, button, field, onClick } from "../ui/dom.js";
-import { BesideText } from "../text/beside_text.js";
+import { TextTab } from "../text/text_tab.js";
 import { completeProperty, firstProperties, helpForProperty, propertyForms } from "../../core/text/property_words.js";
 import { wordsOfFaults } from "../../words/results.js";
 import { ExploreView } from "./explore_view.js";
@@ -16,30 +16,31 @@ import * as say from "../../words/explore.js";
  * @typedef {import("../../core/explore/exploring.js").ExploredTexts} ExploredTexts
  * @typedef {import("../../core/explore/exploring.js").Progress} Progress
  * @typedef {import("../../core/explore/report.js").Report} Report
- * @typedef {import("../../core/explore/explorer.js").Ended} Ended
+ * @typedef {import("../../core/bench/own_worker.js").Ended} Ended
  * @typedef {import("../prove/proofs.js").ProofsCalls} ProofsCalls
  *
- * What was found in a session: the texts, how far it came, and the session of each find, by its property.
+ * The results of a session: the texts, the progress, and the session of each counterexample, by its property.
  * @typedef {{ texts: ExploredTexts, report: Report | null, files: Map<number, Uint8Array>, isStopped: boolean }} Explored
  */
 
 /**
- * What the tab of the search calls of the page. `labels`, `texts`, `edited` and `failed` also serve its text.
+ * The calls that the tab of the search makes to the page. `labels`, `texts`, `edited` and `failed` also serve its text.
  * @typedef {object} ExploreCalls
  * @property {() => Omit<ExploredTexts, "propertiesText">} texts Returns the texts of board, source and tests as they are.
  * @property {() => string[]} labels Returns the labels of the program in ROM.
  * @property {(texts: ExploredTexts) => Promise<TextFault[]>} faults Resolves to the errors of all texts.
- * @property {(texts: ExploredTexts, asked: Asked, signal: AbortSignal, tell: (progress: Progress) => void) => Promise<Ended>} explore
- *   Searches until the time is over, all is found, or `signal` is aborted; `tell` reports how far it is. Resolves to the report, or to
- *   errors of texts.
- * @property {(number: number) => string} wordsOfRefusal Returns what the number of a refusal means.
+ * @property {(texts: ExploredTexts, asked: Asked, signal: AbortSignal, showProgress: (progress: Progress) => void)
+ *   => Promise<Ended>} explore
+ *   Searches until the time is over, all is found, or `signal` is aborted; `showProgress` receives how far it is. Resolves to the report,
+ *   or to errors of texts.
+ * @property {(number: number) => string} wordsOfRefusal Returns the message of a refusal.
  * @property {(line: number) => void} goToSource Shows a line of the source, from 1.
  * @property {(name: string, file: Uint8Array, texts: ExploredTexts) => void} open Opens a session by its file as a new one, with the
  *   texts of the search.
  * @property {ProofsCalls["prove"]} prove Proves properties.
  * @property {ProofsCalls["open"]} openAfter Opens a session of the texts after lines.
  * @property {(test: string) => string} addTest Adds a test to those of the program. Returns the message about that.
- * @property {(words: string) => void} mark Shows a few words on the tab; "" for none.
+ * @property {(words: string, isGood?: boolean) => void} mark Shows a few words on the tab, which may report a success; "" for none.
  * @property {() => void} edited The text of properties was edited.
  * @property {(fault: unknown) => void} failed Reports an error that a call threw.
  */
@@ -56,7 +57,7 @@ export class ExploreTab {
    */
   constructor(manual, calls) {
     this.calls = calls;
-    this.beside = new BesideText({
+    this.beside = new TextTab({
       name: "properties",
       firstButton: "first-properties",
       firstText: firstProperties,
@@ -76,18 +77,18 @@ export class ExploreTab {
       open: (property) => this.open(property),
       add: (property) => this.add(property),
     });
-    /** What was found in each session, by its name, as long as the page is open. */
+    /** The counterexamples of each session, by its name, as long as the page is open. */
     this.explored = /** @type {Map<string, Explored>} */ (new Map());
     /** The name of the session that is shown. */
     this.session = "";
-    /** What was told last of the search. */
-    this.told = "";
-    /** @type {AbortController | null} what ends the search that is under way */
+    /** The last message about the search. */
+    this.lastMessage = "";
+    /** @type {AbortController | null} ends the present search */
     this.controller = null;
     this.exploreButton = new Cell(button("explore"));
     this.exploreButton.set(say.EXPLORE);
     onClick(button("clear-finds"), () => this.clear());
-    /** How many errors the text has, as far as is known. */
+    /** The number of known errors in the text. */
     this.faultCount = 0;
     this.proofs = this.makeProofs();
   }
@@ -99,7 +100,7 @@ export class ExploreTab {
       texts: () => this.texts,
       prove: calls.prove,
       goTo: (line) => editor.editor.select({ from: line, to: line }),
-      tell: (words) => editor.tell(words),
+      showMessage: (words) => editor.showMessage(words),
       refuse: (faults) => this.refuse(faults),
       open: calls.openAfter,
       addTest: calls.addTest,
@@ -113,26 +114,27 @@ export class ExploreTab {
     return { ...this.calls.texts(), propertiesText: this.editor.text };
   }
 
-  /** What was found in the session that is shown. */
+  /** Returns the results of the session that is shown. */
   get shown() {
     return this.explored.get(this.session) || null;
   }
 
-  /** The tab has come to the front. */
+  /** Handles the tab coming to the front. */
   look() {
     this.beside.look();
   }
 
-  /** @param {number} count how many faults the text has */
+  /** @param {number} count of errors in the text */
   mark(count) {
     const { shown } = this;
     this.faultCount = count;
+    const broken = shown && shown.report ? markOfReport(shown.report) : "";
     if (count > 0) this.calls.mark(countOfFaults(count));
-    else this.calls.mark((shown && shown.report ? markOfReport(shown.report) : "") || this.proofs.mark);
+    else this.calls.mark(broken || this.proofs.mark, broken === "" && this.proofs.isGood);
   }
 
   /**
-   * Another session is shown: the search ends, and what was found in that one before comes back.
+   * Handles another session being shown: the search ends, and the former results of that session are restored.
    * @param {string} session its name
    */
   begin(session) {
@@ -144,7 +146,7 @@ export class ExploreTab {
     this.look();
   }
 
-  /** Clears what was found, and what was proved. */
+  /** Clears the counterexamples and the verdicts. */
   clear() {
     this.stop();
     this.explored.delete(this.session);
@@ -159,13 +161,13 @@ export class ExploreTab {
     this.offerClear();
   }
 
-  /** What was found or proved can be cleared, once nothing is at work. */
+  /** Offers to clear the results, if nothing is at work. */
   offerClear() {
     const { proofs } = this;
     button("clear-finds").hidden = this.controller !== null || proofs.controller !== null || !(this.shown || proofs.shown);
   }
 
-  /** Shows what was found so far in the session that is shown. */
+  /** Shows the results so far of the session that is shown. */
   show() {
     const { shown } = this;
     const goesOn = this.controller !== null;
@@ -173,16 +175,16 @@ export class ExploreTab {
     this.offerClear();
     if (shown && shown.report) this.view.show(shown.report, goesOn);
     this.mark(0);
-    this.tell(this.wordsOf(shown, goesOn));
+    this.showMessage(this.wordsOf(shown, goesOn));
   }
 
   /**
-   * Tells what has changed, and leaves what was told of something else meanwhile.
+   * Reports a change, and leaves reports on other things as they are.
    * @param {string} words
    */
-  tell(words) {
-    if (words !== this.told) this.editor.tell(words);
-    this.told = words;
+  showMessage(words) {
+    if (words !== this.lastMessage) this.editor.showMessage(words);
+    this.lastMessage = words;
   }
 
   /**
@@ -204,7 +206,7 @@ export class ExploreTab {
   }
 
   /**
-   * How long it is to look, and with which seed; null where a field has no such number, which is told.
+   * Returns the duration of the search, and its seed; null if a field has no such number, which is reported.
    * @returns {Asked | null}
    */
   asked() {
@@ -214,7 +216,7 @@ export class ExploreTab {
       field(id).setAttribute("aria-invalid", String(isWrong));
       return isWrong;
     });
-    this.editor.tell(wrong.map(({ words }) => words).join(" "));
+    this.editor.showMessage(wrong.map(({ words }) => words).join(" "));
     const [seconds, seed] = NUMBERS.map(({ id }) => Number(field(id).value));
     return wrong.length > 0 ? null : { seconds, seed };
   }
@@ -240,13 +242,13 @@ export class ExploreTab {
       this.show();
     }
     if (ended.faults.length > 0) this.refuse(ended.faults);
-    else if (!explored.report) this.editor.tell(say.STOPPED_EARLY);
+    else if (!explored.report) this.editor.showMessage(say.STOPPED_EARLY);
   }
 
-  /** @param {TextFault[]} faults for which nothing was looked for */
+  /** @param {TextFault[]} faults that prevented the search */
   refuse(faults) {
     this.beside.showFaults(faults);
-    this.editor.tell(wordsOfFaults(faults, this.calls.wordsOfRefusal));
+    this.editor.showMessage(wordsOfFaults(faults, this.calls.wordsOfRefusal));
   }
 
   /**
@@ -263,7 +265,7 @@ export class ExploreTab {
   goToSource(line) {
     const { shown } = this;
     if (shown && shown.texts.programText === this.calls.texts().programText) this.calls.goToSource(line);
-    else this.editor.tell(say.OTHER_SOURCE);
+    else this.editor.showMessage(say.OTHER_SOURCE);
   }
 
   /** @param {number} property */
@@ -277,6 +279,6 @@ export class ExploreTab {
   add(property) {
     const { shown } = this;
     const found = shown && shown.report && shown.report.properties[property].found;
-    if (found) this.editor.tell(this.calls.addTest(found.test));
+    if (found) this.editor.showMessage(this.calls.addTest(found.test));
   }
 }

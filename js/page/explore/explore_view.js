@@ -1,4 +1,4 @@
-// What comes of looking for what breaks properties: a row for each of them, with what was found; and what was run of the program.
+// The results of a search for counterexamples: a row for each property, and the coverage of the program.
 
 import { Cell, Switch, below, block, buttonOf, element } from "../ui/dom.js";
 import { andMore } from "../../words/debug.js";
@@ -8,11 +8,11 @@ import { wordsOfLine } from "../../words/stops.js";
 
 /**
  * @typedef {import("../../core/explore/report.js").Report} Report
- * @typedef {import("../../core/explore/report.js").Told} Told
+ * @typedef {import("../../core/explore/report.js").PropertyResult} PropertyResult
  */
 
 /**
- * What the results of a search call. A property is named by its number from 0.
+ * The calls that the results of a search make. A property is named by its number from 0.
  * @typedef {object} FindCalls
  * @property {(line: number) => void} goTo Shows a line of the text of properties, from 1.
  * @property {(line: number) => void} goToSource Shows a line of the source, from 1.
@@ -20,13 +20,13 @@ import { wordsOfLine } from "../../words/stops.js";
  * @property {(property: number) => void} add Adds the test of a counterexample to those of the program.
  */
 
-/** So many lines that were never run are shown. */
+/** The most lines that never ran which are shown. */
 const MOST_LINES = 60;
 
-/** The row of a property. What was found is put in once, so that nothing that is used there goes away under the hand. */
+/** The row of a property. A result is inserted once, so that controls in use do not disappear. */
 class Row {
   /**
-   * @param {Told} property
+   * @param {PropertyResult} property
    * @param {number} at
    * @param {FindCalls} calls
    */
@@ -46,7 +46,7 @@ class Row {
   }
 
   /**
-   * @param {Told} property
+   * @param {PropertyResult} property
    * @param {Report} report
    * @param {boolean} goesOn
    */
@@ -94,7 +94,7 @@ export class ExploreView {
 
   /**
    * @param {Report} report
-   * @param {boolean} goesOn whether it looks on
+   * @param {boolean} goesOn whether it continues to search
    */
   show(report, goesOn) {
     if (this.rows.length === 0) {
@@ -114,12 +114,12 @@ export class ExploreView {
   showCoverage(report, goesOn) {
     const covered = coverageOf(report);
     for (const { name, bar, words } of this.bars) {
-      const { part, whole, words: told } = covered[name];
+      const { part, whole, words: label } = covered[name];
       bar.max = Math.max(1, whole);
       bar.value = part;
-      words.set(told);
+      words.set(label);
     }
-    // While it looks on they change all the time.
+    // During a search they change all the time.
     this.showLeft(goesOn ? [] : covered.left);
   }
 

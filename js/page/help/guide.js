@@ -1,4 +1,4 @@
-// What guides: the help, the first program, stories of examples, and the box for lines.
+// The guides: the help, the first program, stories of examples, and the box for lines.
 
 import { withKeys } from "../commands/key_list.js";
 import { HelpView } from "./help_view.js";
@@ -18,18 +18,17 @@ import * as say from "../../words/help.js";
  */
 
 /**
- * What the guide calls of the page.
+ * The calls that the guide makes to the page.
  * @typedef {object} GuideOwnCalls
  * @property {(example: Example) => Promise<boolean>} begin Makes a new session of an example. Resolves to whether it was made.
  * @property {() => void} showSource Brings the source to the front.
  * @property {() => string} program Returns the text of the source.
  * @property {(program: string) => void} edit Puts a program into the source, as one edit.
- * @property {(target: import("../../core/help/tour.js").Target) => void} reveal Scrolls what a step points at into view.
- * @property {(program: string, words: string) => void} replace Puts a program in the place of the source, with a message by which that
- *   can be undone.
- * @property {import("../../core/help/story_acts.js").ActCalls} acts What the links of stories call.
+ * @property {(target: import("../../core/help/tour.js").Target) => void} reveal Scrolls the target of a step into view.
+ * @property {(program: string, words: string) => void} replace Replaces the source by a program, with a message that offers undo.
+ * @property {import("../../core/help/story_acts.js").ActCalls} acts The actions of the links in stories.
  * @property {() => void} left The first program or a story was closed.
- * @property {(words: string) => void} refuse Shows why a story cannot be told.
+ * @property {(words: string) => void} refuse Shows why a story cannot be shown.
  */
 
 /** @typedef {Omit<LinesCalls, "help"> & GuideOwnCalls} GuideCalls */
@@ -68,11 +67,11 @@ export class Guide {
   }
 
   /**
-   * Opens the story of an example beside the session that is shown.
+   * Opens the story of an example next to the session that is shown.
    * @param {string} name of the example
    * @param {Example[]} examples
    */
-  tell(name, examples) {
+  showStory(name, examples) {
     const { story = "" } = examples.find((each) => each.name === name) || {};
     const steps = stepsOfStory(story);
     if (steps.length > 0) this.tour.open(steps);

@@ -33,7 +33,7 @@ export class HelpView {
     this.switch = button("help-button");
     this.search = field("help-search");
     this.sections = below(this.root, "#help-sections", HTMLElement);
-    this.told = new Cell(below(this.root, "#help-told", HTMLElement));
+    this.status = new Cell(below(this.root, "#help-status", HTMLElement));
     /** @type {string | null} what was searched when the sections were drawn; null before that */
     this.drawn = null;
     this.isOpen = false;
@@ -48,7 +48,7 @@ export class HelpView {
 
   /**
    * Shows the help.
-   * @param {string} [wanted] what is searched
+   * @param {string} [wanted] the search text
    */
   open(wanted) {
     if (wanted !== undefined) this.search.value = wanted;
@@ -59,7 +59,7 @@ export class HelpView {
     this.search.focus();
   }
 
-  /** @param {string} wanted what is searched as it opens, "" for what was searched before */
+  /** @param {string} wanted the search text at first, "" for the last one */
   toggle(wanted) {
     if (this.isOpen) this.close();
     else this.open(wanted || undefined);
@@ -69,11 +69,11 @@ export class HelpView {
     this.isOpen = false;
     this.root.hidden = true;
     this.switch.setAttribute("aria-expanded", "false");
-    // On a phone it is in the menu, which is shut.
+    // On a phone it is in the menu, which is closed.
     (this.switch.offsetParent ? this.switch : button("menu-button")).focus();
   }
 
-  /** Draws the sections that have what is searched: all are folded where nothing is. */
+  /** Draws the sections that match the search: all are folded without a search text. */
   draw() {
     const wanted = this.search.value.trim();
     if (wanted === this.drawn) return;
@@ -82,6 +82,6 @@ export class HelpView {
     this.sections.replaceChildren(...found.map(({ title, tables }) => (
       element("details", { open: wanted !== "" }, element("summary", {}, title), ...tables.map((table) => tableOf(table, title))))));
     const count = found.reduce((sum, { tables }) => sum + tables.reduce((rows, table) => rows + table.rows.length, 0), 0);
-    this.told.set(wanted === "" ? "" : say.rowsHaveIt(count));
+    this.status.set(wanted === "" ? "" : say.rowsHaveIt(count));
   }
 }

@@ -1,10 +1,10 @@
-// A ring round what a step of the first program speaks of. It follows its target while that moves, and brings it into view.
+// A ring around the target of a step of the first program. It follows its target while that moves, and scrolls it into view.
 
 import { element } from "../ui/dom.js";
 
-/** How often it looks where its target is, in milliseconds. */
+/** The interval at which it finds its target, in milliseconds. */
 const LOOK_TIME = 200;
-/** How far round its target it is, in pixels. */
+/** The distance from its target, in pixels. */
 const GAP = 4;
 
 export class PointerRing {
@@ -13,12 +13,12 @@ export class PointerRing {
     document.body.append(this.node);
     /** @type {() => Element | null} */
     this.target = () => null;
-    /** @type {Element | null} the target that was brought into view last */
+    /** @type {Element | null} the target that was scrolled into view last */
     this.seen = null;
     this.timer = 0;
   }
 
-  /** @param {() => Element | null} target what it is round from here on */
+  /** @param {() => Element | null} target the element to surround from now on */
   point(target) {
     this.target = target;
     this.seen = null;

@@ -1,4 +1,4 @@
-// What is gone through step by step beside the bench: the first program, or the story of an example.
+// A tour, step by step, next to the bench: the first program, or the story of an example.
 
 import { PointerRing } from "./pointer_ring.js";
 import { Cell, block, button, element, onClick } from "../ui/dom.js";
@@ -13,19 +13,19 @@ import * as say from "../../words/help.js";
  */
 
 /**
- * What the panel of the first program and of stories calls.
+ * The calls that the panel of the first program and of stories makes.
  * @typedef {object} TourCalls
  * @property {(example: Example) => Promise<boolean>} begin Makes a new session of an example. Resolves to whether it was made.
  * @property {(program: string) => void} put Puts a program into the source.
- * @property {(act: import("../../core/help/story.js").Act) => Promise<string>} act Does what a link of a story says. Resolves to why it
- *   could not, "" if it did.
+ * @property {(act: import("../../core/help/story.js").Act) => Promise<string>} act Does the action of a story's link. Resolves to why it
+ * could not, "" if it did.
  * @property {(program: string) => boolean} isPut Returns whether the source is this program.
- * @property {(target: Target) => void} reveal Scrolls what a step points at into view.
+ * @property {(target: Target) => void} reveal Scrolls the target of a step into view.
  * @property {() => void} left The panel was closed.
  */
 
 /**
- * What a step points at.
+ * The target of a step.
  * @type {Record<Target, () => Element | null>}
  */
 const TARGETS = {
@@ -45,7 +45,7 @@ export class TourView {
     this.title = new Cell(block("tour-title"));
     this.words = block("tour-words");
     this.program = new Cell(block("tour-program"));
-    this.told = new Cell(block("tour-told"));
+    this.status = new Cell(block("tour-status"));
     this.put = button("tour-put");
     this.next = button("tour-next");
     this.ring = new PointerRing();
@@ -76,7 +76,7 @@ export class TourView {
     this.calls.left();
   }
 
-  /** Whether it is the story of an example. */
+  /** Returns whether it is the story of an example. */
   get isStory() {
     return this.watch.steps !== TOUR;
   }
@@ -99,7 +99,10 @@ export class TourView {
     this.pointOut();
   }
 
-  /** What the step speaks of comes into view, with a ring round it: first what inserts its program; once it is done, what goes on. */
+  /**
+   * Scrolls the step's target into view, with a ring around it: first the button that inserts its program; after that, the one that
+   * continues.
+   */
   pointOut() {
     const { program, target } = this.watch.step;
     if (!target) {
@@ -117,13 +120,13 @@ export class TourView {
   nodeOf(part) {
     if (typeof part === "string") return part;
     const made = element("button", { type: "button", className: "place" }, part.words);
-    onClick(made, async () => this.told.set(await this.calls.act(part.act)));
+    onClick(made, async () => this.status.set(await this.calls.act(part.act)));
     return made;
   }
 
   showDone() {
     const { isDone } = this.watch;
-    this.told.set(isDone ? (this.isLast ? say.LAST_DONE : say.DONE) : "");
+    this.status.set(isDone ? (this.isLast ? say.LAST_DONE : say.DONE) : "");
     this.root.classList.toggle("done", isDone);
     this.next.classList.toggle("primary", isDone);
   }
@@ -143,9 +146,9 @@ export class TourView {
   }
 
   /** @param {string} end why a run ended */
-  seeEnd(end) {
+  noteEnd(end) {
     if (!this.isOn || this.watch.isDone) return;
-    this.watch.seeEnd(end);
+    this.watch.noteEnd(end);
     this.showDone();
   }
 }

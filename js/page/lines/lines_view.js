@@ -1,21 +1,21 @@
-// The box for lines: Enter sends, the arrows bring back what was sent, and below it stands how a line goes on.
+// The box for lines: Enter sends, the arrows bring back former lines, and below it are the possible continuations of a line.
 
 import { Cell, block, button, byId, onClick } from "../ui/dom.js";
 import { fittingLines } from "../../core/help/manual.js";
 import * as say from "../../words/page.js";
 
 /**
- * What the box for lines calls.
+ * The calls that the box for lines makes.
  * @typedef {object} LinesCalls
  * @property {(lines: string) => Promise<string | null>} send Serves lines. Resolves to the first answer, null if the call failed, which
  *   is then reported.
- * @property {(answer: string) => string} wordsOf Returns an answer with what it means, as words.
+ * @property {(answer: string) => string} wordsOf Returns an answer with its meaning, as words.
  * @property {(wanted: string) => void} help Opens the help at an entry.
  */
 
-/** So many of the lines that were sent can be brought back. */
+/** The most sent lines that can be brought back. */
 const MOST_LINES = 200;
-/** So many lines of the bench are shown below the box. */
+/** The most lines of the bench that are shown below the box. */
 const MOST_HINTS = 4;
 
 export class LinesView {
@@ -29,13 +29,13 @@ export class LinesView {
     this.area = byId("lines", HTMLTextAreaElement);
     this.hint = new Cell(block("lines-hint"));
     this.hint.set(say.LINES_HINT);
-    /** The answer to what was sent last, for those who do not see the log. */
-    this.told = new Cell(block("answer-told"));
+    /** The answer to the last line, for screen readers. */
+    this.status = new Cell(block("answer-status"));
     /** @type {string[]} what was sent, the newest last */
     this.sent = [];
-    /** Which of them is shown; the count of them where none is. */
+    /** The index of the line that is shown; their count if none is. */
     this.at = 0;
-    /** What was being typed before one of them was brought back. */
+    /** The text that was being typed before one of them was brought back. */
     this.typed = "";
     onClick(button("send"), () => this.send());
     this.area.addEventListener("keydown", (event) => this.pressed(event));
@@ -76,7 +76,7 @@ export class LinesView {
   }
 
   /**
-   * Brings back what was sent before, or after, what is shown.
+   * Brings back the line before, or after, the one that is shown.
    * @param {KeyboardEvent} event
    * @param {number} by
    */
@@ -90,12 +90,12 @@ export class LinesView {
     this.area.setSelectionRange(this.text.length, this.text.length);
   }
 
-  /** The last line of what is typed. */
+  /** Returns the last line of the typed text. */
   get lastLine() {
     return this.text.slice(this.text.lastIndexOf("\n") + 1);
   }
 
-  /** Completes the word that is being typed where only one line of the bench begins so. */
+  /** Completes the typed word if only one line of the bench begins with it. */
   complete() {
     const words = new Set(fittingLines(this.lines, this.lastLine).map(({ form }) => form.split(" ")[0]));
     const [word] = words;
@@ -120,9 +120,9 @@ export class LinesView {
       this.calls.help(words.slice(1).join(" "));
       return;
     }
-    this.told.set("");
+    this.status.set("");
     const answer = await this.calls.send(lines.endsWith("\n") ? lines : `${lines}\n`);
-    if (answer !== null) this.told.set(this.calls.wordsOf(answer));
+    if (answer !== null) this.status.set(this.calls.wordsOf(answer));
     if (answer !== null && this.text === lines) this.text = "";
   }
 

@@ -1,13 +1,13 @@
-// The lines that were sent and their answers. Nothing is shown here before it is kept.
+// The lines that were sent and their answers. They are shown only once they are saved.
 
 import { refusalOf } from "../../core/bench/answers.js";
 import { block, element } from "../ui/dom.js";
-import { Ran, wordsOfRan } from "../../core/bench/ran.js";
+import { RunLog, wordsOfRuns } from "../../core/bench/run_log.js";
 import * as say from "../../words/page.js";
 
 /**
  * @typedef {import("../../core/engine/worker_session.js").Answered} Answered
- * @typedef {import("../../core/bench/ran.js").RanEntry} RanEntry
+ * @typedef {import("../../core/bench/run_log.js").RanEntry} RanEntry
  * @typedef {import("../../core/bench/words.js").Words} Words
  */
 
@@ -19,41 +19,41 @@ export class LogView {
   constructor(words) {
     this.words = words;
     this.block = block("log");
-    /** What time that runs has done since the last keeping. */
-    this.waiting = new Ran();
-    /** @type {{ entry: RanEntry, node: HTMLElement } | null} the runs that stand last in the log, which further ones are counted to */
+    /** The work of running time since the last save. */
+    this.waiting = new RunLog();
+    /** @type {{ entry: RanEntry, node: HTMLElement } | null} the runs at the end of the log, to which further ones are added */
     this.runs = null;
   }
 
   /**
-   * What time has done, which is shown at the next keeping.
+   * Collects the work of running time, to be shown after the next save.
    * @param {RanEntry[]} entries
    */
   collect(entries) {
     this.waiting.add(entries);
   }
 
-  /** Takes out what waits; it is to be shown once it is kept. */
+  /** Returns what waits for the save, and forgets it. */
   take() {
     return this.waiting.take();
   }
 
   /**
    * @param {RanEntry[]} entries
-   * @param {string} fault why they are not kept, "" where they are
+   * @param {string} fault why they are not saved, "" if they are
    */
   showRan(entries, fault) {
     if (entries.length === 0) return;
-    const shown = new Ran();
+    const shown = new RunLog();
     const { runs } = this;
-    // Runs go on in the entry of the runs before them.
+    // Runs continue in the entry of the runs before them.
     if (runs && entries[0].runs > 0 && fault === "" && runs.node === this.block.lastElementChild) {
       shown.add([runs.entry]);
       runs.node.remove();
     }
     shown.add(entries);
     const all = shown.take();
-    this.add(all.map((entry) => this.entry(wordsOfRan(entry), [entry.answer], fault)));
+    this.add(all.map((entry) => this.entry(wordsOfRuns(entry), [entry.answer], fault)));
     const last = all[all.length - 1];
     const node = this.block.lastElementChild;
     this.runs = last.runs > 0 && fault === "" && node instanceof HTMLElement ? { entry: last, node } : null;
@@ -95,7 +95,7 @@ export class LogView {
   }
 
   /**
-   * An answer, and what a refusal means.
+   * Shows an answer, and the meaning of a refusal.
    * @param {string} answer
    */
   wordsOf(answer) {

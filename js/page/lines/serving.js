@@ -1,4 +1,4 @@
-// Lines that change the session: they are served and kept, and then their answers are shown.
+// Lines that change the session: they are served and saved, and then their answers are shown.
 
 import { refusalOf } from "../../core/bench/answers.js";
 import { Cancelled } from "../../core/bench/faults.js";
@@ -21,22 +21,22 @@ import { stoppedAt } from "../../words/stops.js";
  */
 
 /**
- * What serving lines calls of the page.
+ * The calls that serving lines makes to the page.
  * @typedef {object} ServingCalls
  * @property {() => SourceMap | null} map Returns the map of the program in ROM, whose names `@NAME` may have; null if the source is not
  *   in ROM.
  * @property {<Result>(words: string, work: (ways: Ways) => Promise<Result>) => Promise<Result>} work Does work of some length, named by
- *   `words`, and shows how far it is. Rejects with `Cancelled` if the user cancels it.
+ *   `words`, and shows its progress. Rejects with `Cancelled` if the user cancels it.
  * @property {() => string} counter Returns the counter that is shown, as three hexadecimal digits.
- * @property {(told: ServedLines) => void} show Shows the session as it is after the lines.
+ * @property {(result: ServedLines) => void} show Shows the session as it is after the lines.
  * @property {() => void} checkSource Compares the source with ROM again.
- * @property {() => Promise<string>} keep Keeps the session. Resolves to why it could not be kept, "" if it was.
- * @property {(entries: Answered[], fault: string) => void} log Logs lines with their answers, and why the session could not be kept.
- * @property {(tally: Tally) => void} counted Reports what breakpoints did.
+ * @property {() => Promise<string>} keep Saves the session. Resolves to why it could not be saved, "" if it was.
+ * @property {(entries: Answered[], fault: string) => void} log Logs lines with their answers, and why the session could not be saved.
+ * @property {(tally: Tally) => void} counted Reports the work of breakpoints.
  * @property {() => boolean} isRunning Returns whether time runs.
  * @property {() => void} forgetGoal Drops the goal that time runs to, because the bench was reset.
  * @property {(stop: Stop) => string} reasonOf Returns the message about why a run stopped.
- * @property {(words: string) => void} tell Shows a message in the status line.
+ * @property {(words: string) => void} showMessage Shows a message in the status line.
  * @property {(fault: unknown) => void} failed Reports an error that a call threw.
  */
 
@@ -55,18 +55,17 @@ export class Serving {
   }
 
   /**
-   * Lines that change the session: they are served and kept; then their answers are shown, and the first one is given, or null where
-   * they failed.
+   * Serves lines that change the session, and saves it; then shows their answers. Resolves to the first answer, or null if they failed.
    * @param {string} lines
    * @returns {Promise<string | null>}
    */
   async act(lines) {
-    const told = await this.change(say.SENDING_LINES, (ways) => this.bench.call("serve", [lines], ways));
-    return told && told.first;
+    const result = await this.change(say.SENDING_LINES, (ways) => this.bench.call("serve", [lines], ways));
+    return result && result.first;
   }
 
   /**
-   * Lines that were typed, in which `@NAME` stands for a name's value. A run among them ends at each breakpoint.
+   * Serves typed lines, in which `@NAME` is replaced by a name's value. A run among them ends at each breakpoint.
    * @param {string} typed
    */
   async send(typed) {
@@ -76,61 +75,61 @@ export class Serving {
       this.notice.show(words);
       return null;
     }
-    const told = await this.change(say.SENDING_LINES, (ways) => this.bench.call("serveTyped", [lines], ways));
-    if (!told) return null;
-    const { id, cut, cycles, tally } = told.typed;
+    const result = await this.change(say.SENDING_LINES, (ways) => this.bench.call("serveTyped", [lines], ways));
+    if (!result) return null;
+    const { id, cut, cycles, tally } = result.typed;
     calls.counted(tally);
     if (id !== 0 && !calls.isRunning()) {
-      calls.tell(lineEnded(calls.reasonOf({ why: "break", id, cycles, returns: false }), cut));
+      calls.showMessage(lineEnded(calls.reasonOf({ why: "break", id, cycles, returns: false }), cut));
     }
-    return told.first;
+    return result.first;
   }
 
   /**
-   * Work that changes the session, in the same way; gives what was told of it.
+   * Does work that changes the session, in the same way; returns its report.
    * @template {ServedLines} Result
-   * @param {string} words what it is
+   * @param {string} words its description
    * @param {(ways: Ways) => Promise<Result>} work
    * @returns {Promise<Result | null>}
    */
   async change(words, work) {
-    let told;
+    let result;
     try {
-      told = await this.calls.work(words, work);
+      result = await this.calls.work(words, work);
     } catch (fault) {
-      // Time that runs goes on where lines were cancelled.
+      // Running time resumes if lines were cancelled.
       if (fault instanceof Cancelled) this.notice.show(this.words.ofFailure(fault));
       else this.calls.failed(fault);
       return null;
     }
-    await this.take(told);
-    return told;
+    await this.take(result);
+    return result;
   }
 
-  /** @param {ServedLines} told */
-  async take(told) {
+  /** @param {ServedLines} result */
+  async take(result) {
     const { calls } = this;
     const counter = calls.counter();
-    calls.show(told);
-    this.tellCounter(counter, told.entries);
-    if (told.touchesRom) calls.checkSource();
+    calls.show(result);
+    this.showCounter(counter, result.entries);
+    if (result.touchesRom) calls.checkSource();
     const fault = await calls.keep();
-    if (told.status !== 0) this.notice.show(say.LINES_TOO_LONG);
-    calls.log(told.entries, fault);
+    if (result.status !== 0) this.notice.show(say.LINES_TOO_LONG);
+    calls.log(result.entries, fault);
   }
 
   /**
-   * What the status says of a stop must not outlive it.
+   * Updates the status after lines, because it must not outlive the stop that it is about.
    * @param {string} before the counter before lines were served
    * @param {Answered[]} entries
    */
-  tellCounter(before, entries) {
+  showCounter(before, entries) {
     const { calls } = this;
     const counter = calls.counter();
     const isReset = entries.some(({ line, answers }) => line.trim() === "reset" && refusalOf(answers[0]) === null);
     const isRunning = calls.isRunning();
     if (isReset) calls.forgetGoal();
-    if (isReset) calls.tell(isRunning ? say.RESET_RUNNING : say.wasReset(counter));
-    else if (counter !== before && !isRunning) calls.tell(stoppedAt(counter));
+    if (isReset) calls.showMessage(isRunning ? say.RESET_RUNNING : say.wasReset(counter));
+    else if (counter !== before && !isRunning) calls.showMessage(stoppedAt(counter));
   }
 }

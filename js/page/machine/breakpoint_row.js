@@ -13,16 +13,16 @@ import * as say from "../../words/machine.js";
  */
 
 /**
- * What the row that edits a breakpoint calls.
+ * The calls that the row that edits a breakpoint makes.
  * @typedef {object} RowCalls
- * @property {(id: number, some: BreakpointWords) => void} change Gives the breakpoint with an id other words, which the bench gets.
+ * @property {(id: number, some: BreakpointWords) => void} change Changes the words of the breakpoint with an id, which the bench gets.
  * @property {(id: number, some: BreakpointWords) => void} type Shows words that are typed, without giving them to the bench.
  * @property {() => Promise<void>} settled Resolves once the bench has all that was changed.
  * @property {(breakpoint: Breakpoint, node: HTMLElement) => void} place Puts the row below the line of its breakpoint, or into the list
  *   if it has none.
  * @property {(act: () => void) => void} whenPlaced Calls `act` once the row is placed and can take the caret.
- * @property {(node: HTMLElement) => void} leave Takes the row away.
- * @property {(breakpoint: Breakpoint) => void} left Gives the keyboard back to where the breakpoint is.
+ * @property {(node: HTMLElement) => void} leave Removes the row.
+ * @property {(breakpoint: Breakpoint) => void} left Returns the focus to the breakpoint.
  */
 
 const MOST_HITS = 999999999;
@@ -43,7 +43,7 @@ export class BreakpointRow {
   /** @param {RowCalls} calls */
   constructor(calls) {
     this.calls = calls;
-    /** @type {Breakpoint | null} the one that is edited, as it was at first */
+    /** @type {Breakpoint | null} the one that is edited, in its initial state */
     this.edited = null;
     const parts = {
       condition: makeField(say.CONDITION, { "placeholder": say.SUCH_AS_CONDITION, "aria-description": say.STOPS_WHERE }),
@@ -51,11 +51,11 @@ export class BreakpointRow {
       note: makeField(say.LOG_MESSAGE, { "placeholder": say.SUCH_AS_NOTE, "aria-description": say.LOGGED }),
     };
     this.fields = { condition: parts.condition.field, from: parts.from.field, note: parts.note.field };
-    this.told = new Cell(element("p", { className: "fault", role: "alert" }));
+    this.status = new Cell(element("p", { className: "fault", role: "alert" }));
     this.node = element("form", { "className": "breakpoint-row", "aria-label": say.WORDS_OF_BREAKPOINT },
       ...Object.values(parts).map(({ label }) => label), element("div", { className: "bar" },
         element("button", { type: "submit", title: "Enter" }, say.APPLY),
-        buttonOf(say.LEAVE, () => this.cancel(), { title: "Escape" })), this.told.node);
+        buttonOf(say.LEAVE, () => this.cancel(), { title: "Escape" })), this.status.node);
     this.listen();
   }
 
@@ -101,13 +101,13 @@ export class BreakpointRow {
       fields[what].focus();
       fields[what].select();
     };
-    // A line that is out of view has no place yet.
+    // A line that is out of view has no position yet.
     if (this.node.isConnected) focus();
     else this.calls.whenPlaced(focus);
   }
 
   /**
-   * The list of breakpoints is another one.
+   * Handles a changed list of breakpoints.
    * @param {(id: number) => Breakpoint | undefined} find
    * @param {Map<number, string>} faults
    */
@@ -122,14 +122,14 @@ export class BreakpointRow {
     this.showFault(faults.get(now.id) || "");
   }
 
-  /** @param {string} fault of the words that were applied */
+  /** @param {string} fault in the applied words */
   showFault(fault) {
-    this.told.set(fault && say.stopsEachTime(fault));
+    this.status.set(fault && say.stopsEachTime(fault));
     this.fields.condition.setAttribute("aria-invalid", String(fault !== ""));
   }
 
   /**
-   * What is typed; null if the count cannot be read.
+   * Returns the typed text, or null if the count cannot be read.
    * @returns {BreakpointWords | null}
    */
   read() {
@@ -139,19 +139,19 @@ export class BreakpointRow {
     return count < 1 ? null : { condition: condition.value.trim(), from: count, note: note.value.trim() };
   }
 
-  /** What is typed counts. Gives whether it can be read. */
+  /** Applies the typed text. Returns whether it can be read. */
   change() {
     const some = this.edited && this.read();
     if (this.edited && some) this.calls.change(this.edited.id, some);
     return some !== null;
   }
 
-  /** Applies what is typed, and goes if there is no error in it. */
+  /** Applies the typed text, and closes if there is no error in it. */
   async apply() {
     const { edited } = this;
     if (!edited || !this.change()) return;
     await this.calls.settled();
-    if (this.edited === edited && this.told.text === "") this.finish(edited);
+    if (this.edited === edited && this.status.text === "") this.finish(edited);
   }
 
   /** Leaves the breakpoint as it was. */
@@ -169,7 +169,7 @@ export class BreakpointRow {
     if (hadFocus) this.calls.left(edited);
   }
 
-  /** The row goes. */
+  /** Removes the row. */
   close() {
     if (!this.edited) return;
     this.edited = null;

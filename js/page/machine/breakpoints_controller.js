@@ -25,14 +25,14 @@ import * as say from "../../words/machine.js";
  */
 
 /**
- * What breakpoints call of the page. Lines of the source count from 1.
+ * The calls that breakpoints make to the page. Lines of the source count from 1.
  * @typedef {object} BreakpointsCalls
  * @property {() => KeptSession | null} session Returns the session that is shown, whose record has the breakpoints; null if there is
  *   none.
- * @property {() => void} touched The user has changed breakpoints, so the session is to be kept.
+ * @property {() => void} touched The user has changed breakpoints, so the session must be saved.
  * @property {() => { board: string, program: string }} texts Returns the texts of board and source as they are.
- * @property {(told: ServedLines) => Promise<void>} served Keeps, shows and logs the lines that set breakpoints of the bench.
- * @property {(told: ServedLines) => void} stands Shows the session after breakpoints were set without lines.
+ * @property {(result: ServedLines) => Promise<void>} served Saves, shows and logs the lines that set breakpoints of the bench.
+ * @property {(result: ServedLines) => void} stands Shows the session after breakpoints were set without lines.
  * @property {(lines: Map<number, BreakpointMark>, addresses: Map<number, BreakpointMark>) => void} showMarks Shows marks at lines of the
  *   source and at addresses of the listing.
  * @property {(address: number) => void} goTo Shows the line of an address in source and listing.
@@ -40,11 +40,11 @@ import * as say from "../../words/machine.js";
  * @property {(line: number, node: HTMLElement | null) => void} showBelow Shows an element below a line of the source; null removes it.
  * @property {(act: () => void) => void} whenMeasured Calls `act` once the source is laid out again.
  * @property {() => void} showSource Brings the source to the front.
- * @property {() => void} focusSource Gives the keyboard to the source.
+ * @property {() => void} focusSource Moves the focus to the source.
  * @property {(line: number) => void} runTo Lets time run to a line of the source.
  * @property {() => Promise<void>} freshSource Compares the source with ROM if it was edited since; resolves once that is known.
  * @property {() => Promise<void>} checkSource Compares the source with ROM in any case; resolves once that is known.
- * @property {(words: string) => void} tell Shows a message where the user has just worked.
+ * @property {(words: string) => void} showMessage Shows a message near the user's last action.
  * @property {(fault: unknown) => void} failed Reports an error that a call threw.
  */
 
@@ -70,7 +70,7 @@ export class BreakpointsController {
       changed: () => this.show(),
       counted: () => this.view.showHits(this.keeper),
       touched: calls.touched,
-      tell: calls.tell,
+      showMessage: calls.showMessage,
       failed: calls.failed,
     });
   }
@@ -114,7 +114,7 @@ export class BreakpointsController {
   /**
    * Opens the row of a breakpoint, below its line if it has one.
    * @param {Breakpoint} breakpoint
-   * @param {BreakpointField} what the field that the caret comes to
+   * @param {BreakpointField} what the field for the caret
    */
   edit(breakpoint, what) {
     const { line } = breakpoint;
@@ -152,14 +152,14 @@ export class BreakpointsController {
   }
 
   /**
-   * The bench has these; gives which cannot be read, and why.
+   * Sends these to the bench; returns which cannot be read, and why.
    * @param {Placed[]} placed
    * @returns {Promise<[number, string][]>}
    */
   async set(placed) {
-    const { faults, ...told } = await this.bench.call("setBreakpoints", [placed, this.texts()]);
-    if (told.entries.length > 0) await this.calls.served(told);
-    else this.calls.stands(told);
+    const { faults, ...result } = await this.bench.call("setBreakpoints", [placed, this.texts()]);
+    if (result.entries.length > 0) await this.calls.served(result);
+    else this.calls.stands(result);
     return faults;
   }
 
@@ -188,7 +188,7 @@ export class BreakpointsController {
   }
 
   /**
-   * The words of a line's breakpoint are edited; it is set if there is none.
+   * Edits the words of a line's breakpoint; sets it if there is none.
    * @param {number} line
    * @param {BreakpointField} what
    */
@@ -199,8 +199,8 @@ export class BreakpointsController {
   }
 
   /**
-   * The source came into ROM: breakpoints are where their lines are, once this is kept.
-   * @param {boolean} isBegun whether hits are counted anew
+   * The source was loaded into ROM: breakpoints are at their lines, once this resolves.
+   * @param {boolean} isBegun whether hit counts are reset
    */
   async assembled(isBegun) {
     if (isBegun) this.keeper.forgetHits();
@@ -208,7 +208,7 @@ export class BreakpointsController {
     await this.keeper.settled;
   }
 
-  /** @param {Tally} tally what breakpoints did */
+  /** @param {Tally} tally the work of breakpoints */
   count(tally) {
     this.keeper.count(tally);
     this.view.log(tally, this.keeper);

@@ -1,9 +1,10 @@
-// The list of breakpoints: each with its place, whether it is on, what it does and how often it was hit; and what was logged.
+// The list of breakpoints: each with its place, whether it is on, its action and its hit count; and the log.
 
 import { wordsOfCycles } from "../../core/time/cycles.js";
 import { wordsOfAddress, wordsOfLine } from "../../words/stops.js";
 import { Cell, block, button, buttonOf, element, onClick } from "../ui/dom.js";
 import { counted, hex } from "../../core/bench/numbers.js";
+import { MOST_NOTES } from "../../core/debug/arrivals.js";
 import { detailsOfBreakpoint, markOf } from "../../core/machine/breakpoint_marks.js";
 import * as say from "../../words/machine.js";
 
@@ -19,10 +20,10 @@ import * as say from "../../words/machine.js";
  */
 
 /**
- * What the list of breakpoints calls.
+ * The calls that the list of breakpoints makes.
  * @typedef {object} BreakpointCalls
- * @property {(id: number, some: Partial<KeptBreakpoint>) => void} change Gives the breakpoint with an id other properties, such as
- *   whether it is on.
+ * @property {(id: number, some: Partial<KeptBreakpoint>) => void} change Changes properties of the breakpoint with an id, such as whether
+ * it is on.
  * @property {(breakpoint: Breakpoint) => void} edit Opens the words of a breakpoint.
  * @property {(id: number) => void} remove Removes the breakpoint with an id.
  * @property {(isOn: boolean) => void} switchAll Switches all breakpoints on or off.
@@ -31,11 +32,8 @@ import * as say from "../../words/machine.js";
  * @property {(breakpoint: Breakpoint) => void} goTo Shows the line of a breakpoint, or its address if it has none.
  */
 
-/** So many notes are shown, the last ones. */
-const MOST_NOTES = 200;
-
 /**
- * Where a breakpoint is, in words.
+ * Returns the place of a breakpoint, in words.
  * @param {Breakpoint} breakpoint
  * @param {SourceMap | null} map
  */
@@ -130,7 +128,7 @@ export class BreakpointsView {
   }
 
   /**
-   * What was logged.
+   * Shows the log.
    * @param {Tally} tally
    * @param {Keeper} keeper
    */

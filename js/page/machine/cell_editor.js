@@ -1,7 +1,7 @@
 // Cells that can be edited in place: a double click, or Enter or F2 on a cell, opens a small field over it; Enter pokes, Escape leaves.
 
 import { element } from "../ui/dom.js";
-import { putBelow } from "../ui/told_at.js";
+import { putBelow } from "../ui/popup_message.js";
 import * as say from "../../words/machine.js";
 
 /**
@@ -10,16 +10,16 @@ import * as say from "../../words/machine.js";
  */
 
 /**
- * What the editor of cells calls.
+ * The calls of the cell editor.
  * @typedef {object} EditorCalls
- * @property {(place: string, value: string) => Promise<string>} poke Gives a place of the machine a value, both as `poke` has them.
- *   Resolves to "" or to why it was refused.
- * @property {(words: string, at: HTMLElement) => void} tell Shows a message at a cell that cannot be edited now.
+ * @property {(place: string, value: string) => Promise<string>} poke Sets a place of the machine to a value, both as `poke` has them.
+ * Resolves to "" or to why it was rejected.
+ * @property {(words: string, at: HTMLElement) => void} showMessage Shows a message at a cell that cannot be edited now.
  */
 
 
 /**
- * A value as a line takes it; "" where a text has none.
+ * Returns a value as a line accepts it; "" if a text has none.
  * @param {string} text
  */
 export function valueOf(text) {
@@ -39,10 +39,10 @@ export class CellEditor {
     this.cell = null;
     this.label = element("span", { className: "unseen" });
     this.field = element("input", { autocomplete: "off", spellcheck: false, maxLength: 12 });
-    this.told = element("p", { id: "cell-told" });
-    this.told.setAttribute("role", "alert");
-    this.field.setAttribute("aria-describedby", this.told.id);
-    this.box = element("div", { id: "cell-editor", hidden: true }, element("label", {}, this.label, this.field), this.told);
+    this.message = element("p", { id: "cell-status" });
+    this.message.setAttribute("role", "alert");
+    this.field.setAttribute("aria-describedby", this.message.id);
+    this.box = element("div", { id: "cell-editor", hidden: true }, element("label", {}, this.label, this.field), this.message);
     document.body.append(this.box);
     this.field.addEventListener("keydown", (event) => this.typed(event));
     this.field.addEventListener("blur", () => this.close(false));
@@ -81,14 +81,14 @@ export class CellEditor {
   /** @param {HTMLElement} cell */
   open(cell) {
     const why = this.fixed.get(cell);
-    if (why) this.calls.tell(why, cell);
+    if (why) this.calls.showMessage(why, cell);
     const poked = this.poked.get(cell);
     if (!poked) return;
     this.cell = cell;
     this.label.textContent = say.inHexadecimal(poked.name);
     this.field.value = cell.textContent || "";
     this.field.size = Math.max(2, poked.digits);
-    this.tell("");
+    this.showMessage("");
     this.box.hidden = false;
     const { left, top } = cell.getBoundingClientRect();
     putBelow(this.box, { left, bottom: top }, 0);
@@ -97,12 +97,12 @@ export class CellEditor {
   }
 
   /** @param {string} words */
-  tell(words) {
-    this.told.textContent = words;
+  showMessage(words) {
+    this.message.textContent = words;
     this.field.setAttribute("aria-invalid", String(words !== ""));
   }
 
-  /** @param {boolean} returns whether the focus goes back to the cell */
+  /** @param {boolean} returns whether the focus returns to the cell */
   close(returns) {
     const { cell } = this;
     if (!cell) return;
@@ -129,6 +129,6 @@ export class CellEditor {
     // It may have been left meanwhile.
     if (this.cell !== cell) return;
     if (refusal === "") this.close(true);
-    else this.tell(refusal);
+    else this.showMessage(refusal);
   }
 }

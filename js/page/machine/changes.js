@@ -1,4 +1,4 @@
-// Which values differ from those at the stop before. While time runs nothing is marked, so that nothing flickers.
+// The values that differ from those at the stop before. While time runs nothing is marked, so that nothing flickers.
 
 /** @typedef {import("../ui/dom.js").Cell} Cell */
 
@@ -11,7 +11,7 @@ export class Changes {
   }
 
   /**
-   * Shows a value. The first one of a cell is no change.
+   * Shows a value. The first one of a cell is not a change.
    * @param {Cell} cell
    * @param {string} text
    */
@@ -20,12 +20,12 @@ export class Changes {
     cell.set(text);
   }
 
-  /** After a look while time runs. */
+  /** Handles a snapshot while time runs. */
   runs() {
     if (this.marked.size > 0) this.clear();
   }
 
-  /** After a look while time stands still: what differs is marked. Where nothing does, nothing has happened, and the marks stay. */
+  /** Handles a snapshot while time is paused: marks the differences. If there are none, nothing has happened, and the marks stay. */
   stops() {
     const changed = [...this.before].filter(([cell, before]) => cell.text !== before).map(([cell]) => cell);
     if (changed.length === 0) return;
@@ -42,7 +42,7 @@ export class Changes {
     this.marked.clear();
   }
 
-  /** The cells are others from here on. */
+  /** The cells are replaced. */
   forget() {
     this.clear();
     this.before.clear();

@@ -1,11 +1,11 @@
-// The field that the listing goes to an address by, and the button that sets a breakpoint there.
+// The field with which the listing goes to an address, and the button that sets a breakpoint there.
 
 import { Cell, block, button, byId, element, field, onClick } from "../ui/dom.js";
 import { goalOf } from "../../core/machine/go_to.js";
 
 /**
  * @typedef {import("../../core/machine/source_map.js").SourceMap} SourceMap
- * @typedef {{ goTo: (address: number) => void }} Goes what goes to an address
+ * @typedef {{ goTo: (address: number) => void }} Goes goes to an address
  */
 
 export class GoToView {
@@ -19,11 +19,11 @@ export class GoToView {
     this.went = went;
     this.field = field("go-to");
     this.names = byId("names", HTMLDataListElement);
-    this.told = new Cell(block("go-to-told"));
+    this.status = new Cell(block("go-to-status"));
     /** @type {SourceMap | null} */
     this.map = null;
     this.field.addEventListener("change", () => this.go());
-    // Also where the text is the one of before.
+    // Also if the text is unchanged.
     this.field.addEventListener("keydown", (event) => event.key === "Enter" && this.go());
     const there = button("break-there");
     onClick(there, () => {
@@ -39,10 +39,10 @@ export class GoToView {
     this.names.replaceChildren(...names.map((name) => element("option", { value: name })));
   }
 
-  /** Goes there; gives the address, or null where the field has none. */
+  /** Goes there; returns the address, or null if the field has none. */
   go() {
     const { address, words } = goalOf(this.field.value, this.map);
-    this.told.set(words);
+    this.status.set(words);
     this.field.setAttribute("aria-invalid", String(words !== ""));
     if (words !== "") return null;
     this.show(address);

@@ -1,9 +1,9 @@
-// Which characters of RAM change: by how often or how lately they did, the cells are warm. While time stands still the past is looked
-// through for it, and nothing of it is undone; while time runs it is told what changes.
+// The heat map of RAM nibbles: cells are coloured by how often or how recently they changed. While time is paused the past is searched for
+// this, and nothing of it is undone; while time runs the changes are reported.
 
 import { block, byId, field } from "../ui/dom.js";
 import { countOf } from "../../core/bench/numbers.js";
-import { PassingHeat, warmthOf, wordsOfHeat, wordsOfHeated, wordsOfPassing, wordsOfSeen } from "../../core/machine/warmth.js";
+import { PassingHeat, warmthOf, wordsOfHeat, wordsOfChanges, wordsOfPassing, wordsOfSeen } from "../../core/machine/warmth.js";
 import * as say from "../../words/machine.js";
 
 /**
@@ -15,21 +15,21 @@ import * as say from "../../words/machine.js";
  */
 
 /**
- * What the heat map of RAM calls.
+ * The calls that the heat map of RAM makes.
  * @typedef {object} HeatCalls
  * @property {() => boolean} isRunning Returns whether time runs.
  * @property {(cycles: number, signal: AbortSignal) => Promise<Heat | null>} count Counts the changes in the last `cycles` cycles.
  *   Resolves to null if `signal` cancelled it or it failed, which is then reported.
  * @property {(isOn: boolean) => void} watch Asks the bench to report changes of RAM while time runs, or not.
- * @property {(warm: Map<string, Warm>) => void} show Shows how warm each cell is, by its place; others are cold.
- * @property {(place: string) => string} nameOf Returns what a place is called by the names of the program.
+ * @property {(warm: Map<string, Warm>) => void} show Shows the heat level of each cell, by its place; others have none.
+ * @property {(place: string) => string} nameOf Returns the name of a place in the program.
  * @property {() => SourceMap | null} map Returns the map of the program in ROM; null if the source is not in ROM.
  */
 
-/** Time has to stand still for so many milliseconds, and no hand to move, before it is counted. */
+/** Time must be paused for this many milliseconds, without input, before changes are counted. */
 const REST_TIME = 300;
 const MOST_CYCLES = 10000000;
-/** While time runs cells are drawn once in so many milliseconds. */
+/** While time runs cells are drawn once in this many milliseconds. */
 const DRAWN_TIME = 200;
 
 export class HeatView {
@@ -42,15 +42,15 @@ export class HeatView {
     this.calls = calls;
     this.kind = byId("heat", HTMLSelectElement);
     this.cycles = field("heat-cycles");
-    this.told = block("heat-told");
+    this.status = block("heat-status");
     this.resting = 0;
     this.asked = new AbortController();
-    /** Whether what is shown is of another moment, or nothing is. */
+    /** True if the display is of another moment, or empty. */
     this.isOld = true;
     /** @type {Heat | null} what was counted last */
     this.heat = null;
     this.passing = new PassingHeat();
-    /** When cells were drawn last while time runs. */
+    /** The time at which cells were drawn last while time runs. */
     this.drawn = 0;
     this.kind.value = choices.get("heat");
     this.cycles.value = choices.get("heat-cycles") || this.cycles.value;
@@ -72,18 +72,18 @@ export class HeatView {
     this.wait();
   }
 
-  /** How many cycles are wanted; 0 where that is no number, which is told. */
+  /** Returns the requested number of cycles; 0 if it is not a number, which is reported. */
   wanted() {
     const cycles = countOf(this.cycles.value, MOST_CYCLES);
     this.cycles.setAttribute("aria-invalid", String(cycles === 0));
     if (cycles === 0) {
       this.clear();
-      this.tell(say.howManyCycles(MOST_CYCLES.toLocaleString("en")));
+      this.showStatus(say.howManyCycles(MOST_CYCLES.toLocaleString("en")));
     }
     return cycles;
   }
 
-  /** Another board is wired, or others want to know. */
+  /** A new board is wired, or other views want to know. */
   wired() {
     this.calls.watch(this.kind.value !== "");
   }
@@ -98,8 +98,8 @@ export class HeatView {
    */
   ran({ warmed, cycles }) {
     if (this.kind.value === "") return;
-    // Words of the past are not of time that runs; a board without RAM has no others.
-    if (!warmed) this.tell("");
+    // The words for the past do not apply to running time; a board without RAM has no others.
+    if (!warmed) this.showStatus("");
     const most = countOf(this.cycles.value, MOST_CYCLES);
     if (!warmed || most === 0) return;
     this.passing.add(warmed, cycles, most);
@@ -107,10 +107,10 @@ export class HeatView {
     this.drawn = performance.now();
     this.heat = null;
     this.showCells(this.passing.heat, wordsOfSeen);
-    this.tell(wordsOfPassing(warmed, warmed.cycles >= cycles));
+    this.showStatus(wordsOfPassing(warmed, warmed.cycles >= cycles));
   }
 
-  /** A look was shown. */
+  /** Handles a new snapshot. */
   looked() {
     if (this.kind.value === "") return;
     this.isOld = true;
@@ -122,13 +122,13 @@ export class HeatView {
     this.heat = null;
     this.passing.clear();
     this.drawn = 0;
-    this.tell("");
+    this.showStatus("");
     this.calls.show(new Map());
   }
 
   /** @param {string} words */
-  tell(words) {
-    if (this.told.textContent !== words) this.told.textContent = words;
+  showStatus(words) {
+    if (this.status.textContent !== words) this.status.textContent = words;
   }
 
   /** It is counted once nothing else is done. */
@@ -143,7 +143,7 @@ export class HeatView {
     if (cycles === 0) return;
     const asked = new AbortController();
     this.asked = asked;
-    if (!this.heat) this.tell(say.SEARCHING_PAST);
+    if (!this.heat) this.showStatus(say.SEARCHING_PAST);
     const heat = await this.calls.count(cycles, asked.signal);
     if (!heat || asked.signal.aborted || this.calls.isRunning() || this.kind.value === "") return;
     this.heat = heat;
@@ -156,8 +156,8 @@ export class HeatView {
    * @param {number} wanted
    */
   show(heat, wanted) {
-    this.tell(wordsOfHeat(heat, wanted, this.calls.nameOf, this.calls.map()));
-    this.showCells(heat, wordsOfHeated);
+    this.showStatus(wordsOfHeat(heat, wanted, this.calls.nameOf, this.calls.map()));
+    this.showCells(heat, wordsOfChanges);
   }
 
   /**

@@ -1,15 +1,15 @@
-// While time stands still, the cell at the pointer or with the focus tells when its value changed last, and by which line: the past is
-// looked through for it, as far as it is remembered.
+// The last change of a cell: while time is paused, the cell at the pointer or with the focus shows when its value changed last, and by
+// which line. The remembered past is searched for it.
 
 import { element } from "../ui/dom.js";
-import { putBelow } from "../ui/told_at.js";
+import { putBelow } from "../ui/popup_message.js";
 
 /**
  * @typedef {import("./cell_editor.js").Poked} Poked
  */
 
 /**
- * What the message about a cell's last change calls.
+ * The calls that the message about a cell's last change makes.
  * @typedef {object} LastChangeCalls
  * @property {() => boolean} isRunning Returns whether time runs; then there is no message.
  * @property {(poked: Poked, signal: AbortSignal) => Promise<string>} wordsOf Resolves to words about the last change of a place. Rejects
@@ -17,7 +17,7 @@ import { putBelow } from "../ui/told_at.js";
  * @property {(cell: HTMLElement) => Poked | undefined} pokedAt Returns the place whose value a cell shows; undefined if it shows none.
  */
 
-/** A pointer that rests so many milliseconds on a cell asks. */
+/** A pointer that rests this many milliseconds on a cell asks. */
 const REST_TIME = 400;
 const BELOW_CELL = 4;
 
@@ -46,7 +46,7 @@ export class LastChangeView {
     this.leave();
     const poked = cell instanceof HTMLElement ? this.calls.pokedAt(cell) : undefined;
     if (!poked) return;
-    this.resting = window.setTimeout(() => this.tell(/** @type {HTMLElement} */ (cell), poked), REST_TIME);
+    this.resting = window.setTimeout(() => this.showChange(/** @type {HTMLElement} */ (cell), poked), REST_TIME);
   }
 
   leave() {
@@ -59,7 +59,7 @@ export class LastChangeView {
    * @param {HTMLElement} cell
    * @param {Poked} poked
    */
-  async tell(cell, poked) {
+  async showChange(cell, poked) {
     if (this.calls.isRunning()) return;
     const asked = new AbortController();
     this.asked = asked;

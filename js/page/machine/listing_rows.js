@@ -8,13 +8,13 @@ import * as say from "../../words/machine.js";
  *
  * @typedef {import("../../core/machine/breakpoint_marks.js").BreakpointMark} BreakpointMark
  *
- * A row; `marked` is the address in its line that has a breakpoint, else its own.
+ * A row; `marked` is the address in its line that has a breakpoint, otherwise its own.
  * @typedef {{ button: HTMLButtonElement, address: number, marked: number, mark: Cell, bytes: Cell, labels: Cell,
  *   instruction: Cell, breakpoint: Switch, next: Switch }} Row
  */
 
 /**
- * The mark of a breakpoint inside an instruction, where the source is not known, so that it is where the bench was told to have it.
+ * The mark of a breakpoint inside an instruction, if the source is unknown and the bench has it there.
  * @param {string} address
  * @param {Map<string, BreakpointMark>} breakpoints
  * @returns {BreakpointMark | undefined}
@@ -35,7 +35,7 @@ export class ListingRows {
     this.toggleBreakpoint = toggleBreakpoint;
     /** @type {Row[]} */
     this.rows = [];
-    /** How many of them show a line. */
+    /** The number of rows that show a line. */
     this.used = 0;
     root.addEventListener("focusin", (event) => this.setStop(event.target));
   }
@@ -106,7 +106,7 @@ export class ListingRows {
   }
 
   /**
-   * The address of the line that a part of the page belongs to; null where there is none.
+   * Returns the address of the line that a part of the page belongs to; null if there is none.
    * @param {Node} node
    */
   addressAt(node) {
@@ -114,7 +114,7 @@ export class ListingRows {
     return found ? found.address : null;
   }
 
-  /** The place of the row with the focus; -1 where none has it. */
+  /** Returns the index of the row with the focus; -1 if none has it. */
   get focused() {
     return this.rows.findIndex(({ button }) => button === document.activeElement);
   }
@@ -124,7 +124,7 @@ export class ListingRows {
     this.rows[Math.max(0, Math.min(at, this.used - 1))].button.focus({ preventScroll: true });
   }
 
-  /** The first row becomes the last one, so that a place is another element, and a screen reader says what has the focus there. */
+  /** Moves the first row to the end, so that a place is another element, and a screen reader announces the focus there. */
   turn() {
     const [first] = this.rows.splice(0, 1);
     this.rows.push(first);

@@ -1,11 +1,11 @@
-// The scrolling of the listing: a box as high as all 4,096 bytes together, in which only the rows that are seen exist. The scroll bar, the
-// wheel and a finger move it as the browser does; keys go from row to row and from page to page.
+// The scrolling of the listing: a box as high as all 4,096 bytes together, in which only the visible rows exist. The scroll bar, the wheel
+// and a finger move it as the browser does; keys move from row to row and from page to page.
 
 import { ADDRESSES } from "../../core/bench/rom_bytes.js";
 import { element } from "../ui/dom.js";
 
 /**
- * What the scroll bar of the listing calls.
+ * The calls that the scroll bar of the listing makes.
  * @typedef {object} ScrollCalls
  * @property {(rows: number) => void} resized There is room for this many rows.
  * @property {(address: number) => void} scrolled The user has scrolled to an address, which becomes the first one.
@@ -13,7 +13,7 @@ import { element } from "../ui/dom.js";
  * @property {(end: "first" | "last") => void} wentTo A key moves the listing to its first or last row.
  */
 
-/** The height of a row where none has been laid out, in pixels. */
+/** The height of a row if none has been laid out, in pixels. */
 const USUAL_HEIGHT = 24;
 
 export class ListingScroll {
@@ -27,7 +27,7 @@ export class ListingScroll {
     this.rows = element("div", { className: "rows" });
     this.length = element("div", { className: "length" }, this.rows);
     this.rowHeight = USUAL_HEIGHT;
-    /** Where the box was scrolled to by this page itself. */
+    /** The place to which this page itself scrolled the box. */
     this.placed = 0;
     root.append(this.length);
     root.addEventListener("scroll", () => this.scrolled(), { passive: true });

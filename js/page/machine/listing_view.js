@@ -1,4 +1,4 @@
-// The program as the bench lists it: the stretch round the counter, or where one has gone to, with its breakpoints.
+// The disassembly: the stretch around the counter or around a chosen address, with its breakpoints.
 
 import { block, field } from "../ui/dom.js";
 import { namedLine, widthOfLabels } from "../../core/machine/listing_names.js";
@@ -17,14 +17,14 @@ import { LAST_ADDRESS } from "../../core/bench/numbers.js";
 
 /** Until the page has been laid out. */
 const USUAL_ROWS = 18;
-/** The stretch round the counter begins so many bytes before it, or fewer where few rows have room. */
+/** The stretch around the counter begins this many bytes before it, or fewer if few rows have room. */
 const BYTES_BEFORE = 10;
 /** While time runs the listing follows the counter so often, in milliseconds, that it can be read. */
 const FOLLOW_TIME = 300;
 
 export class ListingView {
   /**
-   * @param {(lines: string) => Promise<string[]>} ask gives the answers to questions
+   * @param {(lines: string) => Promise<string[]>} ask returns the answers to queries
    * @param {(address: number) => void} toggleBreakpoint
    * @param {() => void} moved another stretch is wanted
    */
@@ -33,9 +33,9 @@ export class ListingView {
     this.moved = moved;
     this.block = block("lines-of-program");
     this.follows = true;
-    /** Where the counter stood when a user went elsewhere: the listing follows again once it has moved; -1 for never. */
+    /** The counter at the time the user went elsewhere: the listing follows again once it has moved; -1 for never. */
     this.leftAt = -1;
-    /** The address that the stretch begins at where it does not follow the counter. */
+    /** The address where the stretch begins if it does not follow the counter. */
     this.from = 0;
     this.counter = 0;
     /** @type {Map<string, import("../../core/machine/breakpoint_marks.js").BreakpointMark>} by their addresses */
@@ -44,13 +44,13 @@ export class ListingView {
     this.lines = [];
     /** @type {NamedLine[]} the same, as they are shown */
     this.named = [];
-    /** @type {SourceMap | null} the program that stands in ROM */
+    /** @type {SourceMap | null} the program in ROM */
     this.map = null;
-    // What is read while another stretch is asked for is not shown.
+    // A listing that arrives after a newer request is not shown.
     this.asked = 0;
-    /** Whether time ran when it was shown last. */
+    /** True if time ran when it was shown last. */
     this.isRunning = false;
-    /** When it followed the counter last. */
+    /** The time at which it followed the counter last. */
     this.followed = 0;
     this.scroll = new ListingScroll(this.block, {
       resized: (rows) => this.resize(rows),
@@ -73,7 +73,7 @@ export class ListingView {
     });
   }
 
-  /** The same stretch, read anew. */
+  /** Reads the same stretch again. */
   anew() {
     if (!this.follows && this.lines.length > 0) this.from = this.lines[0].address;
     this.forget();
@@ -97,7 +97,7 @@ export class ListingView {
   }
 
   /**
-   * Shows the stretch from an address on. Where the listing has followed the counter that stands still, it does so again once that moves.
+   * Shows the stretch from an address on. If the listing followed a paused counter, it does so again once that moves.
    * @param {number} address
    */
   goTo(address) {
@@ -130,7 +130,7 @@ export class ListingView {
   }
 
   /**
-   * Shows where the counter is, and reads another stretch where that is needed.
+   * Shows the position of the counter, and reads another stretch if needed.
    * @param {boolean} isRunning
    */
   async show(isRunning) {
@@ -152,7 +152,8 @@ export class ListingView {
   }
 
   /**
-   * Where the listing does not follow, it stays; but lines that the counter shows to be out of step are read again.
+   * Returns whether the listing must move. A listing that does not follow stays, but reads lines again that the counter shows to be out of
+   * step.
    * @param {boolean} isRunning
    */
   hasToMove(isRunning) {
@@ -170,7 +171,7 @@ export class ListingView {
   }
 
   /**
-   * Reads a stretch and shows it; false where another one was wanted meanwhile.
+   * Reads a stretch and shows it; resolves to false if another one was requested meanwhile.
    * @param {Goal} goal
    * @param {boolean} isScrolled whether a user has scrolled there: then the box stays where it is
    */
@@ -192,14 +193,14 @@ export class ListingView {
   /** @param {number} address */
   scrolledTo(address) {
     this.stayAt(Math.max(0, Math.min(address, LAST_ADDRESS)));
-    // In step with what is shown, where that is near.
+    // In step with what is shown, if that is near.
     const known = this.lines.find((line) => line.address >= this.from);
     const isNear = known && Math.abs(this.lines[0].address - this.from) <= this.rows.count;
     this.read({ from: this.from, anchor: known && isNear ? known.address : null }, true);
   }
 
   /**
-   * A key goes so many rows on from the row with the focus, and scrolls where it leaves what is seen.
+   * A key moves the focus by some rows, and scrolls if it leaves the visible part.
    * @param {number} rows
    */
   async go(rows) {
@@ -215,7 +216,7 @@ export class ListingView {
   }
 
   /**
-   * Goes on by so many lines, or back.
+   * Moves by this many lines.
    * @param {number} count
    */
   async goBy(count) {

@@ -1,4 +1,4 @@
-// What is in the machine: registers, ports and chains, each from its answer.
+// The contents of the machine: registers, ports and chains, each from its answer.
 
 import { Cell, Switch, block, element, oneStop, setStop } from "../ui/dom.js";
 import { upTo } from "../../core/bench/numbers.js";
@@ -11,7 +11,7 @@ import * as say from "../../words/machine.js";
  * @typedef {import("./cell_editor.js").CellEditor} CellEditor
  * @typedef {import("./changes.js").Changes} Changes
  * @typedef {import("../../core/board/face.js").Face} Face
- * @typedef {(name: string) => string} Explain what a cell of this name shows, in words; "" for none
+ * @typedef {(name: string) => string} Explain the meaning of a cell, in words; "" for none
  */
 
 /**
@@ -33,7 +33,7 @@ function nodesOf(some) {
   return some.map((cell) => cell.node);
 }
 
-/** How many digits of those registers have more than one. */
+/** The digits of the registers that have more than one. */
 const DIGITS = new Map([["pc", 3]]);
 
 export class RegistersView {
@@ -71,13 +71,13 @@ export class RegistersView {
     return group;
   }
 
-  /** @param {Registers} told */
-  show(told) {
+  /** @param {Registers} answer */
+  show(answer) {
     /** @type {Record<string, string>} */
     const values = {
-      acc: told.accumulator, cy: told.carry, pc: told.counter, dcl: told.bank, owed: told.owed,
+      acc: answer.accumulator, cy: answer.carry, pc: answer.counter, dcl: answer.bank, owed: answer.owed,
     };
-    told.registers.forEach((value, number) => {
+    answer.registers.forEach((value, number) => {
       values[`R${number}`] = value;
     });
     for (const [name, cell] of this.cells) this.changes.set(cell, values[name]);
@@ -95,7 +95,7 @@ export class PortsView {
     this.changes = changes;
     this.editor = editor;
     this.explain = explain;
-    this.block = block("ports-told");
+    this.block = block("ports-status");
     this.sources = element("dl", { className: "cells" });
     /** @type {Map<string, Cell>} */
     this.sourceCells = new Map();
@@ -150,7 +150,7 @@ export class PortsView {
   }
 
   /**
-   * What SRC has chosen: `10` for the ROMs, `0.10` for bank 0.
+   * Shows SRC's selection: `10` for the ROMs, `0.10` for bank 0.
    * @param {string[]} sources
    */
   showSources(sources) {
@@ -170,14 +170,14 @@ export class PortsView {
     return cell;
   }
 
-  /** @param {Ports} told */
-  show(told) {
-    this.showSources(told.sources);
-    told.roms.forEach((rom, at) => {
+  /** @param {Ports} answer */
+  show(answer) {
+    this.showSources(answer.sources);
+    answer.roms.forEach((rom, at) => {
       this.changes.set(this.roms[at][0], rom.out);
       this.changes.set(this.roms[at][1], rom.in);
     });
-    told.chains.forEach((bits, at) => {
+    answer.chains.forEach((bits, at) => {
       const chain = this.chains[at];
       if (chain.shown === bits) return;
       chain.shown = bits;

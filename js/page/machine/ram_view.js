@@ -1,4 +1,4 @@
-// The RAM of a board, bank by bank: each character with its address, watched by a click and edited in place.
+// The RAM of a board, bank by bank: each character with its address; a click watches it, and it is edited in place.
 
 import { Cell, block, byId, element, oneStop, pressedSwitch, setStop } from "../ui/dom.js";
 import { hex, upTo } from "../../core/bench/numbers.js";
@@ -12,7 +12,7 @@ import * as say from "../../words/machine.js";
  * @typedef {import("./changes.js").Changes} Changes
  * @typedef {import("./heat_view.js").Warm} Warm
  * @typedef {import("../ui/dom.js").Switch} Switch
- * @typedef {{ bank: number, chip: number, register: number }} Register where a register is
+ * @typedef {{ bank: number, chip: number, register: number }} Register the position of a register
  * @typedef {{ characters: Cell[], status: Cell[], names: HTMLElement, shown: string }} ShownRegister
  */
 
@@ -22,22 +22,22 @@ function wordsOf({ bank, chip, register }) {
 }
 
 /**
- * The names of a register's characters, each behind the character's number.
- * @param {string} register as it is called here
+ * The names of a register's characters, each after the character's number.
+ * @param {string} register its name here
  * @param {ReadonlyMap<string, string[]>} names
  */
 function namesIn(register, names) {
   const [bank, chip, number] = register.split(".").map(Number);
   const at = chip * 4 + number;
   /** @type {(place: string, label: string) => string[]} */
-  const told = (place, label) => (names.get(place) || []).map((name) => `${label} ${name}`);
+  const labelled = (place, label) => (names.get(place) || []).map((name) => `${label} ${name}`);
   return [
-    ...upTo(CHARACTERS).flatMap((each) => told(`ram.${bank}.0x${hex(at * CHARACTERS + each, 2)}`, hex(each, 1))),
-    ...upTo(STATUS).flatMap((each) => told(`st.${bank}.${at}.${each}`, `status ${each}`)),
+    ...upTo(CHARACTERS).flatMap((each) => labelled(`ram.${bank}.0x${hex(at * CHARACTERS + each, 2)}`, hex(each, 1))),
+    ...upTo(STATUS).flatMap((each) => labelled(`st.${bank}.${at}.${each}`, `status ${each}`)),
   ];
 }
 
-/** So many characters stay together in a line. */
+/** The nibbles that stay together in a line. */
 const HALF = CHARACTERS / 2;
 
 /** @param {Cell[]} some */
@@ -59,7 +59,7 @@ export class RamView {
     this.watched = new Map();
     /** @type {Map<string, ShownRegister>} */
     this.registers = new Map();
-    /** @type {Map<string, { node: HTMLElement, title: string }>} characters, by what `poke` calls them */
+    /** @type {Map<string, { node: HTMLElement, title: string }>} characters, by their places for `poke` */
     this.characters = new Map();
     /** @type {ReadonlyMap<string, string[]>} what they are called */
     this.names = new Map();
@@ -100,7 +100,7 @@ export class RamView {
     this.showBank();
   }
 
-  /** Shows the chosen bank alone. */
+  /** Shows only the chosen bank. */
   showBank() {
     this.tables.forEach((table, at) => {
       table.hidden = this.chooser.value !== String(at);
@@ -143,7 +143,7 @@ export class RamView {
     button.addEventListener("click", (event) => {
       if (event.detail > 0) button.blur();
       if (event.detail > 2) return;
-      // The second click of a double click takes back what the first one did.
+      // The second click of a double click undoes the effect of the first one.
       wasOn = event.detail === 2 ? !wasOn : watched.isOn;
       this.toggleWatch(bank, source, wasOn, button);
     });
@@ -162,8 +162,8 @@ export class RamView {
   }
 
   /**
-   * A character of RAM, edited where it stands.
-   * @param {string} place what `poke` calls it
+   * A RAM character, edited in place.
+   * @param {string} place its name for `poke`
    * @param {HTMLButtonElement} node
    */
   offer(place, node) {
@@ -182,24 +182,24 @@ export class RamView {
     return element("p", { className: "port" }, say.PORT, cell.node);
   }
 
-  /** @param {Ram} told */
-  show(told) {
-    for (const [name, { characters, status }] of told.registers) {
+  /** @param {Ram} ram */
+  show(ram) {
+    for (const [name, { characters, status }] of ram.registers) {
       const shown = this.registers.get(name);
       if (!shown || shown.shown === characters + status) continue;
       shown.shown = characters + status;
       shown.characters.forEach((cell, at) => this.changes.set(cell, characters[at]));
       shown.status.forEach((cell, at) => this.changes.set(cell, status[at]));
     }
-    for (const [name, value] of told.ports) {
+    for (const [name, value] of ram.ports) {
       const port = this.ports.get(name);
       if (port) this.changes.set(port, value);
     }
   }
 
   /**
-   * What a character is called, else where it is.
-   * @param {string} place what `poke` calls it
+   * Returns the name of a RAM nibble, or its place if it has none.
+   * @param {string} place its name for `poke`
    */
   nameOf(place) {
     const [name] = this.names.get(place) || [];
@@ -207,17 +207,17 @@ export class RamView {
     return name || (found ? found.title : place);
   }
 
-  /** @param {ReadonlyMap<string, string[]>} names what characters are called */
+  /** @param {ReadonlyMap<string, string[]>} names the names of characters */
   showNames(names) {
     this.names = names;
-    for (const place of this.characters.keys()) this.tellOf(place);
+    for (const place of this.characters.keys()) this.titleOf(place);
     for (const [name, { names: line }] of this.registers) {
       line.textContent = namesIn(name, names).join("  ");
       line.hidden = line.textContent === "";
     }
   }
 
-  /** @param {ReadonlyMap<string, Warm>} warm those that have changed lately */
+  /** @param {ReadonlyMap<string, Warm>} warm those that have changed recently */
   showWarm(warm) {
     const before = this.warm;
     this.warm = warm;
@@ -227,15 +227,15 @@ export class RamView {
       const { warmth } = warm.get(place) || { warmth: 0 };
       if (warmth > 0) found.node.dataset.warmth = String(warmth);
       else delete found.node.dataset.warmth;
-      this.tellOf(place);
+      this.titleOf(place);
     }
   }
 
   /**
-   * What the title of a character says: what it is called, where it is, and how it has changed.
+   * Sets the title of a RAM nibble: its name, its place and its last change.
    * @param {string} place
    */
-  tellOf(place) {
+  titleOf(place) {
     const found = this.characters.get(place);
     if (!found) return;
     const names = this.names.get(place) || [];

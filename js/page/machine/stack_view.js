@@ -1,4 +1,4 @@
-// Where the processor is: the counter and the return addresses, with their names and lines of the source while time stands still.
+// The position of the processor: the counter and the return addresses, with their names and lines of the source while time is paused.
 
 import { Cell, Switch, block, element, onClick, oneStop, setStop } from "../ui/dom.js";
 import { linesOf, matchAnswers, readInputs } from "../../core/bench/inputs.js";
@@ -14,15 +14,15 @@ import * as say from "../../words/machine.js";
  * @typedef {{ button: HTMLButtonElement, value: Cell, note: Cell, isLive: Switch }} Row
  */
 
-/** A byte of ROM stands there in a line of a listing. */
+/** The position of a byte of ROM in a line of a listing. */
 const BYTE_FROM = 4;
 const BYTE_END = 6;
 
 export class StackView {
   /**
    * @param {Changes} changes
-   * @param {(name: string) => string} explain what a cell of this name shows
-   * @param {(lines: string) => Promise<string[]>} ask gives the answers to questions
+   * @param {(name: string) => string} explain returns the meaning of a cell
+   * @param {(lines: string) => Promise<string[]>} ask returns the answers to queries
    * @param {(address: number) => void} goTo shows the program there
    */
   constructor(changes, explain, ask, goTo) {
@@ -30,11 +30,11 @@ export class StackView {
     this.ask = ask;
     /** @type {number[]} the counter, and the return addresses, the newest first */
     this.addresses = [];
-    /** What the notes are of. */
+    /** The source of the notes. */
     this.noted = "";
     /** @type {SourceMap | null} */
     this.map = null;
-    // What is read for addresses of before is not shown.
+    // A listing for former addresses is not shown.
     this.asked = 0;
     this.rows = ["pc", "ret 1", "ret 2", "ret 3"].map((name, at) => (
       this.makeRow(name, explain(name), () => goTo(this.addressOf(at)))));
@@ -48,7 +48,7 @@ export class StackView {
 
   /**
    * @param {string} name
-   * @param {string} title what the row shows
+   * @param {string} title the meaning of the row
    * @param {() => void} act
    * @returns {Row}
    */
@@ -62,7 +62,7 @@ export class StackView {
   }
 
   /**
-   * Where the program is shown for a row: at the counter, or at the call.
+   * Returns the address to show for a row: the counter, or the call.
    * @param {number} at
    */
   addressOf(at) {
@@ -70,9 +70,9 @@ export class StackView {
     return at > 0 && this.rows[at].isLive.isOn ? callBefore(address) : address;
   }
 
-  /** @param {Registers} told */
-  show(told) {
-    const texts = [told.counter, ...told.returns];
+  /** @param {Registers} registers */
+  show(registers) {
+    const texts = [registers.counter, ...registers.returns];
     texts.forEach((text, at) => this.changes.set(this.rows[at].value, text));
     this.addresses = texts.map((text) => parseInt(text, 16));
   }
@@ -83,8 +83,8 @@ export class StackView {
   }
 
   /**
-   * Says what the addresses are, while time stands still.
-   * @param {SourceMap | null} map the program that stands in ROM
+   * Describes the addresses while time is paused.
+   * @param {SourceMap | null} map the program in ROM
    * @param {boolean} isRunning
    */
   async explain(map, isRunning) {

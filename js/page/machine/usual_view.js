@@ -1,24 +1,24 @@
-// Faults that everyone makes once, as they happen: a row for each that was told since time began to run, with its line, and a switch that
-// stops time at the next one of its kind.
+// Common mistakes, as they happen: a row for each that was reported since time began to run, with its line, and a switch that stops time at
+// the next one of its kind.
 
 import { block, element, onClick } from "../ui/dom.js";
 import { KINDS } from "../../words/debug.js";
 import * as say from "../../words/machine.js";
 
 /**
- * @typedef {import("../../core/debug/usual_faults.js").Kind} Kind
- * @typedef {import("../../core/debug/usual_faults.js").UsualFault} UsualFault
+ * @typedef {import("../../core/debug/common_mistakes.js").Kind} Kind
+ * @typedef {import("../../core/debug/common_mistakes.js").CommonMistake} UsualFault
  */
 
 /**
- * What the list of common mistakes calls.
+ * The calls that the list of common mistakes makes.
  * @typedef {object} UsualCalls
  * @property {(address: number) => string} wordsOf Returns an address with its name and its line, as words.
  * @property {(address: number) => void} goTo Shows the line of an address in source and listing.
- * @property {(kinds: Kind[]) => void} stopAt Lets time stop at these kinds of mistakes from here on.
+ * @property {(kinds: Kind[]) => void} stopAt Lets time stop at these kinds of mistakes from now on.
  * @property {(count: number) => void} counted Reports how many mistakes are listed.
  * @property {() => string} chosen Returns the kinds that were chosen before, as `choose` kept them; "" if nothing was.
- * @property {(kinds: string) => void} choose Keeps the kinds that are chosen, in one text.
+ * @property {(kinds: string) => void} choose Stores the chosen kinds, in one text.
  */
 
 export class UsualView {
@@ -32,7 +32,7 @@ export class UsualView {
     this.stops = new Set(/** @type {Kind[]} */ (Object.keys(KINDS)).filter((kind) => chosen.includes(kind)));
   }
 
-  /** Time begins to run, or another session is shown. The worker may be another one, too. */
+  /** Time begins to run, or another session is shown, perhaps in another worker. */
   clear() {
     this.calls.stopAt([...this.stops]);
     this.block.hidden = true;

@@ -1,4 +1,4 @@
-// The list of watched expressions: each with its name and what it is now, edited in place.
+// The list of watched expressions: each with its name and its current value, edited in place.
 
 import { Cell, block, element, field, onClick } from "../ui/dom.js";
 import { MOST_WATCHED, readAllWatched, readWatched } from "../../core/debug/watched.js";
@@ -12,13 +12,13 @@ import * as say from "../../words/machine.js";
  */
 
 /**
- * What the watched values call.
+ * The calls that the watched values make.
  * @typedef {object} WatchedCalls
  * @property {import("../text/meaning_view.js").Offer} offer Makes a cell that shows a value editable.
  * @property {() => Standing | null} standing Returns the values of the machine; null while time runs.
  * @property {() => Names} names Returns the names that a watched value may have.
  * @property {() => void} listed The list has changed.
- * @property {(texts: string[]) => void} keep Keeps the texts of the list.
+ * @property {(texts: string[]) => void} keep Saves the texts of the list.
  */
 
 export class WatchedView {
@@ -26,7 +26,7 @@ export class WatchedView {
   constructor(calls) {
     this.calls = calls;
     this.list = block("watched-list");
-    this.told = block("watched-told");
+    this.status = block("watched-status");
     /** @type {Watched[]} */
     this.all = [];
     /** @type {Row[]} */
@@ -37,10 +37,10 @@ export class WatchedView {
     });
   }
 
-  /** @param {unknown} texts that were kept with a session */
+  /** @param {unknown} texts saved with a session */
   open(texts) {
     const { all, fault } = readAllWatched(texts);
-    this.told.textContent = fault;
+    this.status.textContent = fault;
     this.take(all);
   }
 
@@ -48,8 +48,8 @@ export class WatchedView {
     const written = field("watched-field");
     const { watched, fault } = readWatched(written.value, this.calls.names());
     const isFull = this.all.length >= MOST_WATCHED;
-    this.told.textContent = isFull ? say.mostWatched(MOST_WATCHED) : fault;
-    written.setAttribute("aria-invalid", String(this.told.textContent !== ""));
+    this.status.textContent = isFull ? say.mostWatched(MOST_WATCHED) : fault;
+    written.setAttribute("aria-invalid", String(this.status.textContent !== ""));
     if (!watched || isFull) return;
     written.value = "";
     this.take([...this.all.filter(({ name }) => name !== watched.name), watched]);
@@ -85,7 +85,7 @@ export class WatchedView {
     return { root, value, shape: "", cells: [] };
   }
 
-  /** What they are now; while time runs, what they were. */
+  /** Shows the current values; while time runs, the last ones. */
   show() {
     const standing = this.calls.standing();
     if (!standing) return;
@@ -96,7 +96,7 @@ export class WatchedView {
   /**
    * @param {Row} row
    * @param {Watched} watched
-   * @param {import("../../core/debug/value_words.js").Piece[]} pieces what it is now
+   * @param {import("../../core/debug/value_words.js").Piece[]} pieces its current value
    */
   showRow(row, watched, pieces) {
     const shape = pieces.map((piece) => (typeof piece === "string" ? piece : piece.place)).join("\n");

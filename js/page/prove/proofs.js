@@ -1,32 +1,32 @@
-// Proofs on the page: a button that proves the properties for all inputs, in a worker of its own, and the verdicts, which stand as long as
-// the texts are those that they were given for.
+// Proofs on the page: a button that proves the properties for all inputs, in a worker of its own, and the verdicts, which stay as long as
+// the texts are unchanged.
 
 import { Cell, button, field, onClick } from "../ui/dom.js";
 import { lineNow, stillStands } from "../../core/prove/still_valid.js";
-import { markOfTab, wordsOfEnd } from "../../words/proved.js";
+import { isRight, markOfTab, wordsOfEnd } from "../../words/proved.js";
 import * as say from "../../words/prove.js";
 import { ProofsView } from "./proofs_view.js";
 
 /**
  * @typedef {import("../../core/explore/exploring.js").ExploredTexts} ExploredTexts
- * @typedef {import("../../core/prove/prover.js").Ended} Ended
+ * @typedef {import("../../core/bench/own_worker.js").Ended} Ended
  * @typedef {import("../../core/prove/prover.js").Progress} Progress
  * @typedef {import("../../core/prove/bounded_proof.js").JudgedLine} JudgedLine
  * @typedef {import("../../core/testing/prepared.js").TextFault} TextFault
  *
- * What came of a session's properties: the texts, how many states were allowed, how far it is.
+ * The proofs of a session: the texts, the bound on states, the progress.
  * @typedef {{ texts: ExploredTexts, most: number, progress: Progress }} Proved
  *
  * @typedef {object} ProofsCalls
  * @property {() => ExploredTexts} texts returns the texts as they are
  * @property {(texts: ExploredTexts, most: number, signal: AbortSignal, report: (progress: Progress) => void) => Promise<Ended>} prove
  * @property {(line: number) => void} goTo shows a line of the properties
- * @property {(words: string) => void} tell says something beside the buttons
- * @property {(faults: TextFault[]) => void} refuse shows the errors for which nothing was proved
+ * @property {(words: string) => void} showMessage shows a message next to the buttons
+ * @property {(faults: TextFault[]) => void} refuse shows the errors that prevented the proof
  * @property {(name: string, lines: string, texts: ExploredTexts, words: string) => Promise<void>} open opens a session of the texts after
- *   lines, and says some words of it
- * @property {(test: string) => string} addTest adds a test to those of the program; returns words of that
- * @property {() => void} changed verdicts, and so the mark of the tab and what can be cleared, may be others
+ * lines, and shows a message
+ * @property {(test: string) => string} addTest adds a test to those of the program; returns a message
+ * @property {() => void} changed handles changed verdicts, and so a new mark of the tab and new things to clear
  * @property {(fault: unknown) => void} failed a call failed
  */
 
@@ -46,9 +46,9 @@ export class Proofs {
         const words = isGoal ? say.nextStepReaches(text) : say.nextStepBreaks(text);
         if (shown) calls.open(text, before, shown.texts, words).catch(calls.failed);
       },
-      add: (found) => calls.tell(calls.addTest(found.text)),
+      add: (found) => calls.showMessage(calls.addTest(found.text)),
     });
-    /** What came of the properties of each session, by its name, as long as the page is open. */
+    /** The results of each session's properties, by its name, as long as the page is open. */
     this.proved = /** @type {Map<string, Proved>} */ (new Map());
     /** The name of the session that is shown. */
     this.session = "";
@@ -59,13 +59,13 @@ export class Proofs {
     onClick(button("prove"), () => this.proveOrCancel());
   }
 
-  /** What came of the session that is shown. */
+  /** Returns the results of the session that is shown. */
   get shown() {
     return this.proved.get(this.session) || null;
   }
 
   /**
-   * Another session is shown: the work is cancelled, and what came of that session before is shown again.
+   * Another session is shown: the work is cancelled, and the results of that session are shown again.
    * @param {string} session its name
    */
   begin(session) {
@@ -83,15 +83,25 @@ export class Proofs {
     this.show();
   }
 
-  /** A text is another one: verdicts on other texts go, and come back with them. */
+  /** A text has changed: verdicts on other texts are hidden, and return with them. */
   edited() {
     if (this.shown) this.show();
   }
 
-  /** The verdicts that stand, in a few words. */
-  get mark() {
+  /** The verdicts that are about the texts as they are. */
+  get standing() {
     const { shown } = this;
-    return shown ? markOfTab(shown.progress.judged.filter(this.standsNow(shown))) : "";
+    return shown ? shown.progress.judged.filter(this.standsNow(shown)) : [];
+  }
+
+  /** Returns those verdicts, in a few words. */
+  get mark() {
+    return this.shown ? markOfTab(this.standing) : "";
+  }
+
+  /** Returns whether none of them is a counterexample. */
+  get isGood() {
+    return this.standing.every((judged) => judged.verdict.kind === "open" || isRight(judged));
   }
 
   /**
@@ -121,13 +131,13 @@ export class Proofs {
     else this.prove().catch(this.calls.failed);
   }
 
-  /** Returns how many states a question may search; 0 if the field has no such number, which is said. */
+  /** Returns the bound on the states of a question; 0 if the field has no such number, which is reported. */
   asked() {
     const { value } = field("prove-states");
-    const isRight = /^\d{1,9}$/.test(value.trim()) && Number(value) >= 1 && Number(value) <= MOST;
-    field("prove-states").setAttribute("aria-invalid", String(!isRight));
-    this.calls.tell(isRight ? "" : say.STATES_FORM);
-    return isRight ? Number(value) : 0;
+    const isNumber = /^\d{1,9}$/.test(value.trim()) && Number(value) >= 1 && Number(value) <= MOST;
+    field("prove-states").setAttribute("aria-invalid", String(!isNumber));
+    this.calls.showMessage(isNumber ? "" : say.STATES_FORM);
+    return isNumber ? Number(value) : 0;
   }
 
   async prove() {
@@ -159,11 +169,11 @@ export class Proofs {
    * @param {Proved} proved
    * @param {Ended} ended
    */
-  end({ progress: { judged, count } }, { faults, isStopped }) {
+  end({ progress: { judged } }, { faults, isStopped }) {
     if (judged.length === 0) this.view.clear();
     this.show();
     if (faults.length > 0) this.calls.refuse(faults);
-    else if (judged.length > 0) this.calls.tell(wordsOfEnd(judged, isStopped));
-    else this.calls.tell(isStopped ? say.CANCELLED_EARLY : count === 0 ? say.NO_PROPERTY : "");
+    else if (judged.length > 0) this.calls.showMessage(wordsOfEnd(judged, isStopped));
+    else this.calls.showMessage(isStopped ? say.CANCELLED_EARLY : "");
   }
 }

@@ -1,4 +1,4 @@
-// What comes of proving properties: a row for each of them, with its verdict, and how far the search is.
+// The results of proving properties: a row for each of them, with its verdict, and how far the search is.
 
 import { Cell, Switch, below, block, buttonOf, element } from "../ui/dom.js";
 import { isRight, markOf, wordsOfVerdict, wordsSoFar } from "../../words/proved.js";
@@ -16,7 +16,7 @@ import { wordsOfLine } from "../../words/stops.js";
  * @property {(found: Counterexample) => void} add adds the test of a counterexample to those of the program
  */
 
-/** The row of a property. Its verdict is put in once, so that nothing that is used there goes away under the hand. */
+/** The row of a property. Its verdict is inserted once, so that controls in use do not disappear. */
 class Row {
   /**
    * @param {JudgedLine} judged
@@ -27,7 +27,9 @@ class Row {
     const { text, line, isGoal, verdict } = judged;
     const mark = element("b", {});
     const words = element("span", { className: "time" });
-    const name = buttonOf(text, () => calls.goTo(judged), { className: "name", title: wordsOfLine(line) });
+    // A mistake that every program is checked for has no line in the text.
+    const name = line === 0 ? element("span", { className: "name" }, text)
+      : buttonOf(text, () => calls.goTo(judged), { className: "name", title: wordsOfLine(line) });
     this.node = element("li", {}, element("p", {}, mark, " ", name, " ", words));
     this.mark = new Cell(mark);
     this.words = new Cell(words);

@@ -1,5 +1,5 @@
-// What the address of the page names behind its `#`: a session that is kept, an example, or the texts of a link; and behind its `?` the
-// story of an example.
+// The parts of the page's address after its `#`: a saved session, an example, or the texts of a link; and after its `?` the story of an
+// example.
 
 /** @typedef {"session" | "example" | "link"} AddressKind */
 
@@ -13,7 +13,7 @@ function decoded(text) {
 }
 
 /**
- * The example whose story is to be told, "" for none; by its name, or by that of its folder.
+ * The example whose story is to be shown, "" for none; by its name, or by that of its folder.
  * @param {string} search
  */
 export function storyOf(search) {
@@ -27,12 +27,12 @@ export function forgetStory() {
   try {
     history.replaceState(null, "", address);
   } catch {
-    // Some browsers let a file's address stay as it is: then a reload tells the story again.
+    // Some browsers do not change a file's address: then a reload shows the story again.
   }
 }
 
 /**
- * What an address names; blanks that came in behind it as it was copied count for nothing.
+ * Returns the target of an address, without trailing blanks from copying.
  * @param {string} hash
  * @returns {{ kind: AddressKind | "", value: string }}
  */

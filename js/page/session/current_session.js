@@ -1,4 +1,4 @@
-// The session that is shown: another one is shown in its place, it is kept, and its name stands where names stand.
+// The session that is shown: it is replaced, it is saved, and its name is displayed.
 
 import { field, block } from "../ui/dom.js";
 import { wordsOfBroken } from "../../words/stops.js";
@@ -13,7 +13,7 @@ import * as say from "../../words/session.js";
  * @typedef {import("../../core/engine/file_requests.js").FileRequests} FileRequests
  * @typedef {import("../../core/engine/session_requests.js").SessionRequests} SessionRequests
  * @typedef {import("../../core/bench/bench_client.js").Caller<FileRequests & SessionRequests>} Bench
- * @typedef {import("../../core/bench/ran.js").RanEntry} RanEntry
+ * @typedef {import("../../core/bench/run_log.js").RanEntry} RanEntry
  * @typedef {import("./kept_past.js").KeptPast} KeptPast
  * @typedef {import("../../core/bench/protocol.js").Shown} Shown
  * @typedef {import("./store.js").SessionRecord} SessionRecord
@@ -21,9 +21,9 @@ import * as say from "../../words/session.js";
  */
 
 /**
- * What the current session calls of the page.
+ * The calls that the current session makes to the page.
  * @typedef {object} CurrentCalls
- * @property {(record: SessionRecord) => void} begin Another session is shown from here on; its texts and choices are in the record.
+ * @property {(record: SessionRecord) => void} begin Another session is shown from now on; its texts and choices are in the record.
  * @property {(shown: Shown) => void} show Shows the session as it is now.
  * @property {() => Promise<void>} checkSource Compares the source with ROM; resolves once the names of the program are shown.
  * @property {() => void} run Lets time run, as it did when the session was left.
@@ -31,14 +31,13 @@ import * as say from "../../words/session.js";
  * @property {() => Promise<void>} standStill Lets no more time pass; resolves once the worker has stopped.
  * @property {() => string} where Returns the counter with its name and its line, as words.
  * @property {() => void} touched The user has done something in the session for the first time.
- * @property {() => RanEntry[]} ran Returns what time has done since the last call, and forgets it.
- * @property {(ran: RanEntry[], fault: string) => void} showRan Logs what time has done, and why the session could not be kept, "" if it
- *   was.
- * @property {(words: string) => void} notKept Shows why the session is not kept; "" hides that message.
+ * @property {() => RanEntry[]} ran Returns the work of time since the last call, and forgets it.
+ * @property {(ran: RanEntry[], fault: string) => void} showRan Logs the work of time, and why the session could not be saved, "" if it was.
+ * @property {(words: string) => void} notKept Shows why the session is not saved; "" hides that message.
  * @property {(state: "example" | "saved" | "failed") => void} saved Shows in the status line whether the session is saved.
  */
 
-/** What is hidden until there is a session to show. */
+/** The parts that are hidden until there is a session to show. */
 const SHOWN_WITH_SESSION = ["bench", "session-bar", "clock", "tools", "statusbar"];
 
 export class CurrentSession {
@@ -55,17 +54,17 @@ export class CurrentSession {
     this.past = past;
     /** @type {KeptSession | null} */
     this.session = null;
-    /** When it was kept last. */
+    /** The time of the last save. */
     this.kept = 0;
-    /** Whether the session that is being opened runs on: no line of its source is the current one. */
+    /** True if the session that is being opened runs on: no line of its source is the current one. */
     this.willRun = false;
   }
 
   /**
-   * Shows a session in the place of the one that is here, which stays where the new one is refused.
+   * Replaces the session, which stays if the new one is rejected.
    * @param {SessionRecord} record
    * @param {Release} release
-   * @param {string} example where nothing was done yet in a session of an example, its name
+   * @param {string} example its name if nothing was done yet in a session of an example
    */
   async use(record, release, example) {
     const { bench, store, calls } = this;
@@ -89,7 +88,7 @@ export class CurrentSession {
   }
 
   /**
-   * Shows the page's parts, at first only to be measured: what is seen before the names of the source have come would move.
+   * Shows the page's parts, invisible at first: otherwise they would move when the names of the source arrive.
    */
   async showParts() {
     const isFirst = block("bench").hidden;
@@ -99,7 +98,7 @@ export class CurrentSession {
     document.body.classList.remove("settling");
   }
 
-  /** What was done before the page was loaded anew can be gone back to. */
+  /** Restores the past from before the page was reloaded, for going back to it. */
   async remember() {
     const { bench, past } = this;
     const recalled = past.recalled();
@@ -107,7 +106,7 @@ export class CurrentSession {
     if (count >= 0) past.goOn(recalled, count);
   }
 
-  /** Keeps the session that is left. Whether its time runs stays in its record, so that it goes on when it is come back to. */
+  /** Saves the session that is left. Whether its time runs stays in its record, so that it continues when the user returns. */
   async leave() {
     await this.calls.standStill();
     await this.keep();
@@ -143,7 +142,9 @@ export class CurrentSession {
     document.title = say.titleOfPage(this.name);
   }
 
-  /** Its name stands in its field and in the title of the tab; its address is the one of this session, or of the example that it is yet. */
+  /**
+   * Its name is in its field and in the title of the tab; its address is the one of this session, or of the example that it still equals.
+   */
   showName() {
     if (!this.session) return;
     const { record, example } = this.session;
@@ -153,7 +154,7 @@ export class CurrentSession {
   }
 
   /**
-   * A session that was given no name is called by its title, once it has one.
+   * An unnamed session is called by its title, once it has one.
    * @param {string} title
    */
   takeTitle(title) {
@@ -173,7 +174,7 @@ export class CurrentSession {
     await this.keep();
   }
 
-  /** Something is done in it: from here on it is kept. */
+  /** Something is done in it: from now on it is saved. */
   touch() {
     if (!this.session) return;
     this.calls.touched();
@@ -182,13 +183,13 @@ export class CurrentSession {
     this.keep();
   }
 
-  /** The same, and it is kept now; gives why it was not, "" where it was. */
+  /** Does the same, and saves it now; resolves to why it was not saved, "" if it was. */
   touchAndKeep() {
     this.touch();
     return this.keep();
   }
 
-  /** Writes it to the store; what time has done is in the log once that is through. */
+  /** Writes it to the store; the work of time is in the log once that is done. */
   async keep() {
     if (!this.session) return "";
     const { calls } = this;

@@ -1,8 +1,8 @@
-// Gives the user a file.
+// Downloads a file to the user.
 
 import { element } from "../ui/dom.js";
 
-/** How long the bytes of a file are held for the browser, in milliseconds. */
+/** The milliseconds for which the bytes of a file are held for the browser. */
 const HELD_TIME = 10000;
 
 /**

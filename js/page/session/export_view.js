@@ -1,18 +1,18 @@
-// The dialog that puts a part of the session into a file of its own: a text, or what stands in ROM.
+// The dialog that exports a part of the session into a file of its own: a text, or ROM.
 
 import { element, onClick } from "../ui/dom.js";
 import { download } from "./download.js";
 import * as say from "../../words/session.js";
 
 /**
- * A file: its ending, what is in it, and whether there is anything to put into it now.
+ * A file: its extension, its content, and whether there is anything to export now.
  * @typedef {{ ending: string, what: string, make: () => string | Uint8Array | Promise<string | Uint8Array> }} ExportedFile
  */
 
 /**
- * What the export of files calls.
+ * The calls that the export of files makes.
  * @typedef {object} ExportCalls
- * @property {() => string} name Returns the name of the session, after which files are named.
+ * @property {() => string} name Returns the name of the session, from which file names are made.
  * @property {() => string} board Returns the board's text.
  * @property {() => string} program Returns the source.
  * @property {() => Promise<string>} hex Resolves to the bytes of all ROMs in Intel HEX.
@@ -24,11 +24,11 @@ export class ExportView {
   /** @param {ExportCalls} calls */
   constructor(calls) {
     this.calls = calls;
-    this.told = element("p", { className: "told", role: "status" });
+    this.status = element("p", { className: "status-text", role: "status" });
     const close = element("button", { type: "button" }, say.CLOSE);
     this.dialog = element("dialog", { "id": "export", "aria-labelledby": "export-title" },
       element("div", { className: "bar" }, element("h2", { id: "export-title" }, say.EXPORT), close),
-      element("ul", { "aria-label": say.FILES }, ...this.files().map((file) => this.row(file))), this.told);
+      element("ul", { "aria-label": say.FILES }, ...this.files().map((file) => this.row(file))), this.status);
     document.body.append(this.dialog);
     onClick(close, () => this.dialog.close());
   }
@@ -52,7 +52,7 @@ export class ExportView {
   }
 
   open() {
-    this.told.textContent = "";
+    this.status.textContent = "";
     this.dialog.showModal();
   }
 
@@ -60,7 +60,7 @@ export class ExportView {
   async save({ ending, what, make }) {
     const made = await make();
     if (made.length === 0) {
-      this.told.textContent = say.nothingSaved(what);
+      this.status.textContent = say.nothingSaved(what);
       return;
     }
     download(this.calls.name(), ending, new Blob([made], { type: "application/octet-stream" }));

@@ -1,4 +1,4 @@
-// The files of a folder that is dropped on the page, and those of several files of which one is a project file.
+// The files of a dropped folder, and those of several files, one of which is a project file.
 
 import { PROJECT_FILE } from "../../core/project/project_toml.js";
 
@@ -9,7 +9,7 @@ const MOST_FILES = 400;
 const MOST_DEPTH = 6;
 
 /**
- * The folders among what is dropped. They are asked for while the event is there.
+ * Returns the folders among dropped items. They must be read during the event.
  * @param {DataTransfer | null} data
  * @returns {FileSystemDirectoryEntry[]}
  */
@@ -20,7 +20,7 @@ export function foldersOf(data) {
 }
 
 /**
- * All that a folder has; a browser tells it in parts.
+ * Returns the whole contents of a folder, which a browser reports in parts.
  * @param {FileSystemDirectoryEntry} folder
  * @returns {Promise<FileSystemEntry[]>}
  */
@@ -38,7 +38,7 @@ async function entriesIn(folder) {
 
 /**
  * @param {FileSystemDirectoryEntry} folder
- * @param {string} before its path in the one that was dropped
+ * @param {string} before its path in the dropped folder
  * @param {Map<string, File>} files
  * @param {number} depth
  */
@@ -67,7 +67,7 @@ export async function readFolder(entry) {
 }
 
 /**
- * Several files as a folder, where one of them is a project file; null for any others.
+ * Returns several files as a folder, if one of them is a project file; null for any others.
  * @param {File[]} files
  * @returns {Folder | null}
  */

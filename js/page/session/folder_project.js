@@ -1,4 +1,4 @@
-// The texts of a folder with a project file: what a new session on the page begins with.
+// The texts of a folder with a project file, from which the page begins a new session.
 
 import { ProjectFault, readProject } from "../../core/project/project_folder.js";
 import { LONGEST_PROJECT_FILE, PROJECT_FILE } from "../../core/project/project_toml.js";
@@ -11,7 +11,7 @@ import * as say from "../../words/session.js";
  * @typedef {import("../../core/engine/examples.js").Example} Example
  * @typedef {import("../../core/session/opened_file.js").FileTexts} FileTexts
  *
- * The texts, the speed that is wanted ("" for none), and words of what the page has no room for.
+ * The texts, the requested speed ("" for none), and words about what the page has no room for.
  * @typedef {{ texts: Example, speed: string, words: string }} FolderTexts
  */
 
@@ -24,7 +24,7 @@ async function bytesOf(file, most) {
 }
 
 /**
- * A text of a kind in a file of a folder; "" where none is named.
+ * Returns a text of a kind in a file of a folder; "" if none is named.
  * @param {Map<string, File>} files
  * @param {string} path
  * @param {"board" | "program" | "tests" | "properties"} kind
@@ -48,7 +48,7 @@ function leftOut(lists) {
 }
 
 /**
- * It throws where the folder is no project, or a file of it is not what it has to be.
+ * Throws if the folder is not a project, or a file of it is not what it must be.
  * @param {Folder} folder
  * @returns {Promise<FolderTexts>}
  */

@@ -23,7 +23,7 @@ function nodesOf(shape) {
 }
 
 /**
- * A picture of a board's front; those who do not see it have the example's words beside it.
+ * A picture of a board's front panel; for screen readers the example's words are next to it.
  * @param {string} boardText
  */
 export function pictureOf(boardText) {

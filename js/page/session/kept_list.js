@@ -1,4 +1,4 @@
-// The list of the sessions that are kept: opened and copied one by one, deleted one by one or several at once, and brought back.
+// The list of the saved sessions: opened and copied one by one, deleted one by one or several at once, and restored.
 
 import { block, button, element, field } from "../ui/dom.js";
 import { pictureOf } from "./gallery_view.js";
@@ -9,17 +9,17 @@ import * as say from "../../words/session.js";
  */
 
 /**
- * What the list of projects calls. A session is named by its id.
+ * The calls that the list of projects makes. A session is named by its id.
  * @typedef {object} ListCalls
  * @property {(id: string) => boolean} isShown Returns whether a session is the one that is shown.
- * @property {(id: string) => Promise<boolean>} open Shows a session. Resolves to false if that was refused, which is then reported.
- * @property {(id: string) => Promise<boolean>} copy Makes a copy of a session and shows it. Resolves to false if that was refused.
+ * @property {(id: string) => Promise<boolean>} open Shows a session. Resolves to false if that failed, which is then reported.
+ * @property {(id: string) => Promise<boolean>} copy Makes a copy of a session and shows it. Resolves to false if that failed.
  * @property {(records: SessionRecord[]) => Promise<void>} remove Moves sessions to the deleted ones.
- * @property {() => SessionRecord[]} deleted Returns the sessions that can be brought back.
+ * @property {() => SessionRecord[]} deleted Returns the sessions that can be restored.
  * @property {(records: SessionRecord[]) => Promise<void>} bringBack Brings deleted sessions back.
  * @property {(act: () => Promise<boolean>) => void} choose Does `act`, and closes the dialog unless that resolves to false.
- * @property {(word: string, label: string, act: () => void) => HTMLButtonElement} button Returns a button with a word, a label for those
- *   who do not see it, and what it does.
+ * @property {(word: string, label: string, act: () => void) => HTMLButtonElement} button Returns a button with a word, a label for screen
+ * readers, and its action.
  */
 
 export class KeptList {
@@ -36,7 +36,7 @@ export class KeptList {
     button("delete-chosen").addEventListener("click", () => this.removeChosen());
   }
 
-  /** Those that can be deleted: the one that is shown stays. */
+  /** Returns the sessions that can be deleted: all but the one that is shown. */
   get removable() {
     return this.records.filter((record) => !this.calls.isShown(record.id));
   }
@@ -108,7 +108,7 @@ export class KeptList {
   }
 
   /**
-   * Whoever uses the keyboard goes on at the line that has come in the place of the first one.
+   * A keyboard user continues at the line that has taken the place of the first one.
    * @param {SessionRecord[]} records
    */
   async remove(records) {

@@ -1,5 +1,5 @@
-// What was done last in the session that is shown, for going back after a reload: its file at a moment, and the commands since then. It is
-// gathered from what the worker tells, and written once the page goes, where the browser keeps words for a tab.
+// The recent past of the session that is shown, for going back after a reload: its file at a moment, and the commands since then. It is
+// gathered from the worker's reports, and written when the page is left, in the browser's store for the tab.
 
 import { fromBase64, toBase64 } from "../../core/session/base64.js";
 import * as say from "../../words/session.js";
@@ -12,15 +12,15 @@ import * as say from "../../words/session.js";
  */
 
 const KEY = "fethsaim.past";
-/** Another file is kept after so many cycles, commands, or letters in these. */
+/** A new file is stored after this many cycles, commands, or letters in these. */
 const MOST_CYCLES = 4000000;
 const MOST_ENTRIES = 4000;
 const MOST_LETTERS = 200000;
-/** What one look may bring; of more nothing is kept. */
+/** The most characters of one report; a longer one is not stored. */
 const MOST_AT_ONCE = 16000000;
 const SEGMENTS = 2;
 
-/** The browser's store of words for this tab; null where it has none. */
+/** The browser's store of words for this tab; null if it has none. */
 function tabStore() {
   try {
     return sessionStorage;
@@ -34,7 +34,7 @@ function cyclesOf(entries) {
   return entries.reduce((sum, { cycles }) => sum + cycles, 0);
 }
 
-/** @param {any} entry that was kept */
+/** @param {any} entry that was stored */
 function isEntry(entry) {
   return entry && typeof entry.line === "string" && typeof entry.cycles === "number" && typeof entry.resets === "boolean"
     && typeof entry.isStop === "boolean";
@@ -61,16 +61,16 @@ export class KeptPast {
     this.letters = 0;
   }
 
-  /** @param {string} session that is shown from here on, by its name */
+  /** @param {string} session that is shown from now on, by its name */
   begin(session) {
     this.session = session;
     this.segments = [];
   }
 
   /**
-   * Takes what was done.
+   * Stores what was done.
    * @param {News} news
-   * @param {{ file: Uint8Array, total: number, reset: number }} present what the session is after it
+   * @param {{ file: Uint8Array, total: number, reset: number }} present the session after it
    */
   take({ isAnew, entries }, present) {
     const cycles = cyclesOf(entries);
@@ -93,13 +93,13 @@ export class KeptPast {
     this.letters = 0;
   }
 
-  /** The page goes. */
+  /** Handles the page being left. */
   leave() {
     const segments = this.segments.map(({ file, ...more }) => ({ file: toBase64(file), ...more }));
     this.change((store) => store.setItem(KEY, JSON.stringify({ session: this.session, segments })));
   }
 
-  /** What was kept of the session that is shown, as the page went; it is read once. */
+  /** Returns the past of the session that is shown, as it was stored when the page was left. It is read once. */
   recalled() {
     /** @type {Recalled[]} */
     let found = [];
@@ -112,7 +112,7 @@ export class KeptPast {
   }
 
   /**
-   * It is remembered again: what was done since comes after it.
+   * It is remembered again: later work follows it.
    * @param {Recalled[]} recalled
    * @param {number} count of the last one's entries
    */
@@ -131,7 +131,7 @@ export class KeptPast {
     try {
       if (this.store) act(this.store);
     } catch {
-      // Where there is no room, or it cannot be read, going back reaches to the reload.
+      // If there is no room, or it cannot be read, going back reaches to the reload.
     }
   }
 }

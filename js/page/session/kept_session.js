@@ -1,4 +1,4 @@
-// A session that is open in this tab: its record, which is the newest that the bench has told, and how it is kept.
+// A session that is open in this tab: its record, which is the bench's last report, and how it is saved.
 
 import { shortName } from "../../core/session/names.js";
 import { inTime, wordsOfStoreFault } from "./store.js";
@@ -32,22 +32,22 @@ export class KeptSession {
   /**
    * @param {SessionStore} store
    * @param {SessionRecord} record
-   * @param {Release} release gives the lock of the session back
-   * @param {string} example where nothing was done yet in a session of an example, the name of it; such a session is not kept
+   * @param {Release} release releases the lock of the session
+   * @param {string} example its name if nothing was done yet in a session of an example; such a session is not saved
    */
   constructor(store, record, release, example = "") {
     this.store = store;
     this.record = record;
     this.release = release;
     this.example = example;
-    /** @type {Promise<string>} the write that is under way */
+    /** @type {Promise<string>} the present write */
     this.writing = Promise.resolve("");
     /** @type {Promise<string> | null} the write after it */
     this.waiting = null;
   }
 
   /**
-   * Takes the new bytes of the file; gives the array of the old ones, which is free then.
+   * Stores the new bytes of the file; returns the array of the old ones, which is free then.
    * @param {ArrayBuffer} file
    * @returns {ArrayBuffer}
    */
@@ -58,8 +58,8 @@ export class KeptSession {
   }
 
   /**
-   * Writes what the session is now. The promise gives "" once it is on the disk, and else what went wrong, in words. Calls that come
-   * while it writes share the next write. A store that does not answer is told, and written to again once it does.
+   * Writes the present session. Resolves to "" once it is on the disk, and to an error message otherwise. Calls during a write share the
+   * next write. A store that does not answer is reported, and written to again once it does.
    * @returns {Promise<string>}
    */
   keep() {
@@ -79,8 +79,8 @@ export class KeptSession {
   }
 
   /**
-   * The same for a page that is just going away and cannot wait. A store whose writes need an answer in between is asked for none: the
-   * answer would not come any more, and what was begun would hold the store against other pages.
+   * Does the same for a page that is being left and cannot wait. A store whose writes need an answer in between is not asked: the answer
+   * would not arrive any more, and the begun write would block other pages.
    */
   keepNow() {
     return this.store.isWhole && !this.isUntouched ? this.write() : Promise.resolve("");
@@ -90,7 +90,7 @@ export class KeptSession {
     return this.example !== "";
   }
 
-  /** Something is done in the session: from here on it is kept. Tells whether this is the first time. */
+  /** Notes that something is done in the session: from now on it is saved. Returns whether this is the first time. */
   touch() {
     const { isUntouched } = this;
     this.example = "";

@@ -2,15 +2,15 @@
 
 import { inTime } from "./store.js";
 
-/** A browser that blocks the data of sites has the call for locks, and refuses them all. */
+/** A browser that blocks the data of sites has the call for locks, and rejects them all. */
 const TRIES = 6;
 const WAIT = 150;
 const PROBE = "fethsaim probe";
 
-/** @typedef {() => void} Release gives a lock back */
+/** @typedef {() => void} Release releases a lock */
 
 export class Locks {
-  /** Finds out whether the browser has locks, and gives them. */
+  /** Finds out whether the browser has locks, and returns them. */
   static async find() {
     if (!navigator.locks) return new Locks(null);
     try {
@@ -21,15 +21,15 @@ export class Locks {
     }
   }
 
-  /** @param {LockManager | null} manager null where the browser has none: then each lock is free */
+  /** @param {LockManager | null} manager null if the browser has none: then each lock is free */
   constructor(manager) {
     this.manager = manager;
     this.areThere = manager !== null;
   }
 
   /**
-   * Takes the lock of a session for this tab: gives a call that gives it back, or null where another tab has it. A page that is just
-   * being reloaded may still hold it for a moment, so it is asked for more than once.
+   * Acquires the lock of a session for this tab: resolves to a call that releases it, or null if another tab has it. A page that is just
+   * being reloaded may still hold it for a moment, so it is requested more than once.
    * @param {string} id
    * @returns {Promise<Release | null>}
    */

@@ -1,4 +1,4 @@
-// The lines of an example or of a file, put where they can be sent. What a user has typed there is not lost by it.
+// The lines of an example or of a file, put where they can be sent. The user's own text there is not lost.
 
 import { byId } from "../ui/dom.js";
 import * as say from "../../words/session.js";
@@ -10,11 +10,11 @@ export class OfferedLines {
   constructor(notice) {
     this.notice = notice;
     this.area = byId("lines", HTMLTextAreaElement);
-    /** What was offered last. */
+    /** The last offer. */
     this.offered = "";
   }
 
-  /** @param {string} lines "" where another session has none */
+  /** @param {string} lines "" if another session has none */
   offer(lines) {
     const typed = this.area.value;
     const isOwn = typed.trim() !== "" && typed !== this.offered;

@@ -1,21 +1,21 @@
-// Which openings of sessions came to an end. A session may hang the page, by a text that takes too long or a fault of the page's own: it
-// must not do so at each start. So a flag is set before a session is opened, and cleared once the page has shown it and is still there.
+// The openings of sessions that succeeded. A session may hang the page, by a text that takes too long or an error of the page's own: it
+// must not do so at each start. So a flag is set before a session is opened, and cleared once the page has shown it and still responds.
 
 import { ownStore } from "../ui/choices.js";
 
 /** @typedef {Pick<Storage, "getItem" | "setItem" | "removeItem">} FlagStore */
 
 const KEY = "fethsaim.opening.";
-/** So many milliseconds after a session is shown its opening is at an end: what hangs the page does so by then. */
+/** The milliseconds after which an opening has succeeded: a hang would have happened by then. */
 const SETTLE_TIME = 1000;
-/** A page that is left so soon was not hung, but left; and an opening that was begun so lately may be under way in another tab. */
+/** A page that is left this soon has not hung; and an opening that began this recently may be under way in another tab. */
 const SOON = 2000;
-/** What a window says as its page is left: a browser that passes over one of them has the other. */
+/** The events of a window whose page is left: a browser that lacks one of them has the other. */
 const LEAVING = ["beforeunload", "pagehide"];
 
 export class Openings {
   /**
-   * @param {FlagStore | null} store null where the browser keeps nothing
+   * @param {FlagStore | null} store null if the browser keeps nothing
    * @param {(act: () => void, time: number) => void} later
    * @param {() => number} now in milliseconds
    */
@@ -23,14 +23,17 @@ export class Openings {
     this.store = store;
     this.later = later;
     this.now = now;
-    /** @type {Map<string, { time: number, isEnded: boolean }>} those that have a flag of this page: begun when, and whether it is shown */
+    /**
+     * @type {Map<string, { time: number, isEnded: boolean }>} those with a flag of this page: the time of the beginning, and whether it is
+     * shown
+     */
     this.begun = new Map();
   }
 
   /**
    * Opens a session.
    * @param {string} id
-   * @param {() => Promise<void>} open what it refuses has come to an end, too
+   * @param {() => Promise<void>} open a rejected session has also come to an end
    */
   async during(id, open) {
     const opening = { time: this.now(), isEnded: false };
@@ -46,7 +49,7 @@ export class Openings {
   }
 
   /**
-   * Its last opening did not come to an end, as far as can be told so soon.
+   * Its last opening did not end, as far as can be known so soon.
    * @param {string} id
    */
   isUnended(id) {
@@ -64,7 +67,7 @@ export class Openings {
     return age >= 0 && age < SOON;
   }
 
-  /** @param {string} id of a session whose opening came to an end, or that is gone */
+  /** @param {string} id of a session whose opening ended, or that is deleted */
   forget(id) {
     this.begun.delete(id);
     this.change((store) => store.removeItem(KEY + id));
@@ -78,7 +81,7 @@ export class Openings {
     for (const name of LEAVING) target.addEventListener(name, () => this.leave());
   }
 
-  /** The page is left, and can still be told so: what is shown has not hung it, nor has what was begun just now. */
+  /** The page is left, and can still record that: neither the shown session nor the one just begun has hung it. */
   leave() {
     for (const [id, { time, isEnded }] of this.begun) if (isEnded || this.isRecent(time)) this.forget(id);
   }
@@ -88,7 +91,7 @@ export class Openings {
     try {
       if (this.store) act(this.store);
     } catch {
-      // A browser that keeps nothing opens no session by itself either.
+      // Without storage in the browser no session is opened by itself either.
     }
   }
 }

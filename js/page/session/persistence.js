@@ -1,12 +1,12 @@
-// Asks the browser to keep what it keeps for this page even where space is short. Some browsers ask their user then, so it is asked once,
-// and not before there is something to lose.
+// Asks the browser to keep the page's data even if space is short. Some browsers then ask their user, so it is asked once, and not before
+// there is something to lose.
 
 /**
  * Who is asked, and an answer.
  * @typedef {{ persist: () => Promise<boolean> }} Keeper
  */
 
-/** @returns {Keeper | null} null where the browser has none */
+/** @returns {Keeper | null} null if the browser has none */
 function ownKeeper() {
   const { storage } = navigator;
   return storage && typeof storage.persist === "function" ? storage : null;
@@ -17,7 +17,7 @@ export class Persistence {
   constructor(keeper = ownKeeper()) {
     this.keeper = keeper;
     this.isAsked = false;
-    /** Whether the browser has promised it. */
+    /** True if the browser has promised it. */
     this.isPromised = false;
   }
 
@@ -27,7 +27,7 @@ export class Persistence {
     try {
       this.isPromised = await this.keeper.persist();
     } catch {
-      // A browser that blocks the data of sites may refuse the question, too.
+      // A browser that blocks the data of sites may reject the question, too.
     }
   }
 }

@@ -1,4 +1,4 @@
-// Sessions and files: opening, making, copying, saving. A session that cannot be opened leaves the one that is shown alone.
+// Sessions and files: opening, making, copying, saving. A session that cannot be opened leaves the current one unchanged.
 
 import { download } from "./download.js";
 import { runsAtOnce } from "../../core/engine/examples.js";
@@ -23,17 +23,17 @@ import * as say from "../../words/session.js";
  */
 
 /**
- * What the manager of sessions calls of the page.
+ * The calls that the manager of sessions makes to the page.
  * @typedef {object} ManagerCalls
  * @property {() => KeptSession | null} session Returns the session that is shown; null if there is none.
- * @property {() => Promise<string>} keep Keeps the session. Resolves to why it could not be kept, "" if it was.
+ * @property {() => Promise<string>} keep Saves the session. Resolves to why it could not be saved, "" if it was.
  * @property {(words: string, ...actions: NoticeAction[]) => void} refuse Shows why something was not done, with buttons.
  * @property {(id: string) => void} speed Sets the speed of time that a project names, by its id.
  * @property {(record: SessionRecord) => void} left A session was left for a new one, which is reported so that it can be found.
- * @property {(name: string, texts: import("../../core/session/opened_file.js").FileTexts) => Promise<void>} texts Puts texts of a file
- *   with a name into the editors.
- * @property {(name: string, bytes: Int16Array) => Promise<void>} image Puts bytes of a file with a name into ROM; -1 leaves a byte as it
- *   is.
+ * @property {(name: string, texts: import("../../core/session/opened_file.js").FileTexts) => Promise<void>} texts Loads texts of a file
+ * with a name into the editors.
+ * @property {(name: string, bytes: Int16Array) => Promise<void>} image Loads bytes of a file with a name into ROM; -1 leaves a byte
+ * unchanged.
  * @property {(record: SessionRecord, release: Release, example: string) => Promise<void>} use Shows another session, whose lock `release`
  *   frees. `example` is the name of its example if nothing was done in it yet, else "".
  */
@@ -55,7 +55,7 @@ export class SessionManager {
     this.calls = calls;
   }
 
-  /** The sessions that are kept, the one that was changed last before the others. */
+  /** Returns the saved sessions, the one that was changed last first. */
   async kept() {
     try {
       return (await this.store.all()).sort((a, b) => b.changed - a.changed);
@@ -74,7 +74,7 @@ export class SessionManager {
 
   /**
    * @param {string} words
-   * @param {NoticeAction[]} actions what can be done instead
+   * @param {NoticeAction[]} actions the alternatives
    * @returns {false}
    */
   refuse(words, ...actions) {
@@ -83,7 +83,7 @@ export class SessionManager {
   }
 
   /**
-   * Opens a session that is kept; false where it is in use elsewhere, gone or damaged, which is told.
+   * Opens a saved session; resolves to false if it is in use elsewhere, deleted or damaged, which is reported.
    * @param {string} id
    */
   async open(id) {
@@ -132,7 +132,7 @@ export class SessionManager {
   }
 
   /**
-   * An example that is a project; its properties stand beside it.
+   * Opens an example that is a project, with its properties.
    * @param {Example} example
    */
   async ofProjectOf({ project, properties }) {
@@ -150,8 +150,8 @@ export class SessionManager {
   }
 
   /**
-   * A file becomes a new session, where it is a project or a session; its texts come into the editors of the one that is shown, and an
-   * image into its ROM.
+   * Opens a file: a project or a session becomes a new session; texts are loaded into the editors of the current one, and an image into its
+   * ROM.
    * @param {File} file
    */
   async openFile(file) {
@@ -192,7 +192,7 @@ export class SessionManager {
   }
 
   /**
-   * A project's session stays as it is, to the byte.
+   * A project's session is unchanged, to the byte.
    * @param {Uint8Array} bytes
    */
   async ofProject(bytes) {
@@ -202,7 +202,7 @@ export class SessionManager {
   }
 
   /**
-   * The bench itself says whether bytes are a session.
+   * Only the bench decides whether bytes are a session.
    * @param {string} fileName
    * @param {Uint8Array} bytes
    */
@@ -213,7 +213,7 @@ export class SessionManager {
     return newRecord(fileName.replace(/\.mcs$/i, ""), settled, texts);
   }
 
-  /** Saves the session that is shown with its texts, as a project; but not one that could not be opened. */
+  /** Saves the current session with its texts, as a project; but not one that could not be opened. */
   save() {
     const session = this.calls.session();
     if (!session) return;

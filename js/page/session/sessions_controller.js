@@ -1,7 +1,7 @@
-// Sessions on the page: which one is shown first, what the dialog of sessions does, and what an address names.
+// Sessions on the page: the first one, the actions of the dialog of sessions, and the target of an address.
 
 import { readAddress } from "./address.js";
-import { Bin, namesOf } from "./bin.js";
+import { Trash, namesOf } from "./trash.js";
 import { shortName } from "../../core/session/names.js";
 import { Openings } from "./openings.js";
 import { SessionManager } from "./session_manager.js";
@@ -22,19 +22,20 @@ import * as say from "../../words/session.js";
  */
 
 /**
- * What the list of projects and the opening of sessions call of the page.
+ * The calls that the list of projects and the opening of sessions make to the page.
  * @typedef {object} ControllerCalls
  * @property {() => KeptSession | null} session Returns the session that is shown; null if there is none.
- * @property {() => Promise<string>} keep Keeps the session. Resolves to why it could not be kept, "" if it was.
- * @property {(name: string) => void} rename Gives the session that is shown another name.
+ * @property {() => Promise<string>} keep Saves the session. Resolves to why it could not be saved, "" if it was.
+ * @property {(name: string) => void} rename Renames the session that is shown.
  * @property {(id: string) => void} speed Sets the speed of time that a project names, by its id.
- * @property {(name: string, texts: import("../../core/session/opened_file.js").FileTexts) => Promise<void>} texts Puts texts of a file
- *   with a name into the editors.
- * @property {(name: string, bytes: Int16Array) => Promise<void>} image Puts bytes of a file with a name into ROM; -1 leaves a byte as it
- *   is.
+ * @property {(name: string, texts: import("../../core/session/opened_file.js").FileTexts) => Promise<void>} texts Loads texts of a file
+ * with a name into the editors.
+ * @property {(name: string, bytes: Int16Array) => Promise<void>} image Loads bytes of a file with a name into ROM; -1 leaves a byte
+ * unchanged.
  * @property {(record: SessionRecord, release: Release, example: string) => Promise<void>} use Shows another session, whose lock `release`
  *   frees. `example` is the name of its example if nothing was done in it yet, else "".
- * @property {(text: string) => Promise<void>} link Opens the session of a link by the text behind its `#`.
+ * @property {() => void} showLines Brings the console to the front, for an example that has only lines.
+ * @property {(text: string) => Promise<void>} link Opens the session of a link by the text after its `#`.
  */
 
 export class SessionsController {
@@ -48,8 +49,8 @@ export class SessionsController {
     this.locks = locks;
     this.notice = notice;
     this.examples = examples;
-    /** @type {(example: Example) => void} an example's story is told */
-    this.tell = () => {};
+    /** @type {(example: Example) => void} an example's story is shown */
+    this.showExample = () => {};
     /** Another session is shown. */
     this.used = () => {};
     this.persistence = new Persistence();
@@ -57,11 +58,11 @@ export class SessionsController {
     this.openings.listen(window);
     this.lines = new OfferedLines(notice);
     /** @type {(words: string, ...actions: import("../ui/notice.js").NoticeAction[]) => void} */
-    const refuse = (told, ...actions) => notice.show(told, "session", ...actions);
+    const refuse = (message, ...actions) => notice.show(message, "session", ...actions);
     this.manager = new SessionManager(bench, store, locks, words, {
       ...calls,
       refuse,
-      left: (record) => this.tellLeft(record),
+      left: (record) => this.reportLeft(record),
       use: async (record, release, example) => {
         await this.openings.during(record.id, () => calls.use(record, release, example));
         notice.hide("left");
@@ -69,7 +70,7 @@ export class SessionsController {
         this.lines.offer("");
       },
     });
-    this.bin = new Bin(store, locks, refuse);
+    this.bin = new Trash(store, locks, refuse);
     this.view = this.makeView();
   }
 
@@ -86,7 +87,7 @@ export class SessionsController {
       begin: (example) => this.begin(example),
       beginStory: async (example) => {
         const isDone = await this.begin(example);
-        if (isDone) this.tell(example);
+        if (isDone) this.showExample(example);
         return isDone;
       },
       openFile: (file) => manager.openFile(file),
@@ -103,14 +104,14 @@ export class SessionsController {
   }
 
   /**
-   * A session was left for a new one, which may not have been meant.
+   * A session was left for a new one, perhaps by accident.
    * @param {SessionRecord} record
    */
-  tellLeft({ id, name }) {
+  reportLeft({ id, name }) {
     this.notice.show(say.sessionLeft(name, this.store.keeps), "left", { word: say.BACK_TO_IT, act: () => this.open(id) });
   }
 
-  /** Something is done in the session that is shown: there is something to lose from here on, and it is the one that was meant. */
+  /** Handles the first action in the current session: from now on there is something to lose, and the user meant this session. */
   touched() {
     this.notice.hide("left");
     if (this.store.keeps) this.persistence.ask();
@@ -122,13 +123,15 @@ export class SessionsController {
   }
 
   /**
-   * A new session from an example. Its other lines are put where they can be sent.
+   * Makes a new session from an example. Its other lines are put where they can be sent.
    * @param {Example} example
    */
   async begin(example) {
     const isDone = await this.manager.begin(example);
-    if (isDone) this.lines.offer(example.lines);
-    return isDone;
+    if (!isDone) return false;
+    this.lines.offer(example.lines);
+    if (example.lines !== "" && example.board === "") this.calls.showLines();
+    return true;
   }
 
   /** @param {string} name of an example */
@@ -157,8 +160,8 @@ export class SessionsController {
   }
 
   /**
-   * What the address names, else the example whose story is told, else the session that was used last and is not open in another tab, else
-   * the first example.
+   * Opens the target of the address, or the example whose story is shown, or the session that was used last and is not open in another tab,
+   * or the first example.
    * @param {string} story the example of it, "" for none
    */
   async openFirst(story) {
@@ -186,11 +189,11 @@ export class SessionsController {
     return kind === "example" ? this.beginNamed(value) : false;
   }
 
-  /** @param {boolean} isQuiet whether sessions that are open in other tabs are passed over without a word */
+  /** @param {boolean} isQuiet whether sessions that are open in other tabs are skipped silently */
   async openLast(isQuiet) {
     const records = await this.manager.kept();
     const unended = records.filter(({ id }) => this.openings.isUnended(id));
-    for (const record of unended) await this.tellUnended(record);
+    for (const record of unended) await this.reportUnended(record);
     for (const record of records.filter((each) => !unended.includes(each))) {
       if (await this.open(record.id)) return;
       if (isQuiet) this.notice.hide("session");
@@ -199,10 +202,10 @@ export class SessionsController {
   }
 
   /**
-   * A session has perhaps hung the page when it was opened last, so it is not opened by itself. Another tab may be just opening it.
+   * A session has perhaps hung the page at its last opening, so it is not opened by itself. Another tab may be just opening it.
    * @param {SessionRecord} record
    */
-  async tellUnended(record) {
+  async reportUnended(record) {
     const release = await this.locks.take(record.id);
     if (!release) return;
     release();
@@ -211,7 +214,7 @@ export class SessionsController {
     this.notice.show(words, "unended", { word: say.OPEN_IT, act: () => this.open(record.id) }, { word: say.DELETE_IT, act: remove });
   }
 
-  /** The address is another one: what it names is shown, if it is not here already. */
+  /** Handles a new address: shows its target, if it is not here already. */
   async follow() {
     const { kind, value } = readAddress(location.hash);
     const session = this.calls.session();

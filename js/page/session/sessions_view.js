@@ -1,4 +1,4 @@
-// The dialog of sessions: those that are kept, the examples, and files; and the session's own bar. What can be opened.
+// The dialog of sessions: saved sessions, the examples, and files; and the session's own bar.
 
 import { pictureOf } from "./gallery_view.js";
 import { block, button, byId, element, field, onClick } from "../ui/dom.js";
@@ -14,26 +14,26 @@ import * as say from "../../words/session.js";
  */
 
 /**
- * What the dialog of projects calls. A call that opens something resolves to false if that was refused.
+ * The calls of the dialog of projects. A call that opens something resolves to false if that failed.
  * @typedef {object} SessionsCalls
- * @property {() => Promise<SessionRecord[]>} kept Resolves to the sessions that are kept.
+ * @property {() => Promise<SessionRecord[]>} kept Resolves to the saved sessions.
  * @property {(id: string) => boolean} isShown Returns whether a session is the one that is shown, by its id.
  * @property {(id: string) => Promise<boolean>} open Shows a session, by its id.
  * @property {(id: string) => Promise<boolean>} copy Makes a copy of a session, by its id, and shows it.
  * @property {(records: SessionRecord[]) => Promise<void>} remove Moves sessions to the deleted ones.
- * @property {() => SessionRecord[]} deleted Returns the sessions that can be brought back.
+ * @property {() => SessionRecord[]} deleted Returns the sessions that can be restored.
  * @property {(records: SessionRecord[]) => Promise<void>} bringBack Brings deleted sessions back.
  * @property {(example: Example) => Promise<boolean>} begin Makes a new session of an example and shows it.
- * @property {(example: Example) => Promise<boolean>} beginStory Makes a new session of an example and tells its story.
+ * @property {(example: Example) => Promise<boolean>} beginStory Makes a new session of an example and shows its story.
  * @property {(file: File) => Promise<boolean>} openFile Opens a file: a project, a session or a text.
  * @property {(read: () => Promise<import("./folder_files.js").Folder>) => Promise<boolean>} openFolder Opens a project in a folder, which
  *   `read` reads.
- * @property {(name: string) => void} rename Gives the session that is shown another name.
+ * @property {(name: string) => void} rename Renames the session that is shown.
  * @property {() => string} keptWhere Returns where the browser keeps sessions, as words.
  */
 
 /**
- * The examples, the short ones first; the bench that one begins an own board with stands before the others.
+ * The examples, the short ones first; before them the empty bench, with which a board of one's own begins.
  * @param {Example[]} examples
  */
 function inOrder(examples) {
@@ -54,7 +54,7 @@ export class SessionsView {
     this.calls = calls;
     this.notice = notice;
     this.dialog = byId("sessions", HTMLDialogElement);
-    /** Whether the last button of the dialog was used by pointer. */
+    /** True if the last button of the dialog was used by pointer. */
     this.byPointer = false;
     this.keptList = new KeptList({
       ...calls,
@@ -95,7 +95,7 @@ export class SessionsView {
 
   closed() {
     this.notice.moveTo(document.body);
-    // The browser gives the focus back to the button that opened the dialog; after a click by pointer the keyboard is the board's.
+    // The browser returns the focus to the button that opened the dialog; after a click by pointer the keyboard is the board's.
     if (this.byPointer && document.activeElement instanceof HTMLElement) document.activeElement.blur();
   }
 
@@ -105,7 +105,7 @@ export class SessionsView {
   }
 
   /**
-   * Changes what is kept, and shows it.
+   * Changes the saved sessions, and shows them.
    * @param {() => Promise<void>} act
    */
   async changeKept(act) {
@@ -140,7 +140,7 @@ export class SessionsView {
   }
 
   /**
-   * Does it, and closes unless it was refused.
+   * Does the action, and closes unless it failed.
    * @param {() => Promise<boolean>} act
    */
   async choose(act) {

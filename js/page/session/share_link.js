@@ -1,5 +1,5 @@
-// A link: a name, the board's text and the program's, compressed into the part of an address that browsers send to nobody. It begins with
-// the way in which it is packed, 1 for deflate and 0 for none. Within stand the lines of a project up to its session, after their checksum.
+// A link: a name, the board's text and the program's, compressed into the part of an address that browsers do not send. It begins with its
+// compression, 1 for deflate and 0 for none. It contains the lines of a project up to its session, after their checksum.
 
 import { fromBase64, toBase64 } from "../../core/session/base64.js";
 import { checksum } from "../../core/session/checksum.js";
@@ -8,17 +8,17 @@ import * as say from "../../words/session.js";
 
 /**
  * @typedef {import("../../core/session/project_file.js").Texts} Texts
- * @typedef {{ readable: ReadableStream<Uint8Array>, writable: WritableStream<BufferSource> }} Through what goes in comes out changed
+ * @typedef {{ readable: ReadableStream<Uint8Array>, writable: WritableStream<BufferSource> }} Through a transforming stream
  */
 
 /**
- * No link is longer: Chromium shows no address of more than 32,768 characters (it stays empty in its bar), and there one is copied and
+ * The limit of a link: Chromium shows no address of more than 32,768 characters (it stays empty in its bar), and there one is copied and
  * pasted. All that the bench can assemble fits, unless it hardly compresses.
  */
 export const LONGEST_LINK = 32000;
-/** So many characters of an address everything that handles addresses should take (RFC 9110, 4.1); of more some programs lose the end. */
+/** The length of an address that all programs should accept (RFC 9110, 4.1); some programs cut longer ones. */
 export const SAFE_LINK = 8000;
-/** No more bytes are unpacked, whatever a link says. */
+/** The most bytes that are unpacked, whatever a link says. */
 const MOST_BYTES = 1 << 20;
 
 /** Why a link cannot be opened, in words. */
@@ -26,7 +26,7 @@ export class NotALink extends Error {}
 
 
 /**
- * A stream that compresses, or one that takes apart; null where this browser has none.
+ * Returns a stream that compresses, or one that decompresses; null if this browser has none.
  * @param {"CompressionStream" | "DecompressionStream"} name
  * @returns {Through | null}
  */
@@ -35,7 +35,7 @@ function streamOf(name) {
   try {
     return typeof make === "function" ? new make("deflate-raw") : null;
   } catch {
-    // One that has the streams, but not this way of packing.
+    // The browser has CompressionStream but not deflate-raw.
     return null;
   }
 }
@@ -56,13 +56,13 @@ function fromLetters(letters) {
 }
 
 /**
- * Bytes, sent through a stream; at most so many come out.
+ * Sends bytes through a stream; returns at most this many.
  * @param {Uint8Array} bytes
  * @param {Through} stream
  */
 async function through(bytes, { readable, writable }) {
   const writer = writable.getWriter();
-  // What is wrong with the bytes is told where they are read.
+  // An error in the bytes is reported where they are read.
   writer.write(bytes).catch(() => {});
   writer.close().catch(() => {});
   const reader = readable.getReader();
@@ -86,7 +86,7 @@ async function through(bytes, { readable, writable }) {
 }
 
 /**
- * What stands in the address of a link.
+ * Resolves to the address of a link.
  * @param {Texts} texts
  */
 export async function linkOf({ name, boardText, programText, testText, propertiesText }) {
@@ -111,7 +111,7 @@ async function unpacked(bytes) {
 }
 
 /**
- * The name and the texts of a link; it throws where there are none.
+ * Returns the name and the texts of a link; throws if there are none.
  * @param {string} link
  * @returns {Promise<Texts>}
  */

@@ -1,8 +1,9 @@
-// Links: the texts of a session in an address. Nothing is sent anywhere: a link is copied, and whoever opens it reads it in his own page.
+// Links: the texts of a session in an address. Nothing is sent anywhere: a link is copied, and its recipient opens it in a page of their
+// own.
 
 import { addressOf } from "./address.js";
 import { readBoard, refusalOf } from "../../core/bench/answers.js";
-import { titleOf, wordsOfBoard } from "../../core/session/described.js";
+import { titleOf, wordsOfBoard } from "../../core/session/session_summary.js";
 import { element } from "../ui/dom.js";
 import { shortName } from "../../core/session/names.js";
 import { wordsOfLength } from "../../core/session/project_file.js";
@@ -20,7 +21,7 @@ import * as say from "../../words/session.js";
  */
 
 /**
- * What links to sessions call.
+ * The calls of links to sessions.
  * @typedef {object} SharingCalls
  * @property {() => Texts | null} shown Returns the name and the texts of the session that is shown; null if there is none.
  * @property {() => void} address Puts the session's own address into the address bar.
@@ -30,7 +31,7 @@ import * as say from "../../words/session.js";
  */
 
 /**
- * What a link holds, in words.
+ * Returns the content of a link, in words.
  * @param {Texts} texts
  */
 function whatOf({ testText, propertiesText }) {
@@ -69,13 +70,13 @@ export class Sharing {
       await this.offerFile(size);
       return;
     }
-    const told = [`${whatOf(texts)}${location.protocol === "file:" ? say.OF_A_FILE : ""}`];
-    if (address.length > SAFE_LINK) told.push(say.LONG);
+    const messages = [`${whatOf(texts)}${location.protocol === "file:" ? say.OF_A_FILE : ""}`];
+    if (address.length > SAFE_LINK) messages.push(say.LONG);
     try {
       await navigator.clipboard.writeText(address);
-      this.notice.show(say.linkCopied(size, told.join(" ")), "share");
+      this.notice.show(say.linkCopied(size, messages.join(" ")), "share");
     } catch {
-      await this.showLink(address, told);
+      await this.showLink(address, messages);
     }
   }
 
@@ -91,16 +92,16 @@ export class Sharing {
   }
 
   /**
-   * Where the browser lets nothing be copied: the user does it.
+   * Shows the link for the user to copy, because the browser cannot copy it.
    * @param {string} address
-   * @param {string[]} told
+   * @param {string[]} messages
    */
-  async showLink(address, told) {
+  async showLink(address, messages) {
     const area = element("textarea", { id: "link", rows: 4, readOnly: true, value: address, autofocus: true });
     area.setAttribute("aria-label", say.THE_LINK);
     const answer = this.ask.ask({
       title: say.COPY_LINK,
-      words: [say.COPY_BY_HAND, area, ...told],
+      words: [say.COPY_BY_HAND, area, ...messages],
       accept: "",
       refuse: say.CLOSE,
     });
@@ -110,13 +111,13 @@ export class Sharing {
   }
 
   /**
-   * Shows what a link is, and opens it as a new session where that is wanted.
+   * Shows the contents of a link, and opens it as a new session on request.
    * @param {string} link
    */
   async open(link) {
     try {
       const texts = await readLink(link);
-      const tried = await this.bench.call("tryTexts", [texts]);
+      const tried = await this.bench.call("dryRun", [texts]);
       const isWanted = await this.ask.ask({
         title: say.openFromLink(texts.name),
         words: this.wordsOf(texts, tried),
@@ -133,11 +134,11 @@ export class Sharing {
 
   /**
    * @param {Texts} texts
-   * @param {import("../../core/engine/trying.js").Tried} tried
+   * @param {import("../../core/engine/dry_run.js").Tried} tried
    */
   wordsOf({ boardText, programText, testText = "", propertiesText = "" }, { board, refused }) {
     const title = shortName(titleOf(boardText, programText));
-    const told = refused.map(({ word, answer }) => {
+    const lines = refused.map(({ word, answer }) => {
       const refusal = refusalOf(answer);
       const why = refusal ? `${answer}: ${this.words.ofRefusal(refusal.number)}` : answer;
       return say.benchRefusesText(word === "wire", why);
@@ -147,7 +148,7 @@ export class Sharing {
       say.sizesOfTexts(wordsOfLines(boardText), wordsOfLines(programText), testText && wordsOfLines(testText),
         propertiesText && wordsOfLines(propertiesText)),
       say.onTheBoard(wordsOfBoard(readBoard(board))),
-      ...told,
+      ...lines,
       say.BECOMES_SESSION,
     ];
   }

@@ -1,15 +1,14 @@
-// What the browser keeps: sessions with their names, in IndexedDB. The page keeps them and not the worker, since what a page asks for
-// while it is going away gets through, and a worker is ended at once.
+// The browser's store: sessions with their names, in IndexedDB. The page writes to it and not the worker: requests of a page that is being
+// left are completed, and a worker is ended at once.
 
 import * as say from "../../words/session.js";
 
 /**
- * A session as the store keeps it: its file, its name, and the texts of the editors, which a file does not hold; older ones have no text
- * of tests, nor one of properties. `runs` tells whether time runs, so that a reload goes on as it was; `cycles` are those that were
- * counted, and `breakpoints` those of the source, which a file does not hold either; `watched`, the list of values; `isTitled`, whether
- * its name is the title that its texts tell, since it was given none; `goal`, what a move that is under way goes on to;
- * `places`, where parts of the picture were dragged to; `printed`, what was sent to the board's printer; `wired`, the texts of the boards
- * that were wired last, the one that is wired first; `rows`, how the rows of waves are arranged.
+ * A session as the store keeps it: its file, its name, and the texts of the editors, which a file does not hold; older ones have no text of
+ * tests, nor one of properties. `runs` says whether time runs, so that a reload continues; `cycles` are the counts, and `breakpoints` those
+ * of the source, which a file does not hold either; `watched`, the watch list; `isTitled`, whether its name is the title in its texts,
+ * because it was given none; `goal`, that of a move under way; `places`, the positions of dragged parts; `printed`, what was sent to the
+ * board's printer; `wired`, the texts of the last wired boards, the present one first; `rows`, the arrangement of the rows of waves.
  * @typedef {{ id: string, name: string, file: Uint8Array, boardText: string, programText: string, testText?: string,
  *   propertiesText?: string, runs: boolean, revision: number, changed: number, cycles?: import("../../core/time/cycles.js").KeptCycles,
  *   isTitled?: boolean, breakpoints?: import("../../core/debug/breakpoints.js").KeptBreakpoint[], watched?: string[],
@@ -17,19 +16,19 @@ import * as say from "../../words/session.js";
  *   printed?: import("../../core/engine/printing.js").Printed, rows?: import("../../core/waves/wave_rows.js").KeptRows,
  *   wired?: import("../../core/board/wired_text.js").WiredText[] }} SessionRecord
  *
- * @typedef {{ keeps: boolean, isWhole: boolean, all: () => Promise<SessionRecord[]>,
- *   get: (id: string) => Promise<SessionRecord | undefined>, put: (record: SessionRecord) => Promise<void>,
- *   remove: (id: string) => Promise<void> }} SessionStore `isWhole` tells whether `put` needs nothing to come back to it
+ * @typedef {{ keeps: boolean, isWhole: boolean, all: () => Promise<SessionRecord[]>, get: (id: string) => Promise<SessionRecord |
+ * undefined>, put: (record: SessionRecord) => Promise<void>, remove: (id: string) => Promise<void> }} SessionStore `isWhole`: `put`
+ * completes without further calls
  */
 
-/** What went wrong where a session was not kept, in words. */
+/** An error, in words: a session was not saved. */
 export class NotKept extends Error {}
 
-/** A store that does not answer in so many milliseconds counts as one that fails; what it was asked for may still come to pass. */
+/** A store that does not answer in this many milliseconds counts as failed; its requests may still succeed. */
 const TIME_OF_STORE = 10000;
 
 /**
- * The answer of the browser's store, or of what else it has of one, which must not hold up the page for ever.
+ * Waits for an answer of the browser's store or of its other services, which must not block the page for ever.
  * @template Result
  * @param {Promise<Result>} answer
  * @returns {Promise<Result>}
@@ -56,7 +55,7 @@ function resultOf(asked) {
 /** @implements {SessionStore} */
 export class Store {
   /**
-   * @param {boolean} hasLocks whether one tab alone has a session open
+   * @param {boolean} hasLocks whether only one tab has a session open
    * @returns {Promise<Store>}
    */
   static open(hasLocks) {
@@ -99,8 +98,8 @@ export class Store {
   }
 
   /**
-   * Keeps a record; it is on the disk when the promise is kept. All is asked for at once, so that a page that is just being closed
-   * still gets it through: nothing has to come back to it.
+   * Stores a record; it is on the disk when the promise resolves. All requests are made at once, so that they complete even if the page is
+   * being closed: nothing has to return to it.
    * @param {SessionRecord} record
    * @returns {Promise<void>}
    */
@@ -115,8 +114,8 @@ export class Store {
   }
 
   /**
-   * Where the browser has no locks: a record that is not the successor of what is there is refused, so that two tabs never overwrite
-   * each other.
+   * Stores a record without the browser's locks: rejects one that does not succeed the stored one, so that two tabs never overwrite each
+   * other.
    * @param {SessionRecord} record
    * @returns {Promise<void>}
    */
@@ -124,7 +123,7 @@ export class Store {
     return new Promise((done, fail) => {
       /** @type {Error | null} */
       let fault = null;
-      // The bytes of the record may be others by the time that the answer comes.
+      // The bytes of the record may have changed by the time that the answer arrives.
       const written = { ...record, file: record.file.slice(), revision: record.revision + 1 };
       const keep = () => {
         record.revision = written.revision;
@@ -167,7 +166,7 @@ export class Store {
 }
 
 /**
- * What went wrong with a session that is to be kept, in words.
+ * Returns why a session could not be saved, in words.
  * @param {unknown} error
  */
 export function wordsOfStoreFault(error) {
@@ -178,7 +177,7 @@ export function wordsOfStoreFault(error) {
 }
 
 /**
- * In the place of the store where the browser has none: it forgets all when the page is closed.
+ * Replaces the store if the browser has none: it forgets all when the page is closed.
  * @implements {SessionStore}
  */
 export class MemoryStore {

@@ -1,4 +1,4 @@
-// The texts of the editors, as the session that is shown has them: they are kept, and one that is replaced can be brought back.
+// The texts of the editors, as the current session has them: they are saved, and a replaced one can be restored.
 
 import { counted } from "../../core/bench/numbers.js";
 import * as say from "../../words/session.js";
@@ -12,33 +12,32 @@ import * as say from "../../words/session.js";
  */
 
 /**
- * What the texts of a session call.
+ * The calls that the texts of a session make.
  * @typedef {object} TextsCalls
  * @property {() => KeptSession | null} session Returns the session that is shown; null if there is none.
  * @property {() => void} touch The user has done something in the session.
- * @property {() => Promise<string>} keep Keeps the session. Resolves to why it could not be kept, "" if it was.
+ * @property {() => Promise<string>} keep Saves the session. Resolves to why it could not be saved, "" if it was.
  * @property {() => void} edited A text was edited.
  * @property {(boardText: string) => void} named The names in the board's text may have changed.
  * @property {() => Promise<string>} source Resolves to a source text of the bytes in ROM. Rejects if the bench fails.
  * @property {(text: string) => Promise<boolean>} isNoProgram Resolves to whether each line of a text has an error, so that it is no
  *   program.
- * @property {(seen: TextName, lines: string) => void} took Texts of a file came into the editors; `seen` is to be shown, and `lines` are
- *   to be put into the box for lines.
+ * @property {(seen: TextName, lines: string) => void} took Texts of a file were loaded into the editors; `seen` is to be shown, and `lines`
+ * are to be put into the box for lines.
  * @property {(fault: unknown) => void} failed Reports an error that a call threw.
  */
 
 /**
- * @typedef {keyof typeof say.WHICH_TEXT} TextName
- * A text that was replaced: the old text, the one in its place, and the step of the editor that brings the old one back while nothing else
- * was done.
+ * @typedef {keyof typeof say.WHICH_TEXT} TextName A text that was replaced: the old text, the new one, and the step of the editor that
+ * restores the old one while nothing else was done.
  * @typedef {{ name: TextName, old: string, now: string, way: "undo" | "redo" }} Replaced
  */
 
-/** The texts are kept so many milliseconds after the last change. */
+/** The texts are saved this many milliseconds after the last change. */
 const EDIT_TIME = 600;
 
 /**
- * How many lines a text has, in words.
+ * Returns how many lines a text has, in words.
  * @param {string} text
  */
 export function wordsOfLines(text) {
@@ -64,7 +63,7 @@ export class TextsController {
     this.ask = ask;
     this.notice = notice;
     this.calls = calls;
-    /** The timer of an edit that is to be kept. */
+    /** The timer of an edit that is to be saved. */
     this.editing = 0;
   }
 
@@ -80,7 +79,7 @@ export class TextsController {
     this.properties.open(id, propertiesText);
   }
 
-  /** They are kept a moment after the last change; the names of the keys are taken from the board's text then. */
+  /** Saves them a moment after the last change; the names of the keys are updated from the board's text then. */
   edited() {
     const session = this.calls.session();
     if (!session) return;
@@ -99,7 +98,7 @@ export class TextsController {
   }
 
   /**
-   * Opens the texts of a file. A text that is perhaps no program is asked for first.
+   * Opens the texts of a file. Asks first about a text that is perhaps not a program.
    * @param {string} name of the file
    * @param {import("../../core/session/opened_file.js").FileTexts} texts
    */
@@ -113,7 +112,7 @@ export class TextsController {
   }
 
   /**
-   * Texts of a file come into the editors; those that were there can be brought back, and the bench has none of them yet.
+   * Loads texts of a file into the editors; the former ones can be restored, and the bench has none of the new ones yet.
    * @param {string} name of the file
    * @param {import("../../core/session/opened_file.js").FileTexts} texts
    */
@@ -125,7 +124,7 @@ export class TextsController {
     this.calls.took(board !== null ? "board" : "program", lines);
     const [where, what] = board === null ? [say.SOURCE, say.ASSEMBLES] : [say.BOARD, say.WIRES];
     const both = board !== null && program !== null ? say.BOARD_AND_SOURCE : where;
-    this.tell(replaced, say.textIsIn(name, both, what, both === where ? "" : say.THEN_ASSEMBLE));
+    this.showReplaced(replaced, say.textIsIn(name, both, what, both === where ? "" : say.THEN_ASSEMBLE));
   }
 
   /**
@@ -136,15 +135,15 @@ export class TextsController {
   takeBeside(where, name, text) {
     const replaced = this.put(where, text);
     this.calls.took(where, "");
-    this.tell(replaced, `${name} ${say.BESIDE[where]}`);
+    this.showReplaced(replaced, `${name} ${say.BESIDE[where]}`);
   }
 
   /**
-   * One notice for what a file did, with what can be undone of it.
+   * Shows one notice for the effect of a file, with undo.
    * @param {Replaced[]} replaced
    * @param {string} words
    */
-  tell(replaced, words) {
+  showReplaced(replaced, words) {
     const session = this.calls.session();
     if (session && replaced.length > 0) this.offer(session, replaced, words);
     else this.notice.show(words, "file");
@@ -186,10 +185,10 @@ export class TextsController {
   }
 
   /**
-   * Puts another text in the place of the one that is here, which can be brought back.
+   * Replaces a text; the former one can be restored.
    * @param {TextName} name
    * @param {string} text
-   * @param {string} words what was done
+   * @param {string} words the message
    */
   replace(name, text, words) {
     const session = this.calls.session();
@@ -198,7 +197,7 @@ export class TextsController {
   }
 
   /**
-   * Puts another text in the place of the one that is here. Returns the old one, if it can be missed.
+   * Replaces a text. Returns the old one, if it can be restored.
    * @param {TextName} name
    * @param {string} text
    * @returns {Replaced[]}
@@ -212,7 +211,7 @@ export class TextsController {
   }
 
   /**
-   * Brings a text back as Ctrl Z does, by the editor's own history; where the text was edited since, as another edit.
+   * Restores a text as Ctrl Z does, by the editor's own history; if the text was edited since, as another edit.
    * @param {Replaced} replaced
    * @returns {Replaced[]} what this has replaced in its turn
    */
@@ -233,7 +232,7 @@ export class TextsController {
   }
 
   /**
-   * Brings texts back; what is there by then can be brought back in its turn.
+   * Restores texts; those that they replace can be restored in turn.
    * @param {KeptSession} session
    * @param {Replaced[]} replaced
    * @param {string} words
@@ -246,6 +245,6 @@ export class TextsController {
     }
     const back = replaced.flatMap((each) => this.back(each));
     const [{ name }] = replaced;
-    if (back.length > 0) this.offer(session, back, replaced.length > 1 ? say.TEXTS_ARE_BACK : say.textIsBack(say.WHICH_TEXT[name]));
+    if (back.length > 0) this.offer(session, back, replaced.length > 1 ? say.TEXTS_RESTORED : say.textRestored(say.WHICH_TEXT[name]));
   }
 }

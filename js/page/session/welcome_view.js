@@ -11,7 +11,7 @@ import * as say from "../../words/example_notes.js";
  */
 
 /**
- * What the cards of the first visit call.
+ * The calls that the cards of the first visit make.
  * @typedef {object} WelcomeCalls
  * @property {() => void} beginTour Begins the first program.
  * @property {(name: string) => Promise<boolean>} begin Makes a new session of the example with a name. Resolves to whether it was made.

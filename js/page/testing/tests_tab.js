@@ -1,36 +1,38 @@
-// The tests on the page: their text with its faults, a button that runs them in the worker, and what came of it.
+// The tests on the page: their text with its errors, a button that runs them in the worker, and the results.
 
 import { Cancelled } from "../../core/bench/faults.js";
 import { countOfFaults } from "../../core/bench/words.js";
 import { button, onClick } from "../ui/dom.js";
-import { BesideText } from "../text/beside_text.js";
-import { completeTest, firstTest, helpForTest, testForms } from "../../core/text/test_words.js";
+import { TextTab } from "../text/text_tab.js";
+import { completeTest, helpForTest, testForms } from "../../core/text/test_words.js";
 import { markOfOutcomes, wordsOfFaults, wordsOfOutcomes } from "../../words/results.js";
 import { TestsView } from "./tests_view.js";
 import * as say from "../../words/testing.js";
 
 /**
  * @typedef {import("../../core/testing/prepared.js").TextFault} TextFault
+ * @typedef {import("../../core/testing/prepared.js").Texts} Texts
  * @typedef {import("../../core/testing/test_suite.js").Report} Report
  * @typedef {import("../../core/testing/test_suite.js").TestedTexts} TestedTexts
  * @typedef {import("../../core/testing/test_run.js").Outcome} Outcome
  */
 
 /**
- * What the tab of tests calls of the page. `labels`, `edited` and `failed` also serve its text.
+ * The calls that the tab of tests makes to the page. `labels`, `edited` and `failed` also serve its text.
  * @typedef {object} TestsCalls
  * @property {() => { boardText: string, programText: string }} texts Returns the texts of board and source as they are.
  * @property {() => string[]} labels Returns the labels of the program in ROM.
  * @property {(texts: TestedTexts) => Promise<TextFault[]>} faults Resolves to the errors of all texts.
+ * @property {(texts: Texts) => Promise<string>} sample Resolves to the sample test of board and source.
  * @property {(texts: TestedTexts) => Promise<Report>} run Runs the tests. Resolves to their results; rejects with `Cancelled` if the user
  *   cancels them.
- * @property {(number: number) => string} wordsOfRefusal Returns what the number of a refusal means.
- * @property {(report: Report | null, programText: string) => void} showCounts Shows beside the lines of a program how often each was run;
- *   null shows no counts.
+ * @property {(number: number) => string} wordsOfRefusal Returns the message of a refusal.
+ * @property {(report: Report | null, programText: string) => void} showCounts Shows next to the lines of a program how often each was run;
+ * null shows no counts.
  * @property {(address: number) => void} goTo Shows the line of an address in source and listing.
  * @property {(name: string, file: Uint8Array, texts: TestedTexts) => void} open Opens a session by its file as a new one, with the texts
  *   of the tests.
- * @property {(words: string) => void} mark Shows a few words on the tab; "" for none.
+ * @property {(words: string, isGood?: boolean) => void} mark Shows a few words on the tab, which may report a success; "" for none.
  * @property {() => void} edited The text of tests was edited.
  * @property {(fault: unknown) => void} failed Reports an error that a call threw.
  */
@@ -42,10 +44,10 @@ export class TestsTab {
    */
   constructor(manual, calls) {
     this.calls = calls;
-    this.beside = new BesideText({
+    this.beside = new TextTab({
       name: "tests",
       firstButton: "first-test",
-      firstText: firstTest,
+      firstText: () => calls.sample(calls.texts()),
       forms: testForms(manual),
       wordsAt: helpForTest,
       complete: completeTest,
@@ -63,7 +65,7 @@ export class TestsTab {
     /** @type {TestedTexts | null} what was run last */
     this.tested = null;
     this.isRunning = false;
-    /** How many sessions were shown: what was run of one is not shown in another. */
+    /** A counter of the sessions shown: results of an earlier one are dropped. */
     this.round = 0;
     onClick(button("clear-tests"), () => this.clear());
   }
@@ -73,18 +75,18 @@ export class TestsTab {
     return { ...this.calls.texts(), testText: this.editor.text };
   }
 
-  /** The tab has come to the front. */
+  /** Handles the tab coming to the front. */
   look() {
     this.beside.look();
   }
 
-  /** @param {number} count how many faults the text has */
+  /** @param {number} count of errors in the text */
   mark(count) {
     if (count > 0) this.calls.mark(countOfFaults(count));
     else if (!this.tested) this.calls.mark("");
   }
 
-  /** The texts of another session are shown: what was run was none of it. */
+  /** Another session's texts are shown: former results are not about them. */
   forget() {
     this.round += 1;
     this.clear();
@@ -94,7 +96,7 @@ export class TestsTab {
   clear() {
     this.tested = null;
     this.view.clear();
-    this.editor.tell("");
+    this.editor.showMessage("");
     this.calls.mark("");
     this.calls.showCounts(null, "");
     button("clear-tests").hidden = true;
@@ -104,13 +106,13 @@ export class TestsTab {
     if (this.isRunning) return;
     this.isRunning = true;
     const { texts, round } = this;
-    this.editor.tell("");
+    this.editor.showMessage("");
     try {
       const report = await this.calls.run(texts);
       if (round === this.round) this.show(report, texts);
     } catch (fault) {
       if (!(fault instanceof Cancelled)) throw fault;
-      this.editor.tell(say.WAS_CANCELLED);
+      this.editor.showMessage(say.WAS_CANCELLED);
     } finally {
       this.isRunning = false;
     }
@@ -124,13 +126,13 @@ export class TestsTab {
     if (report.faults.length > 0) {
       this.clear();
       this.beside.showFaults(report.faults);
-      this.editor.tell(wordsOfFaults(report.faults, this.calls.wordsOfRefusal));
+      this.editor.showMessage(wordsOfFaults(report.faults, this.calls.wordsOfRefusal));
       return;
     }
     this.tested = texts;
     this.view.show(report);
-    this.editor.tell(wordsOfOutcomes(report.outcomes));
-    this.calls.mark(markOfOutcomes(report.outcomes));
+    this.editor.showMessage(wordsOfOutcomes(report.outcomes));
+    this.calls.mark(markOfOutcomes(report.outcomes), report.outcomes.every(({ failure }) => !failure));
     this.calls.showCounts(report, texts.programText);
     button("clear-tests").hidden = false;
   }

@@ -1,4 +1,4 @@
-// The results of tests on the page: a row for each, with what is wrong; what was run of the program; and where its cycles went.
+// The results of tests on the page: a row for each, with its error; the coverage of the program; and its cycles.
 
 import { Cell, below, block, buttonOf, element } from "../ui/dom.js";
 import { hex } from "../../core/bench/numbers.js";
@@ -15,7 +15,7 @@ import * as say from "../../words/testing.js";
  */
 
 /**
- * What the results of tests call.
+ * The calls of the results of tests.
  * @typedef {object} ResultCalls
  * @property {(line: number) => void} goTo Shows a line of the text of tests, from 1.
  * @property {(address: number) => void} goToAddress Shows the line of an address in source and listing.
@@ -33,7 +33,7 @@ export class TestsView {
     this.calls = calls;
     this.block = block("test-results");
     this.list = block("test-list");
-    this.coverage = new Cell(block("coverage-told"));
+    this.coverage = new Cell(block("coverage-status"));
     this.labels = block("profile-labels");
     this.keys = block("profile-keys");
   }
@@ -66,26 +66,26 @@ export class TestsView {
    * @param {Failure} failure
    */
   failed(outcome, { line, text, words, lamps, registers, trace, file }) {
-    const told = element("p", { className: "wrong" }, buttonOf(wordsOfLine(line), () => this.calls.goTo(line)), ` ${text}: ${words}`);
-    if (!file) return [told];
+    const paragraph = element("p", { className: "wrong" }, buttonOf(wordsOfLine(line), () => this.calls.goTo(line)), ` ${text}: ${words}`);
+    if (!file) return [paragraph];
     const state = `${lamps && `lamps ${lamps}\n`}${registers}\n`;
     const last = element("pre", { tabIndex: 0 }, `${state}${trace.join("\n")}`);
-    return [told,
+    return [paragraph,
       element("details", {}, element("summary", {}, say.LAST_INSTRUCTIONS), last),
-      element("p", { className: "bar" }, buttonOf(say.OPEN_THERE, () => this.calls.open(outcome)))];
+      element("p", { className: "bar" }, buttonOf(say.OPEN_AT_FAILURE, () => this.calls.open(outcome)))];
   }
 
   /** @param {Profile} profile */
   showProfile({ rows, total, begunBefore, keys }) {
     const cells = (/** @type {(string | Node)[]} */ ...texts) => element("tr", {}, ...texts.map((text) => element("td", {}, text)));
     const percent = (/** @type {number} */ own) => ((100 * own) / total).toFixed(1);
-    const told = rows.map(({ label, address, own, calls }) => {
+    const tableRows = rows.map(({ label, address, own, calls }) => {
       const name = address < 0 ? say.NO_LABEL : buttonOf(label, () => this.calls.goToAddress(address), { className: "name" });
       const called = calls ? [calls.times, calls.withCalls, calls.longest].map((each) => each.toLocaleString("en")) : ["", "", ""];
       return cells(name, address < 0 ? "" : hex(address, 3), own.toLocaleString("en"), percent(own), ...called);
     });
-    if (begunBefore > 0) told.push(cells(say.BEGUN_BEFORE, "", begunBefore.toLocaleString("en"), percent(begunBefore), "", "", ""));
-    this.labels.replaceChildren(...told);
+    if (begunBefore > 0) tableRows.push(cells(say.BEGUN_BEFORE, "", begunBefore.toLocaleString("en"), percent(begunBefore), "", "", ""));
+    this.labels.replaceChildren(...tableRows);
     this.keys.hidden = keys.length === 0;
     below(this.keys, "tbody", HTMLElement).replaceChildren(...keys.map(({ key, presses, answered, first, last }) => (
       cells(key, String(presses), String(answered), ...(answered > 0 ? [milliseconds(first), milliseconds(last)] : ["", ""])))));

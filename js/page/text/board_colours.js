@@ -5,7 +5,7 @@ import { tomlWords } from "../../core/text/toml_words.js";
 /** @typedef {import("./line_colours.js").Coloured} Coloured */
 
 /**
- * The comment that a line ends with, behind its last word.
+ * The comment at the end of a line, after its last word.
  * @param {string} line
  * @param {number} from
  * @returns {Coloured[]}
@@ -16,7 +16,7 @@ function commentBehind(line, from) {
 }
 
 /**
- * What a word is, from whether it stands before the line's `=`.
+ * Returns the style of a word, by whether it is before the line's `=`.
  * @param {import("../../core/text/toml_words.js").TomlWord} word
  * @param {boolean} isKey
  */

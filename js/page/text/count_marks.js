@@ -1,4 +1,4 @@
-// How often the lines of a program were run, in the margin of its text. The counts are those of one text: an edit takes them away.
+// The counts of a program's lines, in the margin of its text. The counts belong to one text: an edit removes them.
 
 import * as say from "../../words/text.js";
 
@@ -8,7 +8,7 @@ import * as say from "../../words/text.js";
  */
 
 /**
- * What stands beside a line.
+ * Returns the text next to a line.
  * @param {Covered} covered
  */
 export function textOfCount({ count, isJump, taken }) {
@@ -22,7 +22,7 @@ function times(number) {
 }
 
 /**
- * The same in words.
+ * Returns the same in words.
  * @param {Covered} covered
  */
 export function wordsOfCount({ count, isJump, taken }) {
@@ -52,7 +52,7 @@ export class CountMarks {
     editor.container.classList.add("counted");
     editor.container.style.setProperty("--counts-width", `${longest + 1}ch`);
     this.marks.showAt("counts", (line) => textAt(lines.get(line), textOfCount), (line) => textAt(lines.get(line), wordsOfCount));
-    // The lines that were never run, or whose jump went one way alone.
+    // The lines that were never run, or whose jump always went the same way.
     const lacking = covered.filter(({ count, isJump, taken }) => count === 0 || (isJump && (taken === 0 || taken === count)));
     editor.showLook("lacking", lacking.map(({ line }) => line - 1).filter((line) => line <= editor.lastLine()));
     editor.refresh();
@@ -71,8 +71,8 @@ export class CountMarks {
 
 /**
  * @param {Covered | undefined} covered
- * @param {(covered: Covered) => string} tell
+ * @param {(covered: Covered) => string} textOf
  */
-function textAt(covered, tell) {
-  return covered ? tell(covered) : "";
+function textAt(covered, textOf) {
+  return covered ? textOf(covered) : "";
 }

@@ -14,7 +14,7 @@ import { moreThan } from "../../core/board/face.js";
 import { PARTS } from "../../core/text/folding.js";
 import { LiveFaults } from "./live_faults.js";
 import { instructionsOf } from "../../core/help/manual.js";
-import { MOST_FAULTS, isNoProgram } from "../../core/text/program_faults.js";
+import { isNoProgram } from "../../core/text/program_faults.js";
 import { boardTables, helpForBoard, helpForProgram } from "../../core/text/text_help.js";
 import { TOUR_BOARD } from "../../words/help.js";
 import * as say from "../../words/text.js";
@@ -33,11 +33,11 @@ import * as say from "../../words/text.js";
  */
 
 /**
- * What the editors of board and source call. Lines count from 1.
+ * The calls that the editors of board and source make. Lines count from 1.
  * @typedef {object} EditorsCalls
  * @property {(edits: Edit[]) => void} edited A text was edited; of the source with its edits, of the board with none.
- * @property {(isBegun: boolean) => Promise<void>} assembled The source came into ROM, with a reset if `isBegun`. Resolves once
- *   breakpoints are at their lines.
+ * @property {(isBegun: boolean) => Promise<void>} assembled The source was loaded into ROM, with a reset if `isBegun`. Resolves once
+ * breakpoints are at their lines.
  * @property {(lines: string) => Promise<string | null>} act Serves lines. Resolves to the first answer, null if the call failed, which is
  *   then reported.
  * @property {() => Promise<void>} stop Pauses time; resolves once it is paused.
@@ -47,15 +47,17 @@ import * as say from "../../words/text.js";
  * @property {(line: number, what: BreakpointField) => void} editBreakpoint Opens the words of a line's breakpoint, from a field on.
  * @property {(line: number, point: { left: number, bottom: number }) => void} askedMargin Opens the menu of a line's margin at a point of
  *   the page, in pixels.
- * @property {(name: string) => string} meaningOf Returns what a name of the program means, as words; "" if it is none.
+ * @property {(name: string) => string} meaningOf Returns the meaning of a name of the program, as words; "" if it is none.
  * @property {(text: string, at: number) => import("../../core/debug/value_words.js").Piece[]} valuesAt Returns the values that the word
  *   at a place of a line has now; none while time runs.
  * @property {import("./meaning_view.js").Offer} offer Makes a cell that shows a value editable.
  * @property {(name: "program" | "board", count: number) => void} hasFaults Shows on the tab of a text how many errors it has.
- * @property {(text: string, words: string) => void} replaceBoard Puts a text in the place of the board's text, with a message by which
- *   that can be undone.
+ * @property {(text: string, words: string) => void} replaceBoard Replaces the board's text, with a message that offers undo.
  * @property {(fault: unknown) => void} failed Reports an error that a call threw.
  */
+
+/** The most errors that are listed next to a text. */
+const MOST_FAULTS = 20;
 
 export class Editors {
   /**
@@ -86,11 +88,12 @@ export class Editors {
   /** @param {Words} words */
   allFaults(words) {
     return new AllFaultsOfTexts({
-      refuse: (word, text) => this.refuse(word, text),
+      wiring: (sent) => this.bench.call("wiring", [sent]),
+      errors: (sent) => this.bench.call("errors", [sent]),
+      refuse: (sent) => this.refuse("asm", sent),
       map: async (sent) => (await this.bench.call("checkProgram", [sent])).map,
       roms: () => this.roms(),
-      boardFault: (sent, number) => this.bench.call("boardFault", [sent, number]),
-    }, this.instructions, (number) => words.ofRefusal(number));
+    }, { instructions: this.instructions, tables: this.tables }, (number) => words.ofRefusal(number));
   }
 
   makeProgram() {
@@ -137,7 +140,7 @@ export class Editors {
   }
 
   /**
-   * The texts of another session are shown, or the board is another one.
+   * The texts of another session are shown, or the board has changed.
    * @param {boolean} isEmpty whether the bench has no board
    */
   look(isEmpty) {
@@ -147,7 +150,7 @@ export class Editors {
   }
 
   /**
-   * An empty bench says what it can begin with. Whoever has chosen by the keyboard goes on in that panel.
+   * An empty bench offers ways to begin. A keyboard user continues in that panel.
    * @param {boolean} isOffered
    */
   offerBoard(isOffered) {
@@ -159,7 +162,7 @@ export class Editors {
   }
 
   /**
-   * What a text would be answered; the session stays as it is.
+   * Resolves to the refusal that a text would get; the session stays as it is.
    * @param {"asm" | "wire"} word
    * @param {string} text
    */
@@ -173,14 +176,14 @@ export class Editors {
    * @param {AllFaults} found
    */
   show(name, { faults, areAll }) {
-    const told = name === "board" ? [...faults, ...faultsOfFace(this.board.text)] : faults;
+    const shownFaults = name === "board" ? [...faults, ...faultsOfFace(this.board.text)] : faults;
     const more = areAll || faults.length < 2 ? "" : say.MAY_BE_MORE;
-    this[name].showFaults(told.slice(0, MOST_FAULTS), moreThan(told, MOST_FAULTS) || more);
-    this.calls.hasFaults(name, told.length);
+    this[name].showFaults(shownFaults.slice(0, MOST_FAULTS), moreThan(shownFaults, MOST_FAULTS) || more);
+    this.calls.hasFaults(name, shownFaults.length);
   }
 
   /**
-   * Puts the program into ROM, as the only one there, and begins with it.
+   * Loads the program into ROM, as the only one there, and begins with it.
    */
   async assembleAndRun() {
     if (!(await this.hasNoFaults("program"))) return;
@@ -192,13 +195,13 @@ export class Editors {
     if (answer === null) return;
     const refusal = refusalOf(answer);
     const done = say.assembledAll(counted(size, "byte"));
-    this.program.tell(refusal ? this.wordsOfRefusal(refusal) : done);
+    this.program.showMessage(refusal ? this.wordsOfRefusal(refusal) : done);
     if (refusal) return;
     await this.calls.assembled(true);
     this.calls.run();
   }
 
-  /** Puts the program's bytes into ROM; nothing else changes. */
+  /** Loads the program's bytes into ROM; nothing else changes. */
   async assembleOnly() {
     if (!(await this.hasNoFaults("program"))) return;
     const { sent } = this.program;
@@ -207,7 +210,7 @@ export class Editors {
     const refusal = refusalOf(answer);
     if (!refusal) await this.calls.assembled(false);
     const leftovers = await this.bench.call("leftovers", [sent]);
-    this.program.tell(refusal ? this.wordsOfRefusal(refusal) : wordsOfAssembled(leftovers, this.calls.counter()));
+    this.program.showMessage(refusal ? this.wordsOfRefusal(refusal) : wordsOfAssembled(leftovers, this.calls.counter()));
   }
 
   async wire() {
@@ -219,7 +222,7 @@ export class Editors {
     });
     if (answer === null) return;
     const refusal = refusalOf(answer);
-    this.board.tell(refusal ? this.wordsOfRefusal(refusal) : say.BOARD_WIRED);
+    this.board.showMessage(refusal ? this.wordsOfRefusal(refusal) : say.BOARD_WIRED);
     await this.programFaults.look();
   }
 
@@ -235,7 +238,7 @@ export class Editors {
   }
 
   /**
-   * Looks at a text before it is sent: one with faults is not sent, and says so.
+   * Checks a text before it is sent: one with errors is not sent, which is reported.
    * @param {"program" | "board"} name
    */
   async hasNoFaults(name) {
@@ -245,7 +248,7 @@ export class Editors {
   }
 
   /**
-   * Whether each line of code of a text has an error.
+   * Resolves to whether each line of code of a text has an error.
    * @param {string} text
    */
   async isNoProgram(text) {
@@ -254,13 +257,13 @@ export class Editors {
   }
 
   /**
-   * A text with faults is not sent.
+   * A text with errors is not sent.
    * @param {"program" | "board"} name
    * @param {Fault[]} faults
    */
   refuseFaults(name, faults) {
     const [{ line, words }] = faults;
-    this[name].tell(say.firstFault(line, words, faults.length - 1));
+    this[name].showMessage(say.firstFault(line, words, faults.length - 1));
     this[name].reveal(line);
   }
 

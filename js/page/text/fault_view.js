@@ -1,4 +1,4 @@
-// The faults of a text: each one in the margin of its line, its word underlined, and all of them in a list below the text.
+// The errors of a text: each one in the margin of its line, its word underlined, and all of them in a list below the text.
 
 import { element, onClick } from "../ui/dom.js";
 import { underlined } from "./line_layers.js";
@@ -15,7 +15,7 @@ export class FaultView {
    * @param {LineEditor} editor
    * @param {LineMarks} marks
    * @param {HTMLElement} list
-   * @param {(fault: Fault) => void} goTo a user wants to go to a fault
+   * @param {(fault: Fault) => void} goTo goes to an error
    */
   constructor(editor, marks, list, goTo) {
     this.editor = editor;
@@ -29,7 +29,7 @@ export class FaultView {
 
   /**
    * @param {Fault[]} faults
-   * @param {string} more words after the last one
+   * @param {string} more after the last one
    */
   show(faults, more = "") {
     if (faults.length === 0 && this.faults.length === 0) return;
@@ -44,12 +44,12 @@ export class FaultView {
   }
 
   /**
-   * What is underlined of a fault; nothing in an empty line.
+   * Returns the underlined range of an error; none in an empty line.
    * @param {Fault} fault
    */
   underline({ line, from, to, words }) {
     const length = (this.editor.getLine(line - 1) || "").length;
-    // A word that is missing has no place of its own: the character before it has.
+    // A missing word has no position of its own: the character before it is marked.
     const start = to > from ? from : Math.max(0, Math.min(from, length) - 1);
     const end = Math.max(to, start + 1);
     const [begin, behind] = [start, end].map((ch) => this.editor.offset({ line: line - 1, ch }));
@@ -64,7 +64,7 @@ export class FaultView {
   }
 
   /**
-   * What is wrong at a position of the text; "" where nothing is.
+   * Returns the error at a position of the text; "" if there is none.
    * @param {import("./line_editor.js").Position} position
    */
   wordsAt({ line, ch }) {

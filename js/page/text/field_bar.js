@@ -4,25 +4,25 @@ import { Cell, element, onClick } from "../ui/dom.js";
 import * as say from "../../words/text.js";
 
 /**
- * What is asked: its label, what stands in the field at first, the word of the button; and what is done with what was typed, which gives
- * words where it was refused, and "" where it was done.
+ * A question: its label, the initial text of the field, the word of the button; and the action, which returns an error message, or "" if it
+ * succeeded.
  * @typedef {{ label: string, value: string, word: string, act: (typed: string) => string }} Asked
  */
 
 export class FieldBar {
   /**
-   * @param {HTMLElement} parent takes the bar, before all else
+   * @param {HTMLElement} parent receives the bar, before all else
    * @param {() => void} closed the keyboard is the text's again
    */
   constructor(parent, closed) {
     this.closed = closed;
     this.label = new Cell(element("span"));
     this.field = element("input", { autocomplete: "off", spellcheck: false });
-    this.told = new Cell(element("p", { role: "status" }));
+    this.status = new Cell(element("p", { role: "status" }));
     this.act = element("button", { type: "button", title: "Enter" }, say.GO);
     const close = element("button", { type: "button", title: "Escape" }, say.CLOSE);
     this.bar = element("div", { role: "group", className: "search bar", hidden: true },
-      element("label", {}, this.label.node, " ", this.field), this.act, close, this.told.node);
+      element("label", {}, this.label.node, " ", this.field), this.act, close, this.status.node);
     parent.prepend(this.bar);
     /** @type {Asked["act"]} */
     this.done = () => "";
@@ -37,7 +37,7 @@ export class FieldBar {
     this.bar.setAttribute("aria-label", label);
     this.act.textContent = word;
     this.done = act;
-    this.told.set("");
+    this.status.set("");
     this.field.value = value;
     this.bar.hidden = false;
     this.field.focus();
@@ -47,7 +47,7 @@ export class FieldBar {
   finish() {
     const words = this.done(this.field.value.trim());
     if (words === "") this.close();
-    else this.told.set(words);
+    else this.status.set(words);
   }
 
   close() {

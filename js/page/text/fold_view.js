@@ -21,7 +21,7 @@ function linesOf(doc) {
 }
 
 /**
- * What stands in the place of lines that are folded away.
+ * Returns the element that replaces folded lines.
  * @param {number} count
  * @param {(event: Event) => void} unfoldIt
  */
@@ -51,7 +51,7 @@ export function folding(parts) {
 }
 
 /**
- * What folds in a text with such parts, and unfolds.
+ * Returns the actions that fold and unfold a text with such parts.
  * @param {Parts} parts
  */
 export function actsOfFolding(parts) {
@@ -72,7 +72,7 @@ export function actsOfFolding(parts) {
 }
 
 /**
- * All parts fold; the caret is at the begin of its line then.
+ * Folds all parts; the caret is then at the beginning of its line.
  * @param {LineEditor} editor
  */
 function foldAllOf(editor) {

@@ -5,7 +5,7 @@ import { Decoration, ViewPlugin } from "@codemirror/view";
 /**
  * @typedef {import("@codemirror/view").EditorView} View
  *
- * Words of a line that have a colour, in their order: the name of the colour in the style sheet.
+ * The coloured words of a line, in order, each with the name of its colour in the style sheet.
  * @typedef {{ from: number, to: number, style: string }} Coloured
  * @typedef {(line: string) => Coloured[]} Colours
  */
@@ -40,7 +40,7 @@ function colour({ state: { doc }, visibleRanges }, colours) {
 }
 
 /**
- * What colours the lines of an editor.
+ * Returns the plugin that colours the lines of an editor.
  * @param {Colours} colours
  */
 export function lineColours(colours) {

@@ -1,5 +1,5 @@
-// An editor of lines: CodeMirror 6 behind the calls that the page has for it. A place is a line and a character of it, both from 0. A text
-// has a state of its own, with its undo history, its caret and its marks.
+// An editor of lines: CodeMirror 6 behind the page's interface for it. A position is a line and a character of it, both from 0. A text has
+// a state of its own, with its undo history, its caret and its marks.
 
 import { defaultKeymap, history, historyKeymap, indentLess, insertTab, isolateHistory, redo, redoDepth, undo, undoDepth }
   from "@codemirror/commands";
@@ -20,27 +20,27 @@ import { below } from "../ui/dom.js";
  * @typedef {import("./line_layers.js").Layer} Layer
  * @typedef {Record<string, (editor: LineEditor) => void>} KeyMap by names of keys, as `Shift-Ctrl-[`
  *
- * What an editor is made of: what holds it, its name for those who do not see it, and what they are told beside it; the colours of its
- * lines; its gutters, "numbers" for those of its lines; the blanks that a new line begins with, where it is not those of the line before;
- * its own keys, and more of CodeMirror's parts.
+ * The options of an editor: its container, its name for screen readers, and what is announced next to it; the colours of its lines; its
+ * gutters, "numbers" for those of its lines; the indentation of a new line, if it is not that of the line before; its own keys, and more of
+ * CodeMirror's parts.
  * @typedef {{ container: HTMLElement, label: string, description: string, colours: import("./line_colours.js").Colours, gutters: string[],
  *   indent?: string, keys: KeyMap, more: Extension[], calls: EditorCalls }} EditorParts
  */
 
 /**
- * What an editor of lines calls.
+ * The calls that an editor of lines makes.
  * @typedef {object} EditorCalls
  * @property {(edits: Edit[]) => void} edited The text was edited, by these edits in their order.
  * @property {() => void} moved The caret was moved.
  * @property {(line: number) => void} clickedGutter A gutter was clicked at a line, from 0.
  * @property {(line: number, event: Event) => void} askedGutter A gutter was clicked by the second button at a line, from 0.
  * @property {(size: number) => boolean} takes Returns whether a text of `size` characters may be pasted or dropped.
- * @property {(position: Position) => Completion} complete Returns what the word at a position can become.
+ * @property {(position: Position) => Completion} complete Returns the possible completions of the word at a position.
  */
 
 const INDENT = 8;
 const HISTORY = { minDepth: 1000, newGroupDelay: 1250 };
-/** What comes in by one act of these has to have room. */
+/** The actions that insert a text as a whole, which must have room. */
 const AT_ONCE = ["input.paste", "input.drop"];
 
 keepRulesInSheet();
@@ -56,7 +56,7 @@ function positionIn(doc, offset) {
 }
 
 /**
- * The edits of a transaction, the last one first, so that each has its place in the text as it was.
+ * The edits of a transaction, the last one first, so that each has its place in the former text.
  * @param {Transaction} transaction
  */
 function editsOf(transaction) {
@@ -72,7 +72,7 @@ function editsOf(transaction) {
   return edits;
 }
 
-/** @param {string} name of a key; a letter stands in lower case, where it is typed without Shift */
+/** @param {string} name of a key; a letter is in lower case if it is typed without Shift */
 function keyName(name) {
   return name.replace(/-([A-Z])$/, (_, letter) => `-${letter.toLowerCase()}`);
 }
@@ -94,7 +94,7 @@ export class LineEditor {
     this.afterEdits = [];
     this.extensions = this.extensionsOf(parts);
     this.view = new EditorView({ parent: parts.container, state: this.stateOf("") });
-    // Who looks at the page from outside finds the editor by its element.
+    // Scripts outside the page find the editor by its element.
     Object.assign(this.view.dom, { lineEditor: this });
   }
 
@@ -167,7 +167,7 @@ export class LineEditor {
   }
 
   /**
-   * Whether there is room for what is pasted or dropped.
+   * Returns whether there is room for pasted or dropped text.
    * @param {Transaction} transaction
    */
   takes(transaction) {
@@ -176,7 +176,7 @@ export class LineEditor {
   }
 
   /**
-   * Begins a new line, with the blanks that are told, or those of the line before.
+   * Begins a new line, with the given indentation, or that of the line before.
    * @param {string} [indent]
    */
   breakLine(indent) {
@@ -191,7 +191,7 @@ export class LineEditor {
   }
 
   /**
-   * The lines that are selected go in, or out; else a tab is put in.
+   * Indents or unindents the selected lines; without a selection inserts a tab.
    * @param {boolean} isOut
    */
   indent(isOut) {
@@ -210,7 +210,7 @@ export class LineEditor {
     return { from: pos - ch + from, to: pos - ch + to, options, filter: false };
   }
 
-  /** Offers what the word at the caret can become. */
+  /** Offers the completions of the word at the caret. */
   complete() {
     startCompletion(this.view);
   }
@@ -220,14 +220,14 @@ export class LineEditor {
   }
 
   /**
-   * Shows another text in the place of all, as an edit.
+   * Replaces the whole text, as an edit.
    * @param {string} text
    */
   setValue(text) {
     this.edit([{ from: 0, to: this.doc.length, insert: text }]);
   }
 
-  /** @param {number} line from 0; undefined where there is none */
+  /** @param {number} line from 0; undefined if there is none */
   getLine(line) {
     return line >= 0 && line < this.doc.lines ? this.doc.line(line + 1).text : undefined;
   }
@@ -241,7 +241,7 @@ export class LineEditor {
   }
 
   /**
-   * Where a position is in the text; one that the text lacks is the next one that it has.
+   * Returns the offset of a position in the text, or of the next one if the text lacks it.
    * @param {Position} position
    */
   offset({ line, ch }) {
@@ -254,12 +254,12 @@ export class LineEditor {
     return positionIn(this.doc, Math.min(Math.max(0, offset), this.doc.length));
   }
 
-  /** @param {"head" | "from" | "to"} which end of what is selected */
+  /** @param {"head" | "from" | "to"} which of the selection */
   getCursor(which = "head") {
     return this.position(this.state.selection.main[which]);
   }
 
-  /** Where what is selected stands in the text. */
+  /** Returns the place of the selection in the text. */
   get selected() {
     const { from, to } = this.state.selection.main;
     return { from, to };
@@ -284,9 +284,9 @@ export class LineEditor {
   }
 
   /**
-   * What is selected becomes another text, behind which the caret stands.
+   * Replaces the selection with a text, and puts the caret after it.
    * @param {string} text
-   * @param {string} [event] what it is called where it goes together with what was typed before
+   * @param {string} [event] its name if it is undone together with the text typed before
    */
   replaceSelection(text, event) {
     const { from, to } = this.state.selection.main;
@@ -295,7 +295,7 @@ export class LineEditor {
   }
 
   /**
-   * @param {string} text in the place of what stands between two places
+   * @param {string} text replaces the text between two places
    * @param {Position} from
    * @param {Position} [to]
    */
@@ -304,7 +304,7 @@ export class LineEditor {
   }
 
   /**
-   * Edits that are told one after the other, each in the text that those before it have left, as one step that can be undone.
+   * Makes successive edits, each in the text that the former ones have made, as one step that can be undone.
    * @param {import("../../core/drawing/text_edits.js").TextEdit[]} edits
    */
   edit(edits) {
@@ -314,7 +314,7 @@ export class LineEditor {
   }
 
   /**
-   * The last step is undone, or done again; false where there is none.
+   * Undoes or redoes the last step; returns false if there is none.
    * @param {"undo" | "redo"} which
    */
   undoOrRedo(which) {
@@ -327,7 +327,7 @@ export class LineEditor {
   }
 
   /**
-   * What a gutter shows; other lines have nothing in it.
+   * Shows marks in a gutter; other lines have none.
    * @param {string} gutter
    * @param {import("./line_layers.js").GutterMark[]} marks in the order of their lines
    */
@@ -349,7 +349,7 @@ export class LineEditor {
   }
 
   /**
-   * Lines have a look in the gutters, and in the text where `isWhole`.
+   * Styles lines in the gutters, and in the text if `isWhole`.
    * @param {"next" | "lacking"} name
    * @param {number[]} lines from 0, in their order
    */
@@ -365,7 +365,7 @@ export class LineEditor {
     this.layers.faults.show(this.view, ranges);
   }
 
-  /** @param {import("@codemirror/state").Range<any>[]} ranges words behind lines */
+  /** @param {import("@codemirror/state").Range<any>[]} ranges words after lines */
   showValues(ranges) {
     this.layers.values.show(this.view, ranges);
   }
@@ -381,7 +381,7 @@ export class LineEditor {
     this.layers.below.show(this.view, node ? [elementBelow(node).range(this.offset({ line, ch: Infinity }))] : []);
   }
 
-  /** What is shown below a line is no wider than what is seen of the text. */
+  /** Makes the elements below lines no wider than the visible text. */
   fitBelow() {
     if (!this.below) return;
     const gutters = below(this.view.dom, ".cm-gutters", HTMLElement).offsetWidth;
@@ -430,7 +430,7 @@ export class LineEditor {
   }
 
   /**
-   * How far below the text's begin a line stands.
+   * Returns the distance of a line from the text's top.
    * @param {number} line
    */
   heightAtLine(line) {
@@ -438,7 +438,7 @@ export class LineEditor {
   }
 
   /**
-   * Brings a position into view, with so many pixels above and below.
+   * Scrolls a position into view, with this many pixels above and below.
    * @param {Position} position
    * @param {number} margin
    */
@@ -453,24 +453,24 @@ export class LineEditor {
     this.view.dispatch({ effects: this.wrapping.reconfigure(wraps ? EditorView.lineWrapping : []) });
   }
 
-  /** What surrounds the text has another size. */
+  /** Measures again, because the surroundings of the text changed size. */
   refresh() {
     this.fitBelow();
     this.view.requestMeasure();
   }
 
-  /** @param {() => void} act is done once the text that is shown has been measured, and nothing keeps its place in view any more */
+  /** @param {() => void} act is done once the shown text has been measured, and nothing restores its scroll position any more */
   whenMeasured(act) {
     this.view.requestMeasure({ read: () => null, write: () => queueMicrotask(act) });
   }
 
   /**
-   * Shows another state; gives the one that was there.
+   * Shows another state; returns the former one.
    * @param {EditorState} state
    */
   swap(state) {
     const before = this.state;
-    // It would be kept at the line that stands there, as heights are measured.
+    // The scroll position would be kept relative to the line there, because heights are measured.
     this.scrollTo(0);
     this.view.setState(state);
     this.view.dispatch({ effects: this.wrapping.reconfigure(this.wraps ? EditorView.lineWrapping : []) });

@@ -1,5 +1,5 @@
-// What lies over the lines of an editor and goes with them while the text is edited: marks in the gutters, looks of lines, underlined
-// words, words behind lines. Each is a set of ranges that is put in the place of the one before.
+// The layers over an editor's lines, which move with them while the text is edited: marks in the gutters, styles of lines, underlined
+// words, words after lines. Each is a set of ranges that replaces the former one.
 
 import { RangeSet, StateEffect, StateField } from "@codemirror/state";
 import { Decoration, EditorView, GutterMarker, WidgetType, gutter, gutterLineClass } from "@codemirror/view";
@@ -11,7 +11,7 @@ import * as say from "../../words/text.js";
  * @typedef {import("@codemirror/state").Transaction} Transaction
  * @typedef {RangeSet<any>} Ranges
  *
- * What stands in a gutter at a line, from 0, and what it means.
+ * The content of a gutter at a line, from 0, and its meaning.
  * @typedef {{ line: number, text: string, words: string }} GutterMark
  */
 
@@ -24,16 +24,16 @@ class TextMark extends GutterMarker {
    */
   constructor(name, text, words) {
     super();
-    this.told = { textContent: text, title: words, className: `mark-${name}` };
+    this.mark = { textContent: text, title: words, className: `mark-${name}` };
   }
 
   /** @param {TextMark} other */
-  eq({ told }) {
-    return told.textContent === this.told.textContent && told.title === this.told.title;
+  eq({ mark }) {
+    return mark.textContent === this.mark.textContent && mark.title === this.mark.title;
   }
 
   toDOM() {
-    return element("span", this.told);
+    return element("span", this.mark);
   }
 }
 
@@ -46,7 +46,7 @@ class LookOfGutters extends GutterMarker {
   }
 }
 
-/** Words behind a line. */
+/** Words after a line. */
 class WordsBehind extends WidgetType {
   /**
    * @param {string} words
@@ -81,7 +81,7 @@ class ElementBelow extends WidgetType {
     return node === this.node;
   }
 
-  // Its keys and clicks are its own.
+  // It handles its own keys and clicks.
   ignoreEvent() {
     return true;
   }
@@ -94,8 +94,8 @@ class ElementBelow extends WidgetType {
 /** A set of ranges over the text. */
 export class Layer {
   /**
-   * @param {(field: StateField<Ranges>) => Extension} provide says what the ranges are to the editor
-   * @param {(ranges: Ranges, edit: Transaction) => Ranges} [move] where they are after an edit
+   * @param {(field: StateField<Ranges>) => Extension} provide provides the ranges to the editor
+   * @param {(ranges: Ranges, edit: Transaction) => Ranges} [move] moves them after an edit
    */
   constructor(provide, move = (ranges, { changes }) => ranges.map(changes)) {
     /** @type {import("@codemirror/state").StateEffectType<Ranges>} */
@@ -113,7 +113,7 @@ export class Layer {
 
   /**
    * @param {EditorView} view
-   * @param {import("@codemirror/state").Range<any>[]} ranges those of before go
+   * @param {import("@codemirror/state").Range<any>[]} ranges replaces the former ones
    */
   show(view, ranges) {
     const before = view.state.field(this.field);
@@ -122,12 +122,12 @@ export class Layer {
   }
 }
 
-/** A layer of looks of the text. */
+/** A layer of styles of the text. */
 export function textLayer() {
   return new Layer((field) => EditorView.decorations.from(field));
 }
 
-/** A layer of elements below lines: each stays below its line, also where another line begins at that one's end. */
+/** A layer of elements below lines: each stays below its line, also if another line begins at its end. */
 export function belowLayer() {
   return new Layer((field) => EditorView.decorations.from(field), (ranges, { changes, docChanged, newDoc, startState: { doc } }) => {
     if (!docChanged) return ranges;
@@ -144,7 +144,7 @@ export function elementBelow(node) {
   return Decoration.widget({ widget: new ElementBelow(node), block: true, side: 1 });
 }
 
-/** A layer of looks of the gutters. */
+/** A layer of styles of the gutters. */
 export function gutterLayer() {
   return new Layer((field) => gutterLineClass.from(field));
 }
@@ -172,10 +172,10 @@ export function textMark(name, { text, words }) {
   return new TextMark(name, text, words);
 }
 
-/** @type {Map<string, { line: Decoration, gutters: GutterMarker }>} the looks of lines by their names */
+/** @type {Map<string, { line: Decoration, gutters: GutterMarker }>} the styles of lines by their names */
 const looks = new Map();
 
-/** @param {string} name a class of the line; that of the gutters beside it has `at-` before */
+/** @param {string} name a class of the line; in the gutters the class has the prefix `at-` */
 export function lookOf(name) {
   const look = looks.get(name) || { line: Decoration.line({ class: name }), gutters: new LookOfGutters(`at-${name}`) };
   looks.set(name, look);

@@ -1,5 +1,5 @@
-// Marks at the lines of a text: what stands in the gutters, and the line that comes next. They go with their lines while the text is
-// edited; each call says anew what is to be shown, and changes only what is another one.
+// Marks at the lines of a text: the contents of the gutters, and the next line. They move with their lines while the text is edited; each
+// call replaces the marks, and changes only those that differ.
 
 import { upTo } from "../../core/bench/numbers.js";
 
@@ -25,8 +25,8 @@ export class LineMarks {
   /**
    * Shows texts in a gutter.
    * @param {string} gutter
-   * @param {(line: number) => string} textOf gives the text at a line, "" for none
-   * @param {(line: number) => string} [wordsOf] gives what the text means
+   * @param {(line: number) => string} textOf returns the text at a line, "" for none
+   * @param {(line: number) => string} [wordsOf] returns the meaning of the text
    */
   showAt(gutter, textOf, wordsOf = () => "") {
     const marks = upTo(this.editor.lineCount()).flatMap((line) => {
@@ -38,7 +38,7 @@ export class LineMarks {
   }
 
   /**
-   * Marks the line whose instruction comes next; 0 for none.
+   * Marks the line whose instruction is next; 0 for none.
    * @param {number} line
    */
   showNext(line) {

@@ -1,4 +1,4 @@
-// Words behind lines of a text, greyed: what these lines have changed. They are no part of the text, and go with their lines.
+// Greyed words after lines of a text: the changes that these lines made. They are not part of the text, and move with their lines.
 
 import { wordsBehind } from "./line_layers.js";
 
@@ -10,14 +10,14 @@ export class LineValues {
     this.shown = new Map();
   }
 
-  /** @param {ReadonlyMap<number, string>} lines the words behind each line, from 1 */
+  /** @param {ReadonlyMap<number, string>} lines the words after each line, from 1 */
   show(lines) {
     if (lines === this.shown || (lines.size === 0 && this.shown.size === 0)) return;
     this.shown = lines;
     const { editor } = this;
-    const told = [...lines].filter(([line, words]) => words !== "" && line <= editor.lineCount());
-    editor.showValues(told.map(([line, words], at) => {
-      const className = at === told.length - 1 ? "line-values last" : "line-values";
+    const shown = [...lines].filter(([line, words]) => words !== "" && line <= editor.lineCount());
+    editor.showValues(shown.map(([line, words], at) => {
+      const className = at === shown.length - 1 ? "line-values last" : "line-values";
       return wordsBehind(words, className).range(editor.offset({ line: line - 1, ch: Infinity }));
     }));
   }

@@ -1,7 +1,7 @@
-// Faults while a text is typed: after a pause it is tried on the side, and what is at fault is told. What was typed meanwhile makes a trial
-// worthless: it ends, and another one begins after the next pause.
+// Errors while a text is typed: after a pause the text is tried on the side, and its errors are reported. An edit makes a trial worthless:
+// it ends, and another one begins after the next pause.
 
-/** So many milliseconds after the last key. */
+/** The milliseconds after the last key. */
 const PAUSE = 300;
 
 /**
@@ -9,7 +9,7 @@ const PAUSE = 300;
  */
 export class LiveFaults {
   /**
-   * @param {(isWanted: () => boolean) => Promise<Result | undefined>} find gives what is found; undefined where it is not wanted any more
+   * @param {(isWanted: () => boolean) => Promise<Result | undefined>} find resolves to the result; undefined if it is no longer wanted
    * @param {(result: Result) => void} show
    * @param {(fault: unknown) => void} failed
    */
@@ -29,7 +29,7 @@ export class LiveFaults {
   }
 
   /**
-   * Looks at once, and shows what is found, which is given too; undefined where the text was edited meanwhile.
+   * Checks at once, and shows the result, which is also returned; undefined if the text was edited meanwhile.
    * @returns {Promise<Result | undefined>}
    */
   async look() {

@@ -1,18 +1,18 @@
-// What the word at the pointer or the caret is, below a text: what it stands for now, in pieces, each value a cell that can be edited; then
-// what it means. At the pointer what it stands for is told right there, too.
+// The meaning of the word at the pointer or the caret, below a text: its current value, in pieces, each value a cell that can be edited;
+// then its meaning. At the pointer the value is also shown on the spot.
 
 import { element } from "../ui/dom.js";
-import { putBelow } from "../ui/told_at.js";
+import { putBelow } from "../ui/popup_message.js";
 import { textOf } from "../../core/debug/value_words.js";
 import * as say from "../../words/text.js";
 
 /**
  * @typedef {import("../../core/debug/value_words.js").Piece} Piece
  * @typedef {import("../../core/debug/value_words.js").Value} Value
- * @typedef {(cell: HTMLElement, value: Value) => void} Offer makes a cell one that can be edited
+ * @typedef {(cell: HTMLElement, value: Value) => void} Offer makes a cell editable
  */
 
-/** How far below the pointer the words stand, in pixels. */
+/** The distance of the words below the pointer, in pixels. */
 const BELOW_POINTER = 16;
 
 /**
@@ -53,8 +53,8 @@ export class MeaningView {
     this.cells.forEach((cell, at) => {
       if (cell.textContent !== values[at]) cell.textContent = values[at];
     });
-    const told = textOf(pieces);
-    const more = told === "" ? words : words === "" || told.startsWith(words) ? "" : `. ${words}`;
+    const meaning = textOf(pieces);
+    const more = meaning === "" ? words : words === "" || meaning.startsWith(words) ? "" : `. ${words}`;
     if (this.words.textContent !== more) this.words.textContent = more;
   }
 
@@ -69,11 +69,11 @@ export class MeaningView {
   }
 
   /**
-   * Tells values at the pointer.
+   * Reports values at the pointer.
    * @param {Piece[]} pieces none take them away
    * @param {{ left: number, top: number }} point in the window
    */
-  tellAt(pieces, { left, top }) {
+  showAt(pieces, { left, top }) {
     this.tip.textContent = textOf(pieces);
     this.tip.hidden = pieces.length === 0;
     if (pieces.length > 0) putBelow(this.tip, { left, bottom: top }, BELOW_POINTER);

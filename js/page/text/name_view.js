@@ -1,4 +1,4 @@
-// Names in a text: to where one is defined, all places of it, another name in all of them; and a line by its number.
+// Names in a text: go to the definition of one, find all its places, rename it; and go to a line by its number.
 
 import { counted } from "../../core/bench/numbers.js";
 import { element, onClick } from "../ui/dom.js";
@@ -17,8 +17,8 @@ const LONGEST_WORDS = 60;
 export class NameView {
   /**
    * @param {TextEditor} text
-   * @param {HTMLElement} parent takes the bar and the list
-   * @param {{ isInstruction: (word: string) => boolean, tell: (words: string) => void }} calls
+   * @param {HTMLElement} parent receives the bar and the list
+   * @param {{ isInstruction: (word: string) => boolean, showMessage: (words: string) => void }} calls
    */
   constructor(text, parent, calls) {
     this.text = text;
@@ -32,11 +32,11 @@ export class NameView {
     return this.text.text.split("\n");
   }
 
-  /** The name at the caret; where there is none, that is told. */
+  /** Returns the name at the caret; if there is none, that is reported. */
   nameAtCaret() {
     const { line, ch } = this.text.editor.getCursor();
     const name = nameAt(this.lines, line, ch);
-    if (name === "") this.calls.tell(say.NO_NAME);
+    if (name === "") this.calls.showMessage(say.NO_NAME);
     return name;
   }
 
@@ -48,7 +48,7 @@ export class NameView {
     editor.scrollIntoView({ line: line - 1, ch: to }, 60);
   }
 
-  /** To where the name at the caret is defined. */
+  /** Goes to the definition of the name at the caret. */
   define() {
     const name = this.nameAtCaret();
     const definition = name === "" ? null : definitionOf(this.lines, name);
@@ -83,7 +83,7 @@ export class NameView {
     this.text.editor.focus();
   }
 
-  /** Asks for another name for the one at the caret. */
+  /** Asks for a new name for the name at the caret. */
   rename() {
     const name = this.nameAtCaret();
     if (name === "") return;
@@ -101,7 +101,7 @@ export class NameView {
     const references = referencesOf(lines, name);
     text.edit([...references].reverse().map(({ line, from, to }) => (
       { from: text.editor.offset({ line: line - 1, ch: from }), to: text.editor.offset({ line: line - 1, ch: to }), insert: wanted })));
-    calls.tell(say.renamed(name, wanted, counted(references.length, "place")));
+    calls.showMessage(say.renamed(name, wanted, counted(references.length, "place")));
     return "";
   }
 

@@ -1,4 +1,4 @@
-// The problems of all texts in one list, beside the probable bugs that were seen while time ran; how many there are.
+// The problems of all texts in one list, with the probable bugs that were seen while time ran; and their number.
 
 import { block, element, onClick } from "../ui/dom.js";
 import * as say from "../../words/text.js";
@@ -8,7 +8,7 @@ import * as say from "../../words/text.js";
  */
 
 /**
- * What the list of problems calls.
+ * The calls that the list of problems makes.
  * @typedef {object} ProblemCalls
  * @property {(name: string, fault: Fault) => void} goTo Shows an error in the text with a name.
  * @property {(count: number) => void} counted Shows how many problems all texts have.
@@ -22,7 +22,7 @@ export class ProblemsView {
     this.none = block("problems-none");
     /** @type {Map<string, Fault[]>} the errors of each text, by its name */
     this.faults = new Map();
-    /** How many probable bugs are listed beside them. */
+    /** The number of probable bugs in the list. */
     this.bugs = 0;
   }
 
@@ -38,7 +38,7 @@ export class ProblemsView {
   }
 
   /** @param {number} bugs probable bugs that were seen */
-  takeBugs(bugs) {
+  showBugCount(bugs) {
     if (this.bugs === bugs) return;
     this.bugs = bugs;
     this.count();

@@ -1,4 +1,4 @@
-// The search in a text: a bar above it, the next and the one before, and how many there are; and another word in their place.
+// The search in a text: a bar above it, the next and the previous match, and their number; and a replacement.
 
 import { Cell, element, onClick } from "../ui/dom.js";
 import * as say from "../../words/text.js";
@@ -8,19 +8,19 @@ import * as say from "../../words/text.js";
  * @typedef {{ from: number, to: number }} Span of the text
  */
 
-/** More than so many are not counted. */
+/** The most matches that are counted. */
 const MOST_COUNTED = 1000;
 
 export class SearchBar {
   /**
    * @param {LineEditor} editor
-   * @param {HTMLElement} parent takes the bar, before all else
+   * @param {HTMLElement} parent receives the bar, before all else
    * @param {string} label of the text
    */
   constructor(editor, parent, label) {
     this.editor = editor;
     this.field = element("input", { "type": "search", "aria-label": say.searchIn(label), "autocomplete": "off", "spellcheck": false });
-    this.told = new Cell(element("p", { role: "status" }));
+    this.status = new Cell(element("p", { role: "status" }));
     const before = element("button", { type: "button", title: say.SHIFT_ENTER }, say.PREVIOUS);
     const next = element("button", { type: "button", title: "Enter" }, say.NEXT);
     const close = element("button", { type: "button", title: "Escape" }, say.CLOSE);
@@ -30,7 +30,7 @@ export class SearchBar {
     const one = element("button", { type: "button", title: say.REPLACE_TITLE }, say.REPLACE);
     const all = element("button", { type: "button" }, say.REPLACE_ALL);
     this.replacing = element("div", { className: "bar", hidden: true }, this.other, one, all);
-    this.bar = element("div", { role: "search", className: "search bar", hidden: true }, this.field, before, next, close, this.told.node,
+    this.bar = element("div", { role: "search", className: "search bar", hidden: true }, this.field, before, next, close, this.status.node,
       this.replacing);
     parent.prepend(this.bar);
     onClick(one, () => this.replace());
@@ -44,7 +44,7 @@ export class SearchBar {
   }
 
   /**
-   * Begins with what is selected, or was sought last.
+   * Begins with the selection, or the last search.
    * @param {boolean} [replaces]
    */
   open(replaces = false) {
@@ -58,7 +58,7 @@ export class SearchBar {
 
   close() {
     this.bar.hidden = true;
-    this.told.set("");
+    this.status.set("");
     this.editor.focus();
   }
 
@@ -73,7 +73,7 @@ export class SearchBar {
     else act(event.shiftKey);
   }
 
-  /** Replaces what is selected, where it is what is sought, and goes on to the next. */
+  /** Replaces the selection, if it is a match, and moves to the next. */
   replace() {
     const { editor } = this;
     const wanted = this.field.value;
@@ -89,32 +89,32 @@ export class SearchBar {
     const spans = this.spansOf(wanted);
     const count = spans.length;
     if (count > 0) this.editor.edit([...spans].reverse().map((span) => ({ ...span, insert: this.other.value })));
-    this.told.set(count === 0 ? say.NOT_FOUND : say.replaced(count.toLocaleString("en")));
+    this.status.set(count === 0 ? say.NOT_FOUND : say.replaced(count.toLocaleString("en")));
   }
 
   /**
-   * Selects the next span, whatever its case, or the one before; after the last one comes the first one.
+   * Selects the next match, ignoring case, or the one before; after the last one follows the first one.
    * @param {boolean} isBack
    * @param {number} from
    */
   find(isBack, from = this.editor.selected[isBack ? "from" : "to"]) {
     const wanted = this.field.value;
     if (wanted === "") {
-      this.told.set("");
+      this.status.set("");
       return;
     }
     const { editor } = this;
     const spans = this.spansOf(wanted);
     const before = spans.filter((span) => span.to <= from).pop();
     const found = (isBack ? before : spans.find((span) => span.from >= from)) || spans[isBack ? spans.length - 1 : 0];
-    this.told.set(found ? say.foundOf(spans.indexOf(found) + 1, Math.min(MOST_COUNTED, spans.length)) : say.NOT_FOUND);
+    this.status.set(found ? say.foundOf(spans.indexOf(found) + 1, Math.min(MOST_COUNTED, spans.length)) : say.NOT_FOUND);
     if (!found) return;
     editor.setSelection(editor.position(found.from), editor.position(found.to));
     editor.scrollIntoView(editor.position(found.to), 60);
   }
 
   /**
-   * All spans of a text, whatever its case, none of which meets another one.
+   * Returns all matches in a text, ignoring case, without overlaps.
    * @param {string} wanted
    */
   spansOf(wanted) {

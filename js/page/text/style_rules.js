@@ -1,5 +1,5 @@
-// The rules of style that CodeMirror makes while it runs. The page's policy takes no style but its own sheet, so they become rules of that,
-// before all others.
+// The rules of style that CodeMirror makes while it runs. The page's policy accepts no style but its own sheet, so they become rules of
+// that, before all others.
 
 import { StyleModule } from "style-mod";
 

@@ -1,5 +1,5 @@
-// An editor of a text, with what the page's texts have in common. A text that is opened has a state of its own, with its own undo history;
-// the states of the sessions are kept as long as the page lives.
+// An editor of a text, with the common features of the page's texts. An opened text has a state of its own, with its own undo history; the
+// states of the sessions are kept as long as the page lives.
 
 import { EditorView } from "@codemirror/view";
 import { upTo } from "../../core/bench/numbers.js";
@@ -13,8 +13,8 @@ import * as say from "../../words/text.js";
  * @typedef {import("./line_editor.js").Position} Position
  * @typedef {import("../../core/debug/breakpoints.js").Edit} Edit
  *
- * What an editor is made of: what holds it, its name for those who do not see it, the colours of its lines, the gutters beside the faults,
- * the blanks that a new line begins with, what folds in it, and its own keys.
+ * The options of an editor: its container, its name for screen readers, the colours of its lines, the gutters next to the errors, the
+ * indentation of a new line, its folding parts, and its own keys.
  * @typedef {{ container: HTMLElement, label: string, colours: import("./line_colours.js").Colours, gutters: string[], indent?: string,
  *   folds?: import("../../core/text/folding.js").Parts, keys: KeyMap, calls: TextCalls }} TextParts
  *
@@ -23,7 +23,7 @@ import * as say from "../../words/text.js";
  */
 
 /**
- * What an editor of a text calls.
+ * The calls that an editor of a text makes.
  * @typedef {object} TextCalls
  * @property {(edits: Edit[]) => void} edited The text was edited, by these edits in their order.
  * @property {() => void} moved The caret was moved.
@@ -31,34 +31,34 @@ import * as say from "../../words/text.js";
  * @property {(line: number, event: Event) => void} askedGutter A gutter was clicked by the second button at a line, from 0.
  * @property {() => void} clickedName A place was clicked with Control, and the caret is there.
  * @property {(size: number) => void} refused A text of `size` characters was not accepted, because it is too long.
- * @property {(position: Position) => import("../../core/text/completion.js").Completion} complete Returns what the word at a position can
- *   become.
+ * @property {(position: Position) => import("../../core/text/completion.js").Completion} complete Returns the possible completions of the
+ * word at a position.
  */
 
-/** How many texts are kept. */
+/** The number of texts that are stored. */
 const MOST_KEPT = 30;
-/** They do nothing alone. */
+/** Keys that do nothing alone. */
 const OTHER_KEYS = ["Shift", "Control", "Alt", "Meta"];
 
 export class TextEditor {
   /** @param {TextParts} parts */
   constructor(parts) {
     this.calls = parts.calls;
-    /** @type {(line: number) => void} the caret has come to a line */
+    /** @type {(line: number) => void} the caret has moved to a line */
     this.caret = () => {};
-    /** How far it is scrolled. */
+    /** The scroll position. */
     this.top = 0;
-    /** @type {number | null} how far it has to be once it can be measured, and the line that is to be in view then, 0 for none */
+    /** @type {number | null} the scroll position to restore once it can be measured, and the line that is to be in view then, 0 for none */
     this.due = null;
     this.awaited = 0;
-    /** Whether Tab leaves the editor: after Escape, and where Tab has come to it. */
+    /** True if Tab leaves the editor: after Escape, or if Tab has reached it. */
     this.tabLeaves = true;
-    /** Whether the caret is where somebody has put it: the editor had the focus since its text came. */
+    /** True if the user has placed the caret: the editor had the focus since its text was loaded. */
     this.hasCaret = false;
     /** @type {Map<string, KeptText>} by the names that they were opened by */
     this.kept = new Map();
     this.name = "";
-    /** @type {string | null} the text, where it was read since the last edit */
+    /** @type {string | null} the text, if it was read since the last edit */
     this.value = null;
     const { container, label, colours, gutters, indent, folds, keys } = parts;
     /** @type {LineEditor} */
@@ -116,7 +116,7 @@ export class TextEditor {
     return this.editor.container;
   }
 
-  /** What was hidden comes back as it was: a browser may scroll it elsewhere before it can be measured. */
+  /** Restores a text that was hidden: a browser may scroll it elsewhere before it can be measured. */
   resized() {
     if (this.container.offsetHeight === 0) this.scrollSoon(this.due === null ? this.top : this.due);
     else if (this.due === null) this.editor.refresh();
@@ -124,7 +124,7 @@ export class TextEditor {
   }
 
   /**
-   * It is scrolled so far, once it can be measured.
+   * Scrolls to this position, once it can be measured.
    * @param {number} top
    */
   scrollSoon(top) {
@@ -132,7 +132,7 @@ export class TextEditor {
     if (this.container.offsetHeight > 0) this.editor.whenMeasured(() => this.scroll());
   }
 
-  /** What waited for the text to be measured is done. */
+  /** Does the scrolling that waited for the text to be measured. */
   scroll() {
     if (this.due === null || this.container.offsetHeight === 0) return;
     this.editor.scrollTo(this.due);
@@ -142,8 +142,8 @@ export class TextEditor {
   }
 
   /**
-   * Tab indents once something was typed or clicked here; after Escape, and where Tab has come here, it goes on as everywhere. Gives
-   * whether that was all of the key.
+   * Tab indents once something was typed or clicked here; after Escape, or if Tab has reached the editor, it moves the focus as usual.
+   * Returns whether the key is handled.
    * @param {KeyboardEvent} event
    */
   typed({ key, shiftKey, ctrlKey, altKey, metaKey }) {
@@ -159,7 +159,7 @@ export class TextEditor {
   }
 
   /**
-   * Shows the text of a session: in the state that it had, where the text is still the one in it.
+   * Shows the text of a session: in its former state, if the text is still the one in it.
    * @param {string} name of the session
    * @param {string} text
    */
@@ -180,7 +180,7 @@ export class TextEditor {
   }
 
   /**
-   * Makes comments of the lines that are selected, or lines of comments where all of them are; blank lines stay.
+   * Comments out the selected lines, or uncomments them if all of them are comments; blank lines stay.
    * @param {string} mark
    */
   comment(mark) {
@@ -193,7 +193,7 @@ export class TextEditor {
   }
 
   /**
-   * Puts another text in the place of all, as one step that can be undone.
+   * Replaces the whole text, as one step that can be undone.
    * @param {string} text
    */
   replaceText(text) {
@@ -201,13 +201,13 @@ export class TextEditor {
     this.hasCaret = false;
   }
 
-  /** The line of the caret, from 1; 0 if nobody has put it there. */
+  /** Returns the line of the caret, from 1; 0 if the user has not placed it. */
   get caretLine() {
     return this.hasCaret ? this.editor.getCursor().line + 1 : 0;
   }
 
   /**
-   * Edits that are told one after the other, as one step that can be undone.
+   * Makes successive edits, as one step that can be undone.
    * @param {import("../../core/drawing/text_edits.js").TextEdit[]} edits
    */
   edit(edits) {
@@ -215,7 +215,7 @@ export class TextEditor {
   }
 
   /**
-   * The last step is undone, or done again; false where there is none.
+   * Undoes or redoes the last step; returns false if there is none.
    * @param {"undo" | "redo"} which
    */
   undoOrRedo(which) {
@@ -223,7 +223,7 @@ export class TextEditor {
   }
 
   /**
-   * Selects whole lines, and brings them into view.
+   * Selects whole lines, and scrolls them into view.
    * @param {{ from: number, to: number }} lines
    */
   select({ from, to }) {
@@ -233,7 +233,7 @@ export class TextEditor {
   }
 
   /**
-   * Brings a line into view, where it is not in it; neither the caret nor the page moves. A part that it is folded away with unfolds.
+   * Scrolls a line into view if it is not; neither the caret nor the page moves. A folded part that contains it unfolds.
    * @param {number} line from 1
    */
   reveal(line) {
@@ -251,7 +251,7 @@ export class TextEditor {
   }
 
   /**
-   * Puts the caret at a position, which a user has asked for.
+   * Moves the caret to a position at the user's request.
    * @param {Position} position
    */
   goTo(position) {

@@ -1,4 +1,4 @@
-// The texts of the board and of the program: an editor each, with its faults, its search, and words about what is pointed at.
+// The texts of the board and of the program: an editor each, with its errors, its search, and words about the place of the pointer.
 
 import { Cell, below, block, element, onClick } from "../ui/dom.js";
 import { editorKeys } from "../commands/keys.js";
@@ -25,10 +25,10 @@ import * as say from "../../words/text.js";
  *
  * @typedef {import("../machine/breakpoint_row.js").BreakpointField} BreakpointField
  *
- * What kind of text it is: what its comments begin with, its colours, its gutters, the blanks that a new line begins with, where it is not
- * those of the line before, what folds in it; whether a word (in upper case) is an
- * instruction, where the text has names; whether it is never sent, and so measured as it stands; what is said of a word, by its line
- * (from 0) and its place in that, what it stands for now, and how one of these values can be edited; and what a word can become.
+ * The kind of a text: the beginning of its comments, its colours, its gutters, the indentation of a new line, if it is not that of the line
+ * before, its folding parts; whether a word (in upper case) is an instruction, if the text has names; whether it is never sent, and so
+ * measured as it is; the description of a word, by its line (from 0) and its place in that, its current value, and how one of these values
+ * can be edited; and its completions.
  * @typedef {{ mark: import("../../core/text/text_fault.js").CommentMark, colours: import("./line_colours.js").Colours, gutters: string[],
  *   indent?: string,
  *   folds?: import("../../core/text/folding.js").Parts, isInstruction?: (word: string) => boolean,
@@ -39,19 +39,19 @@ import * as say from "../../words/text.js";
  */
 
 /**
- * What an editor with its errors calls. Lines count from 1.
+ * The calls that an editor with its errors makes. Lines count from 1.
  * @typedef {object} EditorCalls
  * @property {(edits: Edit[]) => void} edited The text was edited, by these edits in their order.
  * @property {() => void} send The text is to be sent to the bench.
  * @property {() => void} [prove] The text is to be proved; left out if it cannot be.
  * @property {(line: number) => void} toggleBreakpoint The breakpoint of a line is to be set or removed.
  * @property {(line: number, what: BreakpointField) => void} [editBreakpoint] The words of a line's breakpoint are to be edited, from a
- *   field on. Missing in texts that have no breakpoints.
+ * field on. Missing in texts without breakpoints.
  * @property {(line: number, point: { left: number, bottom: number }) => void} [askedMargin] The menu of a line's margin is wanted at a
  *   point of the page, in pixels. Missing in texts that have none.
  */
 
-/** The pointer or the caret rests so many milliseconds before words are shown. */
+/** The pointer or the caret rests this many milliseconds before words are shown. */
 const REST_TIME = 150;
 
 export class EditorView {
@@ -66,23 +66,23 @@ export class EditorView {
     const root = block(id);
     const paper = below(root, ".paper", HTMLElement);
     const container = element("div", { className: "text" });
-    const list = element("ul", { "className": "faults-told", "aria-label": say.FAULTS });
+    const list = element("ul", { "className": "fault-list", "aria-label": say.FAULTS });
     this.meaning = new MeaningView(language.offer || (() => {}));
     this.counter = new Cell(element("p", { className: "size" }));
     paper.append(container, list, element("div", { className: "strip" }, this.meaning.node, this.counter.node));
-    this.told = new Cell(below(root, ".told", HTMLElement));
+    this.status = new Cell(below(root, ".status-text", HTMLElement));
     const label = below(root, "h2", HTMLElement).textContent || "";
     const { colours, gutters, indent, folds, isInstruction = () => false } = language;
     this.editor = new TextEditor({ container, label, colours, gutters, indent, folds, keys: this.keys(), calls: this.textCalls() });
     const { editor } = this.editor;
-    /** @type {(faults: Fault[]) => void} the errors of the text are others */
+    /** @type {(faults: Fault[]) => void} the errors of the text have changed */
     this.listed = () => {};
     this.marks = new LineMarks(editor);
     this.counts = new CountMarks(editor, this.marks);
     this.lineValues = new LineValues(editor);
     this.faults = new FaultView(editor, this.marks, list, (fault) => this.goToFault(fault));
     this.search = new SearchBar(editor, paper, label);
-    this.names = new NameView(this.editor, paper, { isInstruction, tell: (words) => this.told.set(words) });
+    this.names = new NameView(this.editor, paper, { isInstruction, showMessage: (words) => this.status.set(words) });
     /** Timers: the pointer or the caret rests, and typing does. */
     this.resting = 0;
     this.counting = 0;
@@ -106,7 +106,7 @@ export class EditorView {
   }
 
   /**
-   * What can be done in this text, by its name in the table of commands.
+   * Returns the acts of this text, by their names in the table of commands.
    * @returns {Partial<Record<TextAct, () => void>>}
    */
   acts() {
@@ -158,7 +158,7 @@ export class EditorView {
       clickedGutter: (line) => this.calls.toggleBreakpoint(line),
       askedGutter: (line, event) => this.askedMargin(line, event),
       clickedName: () => this.language.isInstruction && this.names.define(),
-      refused: (size) => this.told.set(say.notPutIn(size.toLocaleString("en"), LONGEST_KEPT.toLocaleString("en"))),
+      refused: (size) => this.status.set(say.notPutIn(size.toLocaleString("en"), LONGEST_KEPT.toLocaleString("en"))),
       complete: ({ line, ch }) => this.language.complete(this.lines, line, ch),
     };
   }
@@ -189,7 +189,7 @@ export class EditorView {
   }
 
   /**
-   * Shows what stands under the pointer.
+   * Shows the meaning of the word under the pointer.
    * @param {number} left
    * @param {number} top
    */
@@ -198,11 +198,11 @@ export class EditorView {
     const words = this.wordsAt(position);
     const values = this.valuesAt(position);
     if (words || values.length > 0) this.meaning.set(values, words);
-    this.meaning.tellAt(values, { left, top });
+    this.meaning.showAt(values, { left, top });
   }
 
   /**
-   * What the word at a position stands for now; none behind the end of its line.
+   * Returns the current value of the word at a position; none after the end of its line.
    * @param {Position} position
    * @returns {Piece[]}
    */
@@ -211,25 +211,25 @@ export class EditorView {
     return valuesAt ? valuesAt(this.editor.editor.getLine(line) || "", ch) : [];
   }
 
-  /** What stands at the caret. */
-  tellCaret() {
+  /** Reports the position of the caret. */
+  reportCaret() {
     const position = this.editor.editor.getCursor();
     this.meaning.hideTip();
     this.meaning.set(this.valuesAt(position), this.wordsAt(position));
   }
 
   /**
-   * What is wrong at a position, or what its word is; "" where there is nothing to say.
+   * Returns the error at a position, or the help for its word; "" if there is none.
    * @param {Position} position
    */
   wordsAt(position) {
     return this.faults.wordsAt(position) || this.language.wordsAt(this.lines, position.line, position.ch);
   }
 
-  /** The caret has another place; what stands there is told once it rests, so that no key waits for it. */
+  /** Handles a move of the caret; its word is described once it rests, so that no key waits for it. */
   moved() {
     clearTimeout(this.resting);
-    this.resting = window.setTimeout(() => this.tellCaret(), REST_TIME);
+    this.resting = window.setTimeout(() => this.reportCaret(), REST_TIME);
   }
 
   get text() {
@@ -245,7 +245,7 @@ export class EditorView {
     return sentText(this.text, this.language.mark);
   }
 
-  /** The text in which faults have their places. */
+  /** The text in which errors have their places. */
   get aligned() {
     return alignedText(this.text, this.language.mark);
   }
@@ -264,14 +264,14 @@ export class EditorView {
     this.lineValues.show(new Map());
     this.marks.forget();
     this.showFaults([]);
-    this.told.set("");
+    this.status.set("");
     this.editor.open(session, text);
     this.count();
     this.meaning.set([], "");
   }
 
   /**
-   * Puts another text in the place of all, as one step that can be undone.
+   * Replaces the whole text, as one step that can be undone.
    * @param {string} text
    */
   replaceText(text) {
@@ -279,7 +279,7 @@ export class EditorView {
   }
 
   /**
-   * The last step is undone, or done again; false where there is none.
+   * Undoes or redoes the last step; returns false if there is none.
    * @param {"undo" | "redo"} which
    */
   undoOrRedo(which) {
@@ -287,7 +287,7 @@ export class EditorView {
   }
 
   /**
-   * The line whose instruction comes next, or 0 for none; it is brought into view.
+   * The line whose instruction is next, or 0 for none; it is scrolled into view.
    * @param {number} line
    */
   showNext(line) {
@@ -321,27 +321,27 @@ export class EditorView {
     this.moved();
   }
 
-  /** @param {Fault} fault is where the caret goes */
+  /** @param {Fault} fault the target of the caret */
   goToFault({ line, from }) {
     this.editor.goTo({ line: line - 1, ch: from });
   }
 
   /**
-   * Says what came of sending it.
+   * Shows the result of sending it.
    * @param {string} words
    */
-  tell(words) {
-    this.told.set(words);
+  showMessage(words) {
+    this.status.set(words);
   }
 
   /** @param {Edit[]} edits */
   changed(edits) {
-    this.told.set("");
+    this.status.set("");
     this.count();
     this.calls.edited(edits);
   }
 
-  /** How long the text is, once no key waits for it. */
+  /** Counts the text, once no key waits for it. */
   count() {
     clearTimeout(this.counting);
     this.counting = window.setTimeout(() => {

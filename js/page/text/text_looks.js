@@ -1,4 +1,4 @@
-// How the texts look: the size of their letters, and lines that wrap.
+// The appearance of the texts: the size of their letters, and lines that wrap.
 
 import { block, button, field, onClick } from "../ui/dom.js";
 

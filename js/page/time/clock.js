@@ -1,6 +1,6 @@
-// Time: in real time, or slower, each frame of the browser lets the cycles pass that are due; at full speed the worker goes on by itself.
-// But for full speed, a page that is hidden stands still, and so it does while the browser or the machine does not run the page at all.
-// In real time a key does not wait for the next frame: cycles are lent for it.
+// The clock: in real time, or slower, each frame of the browser runs the cycles that are due; at full speed the worker continues by itself.
+// Except at full speed, a page that is hidden is paused, and so it is while the browser or the machine does not run the page at all. In
+// real time a key does not wait for the next frame: its cycles are simulated early.
 
 import { CYCLES_PER_SECOND } from "../../core/time/mcs4_time.js";
 import { LONG_GAP, MOST_AHEAD, RealTime } from "../../core/time/real_time.js";
@@ -12,14 +12,14 @@ import { REAL, isFollowed, keepsKeys } from "../../core/time/speeds.js";
  */
 
 /**
- * What the clock calls as time becomes due.
+ * The calls that the clock makes as time becomes due.
  * @typedef {object} ClockCalls
  * @property {(cycles: number, key: Key | null) => Promise<void>} advance Lets cycles pass, with a key that goes down before them if it is
  *   not null. Resolves once they are done.
  * @property {() => Promise<void>} instruct Lets one instruction pass, at the speed of one a second.
- * @property {() => Promise<void>} runFull Begins full speed, at which the worker goes on by itself.
- * @property {(time: number, wasHidden: boolean) => void} stoodStill Time stood still for this many milliseconds, which are left out;
- *   `wasHidden` if the page was hidden.
+ * @property {() => Promise<void>} runFull Begins full speed, at which the worker continues by itself.
+ * @property {(time: number, wasHidden: boolean) => void} stoodStill Time was paused for this many milliseconds, which are left out;
+ * `wasHidden` if the page was hidden.
  * @property {(fault: unknown) => void} failed Reports an error that a call threw.
  */
 
@@ -29,11 +29,11 @@ export class Clock {
     this.calls = calls;
     this.isRunning = false;
     this.speed = REAL;
-    /** Whether a call is under way. */
+    /** True if a call is under way. */
     this.isBusy = false;
-    /** Whether a key was pressed since that call began. */
+    /** True if a key was pressed since that call began. */
     this.followsAtOnce = false;
-    /** The frame that is asked for. */
+    /** The requested frame. */
     this.next = 0;
     this.time = new RealTime(0, 0);
   }
@@ -42,23 +42,24 @@ export class Clock {
     return this.speed.isFull;
   }
 
-  /** Whether time runs so slowly that the line which runs is followed. */
+  /** Returns whether time runs so slowly that the line which runs is followed. */
   get isSlow() {
     return this.isRunning && isFollowed(this.speed);
   }
 
-  /** Whether keys wait for their time; else they are as fingers put them. */
+  /** Returns whether keys wait for their time; if not, they are as fingers put them. */
   get movesKeys() {
     return this.isRunning && !keepsKeys(this.speed);
   }
 
-  /** The time up to which what is done counts, in milliseconds. */
+  /** The time up to which cycles are done, in milliseconds. */
   get now() {
     return this.isFull ? performance.now() : this.time.reached;
   }
 
   /**
-   * How many milliseconds so many cycles take at this speed; at full speed, or where an instruction takes a second, all that an eye needs.
+   * Returns how many milliseconds this many cycles take at this speed; at full speed, or if an instruction takes a second, all that
+   * perception needs.
    * @param {number} cycles
    */
   timeOf(cycles) {
@@ -76,7 +77,7 @@ export class Clock {
   }
 
   /**
-   * Time that runs goes on by the new speed.
+   * Running time continues at the new speed.
    * @param {Speed} speed
    */
   setSpeed(speed) {
@@ -109,8 +110,8 @@ export class Clock {
   }
 
   /**
-   * A key goes down: it does not wait for the next frame. Gives whether it went along with the cycles; else it is yet to be told, and
-   * where a call is under way, cycles follow at its end.
+   * Handles a key press, which does not wait for the next frame. Returns whether it was sent with the cycles; if not, it is yet to be
+   * reported, and if a call is under way, cycles follow at its end.
    * @param {Key} key
    */
   pressNow(key) {
@@ -119,19 +120,19 @@ export class Clock {
     return this.frame(performance.now(), this.ahead, key);
   }
 
-  /** So many milliseconds are lent for a key. */
+  /** Returns the milliseconds by which a key may be simulated early. */
   get ahead() {
     return this.speed === REAL ? MOST_AHEAD : 0;
   }
 
   /**
-   * Lets the cycles pass that are due; gives whether there are any.
+   * Runs the cycles that are due; returns whether there are any.
    * @param {number} now
-   * @param {number} [ahead] so many milliseconds are lent
+   * @param {number} [ahead] milliseconds are simulated early
    * @param {Key | null} [key] goes down before them
    */
   frame(now, ahead = 0, key = null) {
-    // Some browsers call a hidden page now and then. What is due while a call is under way is due at the next frame.
+    // Some browsers call a hidden page now and then. Cycles that become due during a call are done in the next frame.
     if (document.hidden || this.isBusy) return false;
     const skipped = this.time.skipGap(now, Date.now());
     if (skipped && skipped.gap >= LONG_GAP) this.calls.stoodStill(skipped.gap, skipped.wasHidden);

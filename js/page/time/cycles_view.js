@@ -6,7 +6,7 @@ import * as say from "../../words/time.js";
 
 /** @typedef {import("../../core/time/cycles.js").KeptCycles} KeptCycles */
 
-/** While time runs it is shown so often, in milliseconds. */
+/** The milliseconds between updates while time runs. */
 const SHOWN_TIME = 250;
 
 export class CyclesView {
@@ -35,7 +35,7 @@ export class CyclesView {
   }
 
   /**
-   * Those of another session.
+   * Takes over the counts of another session.
    * @param {KeptCycles | undefined} kept
    */
   open(kept) {
@@ -44,11 +44,11 @@ export class CyclesView {
   }
 
   /**
-   * @param {{ total: number, reset: number }} told
+   * @param {{ total: number, reset: number }} counts
    * @param {boolean} isRunning whether time runs
    */
-  take(told, isRunning) {
-    this.cycles.take(told);
+  take(counts, isRunning) {
+    this.cycles.take(counts);
     if (isRunning && performance.now() - this.shown < SHOWN_TIME) return;
     if (!isRunning) this.cycles.stop();
     this.show();
@@ -56,7 +56,7 @@ export class CyclesView {
 
   show() {
     this.shown = performance.now();
-    const { sinceReset, sinceStop, marked } = this.cycles.told;
+    const { sinceReset, sinceStop, marked } = this.cycles.counts;
     this.sinceReset.set(wordsOfCycles(sinceReset));
     this.sinceStop.set(wordsOfCycles(sinceStop));
     this.markWord.set(marked === null ? "" : this.cycles.marks.length === 1 ? say.SINCE_MARK : say.BETWEEN_MARKS);

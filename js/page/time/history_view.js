@@ -1,4 +1,4 @@
-// The bar of steps and of the past: back and forward, so many instructions, and on or back to a change.
+// The bar of steps and of the past: back and forward, by instructions, and to the next or previous change.
 
 import { button, byId, element, field, onClick } from "../ui/dom.js";
 import { goalOfText } from "../../core/debug/becoming.js";
@@ -12,21 +12,21 @@ import * as say from "../../words/time.js";
  */
 
 /**
- * What the buttons of time call.
+ * The calls that the buttons of time make.
  * @typedef {object} HistoryCalls
  * @property {(goal: Goal) => void} goOn Lets time pass until a goal is reached.
  * @property {(goal: BackGoal) => void} goBack Goes back to a goal.
- * @property {() => void} goForward Returns to where the last way back began.
+ * @property {() => void} goForward Returns to where the last move back began.
  * @property {() => import("../../core/conditions/condition_language.js").Names} names Returns the names that a condition may have.
- * @property {(words: string) => void} tell Shows a message in the status line.
+ * @property {(words: string) => void} showMessage Shows a message in the status line.
  */
 
 const MOST_INSTRUCTIONS = 10000000;
-/** A fault is told up to so many characters, as it quotes what was typed. */
+/** An error is shown up to this length, as it quotes the typed text. */
 const LONGEST_FAULT = 200;
 
 /**
- * The names of places that a board has, the most wanted ones first; others can be typed.
+ * The names of places on a board, the most useful ones first; others can be typed.
  * @param {Board} board
  * @param {string[]} lampNames "" for a lamp without one
  */
@@ -93,7 +93,7 @@ export class HistoryView {
     const count = countOf(this.count.value, MOST_INSTRUCTIONS);
     this.count.setAttribute("aria-invalid", String(count === 0));
     if (count > 0) this.calls.goOn({ kind: "count", count });
-    else this.calls.tell(say.giveCount(MOST_INSTRUCTIONS.toLocaleString("en")));
+    else this.calls.showMessage(say.giveCount(MOST_INSTRUCTIONS.toLocaleString("en")));
   }
 
   /** @param {(goal: NonNullable<ReturnType<typeof goalOfText>["goal"]>) => void} act */
@@ -102,6 +102,6 @@ export class HistoryView {
     const { goal, fault } = text.trim() === "" ? { goal: null, fault: "" } : goalOfText(text, this.calls.names());
     this.place.setAttribute("aria-invalid", String(goal === null));
     if (goal) act(goal);
-    else this.calls.tell(fault === "" ? say.GIVE_CHANGE : say.cannotBeSought(fault.slice(0, LONGEST_FAULT)));
+    else this.calls.showMessage(fault === "" ? say.GIVE_CHANGE : say.cannotBeSought(fault.slice(0, LONGEST_FAULT)));
   }
 }

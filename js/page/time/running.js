@@ -1,10 +1,10 @@
-// Time that runs: by the clock or at full speed, up to a stop, and what is told of it.
+// Running time: by the clock or at full speed, up to a stop, and its reports.
 
 import { isStop, readRun, refusalOf } from "../../core/bench/answers.js";
 import { wordsOfHalt, wordsOfMove, wordsOfStop } from "../../words/stops.js";
 import { Cell, block } from "../ui/dom.js";
 import { wordsOfTime } from "../../core/bench/words.js";
-import { AskedKeys } from "../../core/board/asked_keys.js";
+import { PendingKeys } from "../../core/board/pending_keys.js";
 import { Sound } from "../board/sound.js";
 import { Clock } from "./clock.js";
 import { Rate } from "../../core/time/rate.js";
@@ -26,27 +26,27 @@ import * as say from "../../words/time.js";
  */
 
 /**
- * What running time calls of the page.
+ * The calls that running time makes to the page.
  * @typedef {object} RunningCalls
  * @property {() => void} began Time begins to run.
  * @property {() => void} stood Time is paused, after all of it is shown.
- * @property {(frame: Frame) => void} took Shows, logs and counts what time has done in a frame.
- * @property {() => void} drawRest Draws what is drawn less often while time runs.
- * @property {() => void} drawListing Draws the listing, which follows the counter or stays, by the speed.
+ * @property {(frame: Frame) => void} took Shows, logs and counts the work of a frame.
+ * @property {() => void} drawRest Draws the parts that are drawn less often while time runs.
+ * @property {() => void} drawListing Draws the listing, which follows the counter or stays, depending on the speed.
  * @property {() => boolean} isOwed Returns whether the counter is inside an instruction, whose second cycle is pending.
  * @property {() => number} cycles Returns the cycles that the session has counted in all.
  * @property {() => string} where Returns the counter with its name and its line, as words.
  * @property {(id: number) => string} when Returns when the breakpoint with an id stops, as words.
  * @property {() => number} unreadable Returns how many breakpoints have an error and stop each time.
- * @property {(number: number) => string} wordsOfRefusal Returns what the number of a refusal means.
+ * @property {(number: number) => string} wordsOfRefusal Returns the message of a refusal.
  * @property {() => Promise<string | null>} step Serves a step. Resolves to its answer, null if the call failed.
  * @property {(fault: unknown) => void} failed Reports an error that a call threw.
  */
 
-/** How often the session is kept while time runs. */
+/** The interval at which the session is saved while time runs. */
 const KEEP_TIME = 1000;
-/** That time stood still is told for so many milliseconds. */
-const TOLD_TIME = 8000;
+/** The milliseconds for which a pause of time is reported. */
+const MESSAGE_TIME = 8000;
 
 export class Running {
   /**
@@ -60,15 +60,15 @@ export class Running {
     this.calls = calls;
     /** @type {(why: string) => void} time has stopped by itself */
     this.ended = () => {};
-    /** @type {(isRunning: boolean) => void} time runs from here on, or stands still */
+    /** @type {(isRunning: boolean) => void} time runs from now on, or is paused */
     this.showRunning = () => {};
-    /** @type {Goal | null} up to which time runs */
+    /** @type {Goal | null} the goal of running time */
     this.goal = null;
-    /** The cycles that were counted where time began to run. */
+    /** The cycle count when time began to run. */
     this.begun = 0;
     this.rate = new Rate(0);
     this.clock = this.makeClock();
-    this.asked = new AskedKeys();
+    this.asked = new PendingKeys();
     this.sound = new Sound({
       listen: (line) => {
         bench.call("listenTo", [line]).catch(calls.failed);
@@ -76,7 +76,7 @@ export class Running {
       isReal: () => this.clock.speed === REAL,
     });
     this.status = new Cell(block("status"));
-    this.rateTold = new Cell(block("rate"));
+    this.rateStatus = new Cell(block("rate"));
   }
 
   makeClock() {
@@ -90,28 +90,28 @@ export class Running {
     });
   }
 
-  /** Whether time runs so fast that single lines cannot be followed. */
+  /** Returns whether time runs so fast that single lines cannot be followed. */
   get isFast() {
     return this.clock.isRunning && !this.clock.isSlow;
   }
 
-  /** @param {string} words what the status says */
-  tell(words) {
+  /** @param {string} words of the status */
+  showMessage(words) {
     this.status.set(words);
   }
 
-  /** The rate is measured from here on. */
+  /** The rate is measured from now on. */
   beginRate() {
     this.rate = new Rate(this.clock.now);
     this.showRate();
   }
 
   showRate() {
-    const rate = Math.round(this.rate.told);
-    this.rateTold.set(this.clock.isRunning && rate > 0 ? say.cyclesASecond(rate.toLocaleString("en")) : "");
+    const rate = Math.round(this.rate.perSecond);
+    this.rateStatus.set(this.clock.isRunning && rate > 0 ? say.cyclesASecond(rate.toLocaleString("en")) : "");
   }
 
-  /** @param {Goal | null} [goal] up to which time runs; the bench knows it */
+  /** @param {Goal | null} [goal] of running time; the bench knows it */
   run(goal = null) {
     const { bench, current, calls } = this;
     if (!current.session || this.clock.isRunning) return;
@@ -122,14 +122,14 @@ export class Running {
     calls.began();
     if (!goal) bench.call("drop", []).catch(calls.failed);
     this.showRunning(true);
-    this.tell(goal ? wordsOfMove(goal) : say.timeRuns(current.name, calls.unreadable()));
+    this.showMessage(goal ? wordsOfMove(goal) : say.timeRuns(current.name, calls.unreadable()));
     this.clock.start();
     this.beginRate();
     bench.isRunning = this.clock.isFull;
     current.keep();
   }
 
-  /** @param {Goal | null} goal that a move has; it is kept with the session, for words where the move does not come to its end */
+  /** @param {Goal | null} goal of a move; it is saved with the session, for a message if the move does not reach it */
   aim(goal) {
     const { session } = this.current;
     if (!session) return;
@@ -186,19 +186,20 @@ export class Running {
   }
 
   /**
-   * Time stood still for so many milliseconds, and runs on.
+   * Reports that time was paused for this many milliseconds, and resumes.
    * @param {number} time
    * @param {boolean} wasHidden
    */
   stoodStill(time, wasHidden) {
     this.beginRate();
     const words = say.timeStood(wordsOfTime(time), wasHidden);
-    this.tell(words);
-    setTimeout(() => this.status.text === words && this.tell(say.timeRuns(this.current.name, this.calls.unreadable())), TOLD_TIME);
+    this.showMessage(words);
+    setTimeout(() => this.status.text === words && this.showMessage(say.timeRuns(this.current.name, this.calls.unreadable())),
+      MESSAGE_TIME);
   }
 
   /**
-   * Time stands still from here on; the words tell why.
+   * Pauses time; the words say why.
    * @param {string} words
    */
   halted(words) {
@@ -209,14 +210,14 @@ export class Running {
     if (current.session) current.session.record.runs = false;
     this.aim(null);
     this.showRunning(false);
-    this.tell(words);
+    this.showMessage(words);
     this.showRate();
     calls.drawRest();
     calls.drawListing();
     calls.stood();
   }
 
-  /** Lets no more time pass, and takes what it has done. */
+  /** Stops the passing of time, and handles its work. */
   async standStill() {
     if (!this.clock.isRunning) return;
     this.clock.stop();
@@ -224,7 +225,7 @@ export class Running {
     this.ran(await this.bench.call("halt", []));
   }
 
-  /** Stops time, and keeps what it has done. */
+  /** Stops time, and saves its work. */
   async stop() {
     const { current, calls } = this;
     try {
@@ -233,7 +234,7 @@ export class Running {
       calls.failed(fault);
       return;
     }
-    // A breakpoint may have come first.
+    // A breakpoint may have stopped it earlier.
     if (current.session && current.session.record.runs) {
       calls.drawRest();
       this.halted(wordsOfHalt(this.goal, calls.cycles() - this.begun, this.where));
@@ -241,7 +242,7 @@ export class Running {
     await current.keep();
   }
 
-  /** Stops time where it runs. */
+  /** Stops time if it runs. */
   async stand() {
     if (this.clock.isRunning) await this.stop();
   }
@@ -263,11 +264,11 @@ export class Running {
       return;
     }
     if (isNewRate || !this.clock.isRunning) this.showRate();
-    // A key that was pressed is kept at once. A page that is hidden is told once a second.
+    // A pressed key is saved at once. A hidden page gets a report once a second.
     if (frame.changesKeys || document.hidden || performance.now() - current.kept >= KEEP_TIME) current.keep();
   }
 
-  /** Where time stands still, with its name and its line. */
+  /** Returns the place where time is paused, with its name and its line. */
   get where() {
     return this.calls.where();
   }
@@ -288,8 +289,8 @@ export class Running {
     if (answer === null) return;
     const run = readRun(answer);
     const cycles = run ? run.cycles : 0;
-    if (isStop(answer)) this.tell(this.reasonOf({ why: run ? run.end : answer, cycles, returns: false }));
-    else this.tell(wordsOfStop({ kind: "over" }, { why: "goal", cycles, returns: false }, this.where));
+    if (isStop(answer)) this.showMessage(this.reasonOf({ why: run ? run.end : answer, cycles, returns: false }));
+    else this.showMessage(wordsOfStop({ kind: "over" }, { why: "goal", cycles, returns: false }, this.where));
   }
 
   /**
@@ -308,9 +309,9 @@ export class Running {
   }
 
   /**
-   * Whether a key will be down once all is done that was asked for; while keys are as fingers put them, whether it is.
+   * Returns whether a key will be down after all requests; while keys are as fingers put them, whether it is.
    * @param {Key} key
-   * @param {boolean} isDown whether the bench tells that it is
+   * @param {boolean} isDown whether the bench reports it as down
    */
   willBeDown(key, isDown) {
     return this.clock.movesKeys ? this.asked.willBeDown(key, isDown) : isDown;

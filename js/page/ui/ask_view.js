@@ -1,4 +1,4 @@
-// A question before something is done that a user may not have meant, in a dialog of its own.
+// A question before an action that a user may not have meant, in a dialog of its own.
 
 import { element } from "./dom.js";
 import * as say from "../../words/page.js";
@@ -19,7 +19,7 @@ export class AskView {
       element("div", { className: "bar" }, this.accept, this.refuse));
     /** @type {(isAccepted: boolean) => void} */
     this.answer = () => {};
-    // A dialog that was opened again meanwhile asks something else.
+    // A dialog that was reopened meanwhile asks something else.
     this.dialog.addEventListener("close", () => {
       if (!this.dialog.open) this.answer(this.dialog.returnValue === ACCEPTED);
     });
@@ -37,7 +37,7 @@ export class AskView {
   }
 
   /**
-   * Whether it is accepted. A question that is still open is refused by the next one.
+   * Resolves to whether it is accepted. The next question rejects one that is still open.
    * @param {Question} question
    * @returns {Promise<boolean>}
    */
@@ -45,7 +45,7 @@ export class AskView {
     this.answer(false);
     if (this.dialog.open) this.dialog.close("");
     this.title.textContent = title;
-    this.words.replaceChildren(...words.map((told) => (typeof told === "string" ? element("p", {}, told) : told)));
+    this.words.replaceChildren(...words.map((part) => (typeof part === "string" ? element("p", {}, part) : part)));
     this.accept.textContent = accept;
     this.accept.hidden = accept === "";
     this.refuse.textContent = refuse;

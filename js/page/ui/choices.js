@@ -1,11 +1,11 @@
-// How a user likes the page: which panels are folded, which tab is in front. It is kept beside the sessions where the browser lets it, and
-// for this visit alone where it does not.
+// A user's choices about the page: the folded panels, the front tab. They are stored next to the sessions if the browser allows it,
+// otherwise for this visit alone.
 
 const KEY = "fethsaim.choices";
 
 /** @typedef {Pick<Storage, "getItem" | "setItem">} ChoiceStore */
 
-/** The browser's store of words; null where it has none. */
+/** The browser's store of words; null if it has none. */
 export function ownStore() {
   try {
     return localStorage;
@@ -28,7 +28,7 @@ function readChoices(text) {
 }
 
 export class Choices {
-  /** @param {ChoiceStore | null} store null where the browser keeps nothing */
+  /** @param {ChoiceStore | null} store null if the browser keeps nothing */
   constructor(store = ownStore()) {
     this.store = store;
     this.chosen = readChoices(this.read());
@@ -43,7 +43,7 @@ export class Choices {
   }
 
   /**
-   * What was chosen by this name, "" where nothing was.
+   * Returns the choice of this name, or "" if there is none.
    * @param {string} name
    */
   get(name) {
@@ -60,7 +60,7 @@ export class Choices {
     try {
       if (this.store) this.store.setItem(KEY, JSON.stringify(this.chosen));
     } catch {
-      // It holds for this visit.
+      // It lasts for this visit.
     }
   }
 }

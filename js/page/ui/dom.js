@@ -1,7 +1,7 @@
 // Small helps for the views.
 
 /**
- * The element of this name in the page; `kind` is what it has to be.
+ * Returns the element of this name in the page; `kind` is its required type.
  * @template {HTMLElement} Kind
  * @param {string} id
  * @param {new () => Kind} kind
@@ -21,7 +21,7 @@ export const button = (id) => byId(id, HTMLButtonElement);
 export const field = (id) => byId(id, HTMLInputElement);
 
 /**
- * The element below another one.
+ * Returns a descendant of an element.
  * @template {HTMLElement} Kind
  * @param {HTMLElement} root
  * @param {string} selector
@@ -53,8 +53,8 @@ export function element(name, properties = {}, ...children) {
 }
 
 /**
- * A place for a text. It changes the page only where the text is another one, so that a frame without news costs nothing. Its text node
- * stays: in WebKit a click is lost where the text that was pressed is taken away before it is let go.
+ * A place for a text. It changes the page only if the text differs, so that an unchanged frame costs nothing. Its text node stays: in
+ * WebKit a click is lost if the pressed text is removed before the release.
  */
 export class Cell {
   /** @param {HTMLElement} node */
@@ -66,7 +66,7 @@ export class Cell {
   }
 
   /**
-   * Whether the text was another one.
+   * Returns whether the text has changed.
    * @param {string} text
    */
   set(text) {
@@ -77,7 +77,7 @@ export class Cell {
   }
 }
 
-/** A switch of an element, as an attribute or a class that is changed only where it is another one. */
+/** A switch of an element, as an attribute or a class that is changed only if it differs. */
 export class Switch {
   /** @param {(isOn: boolean) => void} show */
   constructor(show) {
@@ -95,7 +95,7 @@ export class Switch {
 }
 
 /**
- * Whether a button is pressed, as those who do not see it are told.
+ * Returns whether a button is pressed, as screen readers report it.
  * @param {HTMLElement} node
  */
 export function pressedSwitch(node) {
@@ -103,7 +103,7 @@ export function pressedSwitch(node) {
 }
 
 /**
- * A button acts on a click; after a click by pointer it gives the focus back, so that Enter and the space bar are the board's again.
+ * A button acts on a click; after a click by pointer it releases the focus, so that Enter and the space bar are the board's again.
  * @param {HTMLElement} node
  * @param {() => void} act
  */
@@ -115,7 +115,7 @@ export function onClick(node, act) {
 }
 
 /**
- * A button of a text, with what a click does.
+ * Returns a button with a text and an action.
  * @param {string} text
  * @param {() => void} act
  * @param {Record<string, unknown>} [properties]
@@ -126,7 +126,7 @@ export function buttonOf(text, act, properties = {}) {
   return made;
 }
 
-/** Whether a dialog is open: then the keyboard is its own. */
+/** Returns whether a dialog is open, which then owns the keyboard. */
 export function isDialogOpen() {
   return document.querySelector("dialog[open]") !== null;
 }
@@ -156,7 +156,7 @@ export function oneStop(root, columns) {
 }
 
 /**
- * After the buttons of such a block were made: the first one is the stop.
+ * Called after the buttons of such a block were made: makes the first one the tab stop.
  * @param {HTMLElement} root
  */
 export function setStop(root) {

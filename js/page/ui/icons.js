@@ -2,7 +2,7 @@
 
 import { drawn } from "./svg.js";
 
-/** Each icon as its lines (commands of SVG paths); behind a bar what is filled. */
+/** Each icon as its lines (commands of SVG paths); after a bar the filled parts. */
 const SHAPES = {
   continue: "|M4,2.5,13,8l-9,5.5z",
   pause: "|M4,3h3v10H4zM9,3h3v10H9z",
@@ -43,7 +43,7 @@ const SHAPES = {
 export const ICONS = /** @type {IconName[]} */ (Object.keys(SHAPES));
 
 /**
- * Makes an icon. It says nothing to those who do not see it: what it stands on has a name.
+ * Makes an icon. Screen readers skip it: the labelled control contains it.
  * @param {IconName} name
  * @returns {SVGElement}
  */

@@ -1,33 +1,33 @@
-// Words for what went wrong, and for what can be undone: the newest three, where they are seen wherever the page is scrolled to. Of a kind
-// there is one notice, the newest; it goes when that kind is well again. What can be undone has a notice each, and so has each session that
-// was not opened by itself. What went well leaves by itself. All of them can be read again in a list.
+// Notices about errors, and about actions that can be undone: the newest three, visible wherever the page is scrolled to. Of a kind there
+// is one notice, the newest; it disappears when that kind is well again. Each undoable action has its own notice, and so has each session
+// that was not opened by itself. Notices of success disappear by themselves. All of them can be read again in a list.
 
 import { block, element } from "./dom.js";
 import { NoticeList } from "./notice_list.js";
 import * as say from "../../words/page.js";
 
 /**
- * What stays wrong while it lasts (`kept`, `store`), what was refused (`session`, `refusal`), a link that was copied (`share`), a file
- * whose texts or bytes were taken (`file`), the session that was left for a new one (`left`), one that was not opened by itself
- * (`unended`), any other fault (""), and `undo`.
+ * The kinds of notices: lasting errors (`kept`, `store`), rejections (`session`, `refusal`), a link that was copied (`share`), a file whose
+ * texts or bytes were loaded (`file`), the session that was left for a new one (`left`), one that was not opened by itself (`unended`), any
+ * other error (""), and `undo`.
  * @typedef {"" | "kept" | "session" | "store" | "refusal" | "share" | "file" | "left" | "unended" | "undo"} NoticeKind
- * @typedef {{ word: string, act: () => void }} NoticeAction a button beside the words
+ * @typedef {{ word: string, act: () => void }} NoticeAction a button in the notice
  * @typedef {{ kind: NoticeKind, words: string, node: HTMLElement, message: import("./notice_list.js").Message, timer: number }} Row
  */
 
-/** Faults that are told again and again while they last: who dismissed one does not see the same words again before it was well. */
+/** Errors that are reported repeatedly while they last: a dismissed one does not appear again until it was well in between. */
 const LASTING = new Set(["kept", "store"]);
 /** Kinds that have a notice each. */
 const SEVERAL = new Set(["undo", "unended"]);
-/** Kinds of what went well. */
+/** Kinds of success. */
 const WENT_WELL = new Set(["undo", "file", "share", "left"]);
-/** A notice of what went well stays for so many milliseconds. */
+/** A notice of success stays for this many milliseconds. */
 const STAY_TIME = 8000;
-/** So many are shown. */
+/** The most notices that are shown. */
 const MOST_SHOWN = 3;
 
 /**
- * Returns the notices that make room: the oldest of what went well, else the oldest.
+ * Returns the notices that make room: the oldest of success, otherwise the oldest.
  * @template {{ kind: NoticeKind }} Each
  * @param {Each[]} rows the newest one first
  * @returns {Each[]}
@@ -44,7 +44,7 @@ export class Notice {
     this.list = new NoticeList((message, action) => this.act(message, action));
     /** @type {Row[]} the newest one first */
     this.rows = [];
-    /** @type {Map<NoticeKind, string>} lasting faults that were dismissed */
+    /** @type {Map<NoticeKind, string>} lasting errors that were dismissed */
     this.dismissed = new Map();
     /** @type {HTMLElement | null} what had the focus before a notice had it */
     this.before = null;
@@ -76,7 +76,7 @@ export class Notice {
   }
 
   /**
-   * A notice leaves after some time, but not while somebody is at it.
+   * A notice disappears after some time, but not while the user is at it.
    * @param {Row} row
    */
   leaveLater(row) {
@@ -102,7 +102,7 @@ export class Notice {
   }
 
   /**
-   * Does what a notice offers, once.
+   * Does the action of a notice, once.
    * @param {import("./notice_list.js").Message} message
    * @param {NoticeAction} action
    */
@@ -122,7 +122,7 @@ export class Notice {
     if (hadFocus) this.giveFocus();
   }
 
-  /** Whoever uses the keyboard goes on at the next notice, or where he came from. */
+  /** A keyboard user continues at the next notice, or at the former focus. */
   giveFocus() {
     const next = this.block.querySelector("button") || this.before;
     if (next) next.focus();
@@ -146,7 +146,7 @@ export class Notice {
   }
 
   /**
-   * Stands in an element, as in a dialog that is open: what is behind it can neither be used nor read.
+   * Moves the notices into an element, for example an open dialog: anything behind it can neither be used nor read.
    * @param {HTMLElement} host
    */
   moveTo(host) {

@@ -1,18 +1,18 @@
-// All notices so far, the newest first, in a dialog: those that have left can be read again, and what they offer can still be done.
+// All notices so far, the newest first, in a dialog: former ones can be read again, and their actions can still be done.
 
 import { button, buttonOf, element } from "./dom.js";
 import * as say from "../../words/page.js";
 
 /**
  * @typedef {import("./notice.js").NoticeAction} NoticeAction
- * @typedef {{ words: string, time: Date, actions: NoticeAction[] }} Message what a notice said, and what it offers until that is done
+ * @typedef {{ words: string, time: Date, actions: NoticeAction[] }} Message the words of a notice, and its actions until one is done
  */
 
-/** So many are kept. */
+/** The most notices that are stored. */
 const MOST_KEPT = 100;
 
 export class NoticeList {
-  /** @param {(message: Message, action: NoticeAction) => void} act does what a notice offers */
+  /** @param {(message: Message, action: NoticeAction) => void} act does the action of a notice */
   constructor(act) {
     this.act = act;
     /** @type {Message[]} the newest one first */

@@ -1,5 +1,4 @@
-// The panels of the workbench: each one can be closed, opened again and made full size, by its own buttons and in a menu; what was chosen
-// is kept.
+// The panels of the workbench: each one can be closed, reopened and made full size, by its own buttons and in a menu; the choice is stored.
 
 import { Switch, block, button, buttonOf, element, onClick } from "./dom.js";
 import * as say from "../../words/workbench.js";
@@ -9,11 +8,11 @@ import * as say from "../../words/workbench.js";
  * @typedef {{ id: string, name: string, node: HTMLElement, isOpen: Switch, box: HTMLInputElement }} Panel
  */
 
-/** The name of the choice that keeps which panel is full size. */
+/** The name of the stored choice of the full-size panel. */
 const FULL = "full";
 
 /**
- * The row at the top of a panel: its tabs, or its heading, whose name is its own.
+ * The row at the top of a panel: its tabs, or its heading, which gives its name.
  * @param {HTMLElement} panel
  */
 function headOf(panel) {
@@ -118,7 +117,7 @@ export class Panels {
     if (panel) this.open(id, !panel.isOpen.isOn);
   }
 
-  /** Gives the room of closed columns to the others. */
+  /** Distributes the room of closed columns to the others. */
   place() {
     const side = block("side");
     const { classList } = document.body;

@@ -1,5 +1,5 @@
-// What a narrow window shows: on a phone one region of the workbench at a time, chosen by tabs at the bottom; in a window that is narrower
-// than three columns the debugger's panels, as a drawer.
+// The regions of a narrow window: on a phone one region of the workbench at a time, chosen by tabs at the bottom; in a window that is
+// narrower than three columns the debugger's panels, as a drawer.
 
 import { Switch, block, button, onClick, pressedSwitch } from "./dom.js";
 

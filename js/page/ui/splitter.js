@@ -1,11 +1,11 @@
-// The borders between panels: each one is dragged, or moved by the arrows of the keyboard; a double click gives the usual place back.
+// The borders between panels: each one is dragged, or moved by the arrows of the keyboard; a double click restores the usual place.
 
 import { block } from "./dom.js";
 
 /** @typedef {import("./choices.js").Choices} Choices */
 
 /**
- * A border, the panel whose size it changes, and on which side of the panel it is. The sizes are in pixels.
+ * A border, the panel that it resizes, and the side of the panel where it is. The sizes are in pixels.
  * @typedef {{ id: string, of: string, property: string, side: "left" | "right" | "top" | "bottom", least: number, most: number }} Border
  */
 
@@ -31,7 +31,7 @@ export class Splitter {
     this.isUpright = border.side === "left" || border.side === "right";
     this.node.setAttribute("aria-valuemin", String(border.least));
     this.node.setAttribute("aria-valuemax", String(border.most));
-    /** What the panel's size is beside the place of the pointer that holds the border. */
+    /** The panel's size minus the position of the pointer that holds the border. */
     this.held = 0;
     this.node.addEventListener("pointerdown", (event) => {
       event.preventDefault();
@@ -41,13 +41,13 @@ export class Splitter {
     this.node.addEventListener("pointermove", (event) => {
       if (this.node.hasPointerCapture(event.pointerId)) this.set(this.held + this.along(event));
     });
-    this.node.addEventListener("focus", () => this.tell());
+    this.node.addEventListener("focus", () => this.showValue());
     this.node.addEventListener("keydown", (event) => this.typed(event));
     this.node.addEventListener("dblclick", () => this.reset());
     this.show(Number(choices.get(this.name)) || 0);
   }
 
-  /** The name of the choice that keeps it. */
+  /** The name of its stored choice. */
   get name() {
     return `size.${this.border.of}`;
   }
@@ -59,7 +59,7 @@ export class Splitter {
   }
 
   /**
-   * Where the pointer is, in the direction in which the panel grows.
+   * Returns the pointer's position in the direction in which the panel grows.
    * @param {{ clientX: number, clientY: number }} point
    */
   along({ clientX, clientY }) {
@@ -76,7 +76,7 @@ export class Splitter {
     this.show(taken);
   }
 
-  /** Gives the panel its usual size. */
+  /** Restores the usual size of the panel. */
   reset() {
     this.choices.set(this.name, "");
     this.show(0);
@@ -87,10 +87,10 @@ export class Splitter {
     const { style } = document.documentElement;
     if (size > 0) style.setProperty(this.border.property, `${size}px`);
     else style.removeProperty(this.border.property);
-    this.tell();
+    this.showValue();
   }
 
-  tell() {
+  showValue() {
     this.node.setAttribute("aria-valuenow", String(Math.round(this.size) || this.border.least));
   }
 

@@ -5,13 +5,13 @@ import * as say from "../../words/page.js";
 
 export class StatusView {
   constructor() {
-    this.rom = new Cell(block("rom-told"));
+    this.rom = new Cell(block("rom-status"));
     this.saved = new Cell(block("saved"));
   }
 
   /**
    * @param {boolean} isMatching whether the source is the program in ROM
-   * @param {string} words why it is not; "" without a source
+   * @param {string} words the reason; "" without a source
    */
   showRom(isMatching, words) {
     this.rom.set(isMatching ? say.ROM_MATCHES : words === "" ? "" : say.ROM_DIFFERS);

@@ -3,7 +3,7 @@
 const SVG = "http://www.w3.org/2000/svg";
 
 /**
- * An element of a drawing, with its attributes and what stands in it.
+ * Makes an element of a drawing, with its attributes and its content.
  * @param {string} name
  * @param {Record<string, string | number>} attributes
  * @param {(Node | string)[]} children

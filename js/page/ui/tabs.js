@@ -6,7 +6,7 @@ import { block, button, onClick } from "./dom.js";
 
 export class Tabs {
   /**
-   * The tab of a name is `NAME-tab`; what it shows is what its `aria-controls` names.
+   * The tab of a name is `NAME-tab`; its `aria-controls` names its panel.
    * @param {string[]} names
    * @param {string} first is in front
    * @param {(name: string) => void} chosen a user has chosen a tab
@@ -51,7 +51,7 @@ export class Tabs {
   }
 
   /**
-   * Brings a tab to the front; the first one where it is not offered.
+   * Brings a tab to the front; the first one if it is not offered.
    * @param {string} name
    */
   show(name) {
@@ -67,14 +67,14 @@ export class Tabs {
 
   /**
    * @param {string} name
-   * @param {() => void} listen is called whenever the tab has come to the front: what it shows can be measured then
+   * @param {() => void} listen is called whenever the tab has come to the front: its content can be measured then
    */
   whenShown(name, listen) {
     this.find(name).listeners.push(listen);
   }
 
   /**
-   * Offers a tab that was hidden until there was something to show, or takes it away.
+   * Offers a tab that was hidden until there was something to show, or hides it.
    * @param {string} name
    * @param {boolean} isThere
    */
@@ -85,13 +85,15 @@ export class Tabs {
   }
 
   /**
-   * A few words on a tab about what it shows, "" for none.
+   * A few words on a tab about its content, "" for none.
    * @param {string} name
    * @param {string} words
+   * @param {boolean} isGood whether they report a success
    */
-  mark(name, words) {
+  mark(name, words, isGood = false) {
     const { mark } = this.find(name);
     if (mark.textContent !== words) mark.textContent = words;
+    mark.classList.toggle("good", isGood);
   }
 
   /** @param {KeyboardEvent} event */

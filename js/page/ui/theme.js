@@ -6,7 +6,7 @@ export class Theme {
   /** @param {import("./choices.js").Choices} choices */
   constructor(choices) {
     this.choices = choices;
-    /** Other colours are shown. */
+    /** The theme has changed. */
     this.changed = () => {};
     this.show();
   }

@@ -1,14 +1,14 @@
-// Tooltips: what a button does, and its key, where the pointer rests on it, where it has the focus by the keyboard, and where a finger
-// stays on it. A button with a `title` is shown so, too, where the browser shows none by itself: for the keyboard and for fingers.
+// Tooltips: the action of a button, and its key, when the pointer rests on it, when it has the keyboard focus, and when a finger stays on
+// it. A button with a `title` gets one, too, if the browser shows none by itself: for the keyboard and for fingers.
 
 import { element } from "./dom.js";
 
 /** @typedef {{ words: string, key: string }} Tip */
 
-/** The pointer rests, and a finger stays, so many milliseconds. */
+/** The pointer rests, or a finger stays, for this many milliseconds. */
 const REST_TIME = 500;
 const TOUCH_TIME = 500;
-/** After a finger was lifted it is read for so long. */
+/** The time for which it can be read after a finger was lifted. */
 const READ_TIME = 2500;
 const GAP = 6;
 
@@ -21,7 +21,7 @@ export class Tooltips {
     this.timer = 0;
     /** @type {HTMLElement | null} whose tip is shown */
     this.shown = null;
-    /** Whether a finger has brought the tip, so that lifting it is no click. */
+    /** True if a finger has opened the tooltip, so that lifting it is not a click. */
     this.byTouch = false;
     addEventListener("pointerover", (event) => this.over(event));
     addEventListener("pointerout", (event) => event.pointerType !== "touch" && this.hide());
@@ -32,7 +32,7 @@ export class Tooltips {
     addEventListener("focusin", (event) => this.focused(event.target));
     addEventListener("focusout", () => this.hide());
     addEventListener("keydown", (event) => event.key === "Escape" && this.hide(), true);
-    // What scrolls elsewhere, as the listing does while time runs, moves nothing here.
+    // Scrolling elsewhere, as of the listing while time runs, moves nothing here.
     addEventListener("scroll", ({ target }) => target instanceof Node && target.contains(this.shown) && this.shown && this.hide(), true);
   }
 
@@ -47,7 +47,7 @@ export class Tooltips {
   /**
    * The nearest element with a tip.
    * @param {EventTarget | null} target
-   * @param {boolean} isOwn whether one that the browser shows by itself does not count
+   * @param {boolean} isOwn whether a tooltip of the browser itself is excluded
    * @returns {HTMLElement | null}
    */
   find(target, isOwn) {
@@ -77,7 +77,7 @@ export class Tooltips {
     }, TOUCH_TIME);
   }
 
-  /** A finger has gone up: what it has brought is read for a moment. */
+  /** A finger was lifted: its tooltip stays for a moment. */
   lifted() {
     clearTimeout(this.timer);
     if (this.byTouch) this.timer = window.setTimeout(() => this.hide(), READ_TIME);
@@ -116,7 +116,7 @@ export class Tooltips {
     if (!words || !node.isConnected) return;
     this.shown = node;
     this.node.replaceChildren(words, ...(key ? [" ", element("kbd", {}, key)] : []));
-    // A dialog that is open covers all but what stands in it.
+    // An open dialog covers everything outside it.
     (node.closest("dialog[open]") || document.body).append(this.node);
     this.node.hidden = false;
     this.put(node.getBoundingClientRect());

@@ -1,4 +1,4 @@
-// Work that takes long: how far it is, and a button that cancels it.
+// Long work: its progress, and a button that cancels it.
 
 import { Cell, below, block, button, onClick } from "./dom.js";
 import * as say from "../../words/page.js";
@@ -22,9 +22,9 @@ export class WorkView {
   }
 
   /**
-   * Does work, and shows it where it takes long.
+   * Does work, and shows it if it takes long.
    * @template Result
-   * @param {string} words what it is
+   * @param {string} words its description
    * @param {(signal: AbortSignal, progress: (done: number, total: number) => void) => Promise<Result>} work
    * @returns {Promise<Result>}
    */

@@ -1,4 +1,4 @@
-// The menu of a row of the waves: its name, its group, its place, its colour; and that of a group.
+// The menu of a row of the waves: its name, its group, its position, its colour; and that of a group.
 
 import { ContextMenu } from "../commands/menu_view.js";
 import { FieldBar } from "../text/field_bar.js";
@@ -14,7 +14,7 @@ import * as say from "../../words/waves.js";
 const LONGEST_NAME = 40;
 
 export class RowMenu {
-  /** @param {import("./wave_view.js").WaveView} view whose marked row it is for */
+  /** @param {import("./wave_view.js").WaveView} view for whose marked row it is */
   constructor(view) {
     this.view = view;
     this.menu = new ContextMenu("row-menu", say.ROW);

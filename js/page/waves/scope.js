@@ -23,25 +23,24 @@ import * as say from "../../words/waves.js";
  */
 
 /**
- * What the logic analyser calls.
+ * The calls that the logic analyser makes.
  * @typedef {object} ScopeCalls
  * @property {(cycles: number, isBefore: boolean, values: string[]) => Promise<Recorded | null>} record Records `cycles` cycles up to now
  *   (`isBefore`) or from now on, with values by their names. Resolves to null if it failed, which is then reported.
- * @property {(wanted: { trigger: string } & LiveWanted, values: string[]) => Promise<{ recorded: Recorded | null, fault: string } |
- *   null>} begin Records from now on until `end`. Resolves to the first part, or to why the trigger cannot be read; null if the call
- *   failed.
+ * @property {(wanted: { trigger: string } & LiveWanted, values: string[]) => Promise<{ recorded: Recorded | null, fault: string } | null>}
+ * begin Records from now on until `end`. Resolves to the first part, or to why the trigger cannot be read; null if the call failed.
  * @property {() => Promise<LivePart | null>} end Ends the recording. Resolves to the rest of it; null if there is none.
- * @property {() => WaveLine[]} offered Returns all lines that the board of now has.
- * @property {() => string} name Returns the name of the session, after which files are named.
+ * @property {() => WaveLine[]} offered Returns all lines of the present board.
+ * @property {() => string} name Returns the name of the session, from which file names are made.
  * @property {(address: number) => void} goTo Shows the line of an address in source and listing.
  * @property {(isOn: boolean) => void} isOn Shows on the tab whether it records.
- * @property {(rows: import("../../core/waves/wave_rows.js").KeptRows) => void} keep Keeps how the rows are arranged.
+ * @property {(rows: import("../../core/waves/wave_rows.js").KeptRows) => void} keep Stores the arrangement of the rows.
  */
 
-/** A picture that goes on is drawn once in so many milliseconds. */
+/** A growing picture is drawn once in this many milliseconds. */
 const PICTURE_TIME = 100;
 
-/** Of what opens below the row of controls one is open; it is closed by Escape, and by a press elsewhere. */
+/** At most one panel below the row of controls is open; Escape closes it, and so does a press elsewhere. */
 function listenToPops() {
   const pops = [.../** @type {NodeListOf<HTMLDetailsElement>} */ (block("wave-bar").querySelectorAll(".pop"))];
   const closeBut = (/** @type {EventTarget | null} */ target) => {
@@ -62,13 +61,19 @@ function listenToPops() {
   }
 }
 
+/** What opens below the controls begins where they end, in one row or more. */
+function followHeight() {
+  const bar = block("wave-bar");
+  new ResizeObserver(() => block("scope").style.setProperty("--wave-bar-height", `${bar.offsetHeight}px`)).observe(bar);
+}
+
 export class Scope {
   /** @param {ScopeCalls} calls */
   constructor(calls) {
     this.calls = calls;
-    this.told = new Cell(block("scope-told"));
+    this.status = new Cell(block("scope-status"));
     this.count = new Cell(block("scope-count"));
-    this.found = new Cell(block("wave-search-told"));
+    this.found = new Cell(block("wave-search-status"));
     this.recordWord = new Cell(button("record"));
     this.recordWord.set(say.RECORD);
     /** @type {WaveView} */
@@ -92,6 +97,7 @@ export class Scope {
     onClick(button("save-png"), () => this.savePng());
     onClick(button("save-svg"), () => this.saveSvg());
     listenToPops();
+    followHeight();
     for (const id of ["record-cycles", "trigger", "behind"]) {
       field(id).addEventListener("keydown", (event) => {
         if (event.key === "Enter") this.record();
@@ -112,13 +118,13 @@ export class Scope {
     return this.live !== null && this.live.isOn;
   }
 
-  /** A trigger is one of what is recorded while time runs. */
+  /** A trigger belongs to a recording of running time. */
   showTrigger() {
     block("trigger-bar").hidden = this.where.value !== "live";
   }
 
   /**
-   * The number of cycles in a field, 0 where there is none, which is told at the field.
+   * Returns the number of cycles in a field, 0 if there is none, which is reported at the field.
    * @param {string} id
    * @param {number} least
    */
@@ -127,18 +133,18 @@ export class Scope {
     const cycles = input.value.trim() === "0" && least === 0 ? 0 : readCycles(input.value) || -1;
     input.setAttribute("aria-invalid", String(cycles < 0));
     if (cycles < 0) {
-      this.told.set(say.howManyCycles(least, MOST_CYCLES.toLocaleString("en")));
+      this.status.set(say.howManyCycles(least, MOST_CYCLES.toLocaleString("en")));
       byId("wave-settings", HTMLDetailsElement).open = true;
     }
     return cycles;
   }
 
-  /** By the button: records, or ends what records. */
+  /** Handles the button: starts or ends the recording. */
   async record() {
     if (this.isBusy) return;
     this.isBusy = true;
-    // The same words are told anew.
-    this.told.set("");
+    // Reports the same words again.
+    this.status.set("");
     try {
       if (this.isLive) await this.end();
       else if (this.where.value === "live") await this.begin();
@@ -155,7 +161,7 @@ export class Scope {
     const recorded = await this.calls.record(cycles, isBefore, this.choice.values);
     if (!recorded) return;
     const waves = new Waves(recorded);
-    this.told.set(recordedText(waves, cycles, isBefore));
+    this.status.set(recordedText(waves, cycles, isBefore));
     if (waves.span > 0 || !isBefore) this.show(waves);
   }
 
@@ -169,7 +175,7 @@ export class Scope {
   // --- while time runs ---
 
   /**
-   * What is to be kept; null where a field cannot be read, which is told.
+   * Returns the limits of the recording, or null if a field cannot be read, and reports that.
    * @returns {LiveChoice | null}
    */
   chosen() {
@@ -178,7 +184,7 @@ export class Scope {
     const behind = most < 0 || trigger === "" ? 0 : this.cyclesIn("behind", 0);
     if (most < 0 || behind < 0) return null;
     field("behind").setAttribute("aria-invalid", String(behind > most));
-    if (behind > most) this.told.set(say.mostAfter(most.toLocaleString("en")));
+    if (behind > most) this.status.set(say.mostAfter(most.toLocaleString("en")));
     return behind > most ? null : { most, behind, trigger, stopsTime: byId("stops-time", HTMLInputElement).checked };
   }
 
@@ -191,11 +197,11 @@ export class Scope {
     if (!begun) return;
     const { recorded, fault } = begun;
     field("trigger").setAttribute("aria-invalid", String(fault !== ""));
-    if (fault) this.told.set(say.triggerFault(fault));
+    if (fault) this.status.set(say.triggerFault(fault));
     if (!recorded) return;
     this.live = new LiveWaves(recorded, choice);
     this.show(this.live.waves);
-    this.tellLive(this.live);
+    this.showLive(this.live);
   }
 
   /**
@@ -213,7 +219,7 @@ export class Scope {
     if (part) this.take(part);
   }
 
-  /** Values are chosen that are not recorded: a recording that goes on begins anew with them. */
+  /** Values are chosen that are not recorded: a recording in progress restarts with them. */
   async wantOthers() {
     if (!this.isLive || this.isBusy) return;
     this.isBusy = true;
@@ -225,7 +231,7 @@ export class Scope {
   }
 
   /**
-   * More was recorded; null where nothing is recorded any more.
+   * Handles a further part; null if recording has ended.
    * @param {LivePart | null} part
    */
   take(part) {
@@ -248,13 +254,13 @@ export class Scope {
     if (live.over === "trigger") this.view.showAround(live.triggered);
     else if (!live.isOn) this.view.fit();
     this.choice.grown();
-    this.tellLive(live);
+    this.showLive(live);
     const { over } = live;
-    // Who runs a new program waits for the same again.
+    // A user who runs a new program waits for the same again.
     if (over === "board" || over === "program") this.begin();
   }
 
-  /** Time stands still: what was recorded so far is seen as a whole. */
+  /** Time is paused: the recording so far is shown as a whole. */
   stands() {
     const { live } = this;
     if (!live || !live.isOn) return;
@@ -263,14 +269,14 @@ export class Scope {
   }
 
   /** @param {LiveWaves} live */
-  tellLive(live) {
-    this.told.set(live.words);
+  showLive(live) {
+    this.status.set(live.words);
     this.count.set(live.isOn ? live.kept : "");
     this.recordWord.set(live.isOn ? say.STOP_RECORDING : say.RECORD);
     this.calls.isOn(live.isOn);
   }
 
-  /** @param {boolean} isForward looks for what stands in the field, from the cursor on */
+  /** @param {boolean} isForward searches for the text of the field, from the cursor on */
   find(isForward) {
     const { waves, line, view } = this.view;
     if (!waves) return;
@@ -290,12 +296,12 @@ export class Scope {
     else this.found.set(say.notFound(text.trim(), isForward, grouped(view.moment)));
   }
 
-  /** Another session is shown: the recording was none of it. */
+  /** Another session is shown, to which the recording does not belong. */
   forget() {
     this.live = null;
     this.view.waves = null;
     this.choice.forget();
-    this.told.set("");
+    this.status.set("");
     this.count.set("");
     this.recordWord.set(say.RECORD);
     this.calls.isOn(false);
@@ -303,12 +309,12 @@ export class Scope {
   }
 
   /**
-   * The recording, of which a row is shown; null if there is none, which is told.
+   * Returns the recording, if a row is shown; null if not, which is reported.
    * @returns {Waves | null}
    */
   get saved() {
     const { waves, lines } = this.view;
-    if (waves && lines.length === 0) this.told.set(say.NO_LINE_CHOSEN);
+    if (waves && lines.length === 0) this.status.set(say.NO_LINE_CHOSEN);
     return lines.length === 0 ? null : waves;
   }
 

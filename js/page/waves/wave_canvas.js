@@ -14,9 +14,9 @@ import { ticksOf } from "../../core/waves/wave_window.js";
  * @typedef {{ ink: string, faint: string, grid: string, sheet: string, chosen: string, first: string, second: string, measured: string }
  *   & Record<RowColour, string>} Colours
  * @typedef {{ row: number, from: number, to: number }} Stretch of a row, by two moments
- * @typedef {{ waves: Waves, rows: WaveRow[], selected: number, view: WaveWindow, top: number, gutter: number, height: number,
- *   trigger: number, measured: Stretch | null, colours: Colours, font: string }} Picture what is drawn: `top` is how many pixels of the
- *   rows are scrolled away above, `trigger` the moment of the trigger, -1 for none, `measured` what the pointer is on
+ * @typedef {{ waves: Waves, rows: WaveRow[], selected: number, view: WaveWindow, top: number, gutter: number, height: number, trigger:
+ * number, measured: Stretch | null, colours: Colours, font: string }} Picture the drawing: `top` is how many pixels of the rows are
+ * scrolled away above, `trigger` the moment of the trigger, -1 for none, `measured` the measurement at the pointer
  */
 
 /** The height of the moments above, and of a line. */
@@ -57,7 +57,7 @@ export function drawWaves(context, picture) {
 }
 
 /**
- * Draws inside a rectangle alone.
+ * Draws only inside a rectangle.
  * @param {Context} context
  * @param {[number, number, number, number]} box
  * @param {() => void} draw
@@ -76,17 +76,21 @@ function clipped(context, box, draw) {
  * @param {Picture} picture
  */
 function drawTicks(context, { view, gutter, height, colours }) {
+  let free = 0;
   for (const tick of ticksOf(view, TICK_ROOM)) {
     const x = Math.round(gutter + view.xOf(tick)) + 0.5;
     context.strokeStyle = colours.grid;
     strokeLine(context, x, 18, x, height);
     context.fillStyle = colours.faint;
     const text = tick.toLocaleString("en");
-    const isAtEnd = x + context.measureText(text).width > gutter + view.width;
-    context.textAlign = isAtEnd ? "right" : "left";
-    context.fillText(text, x + (isAtEnd ? -3 : 3), 10);
+    const { width } = context.measureText(text);
+    // A cursor at the moment does not cover its number.
+    const right = x + FLAG / 2 + 2;
+    const begin = right + width > gutter + view.width ? x - 3 - width : right;
+    if (begin < free) continue;
+    context.fillText(text, begin, 10);
+    free = begin + width + 6;
   }
-  context.textAlign = "left";
   context.fillStyle = colours.faint;
   context.fillText("cycles", 4, 10);
 }
@@ -139,7 +143,7 @@ function drawRow(context, picture, row, y) {
 }
 
 /**
- * What is measured of a row, underlined.
+ * Draws the measurement of a row, underlined.
  * @param {Context} context
  * @param {Picture} picture
  * @param {Stretch} measured
@@ -152,7 +156,7 @@ function drawMeasured(context, { view, gutter, colours }, { from, to }, y) {
 }
 
 /**
- * What a line is called beside its picture: a port by the name that the board's text gives it, a decoder by what it does.
+ * Returns the name of a line next to its picture: a port by its name in the board's text, a decoder by its function.
  * @param {import("../../core/waves/wave_lines.js").WaveLine} line
  */
 function nameInGutter(line) {
@@ -162,7 +166,7 @@ function nameInGutter(line) {
 }
 
 /**
- * The value at the active cursor; that of a label or a decoder stands in its row.
+ * Returns the value at the active cursor; that of a label or a decoder is in its row.
  * @param {Picture} picture
  * @param {number} line
  */
@@ -171,7 +175,7 @@ function valueInGutter({ waves, view }, line) {
 }
 
 /**
- * One bit: high and low levels, and a block where edges are closer than pixels.
+ * Draws one bit: high and low levels, and a block if edges are closer than pixels.
  * @param {Context} context
  * @param {Picture} picture
  * @param {number} line
@@ -209,7 +213,7 @@ function drawLevels(context, { waves, view, gutter }, line, y) {
 }
 
 /**
- * The counter or the label: a box for each value, with the value in it where it has room.
+ * Draws the counter or the label: a box for each value, with the value in it if it has room.
  * @param {Context} context
  * @param {Picture} picture
  * @param {number} line
@@ -271,7 +275,7 @@ export function flagAt(x, right) {
 }
 
 /**
- * A moment that is marked, by a line with a letter on a flag.
+ * A marked moment: a line with a letter on a flag.
  * @param {Context} context
  * @param {Picture} picture
  * @param {{ moment: number, letter: string, y: number, colour: string, dash: number[] }} mark

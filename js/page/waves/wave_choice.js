@@ -1,4 +1,4 @@
-// Which lines and values of a recording are shown: a box to tick for each of them, by the parts of the board, and a search among them.
+// The choice of a recording's lines and values: a box to tick for each of them, by the parts of the board, and a search among them.
 
 import { Cell, block, button, element, field, onClick } from "../ui/dom.js";
 import { firstChoice, found, titleOf, valuesAmong } from "../../core/waves/wave_catalog.js";
@@ -10,11 +10,11 @@ import * as say from "../../words/waves.js";
  */
 
 /**
- * What the choice of lines calls.
+ * The calls that the choice of lines makes.
  * @typedef {object} ChoiceCalls
- * @property {() => WaveLine[]} offered Returns all lines that the board of now has, recorded or not.
+ * @property {() => WaveLine[]} offered Returns all lines of the present board, recorded or not.
  * @property {(chosen: number[]) => void} choose Shows these lines of the recording, by their numbers, in this order.
- * @property {() => void} wants Other values are wanted than the recording has.
+ * @property {() => void} wants Values are chosen that the recording lacks.
  */
 
 export class WaveChoice {
@@ -25,9 +25,9 @@ export class WaveChoice {
     this.waves = null;
     /** @type {Set<string>} names */
     this.chosen = new Set();
-    /** Whether the lines are those that change, as none were chosen by hand. */
+    /** True if the lines are those that change, because the user chose none. */
     this.isOwn = false;
-    this.told = new Cell(block("signals-told"));
+    this.status = new Cell(block("signals-status"));
     /** @type {Map<string, HTMLInputElement>} the boxes by the names of their lines */
     this.boxes = new Map();
     onClick(button("waves-changing"), () => this.chooseChanging());
@@ -42,24 +42,24 @@ export class WaveChoice {
     return valuesAmong(this.calls.offered(), this.chosen);
   }
 
-  /** @param {Waves} waves another recording; what was chosen by its name stays chosen */
+  /** @param {Waves} waves another recording; lines that were chosen by name stay chosen */
   begin(waves) {
     this.waves = waves;
     const isLineChosen = waves.lines.some(({ name, kind }) => kind !== "value" && this.chosen.has(name));
     if (!isLineChosen) this.isOwn = false;
     if (!this.isOwn) this.addChanging(waves);
     this.draw();
-    this.tell();
+    this.showCount();
   }
 
-  /** What was recorded has become more: lines that change are shown, where none were chosen by hand. */
+  /** Takes a longer recording: shows lines that change, unless lines were chosen manually. */
   grown() {
     if (this.isOwn || !this.waves) return;
-    if (this.addChanging(this.waves)) this.tell();
+    if (this.addChanging(this.waves)) this.showCount();
   }
 
   /**
-   * The lines that change are chosen in the place of other ones; gives whether they are others now.
+   * Chooses the lines that change in place of others; returns whether the choice has changed.
    * @param {Waves} waves
    */
   addChanging(waves) {
@@ -74,19 +74,19 @@ export class WaveChoice {
 
   chooseChanging() {
     this.isOwn = false;
-    if (this.waves && this.addChanging(this.waves)) this.tell();
+    if (this.waves && this.addChanging(this.waves)) this.showCount();
   }
 
-  /** Nothing is recorded any more; what was chosen by hand is chosen for the next board, too, where it has lines of these names. */
+  /** The recording is closed; the user's choice also applies to the next board, if it has lines of these names. */
   forget() {
     this.waves = null;
     this.chosen.clear();
     this.isOwn = false;
-    this.told.set("");
+    this.status.set("");
     this.draw();
   }
 
-  /** The boxes of what is looked for; they are made while they are seen. */
+  /** The boxes of the matches; they are made while they are visible. */
   draw() {
     if (!block("wave-choice").hasAttribute("open")) return;
     const { lines, more } = found(this.calls.offered(), field("signal-search").value, this.chosen);
@@ -134,7 +134,7 @@ export class WaveChoice {
     this.chosen = new Set(names);
     this.isOwn = isOwn;
     this.showTicks();
-    this.tell();
+    this.showCount();
     if (this.lacking.length > 0) this.calls.wants();
   }
 
@@ -144,11 +144,11 @@ export class WaveChoice {
     return waves ? this.values.filter((name) => waves.lines.every((line) => line.name !== name)) : [];
   }
 
-  tell() {
+  showCount() {
     const { waves, lacking } = this;
     if (!waves) return;
     const names = lacking.slice(0, 3).join(", ") + (lacking.length > 3 ? " .." : "");
-    this.told.set(lacking.length === 0 ? "" : say.recordedNext(names, lacking.length === 1));
+    this.status.set(lacking.length === 0 ? "" : say.recordedNext(names, lacking.length === 1));
     this.calls.choose(waves.lines.map((_, line) => line).filter((line) => this.chosen.has(waves.lines[line].name)));
   }
 }

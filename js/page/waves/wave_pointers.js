@@ -1,12 +1,12 @@
-// Fingers, mouse and wheel on the waves: a click puts the cursor, a drag moves the part that is seen, or a row by its name, two fingers and
-// the wheel zoom.
+// Fingers, mouse and wheel on the waves: a click puts the cursor, a drag moves the visible part, or a row by its name, two fingers and the
+// wheel zoom.
 
 /**
  * @typedef {{ x: number, y: number }} Point
  */
 
 /**
- * What fingers, mouse and wheel on the waves call. Points are in pixels from the top left corner.
+ * The calls that fingers, mouse and wheel on the waves make. Points are in pixels from the top left corner.
  * @typedef {object} PointerCalls
  * @property {(point: Point, isOther: boolean) => void} click Puts the cursor at a point; with Shift (`isOther`) the other cursor.
  * @property {(point: Point) => boolean} holdsCursor Returns whether a drag from a point moves the cursor.
@@ -14,13 +14,13 @@
  * @property {(point: Point) => boolean} isName Returns whether names of rows are at a point.
  * @property {(from: Point, to: Point) => void} dragRow Moves the row whose name is at one point to the other point.
  * @property {(point: Point | null) => void} hover The pointer is at a point and nothing is pressed; null: it has left.
- * @property {(pixels: number) => void} pan Moves the part that is shown, to later moments if `pixels` is positive.
+ * @property {(pixels: number) => void} pan Moves the visible part, to later moments if `pixels` is positive.
  * @property {(factor: number, x: number) => void} zoom Shows `factor` times as many pixels for each cycle, around the moment at `x`.
  */
 
 /** A pointer that has moved less, in pixels, has clicked. */
 const STILL = 5;
-/** What a turn of the wheel zooms by. */
+/** The zoom factor of a turn of the wheel. */
 const WHEEL = 1.25;
 
 export class WavePointers {

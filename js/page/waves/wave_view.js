@@ -1,4 +1,4 @@
-// Waves as they are seen: the canvas, the cursors, and their values in words.
+// The view of the waves: the canvas, the cursors, and their values in words.
 
 import { Cell, block, button, byId, field, onClick, pressedSwitch } from "../ui/dom.js";
 import { AXIS, ROW, drawWaves } from "./wave_canvas.js";
@@ -23,29 +23,29 @@ import * as say from "../../words/waves.js";
  */
 
 /**
- * What the waves call.
+ * The calls that the waves make.
  * @typedef {object} WaveViewCalls
  * @property {(address: number) => void} goTo Shows the line of an address in source and listing.
  * @property {(name: string) => void} hide Shows a line no longer, by its name.
- * @property {(rows: KeptRows) => void} keep Keeps how the rows are arranged.
+ * @property {(rows: KeptRows) => void} keep Stores the arrangement of the rows.
  */
 
-/** How much a button or a key zooms. */
+/** The zoom factor of a button or a key. */
 const ZOOM = 2;
 /** The names of lines have so much room, and less on a narrow page. */
 const GUTTER = 150;
 const NARROW_GUTTER = 112;
 const NARROW = 600;
-/** So many lines are seen before they scroll. */
+/** The most lines that are visible without scrolling. */
 const MOST_ROWS = 20;
 
-/** What colours are called in the style sheet. */
+/** The names of colours in the style sheet. */
 const COLOURS = {
   ink: "--wave-ink", faint: "--wave-faint", grid: "--wave-grid", sheet: "--wave-sheet", chosen: "--wave-chosen", first: "--wave-first",
   second: "--wave-second", measured: "--wave-measured",
   ...Object.fromEntries(ROW_COLOURS.map((colour) => [colour, `--wave-${colour}`])),
 };
-/** From the pointer to what is measured there. */
+/** From the pointer to the measurement there. */
 const NEAR = 12;
 
 export class WaveView {
@@ -69,7 +69,7 @@ export class WaveView {
     this.measure = block("wave-measure");
     this.measured = new Cell(this.measure);
     this.menu = new RowMenu(this);
-    /** The row that edges are looked for in, -1 for none. */
+    /** The row in which edges are searched, -1 for none. */
     this.selected = -1;
     this.view = new WaveWindow(0);
     this.isAsked = false;
@@ -77,7 +77,7 @@ export class WaveView {
     this.base = "hex";
     /** The moment of the trigger, -1 for none. */
     this.trigger = -1;
-    this.told = ["wave-first", "wave-second", "wave-between"].map((id) => new Cell(block(id)));
+    this.status = ["wave-first", "wave-second", "wave-between"].map((id) => new Cell(block(id)));
     this.active = [pressedSwitch(button("cursor-a")), pressedSwitch(button("cursor-b"))];
     this.values = new WaveValues(() => this.ask());
     this.listen();
@@ -157,7 +157,7 @@ export class WaveView {
     this.ask();
   }
 
-  /** The recording stands still: all of it is seen, with the cursors at the first two edges of the first row that has some. */
+  /** Shows a finished recording whole, with the cursors at the first two edges of the first row that has some. */
   fit() {
     const { waves, view, rows } = this;
     const row = rows.find(({ line }) => waves !== null && line >= 0 && waves.changesOf(line).length > 0);
@@ -166,7 +166,7 @@ export class WaveView {
     this.see(() => view.fit());
   }
 
-  /** @param {number} moment is seen, with what is around it */
+  /** @param {number} moment is shown, with its surroundings */
   showAround(moment) {
     this.see(() => this.view.showAround(moment));
   }
@@ -185,7 +185,7 @@ export class WaveView {
   }
 
   /**
-   * The rows are others, or elsewhere.
+   * The rows have changed or moved.
    * @param {WaveRow | undefined} marked the row that is marked
    */
   arrange(marked) {
@@ -199,7 +199,7 @@ export class WaveView {
     this.ask();
   }
 
-  /** @param {WaveRow} row of before */
+  /** @param {WaveRow} row the former one */
   rowOf({ line, group }) {
     return this.rows.findIndex((each) => each.line === line && (line >= 0 || each.group === group));
   }
@@ -218,7 +218,7 @@ export class WaveView {
   }
 
   /**
-   * Something of the rows becomes other, and is kept.
+   * Stores a change of the rows.
    * @param {() => void} act
    */
   rearrange(act) {
@@ -251,7 +251,7 @@ export class WaveView {
   }
 
   /**
-   * Lines get another look.
+   * Changes the appearance of lines.
    * @param {string[]} names
    * @param {import("../../core/waves/wave_rows.js").RowLook} look
    */
@@ -276,9 +276,9 @@ export class WaveView {
     if (row) this.menu.open(row, { left: Math.max(left, event.clientX), bottom: event.clientY > top ? event.clientY : y });
   }
 
-  // --- what is measured ---
+  // --- measurements ---
 
-  /** @param {Point | null} point where the pointer is; null if it presses, or is gone */
+  /** @param {Point | null} point the position of the pointer; null if it presses, or is gone */
   hover(point) {
     this.pointer = point;
     if (!point) this.dragged = null;
@@ -286,11 +286,11 @@ export class WaveView {
   }
 
   /**
-   * What the pointer is on: told beside it, and underlined in the picture.
+   * Shows the measurement at the pointer: in words next to it, and underlined in the picture.
    * @param {Waves} waves
    * @returns {import("./wave_canvas.js").Stretch | null}
    */
-  tellMeasure(waves) {
+  showMeasure(waves) {
     const { pointer, gutter, view } = this;
     const row = pointer ? this.rowAt(pointer) : -1;
     const { line = -1 } = this.rows[row] || {};
@@ -307,9 +307,9 @@ export class WaveView {
     return { row, from: measure.from, to: measure.to };
   }
 
-  // --- what is done by hand ---
+  // --- actions of the user ---
 
-  /** @param {() => void} act changes what is seen */
+  /** @param {() => void} act changes the visible part */
   see(act) {
     act();
     this.ask();
@@ -328,7 +328,7 @@ export class WaveView {
     });
   }
 
-  /** @param {number} factor about the cursor where it is seen, else about the middle */
+  /** @param {number} factor about the cursor if it is visible, otherwise about the middle */
   zoom(factor) {
     const { view } = this;
     const isSeen = view.moment >= view.from && view.moment <= view.to;
@@ -355,7 +355,7 @@ export class WaveView {
     else this.showInstruction();
   }
 
-  /** @param {number} line is marked, where it is shown */
+  /** @param {number} line is marked, if it is shown */
   mark(line) {
     const row = this.rows.findIndex((each) => each.line === line);
     if (row >= 0) this.select(row);
@@ -408,16 +408,16 @@ export class WaveView {
       p: () => this.toEdge(false), n: () => this.toEdge(true), a: () => this.activate(0), b: () => this.activate(1),
     };
     const act = acts[event.key] || acts[event.key.toLowerCase()];
-    // What the board's keys are typed by does not press them from here.
+    // The keyboard does not press the board's keys from here.
     if (event.key.length === 1 || act) event.stopPropagation();
     if (!act) return;
     event.preventDefault();
     act();
   }
 
-  // --- what is shown ---
+  // --- drawing ---
 
-  /** The picture is drawn anew, once, when the browser draws next. */
+  /** Requests a drawing, once, when the browser draws next. */
   ask() {
     if (this.isAsked || !this.waves) return;
     this.isAsked = true;
@@ -430,10 +430,10 @@ export class WaveView {
   show() {
     const { waves, view } = this;
     if (!waves || this.scroll.clientWidth === 0) return;
-    this.draw(waves, this.tellMeasure(waves));
-    this.told[0].set(cursorText("A", view.cursors[0], waves));
-    this.told[1].set(cursorText("B", view.cursors[1], waves));
-    this.told[2].set(betweenText(view.between));
+    this.draw(waves, this.showMeasure(waves));
+    this.status[0].set(cursorText("A", view.cursors[0], waves));
+    this.status[1].set(cursorText("B", view.cursors[1], waves));
+    this.status[2].set(betweenText(view.between));
     this.active.forEach((active, at) => active.set(view.active === at));
     this.canvas.setAttribute("aria-valuemin", String(view.begin));
     this.canvas.setAttribute("aria-valuemax", String(view.end));
@@ -451,7 +451,7 @@ export class WaveView {
     const { scroll, canvas, gutter } = this;
     const [width, height] = [scroll.clientWidth, scroll.clientHeight];
     const ratio = devicePixelRatio || 1;
-    // A canvas that gets its own size again is cleared, too.
+    // Setting a canvas to its present size clears it, too.
     canvas.width = Math.round(width * ratio);
     canvas.height = Math.round(height * ratio);
     canvas.style.setProperty("width", `${width}px`);
@@ -464,7 +464,7 @@ export class WaveView {
   }
 
   /**
-   * What is drawn, all rows of it.
+   * Returns the picture with all its rows.
    * @param {Waves} waves
    * @returns {Picture}
    */

@@ -1,7 +1,7 @@
 // The worker: it does one request after the other, and between them it lets time run at full speed.
 
 import { BenchCalls } from "../../core/engine/bench_calls.js";
-import { earlyTeller } from "../bench/early_replies.js";
+import { earlySender } from "../bench/early_replies.js";
 import { packFault } from "../../core/bench/faults.js";
 
 /**
@@ -13,14 +13,14 @@ import { packFault } from "../../core/bench/faults.js";
  *   addEventListener: (kind: "message", listen: (event: { data: ToWorker }) => void) => void }} Scope
  */
 
-/** How often progress is told, in milliseconds. */
+/** The milliseconds between two reports of progress. */
 const PROGRESS_TIME = 100;
 
-/** @type {Record<string, true>} calls that change the session beside the time that runs */
+/** @type {Record<string, true>} calls that change the session in addition to running time */
 const CHANGES = { serve: true, serveTyped: true, goOn: true, goBack: true, goForward: true };
 
 /**
- * Whether a call lets time pass from a key on, whose lamps are waited for.
+ * Returns whether a call lets time pass from a key on, whose lamps are waited for.
  * @param {string} call
  * @param {any[]} words
  */
@@ -32,15 +32,15 @@ class BenchWorker {
   /** @param {Scope} scope */
   constructor(scope) {
     this.scope = scope;
-    this.tellEarly = earlyTeller(scope.name);
+    this.sendEarly = earlySender(scope.name);
     this.calls = new BenchCalls((done, total) => this.goesOn(done, total));
     /** @type {Request[]} */
     this.requests = [];
-    /** The request that is under way, and the one that is to be cancelled, by their numbers. */
+    /** The request under way, and the one to cancel, by their numbers. */
     this.current = 0;
     this.cancelled = 0;
-    /** When progress was told last. */
-    this.told = 0;
+    /** The time of the last report of progress. */
+    this.status = 0;
     this.wake = () => {};
     this.breathed = () => {};
     const { port1, port2 } = new MessageChannel();
@@ -57,7 +57,7 @@ class BenchWorker {
     }
     if (message.kind === "cancel") this.cancelled = message.number;
     if (message.kind === "spare") this.calls.bench.spare.push(message.buffer);
-    if (message.kind === "ping") this.tell({ kind: "pong" });
+    if (message.kind === "ping") this.post({ kind: "pong" });
     this.wake();
   }
 
@@ -65,12 +65,12 @@ class BenchWorker {
    * @param {ToPage} message
    * @param {Transferable[]} [transfer]
    */
-  tell(message, transfer = []) {
+  post(message, transfer = []) {
     this.scope.postMessage(message, transfer);
   }
 
-  /** Lets the messages in that have come meanwhile. */
-  breathe() {
+  /** Lets the messages in that have arrived meanwhile. */
+  yieldToMessages() {
     return new Promise((done) => {
       this.breathed = () => done(undefined);
       this.breathing.postMessage(0);
@@ -84,7 +84,7 @@ class BenchWorker {
         await this.answer(request);
       } else if (this.calls.bench.fullSpeed.isOn) {
         this.letRun();
-        await this.breathe();
+        await this.yieldToMessages();
       } else {
         await new Promise((done) => {
           this.wake = () => done(undefined);
@@ -96,45 +96,45 @@ class BenchWorker {
   /** @param {Request} request */
   async answer({ number, call, words }) {
     this.current = number;
-    this.told = performance.now();
-    // What time has done before lines is told before them.
-    if (CHANGES[call] && this.calls.bench.fullSpeed.isOn) this.tellFrame(this.calls.bench.untold());
+    this.status = performance.now();
+    // The work of time before lines is reported before them.
+    if (CHANGES[call] && this.calls.bench.fullSpeed.isOn) this.postFrame(this.calls.bench.takeUnreported());
     try {
       const result = await (/** @type {any} */ (this.calls))[call](...words);
-      if (pressesKey(call, words)) this.tellEarly({ kind: "early", number, result });
-      this.tell({ kind: "reply", number, result }, result && result.file instanceof ArrayBuffer ? [result.file] : []);
+      if (pressesKey(call, words)) this.sendEarly({ kind: "early", number, result });
+      this.post({ kind: "reply", number, result }, result && result.file instanceof ArrayBuffer ? [result.file] : []);
       if (pressesKey(call, words)) this.calls.bench.lookBack();
     } catch (fault) {
-      this.tell({ kind: "reply", number, fault: packFault(fault) });
+      this.post({ kind: "reply", number, fault: packFault(fault) });
     }
   }
 
   /** @param {Frame} frame */
-  tellFrame(frame) {
-    this.tell({ kind: "frame", frame }, [frame.file]);
+  postFrame(frame) {
+    this.post({ kind: "frame", frame }, [frame.file]);
   }
 
   letRun() {
     try {
       const frame = this.calls.bench.batch();
-      if (frame) this.tellFrame(frame);
+      if (frame) this.postFrame(frame);
     } catch (fault) {
       this.calls.bench.fullSpeed.stop();
-      this.tell({ kind: "failed", fault: packFault(fault) });
+      this.post({ kind: "failed", fault: packFault(fault) });
     }
   }
 
   /**
-   * Between the pieces of long work: tells how far it is, and whether to go on.
+   * Between the pieces of long work: reports the progress, and returns whether to continue.
    * @param {number} done
    * @param {number} total
    */
   async goesOn(done, total) {
-    await this.breathe();
+    await this.yieldToMessages();
     if (this.cancelled === this.current) return false;
-    if (performance.now() - this.told > PROGRESS_TIME) {
-      this.told = performance.now();
-      this.tell({ kind: "progress", number: this.current, done, total });
+    if (performance.now() - this.status > PROGRESS_TIME) {
+      this.status = performance.now();
+      this.post({ kind: "progress", number: this.current, done, total });
     }
     return true;
   }

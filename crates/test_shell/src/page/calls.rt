@@ -1,4 +1,5 @@
-//! The calls of the page: sessions over several calls, refused files, buffers that are too short.
+//! The calls of the page: sessions over several calls, rejected files, and buffers that are too
+//! short.
 use crate::checks::equal;
 use crate::page::files::{
     CALLS, CARRIED_OVER, Call, answers, copy, expect_answers, expect_answers_by, file_of_version_1,
@@ -7,9 +8,9 @@ use crate::page::files::{
 use crate::sessions::put;
 use mcs_disk::{Disk, MemDisk};
 use mcs_journal::{FILE_SIZE, StoreFault};
-use mcs_page::fault::ServeFault;
 use mcs_session::session::Session;
 use mcs_shell::shell::run_shell;
+use mcs_wasm::fault::ServeFault;
 use std::alloc::Global;
 use std::process::Abort;
 
@@ -34,21 +35,21 @@ const FIRST_ANSWERS: &[u8] = b"session 0\nok 1\nok 2\nok 3 bytes 4\nok 4 ran 100
 const SECOND_ANSWERS: &[u8] =
     b"session 4\nseq 4\nacc 0 cy 0 pc 002 owed 0 dcl 0 test 1 r 0000390000000000 ret 000 000 000\n";
 
-/// Serves an input on a session that goes on after it.
+/// Serves an input on a session that continues after it.
 fn serve_on(alloc: Global, session: &mut Session<MemDisk>, input: &[u8]) {
     let mut reader = input;
     let mut writer = Vec::new(alloc);
     let _ = run_shell(alloc, &mut reader, &mut writer, session);
 }
 
-/// The bytes of a disk.
+/// Returns the bytes of a disk.
 fn bytes_of(alloc: Global, rt: &impl Abort, mut disk: MemDisk) -> Vec<u8> {
     let mut bytes = vec![in alloc; 0u8; disk.size()].expect(rt, "memory");
     disk.read(0, bytes.as_mut_slice()).expect(rt, "read");
     bytes
 }
 
-/// The bytes of the file after both inputs, where one session of the shell serves them.
+/// Returns the bytes of the file after both inputs, served by one session of the shell.
 fn file_of_one_session(alloc: Global, rt: &impl Abort) -> Vec<u8> {
     let disk = MemDisk::new(alloc, FILE_SIZE).expect(rt, "memory");
     let Ok(mut session) = Session::create(alloc, disk) else {
@@ -72,7 +73,7 @@ fn one_session_over_two_calls(rt: HostRuntime) {
     expect_answers(alloc, &rt, file.as_mut_slice(), (b"", b"session 4\n"));
 }
 
-/// The commit byte of the first record of the slot that the selector names.
+/// Returns the commit byte of the first record of the slot that the selector names.
 fn commit_byte(file: &[u8]) -> Option<u8> {
     let log = if file.get(8) == Some(&0) {
         16_400
@@ -82,7 +83,7 @@ fn commit_byte(file: &[u8]) -> Option<u8> {
     file.get(log).copied()
 }
 
-/// Settles a file, and serves an input on it then with these answers.
+/// Settles a file, and checks that an input then has these answers.
 fn expect_settled(alloc: Global, rt: &impl Abort, file: &mut [u8], row: (&[u8], &[u8])) {
     equal(rt, settled(alloc, file), Ok(()));
     equal(rt, commit_byte(file), Some(0));
@@ -102,8 +103,8 @@ fn a_settled_file_has_no_records(rt: HostRuntime) {
     }
 }
 
-/// The file holds a snapshot of version 2 in the slot that its selector names, and tells the
-/// registers.
+/// Checks that the slot that the selector names holds a snapshot of version 2, and that the file
+/// answers with the registers.
 fn expect_carried_over(alloc: Global, rt: &impl Abort, file: &mut [u8]) {
     let at = if file.get(8) == Some(&0) { 24 } else { 81_944 };
     equal(rt, file.get(at), Some(&2));
@@ -126,8 +127,8 @@ fn a_settled_file_of_version_1_is_carried_over(rt: HostRuntime) {
     expect_carried_over(alloc, &rt, file.as_mut_slice());
 }
 
-/// An input that is served and settled in one call has the answers and leaves the bytes that two
-/// calls have and leave.
+/// Checks that an input that is served and settled in one call has the same answers as in two
+/// calls, and leaves the same bytes.
 fn expect_both_at_once(alloc: Global, rt: &impl Abort, file: &mut [u8], row: (&[u8], &[u8])) {
     let mut other = copy(alloc, rt, file);
     expect_answers(alloc, rt, other.as_mut_slice(), row);
@@ -155,7 +156,7 @@ fn questions_leave_the_file(rt: HostRuntime) {
     let alloc = rt.alloc();
     let mut file = new_file(alloc, &rt);
     let before = copy(alloc, &rt, file.as_slice());
-    // commands too are answered, as if they were done; asked again, they are answered alike
+    // commands too are answered, as if they were done; asked again, they have the same answers
     for _ in 0..2 {
         let row = (FIRST, FIRST_ANSWERS);
         expect_answers_by(alloc, &rt, Call::Ask, file.as_mut_slice(), row);
@@ -171,7 +172,7 @@ fn questions_leave_the_file(rt: HostRuntime) {
     );
 }
 
-/// A file is refused by this fault, in every call, and stays as it was.
+/// Checks that every call rejects a file with this error, and that the file stays as it was.
 fn expect_refused(alloc: Global, rt: &impl Abort, file: &[u8], fault: StoreFault) {
     let mut kept = copy(alloc, rt, file);
     for call in CALLS {
@@ -223,7 +224,8 @@ fn files_that_hold_no_session(rt: HostRuntime) {
     }
 }
 
-/// The answers to the first input have no room in so many bytes of a buffer, which stays as it was.
+/// Checks that the answers to the first input have no room in `room` bytes of a buffer, which stays
+/// as it was.
 fn expect_no_room(alloc: Global, rt: &impl Abort, file: &mut [u8], room: usize) {
     let mut buffer = [b'#'; 128];
     let Some(short) = buffer.get_mut(..room) else {
@@ -236,7 +238,7 @@ fn expect_no_room(alloc: Global, rt: &impl Abort, file: &mut [u8], room: usize) 
     equal(rt, buffer, [b'#'; 128]);
 }
 
-/// The answers to the first input stand at the front of a buffer.
+/// Checks that the answers to the first input are at the front of a buffer.
 fn expect_room(alloc: Global, rt: &impl Abort, file: &mut [u8]) {
     let count = FIRST_ANSWERS.len();
     let mut buffer = [b'#'; 128];

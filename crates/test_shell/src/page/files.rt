@@ -1,22 +1,22 @@
-//! Session files as a page keeps them, and what is asked of them.
+//! Session files as a page keeps them, and the calls on them.
 use crate::checks::equal;
 use crate::sessions::put;
 use mcs_fixtures::files::{NEW_BENCH, POKE};
 use mcs_journal::{FILE_SIZE, StoreFault};
-use mcs_page::fault::ServeFault;
-use mcs_page::page::{ServedInput, ask, begin, serve, serve_and_settle, settle};
 use mcs_shell::ends::ShellEnd;
+use mcs_wasm::fault::ServeFault;
+use mcs_wasm::page::{ServedInput, ask, begin, serve, serve_and_settle, settle};
 use std::alloc::Global;
 use std::process::Abort;
 
-/// The file of a new session.
+/// Returns the file of a new session.
 pub(crate) fn new_file(alloc: Global, rt: &impl Abort) -> Vec<u8> {
     let mut file = vec![in alloc; 0u8; FILE_SIZE].expect(rt, "memory");
     begin(alloc, file.as_mut_slice()).expect(rt, "memory");
     file
 }
 
-/// A copy of these bytes.
+/// Returns a copy of these bytes.
 pub(crate) fn copy(alloc: Global, rt: &impl Abort, bytes: &[u8]) -> Vec<u8> {
     bytes.to_vec(alloc).expect(rt, "memory")
 }
@@ -30,14 +30,14 @@ pub(crate) fn put_version_1(rt: &impl Abort, file: &mut [u8]) {
     put(rt, file, POKE.0, POKE.1);
 }
 
-/// The file of that session.
+/// Returns the file of that session.
 pub(crate) fn file_of_version_1(alloc: Global, rt: &impl Abort) -> Vec<u8> {
     let mut file = vec![in alloc; 0u8; FILE_SIZE].expect(rt, "memory");
     put_version_1(rt, file.as_mut_slice());
     file
 }
 
-/// What it answers to `regs`.
+/// The answer of that session to `regs`.
 pub(crate) const CARRIED_OVER: &[u8] =
     b"session 1\nacc 0 cy 0 pc 000 owed 0 dcl 0 test 1 r 0000090000000000 ret 000 000 000\n";
 
@@ -52,7 +52,7 @@ pub(crate) enum Call {
 /// All of them.
 pub(crate) const CALLS: [Call; 3] = [Call::Serve, Call::ServeAndSettle, Call::Ask];
 
-/// Has an input answered on a file, with the answers put into a buffer.
+/// Makes a call that answers an input on a file, and writes the answers into a buffer.
 pub(crate) fn served(
     alloc: Global,
     call: Call,
@@ -67,12 +67,12 @@ pub(crate) fn served(
     }
 }
 
-/// Puts a snapshot in the place of a file's records.
+/// Replaces a file's records with a snapshot.
 pub(crate) fn settled(alloc: Global, file: &mut [u8]) -> Result<(), StoreFault> {
     settle(alloc, file)
 }
 
-/// Has an input answered on a file: the answers, or why there are none.
+/// Makes a call that answers an input on a file, and returns the answers, or why there are none.
 pub(crate) fn answers(
     alloc: Global,
     rt: &impl Abort,
@@ -87,12 +87,12 @@ pub(crate) fn answers(
     Ok(buffer)
 }
 
-/// An input is served on a file with these answers.
+/// Checks that an input served on a file has these answers.
 pub(crate) fn expect_answers(alloc: Global, rt: &impl Abort, file: &mut [u8], row: (&[u8], &[u8])) {
     expect_answers_by(alloc, rt, Call::Serve, file, row);
 }
 
-/// A call has these answers to an input.
+/// Checks that a call has these answers to an input.
 pub(crate) fn expect_answers_by(
     alloc: Global,
     rt: &impl Abort,
@@ -101,7 +101,7 @@ pub(crate) fn expect_answers_by(
     (input, wanted): (&[u8], &[u8]),
 ) {
     match answers(alloc, rt, call, file, input) {
-        Ok(told) => equal(rt, told.as_slice(), wanted),
+        Ok(text) => equal(rt, text.as_slice(), wanted),
         Err(_) => panic!(rt; "not served"),
     }
 }

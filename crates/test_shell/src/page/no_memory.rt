@@ -1,13 +1,13 @@
-//! One allocation that is refused, whichever it is: `checks/allocations` refuses each in turn,
-//! and the gate none. A call that found no memory has left file and buffer as they were, and does
-//! its work when it is made again.
+//! One allocation that fails, whichever it is: `checks/allocations` fails each in turn, and the
+//! gate none. A call that found no memory has left file and buffer as they were, and succeeds when
+//! it is repeated.
 use crate::checks::equal;
 use crate::page::files::{CARRIED_OVER, Call, put_version_1, served, settled};
 use crate::sessions::put;
 use mcs_journal::{FILE_SIZE, StoreFault};
-use mcs_page::fault::ServeFault;
-use mcs_page::page::{ServedInput, begin};
 use mcs_shell::ends::ShellEnd;
+use mcs_wasm::fault::ServeFault;
+use mcs_wasm::page::{ServedInput, begin};
 use std::alloc::{AllocError, Global};
 use std::process::Abort;
 
@@ -19,17 +19,17 @@ struct Desk {
     buffer: [u8; 128],
 }
 
-/// What a call told, and whether it found no memory when it was made first.
+/// The result of a call. `is_second` is true if the call found no memory when it was made first.
 #[derive(Drop)]
-struct Told {
-    /// How many bytes of answers there are, or in the place of it how many have no room.
+struct CallReport {
+    /// The number of bytes of the answers, or, as an error, the number that have no room.
     count: Result<usize, usize>,
     is_second: bool,
 }
 
-/// How many bytes a call told of, which was not refused.
-fn count_of(rt: &impl Abort, told: Result<ServedInput, ServeFault>) -> Result<usize, usize> {
-    match told {
+/// Returns the number of bytes that a call returned, and checks that it was served or had no room.
+fn count_of(rt: &impl Abort, report: Result<ServedInput, ServeFault>) -> Result<usize, usize> {
+    match report {
         Ok(served) => {
             equal(rt, served.end, ShellEnd::End);
             Ok(served.count)
@@ -40,7 +40,7 @@ fn count_of(rt: &impl Abort, told: Result<ServedInput, ServeFault>) -> Result<us
 }
 
 impl Desk {
-    /// A file of bytes that are no session.
+    /// Makes a file of bytes that are no session.
     fn new(alloc: Global) -> Result<Desk, AllocError> {
         Ok(Desk {
             file: vec![in alloc; 0xA5u8; FILE_SIZE]?,
@@ -58,12 +58,12 @@ impl Desk {
         self.buffer = [b'#'; 128];
     }
 
-    /// The last call has left file and buffer as they were.
+    /// Checks that the last call has left file and buffer as they were.
     fn expect_untouched(&self, rt: &impl Abort) {
         assert!(rt; self.file.as_slice() == self.before.as_slice() && self.buffer == [b'#'; 128]);
     }
 
-    /// Begins the file. It answers whether that had to be done again.
+    /// Begins the file. It returns true if this had to be repeated.
     fn begin(&mut self, alloc: Global, rt: &impl Abort) -> bool {
         self.prepare(rt);
         assert!(rt; self.file.len() == FILE_SIZE);
@@ -76,7 +76,7 @@ impl Desk {
         true
     }
 
-    /// Settles the file. It answers whether that had to be done again.
+    /// Settles the file. It returns true if this had to be repeated.
     fn settle(&mut self, alloc: Global, rt: &impl Abort) -> bool {
         self.prepare(rt);
         if let Err(fault) = settled(alloc, self.file.as_mut_slice()) {
@@ -88,7 +88,7 @@ impl Desk {
         false
     }
 
-    /// Has an input answered, with room for that many bytes of answers.
+    /// Makes a call that answers an input, with room for `room` bytes of answers.
     fn call_once(
         &mut self,
         alloc: Global,
@@ -102,41 +102,42 @@ impl Desk {
         }
     }
 
-    /// Serves an input, and again where there was no memory.
-    fn serve(&mut self, alloc: Global, rt: &impl Abort, input: &[u8], room: usize) -> Told {
+    /// Serves an input, and repeats this if there was no memory.
+    fn serve(&mut self, alloc: Global, rt: &impl Abort, input: &[u8], room: usize) -> CallReport {
         self.call(alloc, rt, Call::Serve, (input, room))
     }
 
-    /// Has an input answered, and again where there was no memory.
+    /// Makes a call that answers an input, and repeats it if there was no memory.
     fn call(
         &mut self,
         alloc: Global,
         rt: &impl Abort,
         call: Call,
         (input, room): (&[u8], usize),
-    ) -> Told {
+    ) -> CallReport {
         self.prepare(rt);
         let first = self.call_once(alloc, call, input, room);
         if let Err(ServeFault::Refused(fault)) = first {
             equal(rt, fault, StoreFault::NoMemory);
             self.expect_untouched(rt);
             let again = self.call_once(alloc, call, input, room);
-            return Told {
+            return CallReport {
                 count: count_of(rt, again),
                 is_second: true,
             };
         }
-        Told {
+        CallReport {
             count: count_of(rt, first),
             is_second: false,
         }
     }
 
-    /// The last call told of these answers, and the rest of the buffer is as it was.
-    fn has(&self, rt: &impl Abort, told: &Told, answers: &[u8]) -> bool {
+    /// Returns true if the last call returned these answers, and the rest of the buffer is as it
+    /// was.
+    fn has(&self, rt: &impl Abort, report: &CallReport, answers: &[u8]) -> bool {
         let mut wanted = [b'#'; 128];
         put(rt, &mut wanted, 0, answers);
-        told.count == Ok(answers.len()) && self.buffer == wanted
+        report.count == Ok(answers.len()) && self.buffer == wanted
     }
 }
 
@@ -145,8 +146,8 @@ const FIRST: &[u8] =
 
 const SECOND: &[u8] = b"poke r5 9\nlist 0 1\nseq\n";
 
-/// What is answered to the first input where something of it was left out for lack of memory, and to
-/// the second input then.
+/// The answers to the first input if a part of it was left out for lack of memory, and to the
+/// second input after it.
 struct Row {
     left_out: &'static str,
     first: &'static [u8],
@@ -243,29 +244,29 @@ seq 3
 /// The answers to the second input without the listing.
 const SECOND_WITHOUT: &[u8] = b"session 2\nok 3\nno 90\nseq 3\n";
 
-/// What memory was refused for, where that is one thing at most.
+/// The part that found no memory; there is one at most.
 #[derive(Drop)]
 struct Refusals {
-    told: &'static str,
+    report: &'static str,
 }
 
 impl Refusals {
     fn note(&mut self, rt: &impl Abort, is_refused: bool, what: &'static str) {
         if is_refused {
-            equal(rt, self.told, "nothing");
-            self.told = what;
+            equal(rt, self.report, "nothing");
+            self.report = what;
         }
     }
 }
 
-/// The answers to the first input have no room in eight bytes. How many they are tells whether one of
-/// them was left out.
+/// Checks that the answers to the first input have no room in eight bytes. Their number shows if
+/// one of them was left out.
 fn look_for_room(alloc: Global, rt: &impl Abort, desk: &mut Desk, refusals: &mut Refusals) {
-    let told = desk.serve(alloc, rt, FIRST, 8);
+    let report = desk.serve(alloc, rt, FIRST, 8);
     desk.expect_untouched(rt);
-    refusals.note(rt, told.is_second, "the input without room");
+    refusals.note(rt, report.is_second, "the input without room");
     for row in ROWS.iter() {
-        if told.count == Err(row.first.len()) {
+        if report.count == Err(row.first.len()) {
             refusals.note(rt, row.left_out != "nothing", "an answer without room");
             return;
         }
@@ -273,17 +274,17 @@ fn look_for_room(alloc: Global, rt: &impl Abort, desk: &mut Desk, refusals: &mut
     panic!(rt; "another count");
 }
 
-/// Serves the first input. It answers the answers that the second input has then.
+/// Serves the first input, and returns the answers that the second input must then have.
 fn serve_first(
     alloc: Global,
     rt: &impl Abort,
     desk: &mut Desk,
     refusals: &mut Refusals,
 ) -> &'static [u8] {
-    let told = desk.serve(alloc, rt, FIRST, 128);
-    refusals.note(rt, told.is_second, "the input");
+    let report = desk.serve(alloc, rt, FIRST, 128);
+    refusals.note(rt, report.is_second, "the input");
     for row in ROWS.iter() {
-        if desk.has(rt, &told, row.first) {
+        if desk.has(rt, &report, row.first) {
             refusals.note(rt, row.left_out != "nothing", row.left_out);
             return row.second;
         }
@@ -291,7 +292,7 @@ fn serve_first(
     panic!(rt; "other answers");
 }
 
-/// Serves the second input.
+/// Serves the second input, and checks its answers.
 fn serve_second(
     alloc: Global,
     rt: &impl Abort,
@@ -299,15 +300,16 @@ fn serve_second(
     refusals: &mut Refusals,
     wanted: &[u8],
 ) {
-    let told = desk.serve(alloc, rt, SECOND, 128);
-    refusals.note(rt, told.is_second, "the second input");
-    if !desk.has(rt, &told, wanted) {
+    let report = desk.serve(alloc, rt, SECOND, 128);
+    refusals.note(rt, report.is_second, "the second input");
+    if !desk.has(rt, &report, wanted) {
         refusals.note(rt, true, "the second listing");
-        assert!(rt; desk.has(rt, &told, SECOND_WITHOUT));
+        assert!(rt; desk.has(rt, &report, SECOND_WITHOUT));
     }
 }
 
-/// Asks for the count of commands, and again by the call that settles: both answer the same.
+/// Asks for the count of commands, and again by the call that settles, and checks that both have
+/// the same answer.
 fn ask_and_settle(alloc: Global, rt: &impl Abort, desk: &mut Desk, refusals: &mut Refusals) {
     let asked = desk.call(alloc, rt, Call::Ask, (b"seq\n", 128));
     refusals.note(rt, asked.is_second, "the question");
@@ -320,20 +322,20 @@ fn ask_and_settle(alloc: Global, rt: &impl Abort, desk: &mut Desk, refusals: &mu
     equal(rt, desk.buffer, answers);
 }
 
-/// Begins a file, serves both inputs, settles the file between them, and has a question answered by
-/// the other calls. It answers what was refused.
+/// Begins a file, serves both inputs, settles the file between them, and uses the other calls for a
+/// question. It returns the part that found no memory.
 fn begin_and_serve(alloc: Global, rt: &impl Abort) -> &'static str {
     let Ok(mut desk) = Desk::new(alloc) else {
         return "a file";
     };
-    let mut refusals = Refusals { told: "nothing" };
+    let mut refusals = Refusals { report: "nothing" };
     refusals.note(rt, desk.begin(alloc, rt), "the file begun");
     look_for_room(alloc, rt, &mut desk, &mut refusals);
     let second = serve_first(alloc, rt, &mut desk, &mut refusals);
     refusals.note(rt, desk.settle(alloc, rt), "the file settled");
     serve_second(alloc, rt, &mut desk, &mut refusals, second);
     ask_and_settle(alloc, rt, &mut desk, &mut refusals);
-    refusals.told
+    refusals.report
 }
 
 #[test]
@@ -342,19 +344,20 @@ fn one_allocation(rt: HostRuntime) {
     let _ = println!(rt; "refused: {refused}");
 }
 
-/// Settles a file of version 1, and serves an input on another. It answers what was refused.
+/// Settles a file of version 1, and serves an input on another. It returns the part that found no
+/// memory.
 fn carry_over(alloc: Global, rt: &impl Abort) -> &'static str {
     let Ok(mut desk) = Desk::new(alloc) else {
         return "a file";
     };
-    let mut refusals = Refusals { told: "nothing" };
+    let mut refusals = Refusals { report: "nothing" };
     put_version_1(rt, desk.file.as_mut_slice());
     refusals.note(rt, desk.settle(alloc, rt), "the file settled");
     put_version_1(rt, desk.file.as_mut_slice());
-    let told = desk.serve(alloc, rt, b"regs\n", 128);
-    refusals.note(rt, told.is_second, "the input");
-    assert!(rt; desk.has(rt, &told, CARRIED_OVER));
-    refusals.told
+    let report = desk.serve(alloc, rt, b"regs\n", 128);
+    refusals.note(rt, report.is_second, "the input");
+    assert!(rt; desk.has(rt, &report, CARRIED_OVER));
+    refusals.report
 }
 
 #[test]

@@ -1,4 +1,4 @@
-use Rattle.mcs_answers.proofs.AheadLaws.{traces-add}
+use Rattle.mcs_answers.proofs.ForecastLaws.{traces-add}
 use Rattle.mcs_answers.proofs.laws.traces_add_up.Goals as goal
 
 pub returns : goal.returns

@@ -1,8 +1,8 @@
 use Rattle.std.proofs.Common.{◌≡◌, sym, subst, arith, List, take}
 use Rattle.std.proofs.lemmas.List.{take_all}
-use Rattle.mcs_ahead.specs.declared.probe.Probe.{Probe}
+use Rattle.mcs_probe.specs.declared.probe.Probe.{Probe}
 use Rattle.mcs_model.specs.Effect.{bus_after}
-use Rattle.mcs_ahead.specs.Probes.{row}
+use Rattle.mcs_probe.specs.Probes.{row}
 use Rattle.mcs_answers.specs.Resting.{RowRests}
 use Rattle.mcs_answers.proofs.traces.all_rest.Goals as goal
 

@@ -1,7 +1,7 @@
 use Rattle.std.proofs.Common.{◌≡◌, take}
 use Rattle.mcs_model.specs.Bus.{BusState}
 use Rattle.mcs_model.specs.Effect.{bus_after}
-use Rattle.mcs_ahead.specs.Probes.{row}
+use Rattle.mcs_probe.specs.Probes.{row}
 use Rattle.mcs_answers.proofs.traces.all_rest.Given as goal
 
 abbrev pub invariant-loop-probe : goal.invariant-loop-probe

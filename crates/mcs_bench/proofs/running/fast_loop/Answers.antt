@@ -1,9 +1,9 @@
 use Rattle.std.proofs.Common.{◌≡◌, ◌≢◌, ℕ, ◌<◌, ◌-◌, ◌∙◌, false, Some, sym, ap, subst, arith}
 use Rattle.mcs_model.specs.Listed.{is_listed}
-use Rattle.mcs_bench.specs.Runs.{RanOn, WillChange, mark_of}
+use Rattle.mcs_bench.specs.Runs.{RanOn, WillChange, debug_stop_of}
 use Rattle.mcs_model.specs.declared.regs.Regs.{Regs}
 use Rattle.mcs_model.specs.Running.{Machine, Stops}
-use Rattle.mcs_bench.proofs.Runs.{Keeps, starts, starts-begun, begun-marks, left-came, left-goes, watched-at, unlisted-by, told-seen}
+use Rattle.mcs_bench.proofs.Runs.{Keeps, starts, starts-begun, begun-marks, left-came, left-goes, watched-at, unlisted-by, foreseen-seen}
 use Rattle.mcs_bench.proofs.running.fast_loop.Goals as goal
 use Rattle.mcs_bench.proofs.running.fast_loop.Goals.{then-n-gt0+then-regs-eq1+in_default, else-n-gt0, else-n-gt0-via-then-n-gt0+else-regs-eq1, else-n-gt0-via-else-n-gt0}
 
@@ -14,7 +14,7 @@ returns-in-Some g c =
     let counter : ℕ = c.regs-at.result.pc in
     let there : counter ≡ c.args.cpu.now.pc = ap (λ (r : Regs). r.pc) c.regs-at.ensures.same in
     let owed : c.args.cpu.now.owed ≡ 1 = sym (ap (λ (r : Regs). r.owed) c.regs.ensures.same) ∙ c.if-regs-eq1.true in
-    let on = ap (λ p. mark_of (is_listed c.args.breaks.now p) false) there ∙ sym c.finish.ensures.mark ∙ c.in-Some.is in
+    let on = ap (λ p. debug_stop_of (is_listed c.args.breaks.now p) false) there ∙ sym c.finish.ensures.mark ∙ c.in-Some.is in
     subst (λ (r : Regs). RanOn stops c.args.n s (record r { pc = counter }, c.args.rig.now) 1 (Some c.in-Some.why)) (sym c.finish.ensures.state)
     (begun-marks stops c.args.n s counter c.in-Some.why c.if-n-gt0.true owed there on)
 
@@ -27,7 +27,7 @@ loop-left-init g c =
     elim c.if-n-gt0.branch [
       | then-n-gt0+then-regs-eq1+in_default w ↦ (
           let owed : c.args.cpu.now.owed ≡ 1 = sym (ap (λ (r : Regs). r.owed) w.regs.ensures.same) ∙ w.if-regs-eq1.true in
-          let off = ap (λ p. mark_of (is_listed c.args.breaks.now p) false) there ∙ sym w.finish.ensures.mark ∙ w.in_default.is in
+          let off = ap (λ p. debug_stop_of (is_listed c.args.breaks.now p) false) there ∙ sym w.finish.ensures.mark ∙ w.in_default.is in
           let first = starts-begun stops c.args.n s counter w.if-n-gt0.true owed there off in
           subst (λ l. Keeps stops c.args.n l s (record c.if-n-gt0.cpu { pc = counter }, c.args.rig.now)) (sym w.left-is)
           (subst (λ (r : Regs). Keeps stops c.args.n (c.args.n - 1) s (record r { pc = counter }, c.args.rig.now)) (sym (w.cpu-is ∙ w.finish.ensures.state)) first))
@@ -52,10 +52,10 @@ returns-then-contains g c =
     let more : 1 < c.loop-left.left = c.loop-left-test.true in
     let some : 0 < c.run_instruction-next.result.1 = c.run_instruction-next.ensures.goes in
     let later : 0 < c.args.n - (c.loop-left.left - c.run_instruction-next.result.1) = omega arith in
-    let told : WillChange c.args.watches.now t false = subst (WillChange c.args.watches.now t) c.if-foresees_change.false c.foresees_change.ensures in
-    let seen = told-seen c.args.watches.now c.loop-left.left c.run_instruction-next.result.1 t u false ran (c.loop-left.invariant.free (omega arith)) told in
-    let at = ap (λ b. mark_of b false) (watched-at c.args.breaks.now (c.args.n - (c.loop-left.left - c.run_instruction-next.result.1)) u later) in
-    left-came stops c.args.n c.loop-left.left c.run_instruction-next.result.1 s t u false c.mark_at.result c.loop-left.invariant ran seen (omega arith) some c.run_instruction-next.ensures.owes (at ∙ sym c.mark_at.ensures.mark)
+    let foreseen : WillChange c.args.watches.now t false = subst (WillChange c.args.watches.now t) c.if-foresees_change.false c.foresees_change.ensures in
+    let seen = foreseen-seen c.args.watches.now c.loop-left.left c.run_instruction-next.result.1 t u false ran (c.loop-left.invariant.free (omega arith)) foreseen in
+    let at = ap (λ b. debug_stop_of b false) (watched-at c.args.breaks.now (c.args.n - (c.loop-left.left - c.run_instruction-next.result.1)) u later) in
+    left-came stops c.args.n c.loop-left.left c.run_instruction-next.result.1 s t u false c.debug_stop_at.result c.loop-left.invariant ran seen (omega arith) some c.run_instruction-next.ensures.owes (at ∙ sym c.debug_stop_at.ensures.mark)
 
 pub loop-left-preserved : goal.loop-left-preserved
 loop-left-preserved g c =
@@ -66,8 +66,8 @@ loop-left-preserved g c =
     let ran = c.run_instruction-next.ensures.ran in
     let more : 1 < c.loop-left.left = c.loop-left-test.true in
     let some : 0 < c.run_instruction-next.result.1 = c.run_instruction-next.ensures.goes in
-    let told : WillChange c.args.watches.now t false = subst (WillChange c.args.watches.now t) c.if-foresees_change.false c.foresees_change.ensures in
-    let seen = told-seen c.args.watches.now c.loop-left.left c.run_instruction-next.result.1 t u false ran (c.loop-left.invariant.free (omega arith)) told in
+    let foreseen : WillChange c.args.watches.now t false = subst (WillChange c.args.watches.now t) c.if-foresees_change.false c.foresees_change.ensures in
+    let seen = foreseen-seen c.args.watches.now c.loop-left.left c.run_instruction-next.result.1 t u false ran (c.loop-left.invariant.free (omega arith)) foreseen in
     let unlisted : is_listed c.args.breaks.now u.0.pc ≡ false = sym c.contains.ensures ∙ c.if-contains.false in
     left-goes stops c.args.n c.loop-left.left c.run_instruction-next.result.1 s t u false c.loop-left.invariant ran seen (omega arith) some c.run_instruction-next.ensures.owes (unlisted-by c.args.breaks.now _ u unlisted)
 

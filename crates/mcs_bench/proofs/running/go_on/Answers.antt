@@ -4,7 +4,7 @@ use Rattle.mcs_model.specs.Effect.{instruction_at}
 use Rattle.mcs_model.specs.Listed.{is_listed}
 use Rattle.mcs_model.specs.Running.{Machine, Stops}
 use Rattle.mcs_cpu4004.specs.InstructionRan.{InstructionRan}
-use Rattle.mcs_bench.specs.Runs.{WillChange, mark_of}
+use Rattle.mcs_bench.specs.Runs.{WillChange, debug_stop_of}
 use Rattle.mcs_bench.proofs.Runs.{outside-at, went-idle, went-does}
 use Rattle.mcs_bench.proofs.running.go_on.Goals as goal
 
@@ -34,6 +34,6 @@ returns-in-Some c =
     let ran : InstructionRan c.args.left s t c.run_instruction-cycles.result.1 =
     subst (λ (r : Regs). InstructionRan c.args.left s (r, c.run_instruction-cycles.new.rig) c.run_instruction-cycles.result.1) (sym c.set_pc.ensures)
     (subst (λ (r : Regs). InstructionRan c.args.left (r, c.args.rig.now) (record c.run_instruction-cycles.new.cpu { pc = c.run_instruction-cycles.result.0 }, c.run_instruction-cycles.new.rig) c.run_instruction-cycles.result.1) here c.run_instruction-cycles.ensures.ran) in
-    let told : WillChange c.args.watches.now s c.foresees-changes.result = subst (λ (r : Regs). WillChange c.args.watches.now (r, c.args.rig.now) c.foresees-changes.result) here c.foresees-changes.ensures in
-    let mark = c.mark_at.ensures.mark ∙ ap (λ p. mark_of (eqb c.set_pc.new.self.owed 0 && is_listed c.args.breaks.now p) c.foresees-changes.result) (sym (ap (λ (r : Regs). r.pc) c.set_pc.ensures)) in
-    went-does stops c.args.left s t c.in-Some.op c.foresees-changes.result _ free at ran c.run_instruction-cycles.ensures.goes told mark refl
+    let foreseen : WillChange c.args.watches.now s c.foresees-changes.result = subst (λ (r : Regs). WillChange c.args.watches.now (r, c.args.rig.now) c.foresees-changes.result) here c.foresees-changes.ensures in
+    let mark = c.debug_stop_at.ensures.mark ∙ ap (λ p. debug_stop_of (eqb c.set_pc.new.self.owed 0 && is_listed c.args.breaks.now p) c.foresees-changes.result) (sym (ap (λ (r : Regs). r.pc) c.set_pc.ensures)) in
+    went-does stops c.args.left s t c.in-Some.op c.foresees-changes.result _ free at ran c.run_instruction-cycles.ensures.goes foreseen mark refl

@@ -9,7 +9,7 @@ use Rattle.mcs_model.specs.declared.op.Op.TheVariants.{Wrm}
 use Rattle.mcs_model.specs.Effect.{instruction_at}
 use Rattle.mcs_model.specs.Running.{Machine}
 use Rattle.mcs_bench.specs.Runs.{selected_index}
-use Rattle.mcs_bench.proofs.Runs.{told-new, told-same}
+use Rattle.mcs_bench.proofs.Runs.{foreseen-new, foreseen-same}
 use Rattle.mcs_bench.proofs.running.will_change.Goals as goal
 
 same-op : {a b : Op} → Some a ≡ Some b → a ≡ b
@@ -28,7 +28,7 @@ returns-then-eq c =
     let src : c.ram_src-src.result ≡ slice_index c.args.rig.now.ram_src c.args.cpu.now.dcl = c.ram_src-src.ensures ∙ ap (slice_index c.args.rig.now.ram_src) dcl in
     let place : c.regs-regs.result.dcl * 256 + c.ram_src-src.result ≡ selected_index t = cc (dcl, src) in
     let same : c.ram.result ≡ c.regs-regs.result.acc = eqb-true c.ram.result c.regs-regs.result.acc (sym c.eq.ensures ∙ c.if-eq.true) in
-    told-same c.args.watches.now t writes
+    foreseen-same c.args.watches.now t writes
     (ap (slice_index c.args.rig.now.ram) (sym place) ∙ sym c.ram.ensures ∙ same ∙ acc)
 
 pub returns : goal.returns
@@ -47,5 +47,5 @@ returns c =
     let inside : selected_index t < length c.args.rig.now.ram = omega (arith, place, count, few, byte) in
     let chips : c.bank_chips.result ≡ slice_index c.args.rig.now.board.banks c.args.cpu.now.dcl = c.bank_chips.ensures ∙ ap (λ (b : BoardParts). slice_index b.banks c.regs-regs.result.dcl) c.board.ensures ∙ ap (slice_index c.args.rig.now.board.banks) dcl in
     let there : has_chip c.args.rig.now c.args.cpu.now.dcl (src_of c.args.rig.now c.args.cpu.now.dcl) ≡ nat_lt (c.ram_src-src.result / 64) c.bank_chips.result = ap (λ n. nat_lt (n / 64) (slice_index c.args.rig.now.board.banks c.args.cpu.now.dcl)) (sym src) ∙ ap (nat_lt (c.ram_src-src.result / 64)) (sym chips) in
-    told-new c.args.watches.now t _ writes
+    foreseen-new c.args.watches.now t _ writes
     (ap (is_listed c.args.watches.now) (sym place) ∙ sym c.contains.ensures ∙ c.if-not-contains.false) new inside there

@@ -1,4 +1,4 @@
-use Rattle.mcs_codec.proofs.StateCodec.{same_state, state_told}
+use Rattle.mcs_codec.proofs.StateCodec.{same_state, state_version}
 use Rattle.mcs_codec.proofs.versions.one_state.Goals as goal
 
 pub returns-clause-states : goal.returns-clause-states
@@ -7,5 +7,5 @@ returns-clause-states c = λ bytes v w s t h k. (same_state bytes v w s t h k).1
 pub returns-clause-versions : goal.returns-clause-versions
 returns-clause-versions c = λ bytes v w s t h k. (same_state bytes v w s t h k).0
 
-pub returns-clause-told : goal.returns-clause-told
-returns-clause-told c = λ bytes version s h. state_told version bytes s h
+pub returns-clause-versioned : goal.returns-clause-versioned
+returns-clause-versioned c = λ bytes version s h. state_version version bytes s h

@@ -30,8 +30,8 @@ pub returns-in_err-record-clause-damaged : goal.returns-in_err-record-clause-dam
 returns-in_err-record-clause-damaged g c = λ h damaged records is_log.
     let so_far = c.loop-records.invariant.walked h in
     let same = rests_bytes _ _ c.loop-records.invariant.reads.rests in
-    let told : IsErrOf c.read_record.result Damaged = search rules in
-    let said = c.read_record.ensures.damaged (c.loop-records.invariant.reads.counts.honest.1 h) told in
+    let erred : IsErrOf c.read_record.result Damaged = search rules in
+    let said = c.read_record.ensures.damaged (c.loop-records.invariant.reads.counts.honest.1 h) erred in
     no_log (bytes_of (g.D.Disk.state c.args.disk.now)) c.args.at (omega (arith, size_of-bytes (g.D.Disk.state c.args.disk.now), c.requires.inside)) _ _ so_far (omega arith) (subst (λ (b : List ℕ). IsNoRecord b (c.args.at + c.loop-records.used) (65536 - c.loop-records.used)) same said) records is_log
 
 pub loop-records-preserved : goal.loop-records-preserved

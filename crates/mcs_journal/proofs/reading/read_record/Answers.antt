@@ -10,7 +10,7 @@ use Rattle.mcs_journal.proofs.reading.read_record.Goals as goal
 use Rattle.mcs_journal.proofs.reading.read_record.Goals.{then-len-eq0-via-then-len-eq0, then-len-eq0-via-else-len-eq0+then-len-gt-MOST_RECORD, then-len-eq0-via-else-len-eq0+else-len-gt-MOST_RECORD+then-room-len}
 
 pub returns-then-len-eq0-clause-damaged : goal.returns-then-len-eq0-clause-damaged
-returns-then-len-eq0-clause-damaged g c = λ h told.
+returns-then-len-eq0-clause-damaged g c = λ h erred.
     let f = bytes_of (g.D.Disk.state c.args.disk.now) in
     let commit_byte = c.in_ok-read_at.ensures.given h in
     let first = c.read_at.ensures.reads.rests in

@@ -23,24 +23,24 @@ returns-in-Ask g c =
 pub returns-in-Listing : goal.returns-in-Listing
 returns-in-Listing g c =
     answered_as _ _ _ (Line (Listing c.in-Listing.from c.in-Listing.lines)) _ _ (ap Line (search rules))
-    (answered_long c.set_listing-told.result _ (Line (Listing c.in-Listing.from c.in-Listing.lines)) _ c.set_listing-told.new.self _ refl refl
-    (rw c.bench-in-Listing.ensures.is at c.set_listing-told.ensures) c.unless_refused.ensures.told c.unless_refused.ensures.refused)
+    (answered_long c.set_listing-put.result _ (Line (Listing c.in-Listing.from c.in-Listing.lines)) _ c.set_listing-put.new.self _ refl refl
+    (rw c.bench-in-Listing.ensures.is at c.set_listing-put.ensures) c.unless_refused.ensures.put c.unless_refused.ensures.refused)
 
 pub returns-in-Board : goal.returns-in-Board
 returns-in-Board g c =
-    answered_as _ _ _ (Line Board) _ _ (ap Line (search rules)) (answered_long c.set_board-told.result _ (Line Board) _ c.set_board-told.new.self _ refl refl (rw c.bench-in-Board.ensures.is at c.set_board-told.ensures) c.unless_refused-in-Board.ensures.told c.unless_refused-in-Board.ensures.refused)
+    answered_as _ _ _ (Line Board) _ _ (ap Line (search rules)) (answered_long c.set_board-put.result _ (Line Board) _ c.set_board-put.new.self _ refl refl (rw c.bench-in-Board.ensures.is at c.set_board-put.ensures) c.unless_refused-in-Board.ensures.put c.unless_refused-in-Board.ensures.refused)
 
 pub returns-in-Count : goal.returns-in-Count
 returns-in-Count g c =
     answered_as _ _ _ (Line (Count c.in-Count.n)) _ _ (ap Line (search rules))
-    (answered_long c.set_count-told.result _ (Line (Count c.in-Count.n)) _ c.set_count-told.new.self _ refl refl
-    (rw c.bench-in-Count.ensures.is at c.set_count-told.ensures) c.unless_refused-in-Count.ensures.told c.unless_refused-in-Count.ensures.refused)
+    (answered_long c.set_count-put.result _ (Line (Count c.in-Count.n)) _ c.set_count-put.new.self _ refl refl
+    (rw c.bench-in-Count.ensures.is at c.set_count-put.ensures) c.unless_refused-in-Count.ensures.put c.unless_refused-in-Count.ensures.refused)
 
 pub returns-in-Trace : goal.returns-in-Trace
 returns-in-Trace g c =
     answered_as _ _ _ (Line (Trace c.in-Trace.n c.in-Trace.probes)) _ _ (ap Line (search rules))
-    (answered_long c.set_trace-told.result _ (Line (Trace c.in-Trace.n c.in-Trace.probes)) _ c.set_trace-told.new.self _ refl refl
-    (rw (c.bench-in-Trace.ensures.is, c.as_slice.ensures.value) at c.set_trace-told.ensures) c.unless_refused-in-Trace.ensures.told c.unless_refused-in-Trace.ensures.refused)
+    (answered_long c.set_trace-put.result _ (Line (Trace c.in-Trace.n c.in-Trace.probes)) _ c.set_trace-put.new.self _ refl refl
+    (rw (c.bench-in-Trace.ensures.is, c.as_slice.ensures.value) at c.set_trace-put.ensures) c.unless_refused-in-Trace.ensures.put c.unless_refused-in-Trace.ensures.refused)
 
 pub returns-in-Change : goal.returns-in-Change
 returns-in-Change g c =

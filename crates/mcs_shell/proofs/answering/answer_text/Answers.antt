@@ -1,6 +1,6 @@
 use Rattle.std.proofs.Common.{rules, sym, ◌∙◌, None, Some, refl}
 use Rattle.mcs_shell.specs.Inputs.{BadText, Text}
-use Rattle.mcs_shell.proofs.Doing.{answered_as, answered_no_memory, answered_plain, answered_refused_text, answered_text, answered_told_text, is_judged}
+use Rattle.mcs_shell.proofs.Doing.{answered_as, answered_no_memory, answered_plain, answered_refused_text, answered_text, answered_report, is_judged}
 use Rattle.mcs_shell.proofs.answering.answer_text.Goals as goal
 
 pub returns-in-Some : goal.returns-in-Some
@@ -11,9 +11,9 @@ pub returns-in-Ok-Ok-Does : goal.returns-in-Ok-Ok-Does
 returns-in-Ok-Ok-Does g c =
     answered_as _ _ _ (Text c.args.kind c.args.text.now) _ _ (is_judged c.args.kind c.args.text.now None (search rules)) (answered_text _ _ c.args.kind c.args.text.now c.in-Ok-Ok-Does.command _ _ (search rules) c.answer_change.ensures)
 
-pub returns-in-Ok-Ok-Tells : goal.returns-in-Ok-Ok-Tells
-returns-in-Ok-Ok-Tells g c =
-    answered_as _ _ _ (Text c.args.kind c.args.text.now) _ _ (is_judged c.args.kind c.args.text.now None (search rules)) (answered_told_text _ c.args.kind c.args.text.now c.in-Ok-Ok-Tells.lines.items _ (search rules) (search rules))
+pub returns-in-Ok-Ok-Reports : goal.returns-in-Ok-Ok-Reports
+returns-in-Ok-Ok-Reports g c =
+    answered_as _ _ _ (Text c.args.kind c.args.text.now) _ _ (is_judged c.args.kind c.args.text.now None (search rules)) (answered_report _ c.args.kind c.args.text.now c.in-Ok-Ok-Reports.lines.items _ (search rules) (search rules))
 
 pub returns-in-Ok-Err : goal.returns-in-Ok-Err
 returns-in-Ok-Err g c =

@@ -16,7 +16,7 @@ returns c = λ run given.
           ran.survives.reopened time again session.disk session.state late (left_by_cut time run.after.disk again honest found) (begun.opens found.honest);
       not_refused = λ time again number late found refused.
           elim (ran.survives.not_refused time again refused.1.fault late (left_by_cut time run.after.disk again honest found) (refused.1.refuses found.honest).0) [
-            | inl is ↦ inl (refused.1.told ∙ ap store_fault_number is)
-            | inr is ↦ inr (refused.1.told ∙ ap store_fault_number is)
+            | inl is ↦ inl (refused.1.number_is ∙ ap store_fault_number is)
+            | inr is ↦ inr (refused.1.number_is ∙ ap store_fault_number is)
           ];
     }

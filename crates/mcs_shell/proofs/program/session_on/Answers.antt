@@ -13,7 +13,7 @@ pub returns-in-Err-create-clause-refused : goal.returns-in-Err-create-clause-ref
 returns-in-Err-create-clause-refused g c = rw (c.in-Ok.is, c.in-New.is) (record {
   fault = c.in-Err-create.fault;
   of_new = c.in-Err-create.ensures.cases;
-  told = refl;
+  number_is = refl;
   counts = c.in-Err-create.ensures.refusal_counts;
   refuses = c.in-Err-create.ensures.refused;
 })
@@ -30,7 +30,7 @@ pub returns-in-Err-open-clause-refused : goal.returns-in-Err-open-clause-refused
 returns-in-Err-open-clause-refused g c = rw (c.in-Ok.is, c.in-Open.is) (record {
   fault = c.in-Err-open.fault;
   of_open = c.in-Err-open.ensures.cases;
-  told = refl;
+  number_is = refl;
   counts = c.in-Err-open.ensures.refusal_counts;
   refuses = c.in-Err-open.ensures.refused;
 })

@@ -1,4 +1,4 @@
-use Rattle.mcs_shell.proofs.MayTell.{may_answer}
+use Rattle.mcs_shell.proofs.MayAnswer.{may_answer}
 use Rattle.mcs_shell.proofs.Doing.{meets_one}
 use Rattle.mcs_shell.proofs.serving.serve_request.Goals as goal
 

@@ -1,4 +1,4 @@
-use Rattle.mcs_shell.proofs.MayTell.{may_begin}
+use Rattle.mcs_shell.proofs.MayAnswer.{may_begin}
 use Rattle.std.proofs.Common.{rules, ◌≡◌, ◌∙◌, Some, ap, inr, refl}
 use Rattle.std.proofs.KnownBytes.{Appends-nil}
 use Rattle.mcs_session.specs.KeptCommands.{IsOpenOnHonestDisk}
@@ -13,17 +13,17 @@ use Rattle.mcs_shell.proofs.shell.run_shell.Goals as goal
 
 pub returns-in-Err-clause-ran : goal.returns-in-Err-clause-ran
 returns-in-Err-clause-ran g c =
-    let told : c.set_number.new.self ≡ session_text (c.args.session.now.state) = search rules in
+    let response : c.set_number.new.self ≡ session_text (c.args.session.now.state) = search rules in
     let a = session_state g.D.Disk.state c.args.session.now in
     let settled : IsOpenOnHonestDisk a → IsIntact a = λ honest. record { honest = honest; stands = c.bench.ensures.stands honest.0 honest.1 } in
-    not_begun WriteFault _ (shell_state g.D.Disk.state c.args.session.now (g.W.AnswerSink.contents c.args.writer.now)) _ (session_text a.state) settled (rw told at c.in-Err.ensures.err) (λ is. absurd (cc is)) (inr (refl, refl, refl))
+    not_begun WriteFault _ (shell_state g.D.Disk.state c.args.session.now (g.W.AnswerSink.contents c.args.writer.now)) _ (session_text a.state) settled (rw response at c.in-Err.ensures.err) (λ is. absurd (cc is)) (inr (refl, refl, refl))
 
 pub returns-clause-ran : goal.returns-clause-ran
 returns-clause-ran g c =
-    let told : c.set_number.new.self ≡ session_text (c.args.session.now.state) = search rules in
+    let response : c.set_number.new.self ≡ session_text (c.args.session.now.state) = search rules in
     let a = session_state g.D.Disk.state c.args.session.now in
     let settled : IsOpenOnHonestDisk a → IsIntact a = λ honest. record { honest = honest; stands = c.bench.ensures.stands honest.0 honest.1 } in
-    ran_after c.run_loop.result _ _ (shell_state g.D.Disk.state c.args.session.now (g.W.AnswerSink.contents c.args.writer.now)) _ _ (session_text a.state) settled (rw told at c.in-Ok-send.ensures.ok) c.run_loop.ensures.ran
+    ran_after c.run_loop.result _ _ (shell_state g.D.Disk.state c.args.session.now (g.W.AnswerSink.contents c.args.writer.now)) _ _ (session_text a.state) settled (rw response at c.in-Ok-send.ensures.ok) c.run_loop.ensures.ran
 
 pub returns-in_default-clause-ran : goal.returns-in_default-clause-ran
 returns-in_default-clause-ran g c =

@@ -5,7 +5,7 @@ use Rattle.mcs_model.specs.Running.{Machine, Stops}
 use Rattle.mcs_bench.specs.declared.running.Went.{Went}
 use Rattle.mcs_bench.specs.Runs.{GoesOn, WentTo, stop_by}
 use Rattle.mcs_bench.proofs.Runs.{begins, ends, goes-full, goes-out, went-goes, went-stops}
-use Rattle.mcs_ahead.specs.Ahead.{is_at, jumps}
+use Rattle.mcs_probe.specs.Forecast.{is_at, jumps}
 use Rattle.mcs_trace.proofs.CountLemmas.{counted-by, same-tally, tally-few, tally-none, runs-next, jumps-next}
 use Rattle.mcs_trace.proofs.counting.count_run.Goals as goal
 
@@ -39,10 +39,10 @@ returns-in-None c =
     let k : ℕ = c.loop-done.done in
     let t : Machine = machine_of c.loop-done.copy in
     let counting = c.loop-done.invariant.counting in
-    let told = c.in-None.ensures.went in
+    let noted = c.in-None.ensures.went in
     let came = c.counts_of in
-    let stop = came.ensures.stop ∙ ap (λ (x : BenchState). stop_by (machine_of x) None) told.1 in
-    counted-by (stops_of b) c.args.n s t k came.result (ends (stops_of b) c.args.n k s t None came.result.stop (goes-out (stops_of b) c.args.n k s t counting.going told.0) stop) came.ensures.cycles
+    let stop = came.ensures.stop ∙ ap (λ (x : BenchState). stop_by (machine_of x) None) noted.1 in
+    counted-by (stops_of b) c.args.n s t k came.result (ends (stops_of b) c.args.n k s t None came.result.stop (goes-out (stops_of b) c.args.n k s t counting.going noted.0) stop) came.ensures.cycles
     (same-tally s k _ _ (λ a. is_at a) came.ensures.runs counting.run_tally) (same-tally s k _ _ (λ a x. is_at a x && jumps x) came.ensures.jumps counting.jump_tally)
 
 pub returns-in-Some-mark : goal.returns-in-Some-mark

@@ -40,11 +40,11 @@ new_spec 𝓤 𝓛 𝓜 𝓡 wired T L =
     (λ κs. (shr_slice_vals, tt)) (λ κs. (shr_slice_Tells (named 0) κs.0 u8, tt)) (λ κs qs bounds a gh are.
     let s = a.0 in let r : (record_type.the_row R).Denot = record { marker = record {}; start = s.now; notes = [] } in
     let at : List Val × Unit {0} = (slice_val s.ref_ptr (length s.now) ∷ [], tt) in
-    let y : (walk_of 𝓛 En hs c).Ghost = ((κs, qs, bounds, a, at), gh) in let Post : Val → SProp 𝓤 = (walk_of 𝓛 En hs c).post y in let Told : Type 0 = (r.start ≡ s.now) × (r.notes ≡ []) in
+    let y : (walk_of 𝓛 En hs c).Ghost = ((κs, qs, bounds, a, at), gh) in let Post : Val → SProp 𝓤 = (walk_of 𝓛 En hs c).post y in let Made : Type 0 = (r.start ≡ s.now) × (r.notes ≡ []) in
     qed 𝓛 ((raw (alive 𝓛 En.signature κs qs) ⊛ ‵ (owns (types_at En.signature.params κs) a at)) ∷ raw ((c κs a).requires gh) ∷ []) ∵ split ! $ keep ! (0 ∷ []) $
     enter ! 𝓣.C 𝓣.Λ fn (slice_val s.ref_ptr (length s.now) ∷ []) Post $ alloc_all ! (λ l. pass_all ! refl ((tt, (tt, (record { fits = are.0.0.1.0 }, tt))), tt) $
     sets ! (agg ! (no_more !)) refl (tt, tt) $ sets ! (agg ! (and_then ! (get ! refl) (no_more !))) refl (tt, (tt, tt)) $
     returns ! (look_at ! 0 refl) $ free_all ! refl $
     pure_i ! ((record_type.the_row R).own_val r (v ∷ [])) ((λ vss. (tt, ((λ uss. (tt, tt)), tt))), tt) (((vstruct vnil ∷ [], tt), (refl, ((tt, (refl, tt)), tt))), tt) $
-    use0 𝓛 (raw (fact 𝓤 Told)) (fact_i 𝓤 Told (emp 𝓤) (refl, refl)) $ nothing ! $ nothing ! $ fjoin ! $
+    use0 𝓛 (raw (fact 𝓤 Made)) (fact_i 𝓤 Made (emp 𝓤) (refl, refl)) $ nothing ! $ nothing ! $ fjoin ! $
     keep ! (3 ∷ 0 ∷ 2 ∷ 1 ∷ []) $ by ! (leaves 𝓛 En hs c y v r (tt, tt) (tt, tt))))

@@ -1,0 +1,168 @@
+"""What checks/page tries of odd input: markup in each field and in each name, files of all kinds, numbers out of range, many clicks in one
+go, and a reload right after an edit. Nothing of it becomes an element or a script, and the bench answers after each."""
+
+import base64
+import re
+
+from page_in_browser import ENTER, ESCAPE, NOTICE, PUT_INTO_EDITOR, STATUS, TEXT_OF_EDITOR, choose_example, open_anew, show_text, until_ready
+from verdicts import eventually, verdict
+
+MARKUP = "<img src=x onerror=\"window.injected=1\"><script>window.injected=1</script>"
+# Markup without blanks and quotes, for names.
+NAME = "<img/src=x/onerror=injected=1>"
+# The editor has images of its own, without an address.
+HARMLESS = "return !window.injected && document.querySelectorAll('img[src], body script[src], iframe, object').length === 0"
+ASKED = "const box = document.getElementById('ask'); return box !== null && box.open"
+CLOSE_ALL = """
+for (const each of document.querySelectorAll("dialog[open]")) each.close("");
+for (const each of document.querySelectorAll("#notice .dismiss")) each.click()"""
+DROP = """
+const data = new DataTransfer();
+for (const [name, bytes] of arguments[0]) data.items.add(new File([Uint8Array.from(atob(bytes), (each) => each.charCodeAt(0))], name));
+document.body.dispatchEvent(new DragEvent("drop", { dataTransfer: data, bubbles: true, cancelable: true }))"""
+LINES = """
+window.before = document.getElementById("log").textContent.length;
+document.getElementById("lines").value = "seq";
+document.getElementById("send").click()"""
+# Another session begins with an empty log.
+ANSWERED = """
+const text = document.getElementById("log").textContent;
+return /seq \\d+/.test(text.slice(window.before > text.length ? 0 : window.before))"""
+SET = """
+const field = document.getElementById(arguments[0]);
+field.value = arguments[1];
+for (const kind of ["input", "change"]) field.dispatchEvent(new Event(kind, { bubbles: true }))"""
+PROGRAM = " NOP\n JUN 0\n"
+BOARD = '[[rom]]\nchip = 0\nport = "0000"\n'
+
+
+def check_alive(browser, what):
+    """The bench answers, and nothing was made of the input."""
+    if browser.script(ASKED):
+        browser.script("document.getElementById('ask').close('')")
+    for _ in range(4):
+        browser.script(LINES)
+        if browser.until(ANSWERED, True, 10):
+            break
+    verdict(f"the bench answers after {what}", browser.script(ANSWERED), True)
+    verdict(f"{what} makes no element and no script", browser.script(HARMLESS), True)
+
+
+def check_fields(browser):
+    choose_example(browser, "empty bench")
+    browser.script(SET, "name", MARKUP)
+    face = f"# title: {MARKUP}\n# row 0: {NAME} b\n# lamp 0: {NAME}\n# port rom0: {MARKUP}\n# test: button {NAME}\n"
+    browser.script(PUT_INTO_EDITOR, "#board-editor", face + BOARD)
+    show_text(browser, "board")
+    browser.click("#board-editor .send")
+    check_alive(browser, "a board of markup")
+    texts = {"program": f"{NAME}: NOP ; {MARKUP}\nx = \"{MARKUP}\n{MARKUP}\n", "tests": f"test {MARKUP}\n  expect lamp {NAME} on\n",
+             "properties": f"test {MARKUP}\nnever {MARKUP}\n"}
+    for name, text in texts.items():
+        show_text(browser, name)
+        browser.script(PUT_INTO_EDITOR, f"#{name}-editor", text)
+        browser.click(f"#{name}-editor .send")
+        check_alive(browser, f"markup in {name}")
+    show_text(browser, "program")
+    for field in ("watched-field", "go-to", "change-place", "step-count"):
+        browser.script(SET, field, "")
+        browser.script("document.getElementById(arguments[0]).closest('section, [role=tabpanel]').hidden = false", field)
+    show_text(browser, "disassembly")
+    for field in ("watched-field", "go-to", "change-place", "step-count"):
+        browser.type_into(f"#{field}", MARKUP + ENTER)
+        check_alive(browser, f"markup in {field}")
+    show_text(browser, "waves")
+    browser.script(SET, "trigger", MARKUP)
+    browser.script(SET, "signal-search", MARKUP)
+    browser.click("#record")
+    check_alive(browser, "markup in the trigger")
+    show_text(browser, "console")
+    browser.script("document.getElementById('lines').value = arguments[0]; document.getElementById('send').click()", MARKUP)
+    check_alive(browser, "a line of markup")
+
+
+def files():
+    """Odd files, by what they are: names with their bytes."""
+    one = {
+        "page.html": b"<!doctype html>" + MARKUP.encode(), "picture.png": b"\x89PNG\r\n\x1a\n" + bytes(200), "empty.asm": b"", "none": b"",
+        "bad.mcs": b"MCS4" + bytes(5000), "cut.mcsp": b"project 1\n", "open.mcsp": b"project 1 x\nboard\n", "empty.hex": b"",
+        "bad.hex": b":zz\n", "long.bin": bytes(70000), "short.bin": bytes(256), "nul.asm": b" NOP\0\n", "wide.asm": " NOP\n".encode("utf-16"),
+        "latin.asm": b"; caf\xe9\n NOP\n", "crlf.asm": b" NOP\r\n JUN 0\r\n", "large.asm": b" NOP\n" * 60000, "full.asm": b" NOP\n" * 13000,
+        f"{NAME[1:-1].replace('/', ' ')}.asm": PROGRAM.encode(), "<b>.mcsp": b"x",
+    }
+    many = {f"{number}.asm": PROGRAM.encode() for number in range(60)}
+    kinds = {"a.asm": PROGRAM.encode(), "b.toml": BOARD.encode(), "c.hex": b"", "d.mcsp": b"x"}
+    return [*({name: data} for name, data in one.items()), kinds, many]
+
+
+def check_files(browser):
+    choose_example(browser, "three lamps")
+    for each in files():
+        browser.script(CLOSE_ALL)
+        browser.until(NOTICE, "")
+        browser.script(DROP, [[name, base64.b64encode(data).decode()] for name, data in each.items()])
+        what = " and ".join([*each][:2]) + (" .." if len(each) > 2 else "")
+        eventually(browser, f"{what} is opened, asked for or refused in words",
+              f"{ASKED.replace('return', 'const asks =')}; {NOTICE.replace('return', 'const text =')}; return asks || text !== ''", True)
+        check_alive(browser, what)
+    # Of several files, some are still on their way.
+    until_ready(browser)
+    browser.script(CLOSE_ALL)
+
+
+def check_numbers(browser):
+    choose_example(browser, "three lamps")
+    browser.click("#run")
+    browser.until(STATUS, re.compile("^Paused"))
+    for number in ("-5", "1000000000", "99999999999999999999", "1e3", "abc"):
+        browser.script(SET, "step-count", number)
+        browser.script("document.getElementById('step-many').click()")
+        eventually(browser, f"{number} instructions are refused", STATUS, re.compile("^Nothing was done: give a number"))
+    show_text(browser, "waves")
+    browser.script("document.getElementById('record-where').value = 'after'")
+    for number in ("-5", "99999999999999999999", "abc"):
+        browser.script(SET, "record-cycles", number)
+        browser.click("#record")
+        eventually(browser, f"{number} cycles are refused", "return document.getElementById('scope-status').textContent", re.compile("^How many cycles"))
+    show_text(browser, "properties")
+    browser.script(SET, "explore-seconds", "abc")
+    browser.click("#explore")
+    check_alive(browser, "numbers out of range")
+    show_text(browser, "program")
+
+
+CLICKS = """
+for (let turn = 0; turn < 40; turn++) for (const id of arguments[0]) document.getElementById(id).click()"""
+EXAMPLES = "for (const each of [...document.querySelectorAll('#examples .card, #examples button')].slice(0, 12)) each.click()"
+SAME = """
+return document.getElementById("name").value !== "" && document.title.startsWith(document.getElementById("name").value)
+  && document.getElementById("status").textContent !== "" """
+
+
+def check_clicks(browser):
+    choose_example(browser, "calculator")
+    browser.script(CLICKS, ["run", "step", "reset", "back-stop", "forward", "test"])
+    check_alive(browser, "240 clicks in one go")
+    browser.click("#sessions-button")
+    browser.script(EXAMPLES)
+    browser.script("document.getElementById('sessions').close()")
+    eventually(browser, "after twelve examples at once one is shown", SAME, True)
+    check_alive(browser, "twelve examples at once")
+
+
+def check_reload(browser):
+    choose_example(browser, "three lamps")
+    browser.script(PUT_INTO_EDITOR, "#program-editor", PROGRAM)
+    browser.reload()
+    until_ready(browser)
+    eventually(browser, "what was typed right before a reload is kept", TEXT_OF_EDITOR.replace("arguments[0]", "'#program-editor'"), PROGRAM)
+
+
+def check(browser, page, _folder, _mcs4):
+    open_anew(browser, page)
+    check_fields(browser)
+    browser.keys([ESCAPE])
+    check_files(browser)
+    check_numbers(browser)
+    check_clicks(browser)
+    check_reload(browser)

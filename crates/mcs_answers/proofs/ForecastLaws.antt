@@ -1,0 +1,88 @@
+-- A trace in two parts, and a count beside a trace.
+use Rattle.std.proofs.Common.{◌≡◌, ℕ, ◌+◌, ◌-◌, ◌/◌, ◌%◌, true, false, cond, List, [], ◌∷◌, ◌++◌, codes, drop, get_or, length, map, inl, inr, refl, sym, ap, ◌∙◌, arith, eqb, nat_lt}
+use Rattle.std.specs.Fmt.{decimal}
+use Rattle.std.specs.List.{count_by, flat_map}
+use Rattle.std.specs.Str.{bytes_eq}
+use Rattle.std.proofs.lemmas.Bool.{cases_eq, cases_lt, false_from_ne_true}
+use Rattle.std.proofs.lemmas.Bool.Decides.{nat_tests}
+use Rattle.std.proofs.lemmas.Grind.{flat_map-append}
+use Rattle.std.proofs.lemmas.List.{append-nil}
+use Rattle.std.proofs.lemmas.List.Prefix.{end_rest}
+use Rattle.std.proofs.lemmas.List.Sums.{sum_by-append}
+use Rattle.std.proofs.lemmas.Slice.Eq.{bytes_eq-Decides}
+use Rattle.mcs_model.specs.declared.command.Command.TheVariants.{Run}
+use Rattle.mcs_model.specs.BenchState.{BenchState}
+use Rattle.mcs_model.specs.Command.{after, machine_of, stops_of}
+use Rattle.mcs_model.specs.QueryText.{address_text, hex_digit}
+use Rattle.mcs_model.specs.Running.{after_run, run_length}
+use Rattle.mcs_probe.specs.declared.probe.Probe.{Probe}
+use Rattle.mcs_probe.specs.Forecast.{Begun, begun_in, is_at, later, runs_at}
+use Rattle.mcs_trace.proofs.Parts.{begun-add-up}
+use Rattle.mcs_answers.specs.ForecastLaws.{is_line_at, later_lines}
+use Rattle.mcs_answers.specs.ForecastTexts.{trace_line, trace_lines}
+
+lines-of-map : (probes : List Probe) (m : ℕ) (begun : List Begun) → flat_map (trace_line probes) (map (later m) begun) ≡ flat_map (λ x. trace_line probes (later m x)) begun
+lines-of-map probes m [] = refl
+lines-of-map probes m (x ∷ begun) = ap (λ (l : List (List ℕ)). trace_line probes (later m x) ++ l) (lines-of-map probes m begun)
+
+pub traces-add : (probes : List Probe) (b : BenchState) (m n : ℕ) → run_length (stops_of b) (m + n) (machine_of b) ≡ m + n → trace_lines probes b (m + n) ≡ trace_lines probes b m ++ later_lines probes m (after b (Run m)) n
+traces-add probes b m n e =
+    let first = begun_in (stops_of b) m (machine_of b) in
+    let second = begun_in (stops_of b) n (after_run (stops_of b) m (machine_of b)) in
+    ap (flat_map (trace_line probes)) (begun-add-up (stops_of b) m n (machine_of b) e)
+    ∙ flat_map-append (trace_line probes) first (map (later m) second)
+    ∙ ap (λ (l : List (List ℕ)). trace_lines probes b m ++ l) (lines-of-map probes m second)
+
+-- ---- counts
+
+-- a hexadecimal digit is of one number
+hex-one : (a b : ℕ) → hex_digit a ≡ hex_digit b → a ≡ b
+hex-one a b e =
+    elim (cases_lt a 10) [
+      | inl la ↦ elim (cases_lt b 10) [
+        | inl lb ↦ (let s : nat_lt a 10 ≡ true = grind (arith, nat_tests) in let t : nat_lt b 10 ≡ true = grind (arith, nat_tests) in let h = rw (s, t) at e in omega arith)
+        | inr gb ↦ (let s : nat_lt a 10 ≡ true = grind (arith, nat_tests) in let t : nat_lt b 10 ≡ false = grind (arith, nat_tests) in let h = rw (s, t) at e in absurd (omega arith))
+      ]
+      | inr ga ↦ elim (cases_lt b 10) [
+        | inl lb ↦ (let s : nat_lt a 10 ≡ false = grind (arith, nat_tests) in let t : nat_lt b 10 ≡ true = grind (arith, nat_tests) in let h = rw (s, t) at e in absurd (omega arith))
+        | inr gb ↦ (let s : nat_lt a 10 ≡ false = grind (arith, nat_tests) in let t : nat_lt b 10 ≡ false = grind (arith, nat_tests) in let h = rw (s, t) at e in omega arith)
+      ]
+    ]
+
+-- the text of an address is of one address
+address-one : (a b : ℕ) → address_text a ≡ address_text b → a ≡ b
+address-one a b e =
+    let high : a / 256 ≡ b / 256 = hex-one (a / 256) (b / 256) (ap (λ (l : List ℕ). get_or l 0 0) e) in
+    let middle : a / 16 % 16 ≡ b / 16 % 16 = hex-one (a / 16 % 16) (b / 16 % 16) (ap (λ (l : List ℕ). get_or l 1 0) e) in
+    let low : a % 16 ≡ b % 16 = hex-one (a % 16) (b % 16) (ap (λ (l : List ℕ). get_or l 2 0) e) in
+    omega arith
+
+-- the line of a trace without places
+abbrev plain_line : Begun → List ℕ
+plain_line x = decimal x.cycles ++ codes " " ++ address_text x.before.0.pc
+
+-- what it ends with
+ends-with : (x : Begun) → drop (length (plain_line x) - 3) (plain_line x) ≡ address_text x.before.0.pc
+ends-with x = end_rest (plain_line x) (address_text x.before.0.pc) (decimal x.cycles ++ codes " ") refl
+
+line-at : (at : ℕ) (x : Begun) → is_line_at at (plain_line x) ≡ is_at at x
+line-at at x =
+    ap (λ (l : List ℕ). bytes_eq l (address_text at)) (ends-with x)
+    ∙ elim (cases_eq x.before.0.pc at) [
+      | inl same ↦ (bytes_eq-Decides (address_text x.before.0.pc) (address_text at)).1 (ap address_text same) ∙ sym (let t : eqb x.before.0.pc at ≡ true = grind (arith, nat_tests) in t)
+      | inr other ↦ false_from_ne_true (bytes_eq (address_text x.before.0.pc) (address_text at)) (λ t. other (address-one x.before.0.pc at ((bytes_eq-Decides (address_text x.before.0.pc) (address_text at)).0 t))) ∙ sym (let f : eqb x.before.0.pc at ≡ false = grind (arith, nat_tests) in f)
+    ]
+
+-- without places nothing stands behind the address
+line-of : (x : Begun) → trace_line [] x ≡ plain_line x ∷ []
+line-of x = ap (λ (l : List ℕ). l ∷ []) (append-nil (plain_line x))
+
+pub counts-lines : (at : ℕ) (begun : List Begun) → runs_at begun at ≡ count_by (is_line_at at) (flat_map (trace_line []) begun)
+counts-lines at [] = refl
+counts-lines at (x ∷ begun) =
+    let rest = flat_map (trace_line []) begun in
+    sum_by-append (λ (y : Begun). cond (is_at at y) 1 0) (x ∷ []) begun
+    ∙ ap (λ b. 0 + cond b 1 0 + runs_at begun at) (sym (line-at at x))
+    ∙ ap (λ k. 0 + cond (is_line_at at (plain_line x)) 1 0 + k) (counts-lines at begun)
+    ∙ sym (sum_by-append (λ (l : List ℕ). cond (is_line_at at l) 1 0) (plain_line x ∷ []) rest)
+    ∙ ap (λ (ls : List (List ℕ)). count_by (is_line_at at) (ls ++ rest)) (sym (line-of x))

@@ -1,0 +1,48 @@
+-- How the answers to `count` and `trace` agree with each other and with a run.
+use Rattle.std.specs.Prelude.{◌≡◌, ℕ, ◌+◌, ◌-◌, ◌++◌, Bool, List, [], codes, drop, length}
+use Rattle.std.specs.Fmt.{decimal}
+use Rattle.std.specs.List.{count_by, flat_map}
+use Rattle.std.specs.Str.{bytes_eq}
+use Rattle.mcs_model.specs.declared.command.Command.TheVariants.{Run}
+use Rattle.mcs_model.specs.BenchState.{BenchState}
+use Rattle.mcs_model.specs.Command.{after, machine_of, reply, stops_of}
+use Rattle.mcs_model.specs.QueryText.{address_text}
+use Rattle.mcs_model.specs.Running.{run_length}
+use Rattle.mcs_probe.specs.declared.probe.Probe.{Probe}
+use Rattle.mcs_probe.specs.Forecast.{begun_in, later, runs_at}
+use Rattle.mcs_answers.specs.ForecastTexts.{ahead_head, trace_line, trace_lines}
+use Rattle.mcs_answers.specs.AnswerTexts.{reply_text}
+
+-- Holds if a head states what the answer to `run n` would: how many cycles, and why no more.
+abbrev pub HeadsReportTheRun : Type 0
+HeadsReportTheRun =
+    (word : List ℕ) (b : BenchState) (n : ℕ) (lines : List (List ℕ)) →
+    ahead_head word b n lines
+    ≡ word ++ reply_text (reply b (Run n)) ++ codes " lines " ++ decimal (length lines)
+
+-- the lines of a trace of n cycles, of a run that began m cycles earlier
+abbrev pub later_lines : List Probe → ℕ → BenchState → ℕ → List (List ℕ)
+later_lines probes m b n =
+    flat_map (λ x. trace_line probes (later m x)) (begun_in (stops_of b) n (machine_of b))
+
+-- Holds if a trace of m + n cycles is one of m cycles and then, after `run m`, one of n cycles. The
+-- second trace counts its cycles on from m. The premise: nothing stops the run of m + n cycles
+-- before its end.
+abbrev pub TracesAddUp : Type 0
+TracesAddUp =
+    (probes : List Probe) (b : BenchState) (m n : ℕ) →
+    run_length (stops_of b) (m + n) (machine_of b) ≡ m + n →
+    trace_lines probes b (m + n)
+    ≡ trace_lines probes b m ++ later_lines probes m (after b (Run m)) n
+
+-- true if a line of a trace without places is about an instruction at an address: if it ends
+-- with the address
+abbrev pub is_line_at : ℕ → List ℕ → Bool
+is_line_at at line = bytes_eq (drop (length line - 3) line) (address_text at)
+
+-- holds if each address is counted as often as a trace without places has a line of it
+abbrev pub CountsAreOfTheTrace : Type 0
+CountsAreOfTheTrace =
+    (b : BenchState) (n at : ℕ) →
+    runs_at (begun_in (stops_of b) n (machine_of b)) at
+    ≡ count_by (is_line_at at) (trace_lines [] b n)

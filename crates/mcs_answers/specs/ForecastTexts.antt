@@ -1,0 +1,69 @@
+-- The answers to `count` and `trace`: what a run would do, without doing it. (Our own choice.)
+use Rattle.std.specs.Prelude.{ℕ, Bool, true, not, List, [], ◌∷◌, ◌++◌, codes, length, nat_lt, if◌then◌else◌}
+use Rattle.std.specs.Fmt.{decimal}
+use Rattle.std.specs.List.{flat_map, range_with_len}
+use Rattle.std.specs.Str.{bytes_eq}
+use Rattle.mcs_model.specs.BenchState.{BenchState}
+use Rattle.mcs_model.specs.Command.{machine_of, stops_of}
+use Rattle.mcs_model.specs.QueryText.{address_text}
+use Rattle.mcs_model.specs.TextLines.{as_line, text_of}
+use Rattle.mcs_model.specs.Running.{Machine, run_length, run_stop}
+use Rattle.mcs_probe.specs.declared.probe.Probe.{Probe}
+use Rattle.mcs_probe.specs.Forecast.{Begun, begun_in, is_branch, jumps_at, runs_at}
+use Rattle.mcs_probe.specs.Probes.{row}
+use Rattle.mcs_answers.specs.AnswerTexts.{stop_name}
+
+-- the head: how many cycles the run would do, why no more, and how many lines follow
+abbrev pub ahead_head : List ℕ → BenchState → ℕ → List (List ℕ) → List ℕ
+ahead_head word b n lines =
+    word ++ codes " ran " ++ decimal (run_length (stops_of b) n (machine_of b))
+    ++ codes " " ++ stop_name (run_stop (stops_of b) n (machine_of b))
+    ++ codes " lines " ++ decimal (length lines)
+
+-- The lines of `count` for an address: one if the run begins an instruction there, and none
+-- otherwise. A line has the address and how often. At JCN and ISZ it also has how often the counter
+-- continues elsewhere than after the two words (`jumps_at`).
+abbrev pub count_line : List Begun → Machine → ℕ → List (List ℕ)
+count_line begun s at =
+    if nat_lt 0 (runs_at begun at)
+    then (address_text at ++ codes " " ++ decimal (runs_at begun at)
+    ++ (if is_branch s at then codes " " ++ decimal (jumps_at begun at) else [])) ∷ []
+    else []
+
+-- the addresses below n
+unfoldable pub addresses : ℕ → List ℕ
+addresses n = range_with_len 0 n
+
+-- the lines of a run of n cycles, by rising address
+abbrev pub count_lines : BenchState → ℕ → List (List ℕ)
+count_lines b n =
+    flat_map (count_line (begun_in (stops_of b) n (machine_of b)) (machine_of b)) (addresses 4096)
+
+abbrev pub count_answer : ℕ → BenchState → List ℕ
+count_answer n b =
+    as_line (ahead_head (codes "count") b n (count_lines b n)) ++ text_of (count_lines b n)
+
+-- True if the row after an instruction gets a line. Without places every row gets one. With
+-- places a row gets one if it differs from the row before.
+abbrev pub is_reported : List Probe → List ℕ → List ℕ → Bool
+is_reported [] before after = true
+is_reported probes before after = not (bytes_eq after before)
+
+-- The lines of `trace` for an instruction: one or none. A line has the number of cycles done before
+-- it, its address, and the row after it.
+abbrev pub trace_line : List Probe → Begun → List (List ℕ)
+trace_line probes b =
+    if is_reported probes (row probes b.before) (row probes b.after)
+    then (decimal b.cycles ++ codes " " ++ address_text b.before.0.pc ++ row probes b.after) ∷ []
+    else []
+
+-- the lines of a run of n cycles, in turn
+abbrev pub trace_lines : List Probe → BenchState → ℕ → List (List ℕ)
+trace_lines probes b n =
+    flat_map (trace_line probes) (begun_in (stops_of b) n (machine_of b))
+
+-- the answer to `trace`, whose head ends with the present row
+abbrev pub trace_answer : List Probe → ℕ → BenchState → List ℕ
+trace_answer probes n b =
+    as_line (ahead_head (codes "trace") b n (trace_lines probes b n) ++ row probes (machine_of b))
+    ++ text_of (trace_lines probes b n)

@@ -1,0 +1,32 @@
+//! The head that the answers to `count` and `trace` share.
+ghost use Rattle.std.specs.Prelude.{◌≡◌, ◌+◌, ◌++◌, ◌≤◌, [], codes, length};
+ghost use Rattle.std.specs.Fmt.{decimal};
+ghost use Rattle.mcs_answers.specs.AnswerTexts.{stop_name};
+
+use crate::digits::put;
+use crate::numbers::{put_counted, stop_name};
+use crate::size::ANSWER_BYTES;
+use arrayvec::ArrayVec;
+use mcs_model::stop::Stop;
+
+/// Writes a head into an empty answer: a word, how many cycles a run would do, why it would stop,
+/// and how many lines follow.
+pub(crate) fn put_head(
+    head: &mut ArrayVec<u8, ANSWER_BYTES>,
+    word: &[u8],
+    cycles: u32,
+    stop: Stop,
+    lines: u32,
+)
+    requires empty { head.old.items ≡ [] }
+    requires short { length word.now ≤ 5 }
+    ensures text { head.new.items ≡ word.now ++ codes " ran " ++ decimal cycles
+        ++ codes " " ++ stop_name stop ++ codes " lines " ++ decimal lines }
+    ensures count { length head.new.items ≤ 63 }
+{
+    put(head, word);
+    put_counted(head, b" ran ", u64::from(cycles));
+    put(head, b" ");
+    put(head, stop_name(stop));
+    put_counted(head, b" lines ", u64::from(lines));
+}

@@ -1,0 +1,147 @@
+//! A comparison of the last row with the present state that does not build the row's text.
+ghost use Rattle.std.specs.Prelude.{◌≡◌, ◌<◌, ◌∷◌, ◌++◌, IfSome, codes, map, true};
+ghost use Rattle.mcs_model.specs.Command.{machine_of};
+ghost use Rattle.mcs_model.specs.Levels.{level};
+ghost use Rattle.mcs_model.specs.QueryText.{address_text, digit_text, lamp_mark, one_word, or_dash};
+ghost use Rattle.mcs_probe.specs.Probes.{probe_text, row};
+
+use crate::digits::hex_digit;
+use crate::lists::lamp_mark;
+use crate::port_levels::{ram_levels, rom_levels};
+use mcs_bench::Bench;
+use mcs_nibble::{Addr, Bit};
+use mcs_probe::Probe;
+
+/// Returns the rest of a text that begins with a byte, or none if it begins otherwise.
+#[inline(always)]
+fn after_byte(text: &[u8], byte: u8) -> Option<&[u8]>
+    ensures { IfSome result (λ rest. text.now ≡ byte ∷ rest.now) }
+{
+    match text {
+        [first, rest @ ..] => { if *first == byte { Some(rest) } else { None } }
+        _ => None,
+    }
+}
+
+/// Returns the rest of a text that begins with a space and a digit, or none if it begins otherwise.
+#[inline(always)]
+fn after_digit(text: &[u8], digit: u8) -> Option<&[u8]>
+    requires { digit < 16 }
+    ensures { IfSome result (λ rest. text.now ≡ codes " " ++ digit_text digit ++ rest.now) }
+{
+    match text {
+        [space, mark, rest @ ..] => {
+            if *space == b' ' && *mark == hex_digit(digit) {
+                Some(rest)
+            } else {
+                None
+            }
+        }
+        _ => None,
+    }
+}
+
+/// Returns the rest of a text that begins with a byte and an address, or none if it begins
+/// otherwise.
+#[inline(always)]
+fn after_address(text: &[u8], byte: u8, at: Addr) -> Option<&[u8]>
+    ensures { IfSome result (λ rest. text.now ≡ byte ∷ address_text at ++ rest.now) }
+{
+    let number = at.get();
+    match text {
+        [first, high, middle, low, rest @ ..] => {
+            if *first == byte
+                && *high == hex_digit((number / 256) as u8)
+                && *middle == hex_digit((number / 16 % 16) as u8)
+                && *low == hex_digit((number % 16) as u8)
+            {
+                Some(rest)
+            } else {
+                None
+            }
+        }
+        _ => None,
+    }
+}
+
+/// Returns the rest of a text that begins with a space and three addresses with commas between
+/// them, or none if it begins otherwise.
+fn after_returns(text: &[u8], ret: [Addr; 3]) -> Option<&[u8]>
+    ensures { IfSome result (λ rest. text.now ≡ codes " " ++ one_word (map address_text ret) ++ rest.now) }
+{
+    let [first, second, third] = ret;
+    let rest = after_address(text, b' ', first)?;
+    let rest = after_address(rest, b',', second)?;
+    after_address(rest, b',', third)
+}
+
+/// Returns the rest of a text that begins with the marks of the lamps, or none if it begins
+/// otherwise.
+fn after_marks<'a>(text: &'a [u8], bench: &Bench) -> Option<&'a [u8]>
+    ensures { IfSome result (λ rest. text.now
+        ≡ map (λ line. lamp_mark (level bench.now.bus line)) bench.now.bus.board.lamps.items ++ rest.now) }
+{
+    let mut rest = text;
+    let lamps = bench.board().parts().lamps.len();
+    for i in 0..lamps {
+        let level = bench.lamp(i).unwrap_or(Bit::ZERO);
+        match after_byte(rest, lamp_mark(level)) {
+            None => {
+                return None;
+            }
+            Some(more) => {
+                rest = more;
+            }
+        }
+    }
+    Some(rest)
+}
+
+/// Returns the rest of a text that begins with a space and the marks of the lamps, or none if it
+/// begins otherwise. It also returns none if the board has no lamp.
+fn after_lamps<'a>(text: &'a [u8], bench: &Bench) -> Option<&'a [u8]>
+    ensures { IfSome result (λ rest. text.now ≡ codes " "
+        ++ or_dash (map (λ line. lamp_mark (level bench.now.bus line)) bench.now.bus.board.lamps.items)
+        ++ rest.now) }
+{
+    if bench.board().parts().lamps.is_empty() {
+        return None;
+    }
+    let marks = after_byte(text, b' ')?;
+    after_marks(marks, bench)
+}
+
+/// Returns the rest of a text that begins with a space and the value of a place, or none if it
+/// begins otherwise. It also returns none for a place whose text must be built first.
+fn rest_of_row<'a>(text: &'a [u8], probe: Probe, bench: &Bench) -> Option<&'a [u8]>
+    ensures { IfSome result (λ rest. text.now
+        ≡ codes " " ++ probe_text (machine_of bench.now) probe ++ rest.now) }
+{
+    match probe {
+        Probe::Level(line) => after_digit(text, bench.level(line).get()),
+        Probe::RomPort(chip) => after_digit(text, rom_levels(bench, chip)),
+        Probe::RamPort(bank, chip) => after_digit(text, ram_levels(bench, bank, chip)),
+        Probe::Lamps => after_lamps(text, bench),
+        Probe::Returns => after_returns(text, bench.regs().ret),
+        _ => None,
+    }
+}
+
+/// Returns true only if a text is the row of values at the places. A result of false leaves it
+/// open.
+pub(crate) fn stands(text: &[u8], probes: &[Probe], bench: &Bench) -> bool
+    ensures { result ≡ true → text.now ≡ row probes.now (machine_of bench.now) }
+{
+    let mut rest = text;
+    for probe in probes {
+        match rest_of_row(rest, *probe, bench) {
+            None => {
+                return false;
+            }
+            Some(more) => {
+                rest = more;
+            }
+        }
+    }
+    rest.is_empty()
+}

@@ -1,0 +1,112 @@
+-- All errors of a source text: the first one of each line, as if each line before it that has one
+-- were empty. (Our own choice.)
+use Rattle.std.specs.Prelude.{◌≡◌, ℕ, zero, suc, ◌+◌, List, [], ◌∷◌, ◌++◌, length, take, map, codes, Option, Some, None, option_map, Result, Ok, Err}
+use Rattle.std.specs.List.{filter_map, range_with_len}
+use Rattle.std.specs.Fmt.{decimal}
+use Rattle.mcs_model.specs.TextLines.{as_line, lines_of, text_of}
+use Rattle.mcs_source.specs.Assembly.{Names, read, ith_line, address_of, all_names, fault_one, fault_two, line_bytes, line_pairs, bytes_or_none}
+use Rattle.mcs_model.specs.Images.{from_address}
+use Rattle.mcs_asm.specs.ByteCells.{HoldsPairs}
+use Rattle.mcs_source.specs.Lines.{SourceLine}
+use Rattle.mcs_source.specs.RefusalNumbers.{source_fault_number}
+use Rattle.mcs_source.specs.declared.fault.SourceFault.{SourceFault}
+use Rattle.mcs_asm.specs.declared.all_errors.LineError.{LineError}
+use Rattle.mcs_asm.specs.declared.all_errors.TheConstants.{ERROR_ROWS}
+use Rattle.mcs_asm.specs.Passes.{Before, nothing_before, before_next}
+
+-- ---- class one: a line with an error says nothing of names and addresses
+
+abbrev pub unless_error : {A : Type 0} → Option SourceFault → A → A → A
+unless_error (Some f) old new = old
+unless_error None old new = new
+
+-- the address and the names after the lines before line i that have no error
+unfoldable pub sound_before : List (Option SourceLine) → ℕ → Before
+sound_before lines zero = nothing_before
+sound_before lines (suc i) =
+    unless_error (fault_one (sound_before lines i).at (sound_before lines i).names (ith_line lines i))
+    (sound_before lines i) (before_next (sound_before lines i) (ith_line lines i))
+
+-- the error of class one of line i, if it has one
+unfoldable pub class_one_error : List (Option SourceLine) → ℕ → Option SourceFault
+class_one_error lines i =
+    fault_one (sound_before lines i).at (sound_before lines i).names (ith_line lines i)
+
+-- ---- class two: a line with an error spells no bytes; its address and its name stay
+
+-- the pairs of the lines before line i that have no error
+unfoldable pub sound_pairs : List (Option SourceLine) → Names → ℕ → List (ℕ × ℕ)
+sound_pairs lines names zero = []
+sound_pairs lines names (suc i) =
+    unless_error (fault_two (address_of lines i) (sound_pairs lines names i)
+    (line_bytes (address_of lines i) names (ith_line lines i)))
+    (sound_pairs lines names i) (sound_pairs lines names i ++ line_pairs lines names i)
+
+-- the error of class two of line i, if it has one
+unfoldable pub class_two_error : List (Option SourceLine) → Names → ℕ → Option SourceFault
+class_two_error lines names i =
+    fault_two (address_of lines i) (sound_pairs lines names i)
+    (line_bytes (address_of lines i) names (ith_line lines i))
+
+-- Holds if an answer is the error of bytes at an address, and the cells keep the pairs, with those
+-- of bytes without an error. Lack of memory says nothing of the text. It is cited by clauses of
+-- private functions alone.
+abbrev pub ReportsError : {E : Type 0} → Result (Option SourceFault) E → ℕ → List (ℕ × ℕ)
+    → Result (List ℕ) SourceFault → List (Option ℕ) → Type 0
+ReportsError (Err e) at pairs bytes cells = Unit {0}
+ReportsError (Ok error) at pairs bytes cells =
+    (error ≡ fault_two at pairs bytes)
+    × HoldsPairs cells (unless_error error pairs (pairs ++ from_address at (bytes_or_none bytes)))
+
+-- ---- the whole
+
+-- an error with the number of its line, which counts from 1
+abbrev pub error_at : ℕ → SourceFault → LineError
+error_at i f = record { line = i + 1; fault = f }
+
+-- the errors of the lines before line i
+unfoldable pub errors_before : (ℕ → Option SourceFault) → ℕ → List LineError
+errors_before error i = filter_map (λ j. option_map (error_at j) (error j)) (range_with_len 0 i)
+
+abbrev pub errors_of_class_one : List (Option SourceLine) → List LineError
+errors_of_class_one lines = errors_before (class_one_error lines) (length lines)
+
+abbrev pub errors_of_class_two : List (Option SourceLine) → List LineError
+errors_of_class_two lines = errors_before (class_two_error lines (all_names lines)) (length lines)
+
+abbrev pub or_errors : List LineError → List LineError → List LineError
+or_errors [] other = other
+or_errors (e ∷ es) other = e ∷ es
+
+-- the errors that are reported: the first ERROR_ROWS
+abbrev pub reported_errors : List LineError → List LineError
+reported_errors errors = take ERROR_ROWS errors
+
+-- the errors of class one, or those of class two if there is none of class one
+abbrev pub errors_of : List (Option SourceLine) → List LineError
+errors_of lines =
+    or_errors (reported_errors (errors_of_class_one lines)) (reported_errors (errors_of_class_two lines))
+
+abbrev pub errors_of_text : List ℕ → List LineError
+errors_of_text text = errors_of (read (lines_of text))
+
+-- ---- the law: the first error is the error of the assembly, and without one the assembly has none
+
+abbrev pub first_of : List LineError → Option (ℕ × SourceFault)
+first_of [] = None
+first_of (e ∷ es) = Some (e.line, e.fault)
+
+abbrev pub fault_of : {A : Type 0} → Result A (ℕ × SourceFault) → Option (ℕ × SourceFault)
+fault_of (Ok x) = None
+fault_of (Err at) = Some at
+
+-- ---- the text of the errors
+
+abbrev pub error_row : LineError → List ℕ
+error_row e = codes "error " ++ decimal e.line ++ codes " " ++ decimal (source_fault_number e.fault)
+
+abbrev pub errors_head : ℕ → List ℕ
+errors_head count = codes "errors " ++ decimal count
+
+unfoldable pub errors_text : List LineError → List ℕ
+errors_text errors = as_line (errors_head (length errors)) ++ text_of (map error_row errors)

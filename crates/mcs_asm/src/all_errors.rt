@@ -1,0 +1,265 @@
+//! All errors of a text: the first one of each line.
+ghost use Rattle.std.specs.Prelude.{◌≡◌, ◌==◌, ◌≤◌, ◌<◌, ◌^◌, ◌++◌, ◌∷◌, [], ℕ, List, IfOk, OnOk, map, length, string_bytes, option_map, None, Some, Ok, ◌+◌};
+ghost use Rattle.std.specs.List.{cons_option};
+ghost use Rattle.mcs_model.specs.TextLines.{as_line, text_of};
+ghost use Rattle.mcs_source.specs.Lexical.{tokens};
+ghost use Rattle.mcs_source.specs.Lines.{line_of};
+ghost use Rattle.mcs_source.specs.Assembly.{read, first_of_class_one, all_names, fault_one, line_bytes, next_at, assembly_of_text};
+ghost use Rattle.mcs_asm.specs.ByteCells.{HoldsPairs};
+ghost use Rattle.mcs_asm.specs.Errors.{ReportsError, sound_before, unless_error, error_at, errors_of_class_one, errors_of_class_two, reported_errors, errors_of, errors_of_text, first_of, fault_of, error_row, errors_head, errors_text};
+ghost use Rattle.mcs_asm.specs.Passes.{HasNoFault, before_next};
+ghost use Rattle.mcs_asm.specs.View.{line_view};
+
+use crate::byte_cells::ByteCells;
+use crate::bytes::line_bytes;
+use crate::fault::{FaultKind, SourceFault};
+use crate::names::{Names, next_at};
+use crate::passes::{SpelledLines, add_line};
+use crate::statements::{SourceLine, read_line};
+use crate::text::lines;
+use std::alloc::{AllocError, Global};
+
+/// The most errors of a text that are reported.
+pub const ERROR_ROWS: usize = 100;
+
+/// An error with the number of its line, from 1.
+#[derive(Clone, Copy, Debug)]
+pub struct LineError {
+    /// The number of the line.
+    pub line: usize,
+    /// The error.
+    pub fault: SourceFault,
+}
+
+/// Adds an error, if there is room for one.
+fn push_error(
+    errors: &mut Vec<LineError>,
+    index: usize,
+    fault: SourceFault,
+) -> Result<(), AllocError>
+    requires room { length errors.old.items ≤ ERROR_ROWS }
+    requires index { index < 2 ^ 63 }
+    ensures { OnOk result (errors.new.items ≡ reported_errors (errors.old.items ++ error_at index fault ∷ [])) }
+{
+    if errors.len() < ERROR_ROWS {
+        errors.push(LineError {
+            line: index + 1,
+            fault,
+        })?;
+    }
+    Ok(())
+}
+
+/// Adds an error, if there is one and room for it.
+fn report_error(
+    errors: &mut Vec<LineError>,
+    index: usize,
+    fault: Option<SourceFault>,
+) -> Result<(), AllocError>
+    requires room { length errors.old.items ≤ ERROR_ROWS }
+    requires index { index < 2 ^ 63 }
+    ensures { OnOk result (errors.new.items
+        ≡ reported_errors (errors.old.items ++ cons_option (option_map (error_at index) fault) [])) }
+{
+    match fault {
+        Some(fault) => push_error(errors, index, fault),
+        None => Ok(()),
+    }
+}
+
+/// Returns the error of class one of one more line, if it has one; else adds the line's names and
+/// addresses. It fails if memory is refused.
+fn first_error<'a>(
+    alloc: Global,
+    names: &mut Names<'a>,
+    line: &'a [u8],
+) -> Result<Option<SourceFault>, AllocError>
+    ensures { IfOk result (λ error.
+        (error ≡ fault_one names.old.at names.old.names (line_of (tokens line.now)))
+        × (names.new ≡ unless_error error names.old (before_next names.old (line_of (tokens line.now))))) }
+{
+    match add_line(alloc, names, line) {
+        Ok(()) => Ok(None),
+        Err(FaultKind::Refused(fault)) => Ok(Some(fault)),
+        Err(FaultKind::NoMemory) => Err(AllocError),
+    }
+}
+
+/// Returns the names of the lines, and the errors of class one.
+fn errors_of_names<'a>(
+    alloc: Global,
+    lines: &[&'a [u8]],
+) -> Result<(Names<'a>, Vec<LineError>), AllocError>
+    ensures { IfOk result (λ found. (found.0 ≡ sound_before (read (map (λ l. l.now) lines.now)) (length lines.now))
+        × (found.1.items ≡ reported_errors (errors_of_class_one (read (map (λ l. l.now) lines.now))))) }
+{
+    let mut names = Names::new(alloc);
+    let mut errors = Vec::new(alloc);
+    for i in 0..lines.len() {
+        let fault = first_error(alloc, &mut names, lines[i])?;
+        report_error(&mut errors, i, fault)?;
+    }
+    Ok((names, errors))
+}
+
+impl SpelledLines {
+    /// Returns the error of bytes that are at an address with a byte; else adds the bytes. The
+    /// next statement is at `next`. It fails if memory is refused.
+    fn add_or_pass(&mut self, bytes: &[u8], next: u16) -> Result<Option<SourceFault>, AllocError>
+        requires room { self.old.at + length bytes.now ≤ 4096 }
+        requires next { next ≤ 4096 }
+        ensures error { (pairs : List (ℕ × ℕ)) → HoldsPairs self.old.cells pairs
+            → ReportsError result self.old.at pairs (Ok bytes.now) self.new.cells }
+        ensures next { OnOk result (self.new.at ≡ next) }
+    {
+        match self.add(bytes, next) {
+            Ok(()) => Ok(None),
+            Err(FaultKind::NoMemory) => Err(AllocError),
+            Err(FaultKind::Refused(overlap)) => {
+                self.at = next;
+                Ok(Some(overlap))
+            }
+        }
+    }
+
+    /// Returns the error of class two of a line that has none of class one, if it has one; else
+    /// adds its bytes. It fails if memory is refused.
+    fn error_of_line<'a>(
+        &mut self,
+        alloc: Global,
+        names: &Names<'a>,
+        line: &SourceLine<'a>,
+    ) -> Result<Option<SourceFault>, AllocError>
+        requires { HasNoFault self.old.at (Some (line_view line.now)) }
+        ensures error { (pairs : List (ℕ × ℕ)) → HoldsPairs self.old.cells pairs
+            → ReportsError result self.old.at pairs
+            (line_bytes self.old.at names.now.names (Some (line_view line.now))) self.new.cells }
+        ensures next { OnOk result (self.new.at ≡ next_at (Some (line_view line.now)) self.old.at) }
+    {
+        let next = next_at(line, self.at);
+        match line_bytes(alloc, self.at, names, line) {
+            Ok(bytes) => self.add_or_pass(&bytes, next),
+            Err(FaultKind::NoMemory) => Err(AllocError),
+            Err(FaultKind::Refused(fault)) => {
+                self.at = next;
+                Ok(Some(fault))
+            }
+        }
+    }
+
+    /// Returns the error of class two of one more line, which has none of class one, if it has
+    /// one; else adds its bytes. It fails if memory is refused.
+    fn second_error<'a>(
+        &mut self,
+        alloc: Global,
+        names: &Names<'a>,
+        line: &'a [u8],
+    ) -> Result<Option<SourceFault>, AllocError>
+        requires { HasNoFault self.old.at (line_of (tokens line.now)) }
+        ensures error { (pairs : List (ℕ × ℕ)) → HoldsPairs self.old.cells pairs
+            → ReportsError result self.old.at pairs
+            (line_bytes self.old.at names.now.names (line_of (tokens line.now))) self.new.cells }
+        ensures next { OnOk result (self.new.at ≡ next_at (line_of (tokens line.now)) self.old.at) }
+    {
+        match read_line(alloc, line) {
+            Ok(Some(line)) => self.error_of_line(alloc, names, &line),
+            Ok(None) => unreachable!(),
+            Err(_) => Err(AllocError),
+        }
+    }
+}
+
+/// Returns the errors of class two of lines that have none of class one.
+fn errors_of_bytes<'a>(
+    alloc: Global,
+    names: &Names<'a>,
+    lines: &[&'a [u8]],
+) -> Result<Vec<LineError>, AllocError>
+    requires no_fault { first_of_class_one (read (map (λ l. l.now) lines.now)) ≡ None }
+    requires names { names.now.names ≡ all_names (read (map (λ l. l.now) lines.now)) }
+    ensures { IfOk result (λ found. found.items ≡ reported_errors (errors_of_class_two (read (map (λ l. l.now) lines.now)))) }
+{
+    let mut spelled = SpelledLines {
+        at: 0,
+        spans: Vec::new(alloc),
+        cells: ByteCells::new(alloc)?,
+    };
+    let mut errors = Vec::new(alloc);
+    for i in 0..lines.len() {
+        let fault = spelled.second_error(alloc, names, lines[i])?;
+        report_error(&mut errors, i, fault)?;
+    }
+    Ok(errors)
+}
+
+fn are_none(errors: &[LineError]) -> bool
+    ensures { result ≡ (length errors.now == 0) }
+{
+    errors.is_empty()
+}
+
+/// Returns the errors of lines.
+fn errors_of_lines<'a>(alloc: Global, lines: &[&'a [u8]]) -> Result<Vec<LineError>, AllocError>
+    ensures { IfOk result (λ found. found.items ≡ errors_of (read (map (λ l. l.now) lines.now))) }
+{
+    let (names, errors) = errors_of_names(alloc, lines)?;
+    if are_none(&errors) {
+        errors_of_bytes(alloc, &names, lines)
+    } else {
+        Ok(errors)
+    }
+}
+
+/// Returns the errors of a text, at most [`ERROR_ROWS`]: the first one of each line. They are of
+/// class one, or of class two if no line has one of class one. For the lines after it, a line with
+/// an error of class one is empty, and one with an error of class two spells no bytes. It fails if
+/// memory is refused.
+pub fn errors(alloc: Global, source: &str) -> Result<Vec<LineError>, AllocError>
+    ensures { IfOk result (λ found. found.items ≡ errors_of_text source.now) }
+{
+    let lines = lines(alloc, source.as_bytes())?;
+    errors_of_lines(alloc, &lines)
+}
+
+/// Proves that the first error of a text is the error of its assembly, with the same line. A text
+/// without errors has no error of its assembly.
+pub fn the_first_error_is_the_fault()
+    ensures { (text : List ℕ) → first_of (errors_of_text text) ≡ fault_of (assembly_of_text text) }
+{}
+
+/// Writes the line and the number of an error.
+fn push_row(out: &mut String, error: LineError) -> Result<(), AllocError>
+    ensures { OnOk result (string_bytes out.new ≡ string_bytes out.old ++ as_line (error_row error)) }
+{
+    let (line, number) = (error.line, error.fault.number());
+    write!(out, "error {line} {number}\n")
+}
+
+/// Writes a row for each error.
+fn push_errors(out: &mut String, errors: &[LineError]) -> Result<(), AllocError>
+    ensures { OnOk result (string_bytes out.new
+        ≡ string_bytes out.old ++ text_of (map error_row errors.now)) }
+{
+    for i in 0..errors.len() {
+        push_row(out, errors[i])?;
+    }
+    Ok(())
+}
+
+/// Writes the count of errors.
+fn push_count(out: &mut String, count: usize) -> Result<(), AllocError>
+    ensures { OnOk result (string_bytes out.new ≡ string_bytes out.old ++ as_line (errors_head count)) }
+{
+    write!(out, "errors {count}\n")
+}
+
+/// Returns the text of errors: `errors 2`, `error 3 30`, `error 7 31`. It fails if memory is
+/// refused.
+pub fn errors_text(alloc: Global, errors: &[LineError]) -> Result<Vec<u8>, AllocError>
+    ensures { IfOk result (λ text. text.items ≡ errors_text errors.now) }
+{
+    let mut out = String::new(alloc);
+    push_count(&mut out, errors.len())?;
+    push_errors(&mut out, errors)?;
+    Ok(out.into_bytes())
+}

@@ -1,0 +1,130 @@
+//! The scope of conditions, by which a run knows the cycles that leave them as they are.
+ghost use Rattle.std.specs.Prelude.{◌≡◌, ◌<◌, ◌+◌, ◌*◌, ◌||◌};
+ghost use Rattle.mcs_check.specs.Scopes.{changes, has_all, has_cell, has_condition, has_each, has_register};
+
+use crate::cells::{Cell, CellList};
+use crate::conditions::{Condition, Never};
+use mcs_model::op::Op;
+use mcs_nibble::PairNo;
+
+/// What of a machine some conditions look at.
+#[derive(Clone, Copy)]
+pub(crate) struct Scope {
+    /// The index registers that they look at.
+    pub(crate) registers: [bool; 16],
+    /// Whether they look at a chip other than the processor.
+    pub(crate) chips: bool,
+    /// Whether they look for mistakes.
+    pub(crate) mistakes: bool,
+}
+
+/// Returns the scope of conditions.
+pub(crate) fn scope_of(nevers: &[Never]) -> Scope {
+    let mut scope = Scope {
+        registers: [false; 16],
+        chips: false,
+        mistakes: false,
+    };
+    for i in 0..nevers.len() {
+        scope.add_all(nevers[i].conditions());
+    }
+    scope
+}
+
+impl Scope {
+    /// Adds what a cell is of.
+    fn add_cell(&mut self, cell: Cell) {
+        match cell.list {
+            CellList::Registers => self.registers[usize::from(cell.place())] = true,
+            CellList::Counters => {}
+            _ => self.chips = true,
+        }
+    }
+
+    /// Adds what these conditions look at.
+    fn add_all(&mut self, conditions: &[Condition]) {
+        for i in 0..conditions.len() {
+            match &conditions[i] {
+                Condition::Compare(comparison) => self.add_cell(comparison.cell),
+                Condition::Mistaken(_) => self.mistakes = true,
+            }
+        }
+    }
+
+    /// Returns whether an index register is in it.
+    fn has_register(&self, r: u8) -> bool
+        requires { r < 16 }
+        ensures { result ≡ has_register self.now r }
+    {
+        self.registers[usize::from(r)]
+    }
+
+    /// Returns whether a register of a pair is in it.
+    fn has_pair(&self, pair: PairNo) -> bool
+        ensures { result ≡ (has_register self.now (2 * pair) || has_register self.now (2 * pair + 1)) }
+    {
+        let even = 2 * pair.get();
+        self.has_register(even) || self.has_register(even + 1)
+    }
+
+    /// Returns whether a cell is in it.
+    fn has_cell(&self, cell: Cell) -> bool
+        ensures { result ≡ has_cell self.now cell.list cell.index }
+    {
+        match cell.list {
+            CellList::Registers => self.has_register(cell.place() as u8),
+            CellList::Counters => false,
+            _ => self.chips,
+        }
+    }
+
+    /// Returns whether what a condition looks at is in it.
+    fn has_condition(&self, condition: &Condition) -> bool
+        ensures { result ≡ has_condition self.now condition.now }
+    {
+        match condition {
+            Condition::Compare(comparison) => self.has_cell(comparison.cell),
+            Condition::Mistaken(_) => self.mistakes,
+        }
+    }
+
+    /// Returns whether what these conditions look at is in it.
+    fn has_all(&self, conditions: &[Condition]) -> bool
+        ensures { result ≡ has_all self.now conditions.now }
+    {
+        for i in 0..conditions.len() {
+            if !self.has_condition(&conditions[i]) {
+                return false;
+            }
+        }
+        true
+    }
+
+    /// Returns whether what each of these looks at is in it.
+    pub(crate) fn has_each(&self, nevers: &[Never]) -> bool
+        ensures { result ≡ has_each self.now nevers.now }
+    {
+        for i in 0..nevers.len() {
+            if !self.has_all(nevers[i].conditions()) {
+                return false;
+            }
+        }
+        true
+    }
+
+    /// Returns whether an instruction may change a register or a chip that is in it.
+    pub(crate) fn changes(&self, op: Op) -> bool
+        ensures { result ≡ changes self.now op }
+    {
+        match op {
+            Op::Fim(pair, _) => self.has_pair(pair),
+            Op::Fin(pair) => self.has_pair(pair),
+            Op::Inc(r) => self.has_register(r.get()),
+            Op::Isz(r, _) => self.has_register(r.get()),
+            Op::Xch(r) => self.has_register(r.get()),
+            Op::Src(_) | Op::Wrm | Op::Wmp | Op::Wrr => self.chips,
+            Op::Wr0 | Op::Wr1 | Op::Wr2 | Op::Wr3 => self.chips,
+            _ => false,
+        }
+    }
+}

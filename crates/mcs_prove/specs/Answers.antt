@@ -1,0 +1,53 @@
+-- The line and the exit status of an answer. (Our own choice.)
+use Rattle.std.specs.Prelude.{◌≡◌, ℕ, List, ◌++◌, codes, Result, Ok, Err, IfOk}
+use Rattle.std.specs.Fmt.{decimal}
+use Rattle.std.specs.List.{flat_map}
+use Rattle.mcs_model.specs.declared.refusal_numbers.TheConstants.{NO_MEMORY, NO_ROM}
+use Rattle.mcs_source.specs.RefusalNumbers.{source_fault_number}
+use Rattle.mcs_wiring.specs.RefusalNumbers.{wiring_fault_number}
+use Rattle.mcs_check.specs.declared.checking.Outcome.{Outcome}
+use Rattle.mcs_check.specs.declared.checking.Outcome.TheVariants as outcome
+use Rattle.mcs_prove.specs.declared.fault.Refusal.{Refusal}
+use Rattle.mcs_prove.specs.declared.fault.Refusal.TheVariants as refusal
+use Rattle.mcs_prove.specs.Questions.{IsAnswerTo}
+
+-- a number behind a space
+abbrev pub spaced : ℕ → List ℕ
+spaced n = codes " " ++ decimal n
+
+abbrev pub outcome_line : Outcome → List ℕ
+outcome_line (outcome.Holds states) = codes "holds" ++ spaced states
+outcome_line (outcome.MayFail values) = codes "may fail" ++ flat_map spaced values.items
+outcome_line outcome.TooMany = codes "too many"
+outcome_line (outcome.NoMemory states) = codes "no room" ++ spaced states
+outcome_line outcome.GaveUp = codes "gave up"
+
+abbrev pub refusal_line : Refusal → List ℕ
+refusal_line refusal.NoMemory = codes "no" ++ spaced NO_MEMORY
+refusal_line (refusal.Wiring fault) = codes "no" ++ spaced (wiring_fault_number fault)
+refusal_line (refusal.Program line fault) =
+    codes "no" ++ (spaced (source_fault_number fault) ++ spaced line)
+refusal_line refusal.NoRom = codes "no" ++ spaced NO_ROM
+refusal_line (refusal.Line line) = codes "wrong line" ++ spaced line
+refusal_line refusal.NotWhole = codes "no question"
+
+-- 2 where the text is no question, 3 where it has no answer
+abbrev pub refusal_status : Refusal → ℕ
+refusal_status (refusal.Line line) = 2
+refusal_status refusal.NotWhole = 2
+refusal_status _ = 3
+
+abbrev pub line_of_answer : Result Outcome Refusal → List ℕ
+line_of_answer (Ok found) = outcome_line found
+line_of_answer (Err why) = refusal_line why
+
+abbrev pub status_of_answer : Result Outcome Refusal → ℕ
+status_of_answer (Ok found) = 0
+status_of_answer (Err why) = refusal_status why
+
+-- a line and an exit status answer the question that a text spells
+pub record IsAnswered (text line : List ℕ) (status : ℕ) : Type 0 where
+  pub found : Result Outcome Refusal
+  pub tells : line ≡ line_of_answer found
+  pub ends : status ≡ status_of_answer found
+  pub proved : IfOk found (IsAnswerTo text)

@@ -1,0 +1,141 @@
+-- What a line of a question says: the table of lines. (Our own choice.)
+use Rattle.std.specs.Prelude.{ℕ, Bool, true, false, List, [], ◌∷◌, codes, nat_lt, Option, Some, None, if◌then◌else◌}
+use Rattle.std.specs.Option.{option_map}
+use Rattle.mcs_model.specs.Options.{◌>>=◌}
+use Rattle.std.specs.Str.{bytes_eq}
+use Rattle.mcs_model.specs.Numerals.{number_up_to}
+use Rattle.mcs_model.specs.WordTables.{beside}
+use Rattle.mcs_search.specs.declared.searching.TheConstants.{MOST}
+use Rattle.mcs_check.specs.declared.cells.Cell.{Cell}
+use Rattle.mcs_check.specs.declared.cells.CellList.{CellList}
+use Rattle.mcs_check.specs.declared.cells.CellList.TheVariants.{Characters, StatusCharacters, RamPorts, RomPorts, BankSrcs, Registers, Counters, Chain}
+use Rattle.mcs_check.specs.declared.common_mistakes.Mistakes.{Mistakes}
+use Rattle.mcs_check.specs.declared.conditions.Comparison.{Comparison}
+use Rattle.mcs_check.specs.declared.conditions.Condition.TheVariants as condition
+use Rattle.mcs_check.specs.declared.conditions.Part.{Part}
+use Rattle.mcs_check.specs.declared.conditions.Part.TheVariants.{Whole, Line}
+use Rattle.mcs_check.specs.Cells.{count_of}
+use Rattle.mcs_prove.specs.declared.lines.QuestionLine.{QuestionLine}
+use Rattle.mcs_prove.specs.declared.lines.QuestionLine.TheVariants.{Blank, Most, Sets, Memory, Pause, Wire, Asm, Never, Met, Prove}
+use Rattle.mcs_prove.specs.declared.lines.TheConstants.{LAST_INDEX, LONGEST_PAUSE, MOST_ENTRIES, MOST_MEMORY}
+
+-- ---- a comparison: `in ramport 0 line1 1 1`
+
+abbrev pub ways : List (List ℕ × Bool)
+ways = (codes "in", true) ∷ (codes "out", false) ∷ []
+
+abbrev pub lists : List (List ℕ × CellList)
+lists =
+    (codes "character", Characters)
+    ∷ (codes "status", StatusCharacters)
+    ∷ (codes "ramport", RamPorts)
+    ∷ (codes "romport", RomPorts)
+    ∷ (codes "banksrc", BankSrcs)
+    ∷ (codes "register", Registers)
+    ∷ (codes "counter", Counters)
+    ∷ (codes "chain0", Chain 0)
+    ∷ (codes "chain1", Chain 1)
+    ∷ (codes "chain2", Chain 2)
+    ∷ (codes "chain3", Chain 3)
+    ∷ []
+
+abbrev pub parts : List (List ℕ × Part)
+parts =
+    (codes "whole", Whole)
+    ∷ (codes "line0", Line 0)
+    ∷ (codes "line1", Line 1)
+    ∷ (codes "line2", Line 2)
+    ∷ (codes "line3", Line 3)
+    ∷ []
+
+-- the cell of an index, if its list can have so many
+abbrev pub cell_at : CellList → ℕ → Option Cell
+cell_at list i = if nat_lt i (count_of list) then Some (record { list = list; index = i }) else None
+
+abbrev pub cell_of : List ℕ → List ℕ → Option Cell
+cell_of list index =
+    beside (bytes_eq list) lists >>= λ l. number_up_to LAST_INDEX index >>= λ i. cell_at l i
+
+-- whether what a cell holds, or a line of it, lies between two numbers
+abbrev pub comparison_of : List ℕ → List ℕ → List ℕ → List ℕ → List ℕ → List ℕ → Option Comparison
+comparison_of way list index part low high =
+    beside (bytes_eq way) ways >>= λ inside.
+    cell_of list index >>= λ cell.
+    beside (bytes_eq part) parts >>= λ p.
+    number_up_to 255 low >>= λ least.
+    number_up_to 255 high >>= λ most.
+    Some (record { cell = cell; part = p; low = least; high = most; inside = inside })
+
+-- ---- mistakes: `mistake code call`
+
+abbrev pub no_mistakes : Mistakes
+no_mistakes = record {
+  no_code = false;
+  fourth_call = false;
+  lone_return = false;
+  absent_ram = false;
+  absent_rom = false;
+  no_inputs = false;
+  no_outputs = false;
+}
+
+abbrev pub mistakes : List (List ℕ × (Mistakes → Mistakes))
+mistakes =
+    (codes "code", λ m. record m { no_code = true })
+    ∷ (codes "call", λ m. record m { fourth_call = true })
+    ∷ (codes "return", λ m. record m { lone_return = true })
+    ∷ (codes "ram", λ m. record m { absent_ram = true })
+    ∷ (codes "rom", λ m. record m { absent_rom = true })
+    ∷ (codes "rdr", λ m. record m { no_inputs = true })
+    ∷ (codes "wrr", λ m. record m { no_outputs = true })
+    ∷ []
+
+abbrev pub with_mistake : Mistakes → List ℕ → Option Mistakes
+with_mistake m word = option_map (λ adds. adds m) (beside (bytes_eq word) mistakes)
+
+abbrev pub with_mistakes : Mistakes → List (List ℕ) → Option Mistakes
+with_mistakes m [] = Some m
+with_mistakes m (word ∷ words) = with_mistake m word >>= λ more. with_mistakes more words
+
+-- one at least
+abbrev pub mistakes_of : List (List ℕ) → Option Mistakes
+mistakes_of [] = None
+mistakes_of (word ∷ words) = with_mistakes no_mistakes (word ∷ words)
+
+-- ---- lines
+
+abbrev pub alone : List (List ℕ × QuestionLine)
+alone =
+    (codes "wire", Wire) ∷ (codes "asm", Asm) ∷ (codes "never", Never) ∷ (codes "prove", Prove) ∷ []
+
+-- `pause 1000000`: one cycle at least
+abbrev pub pause_of : ℕ → Option QuestionLine
+pause_of n = if nat_lt 0 n then Some (Pause n) else None
+
+-- a line of two words
+abbrev pub with_number : List ℕ → List ℕ → Option QuestionLine
+with_number name word =
+    if bytes_eq name (codes "most") then option_map Most (number_up_to MOST word)
+    else if bytes_eq name (codes "sets") then option_map Sets (number_up_to MOST_ENTRIES word)
+    else if bytes_eq name (codes "memory") then option_map Memory (number_up_to MOST_MEMORY word)
+    else if bytes_eq name (codes "pause") then number_up_to LONGEST_PAUSE word >>= pause_of
+    else None
+
+-- a line of three words and more
+abbrev pub with_comparison : List ℕ → List ℕ → List ℕ → List (List ℕ) → Option QuestionLine
+with_comparison way list index (part ∷ low ∷ high ∷ []) =
+    option_map (λ c. Met (condition.Compare c)) (comparison_of way list index part low high)
+with_comparison way list index words = None
+
+abbrev pub by_words : List ℕ → List (List ℕ) → Option QuestionLine
+by_words name [] = beside (bytes_eq name) alone
+by_words name (word ∷ []) = with_number name word
+by_words name (first ∷ second ∷ words) = with_comparison name first second words
+
+-- what the words of a line say, if they are one of a question
+abbrev pub line_of : List (List ℕ) → Option QuestionLine
+line_of [] = Some Blank
+line_of (name ∷ words) =
+    if bytes_eq name (codes "mistake")
+    then option_map (λ m. Met (condition.Mistaken m)) (mistakes_of words)
+    else by_words name words

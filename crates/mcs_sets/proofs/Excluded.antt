@@ -1,0 +1,139 @@
+-- What an entry excludes.
+use Rattle.std.proofs.Common.{◌≡◌, ◌<◌, ◌+◌, ◌-◌, ◌*◌, ◌/◌, ◌%◌, ◌&&◌, ◌||◌, ℕ, zero, suc, List, [], ◌∷◌, Bool, true, false, not, Option, Some, None, is_none, nat_lt, length, get_or, slice_index, refl, subst, sym, ap, ◌∙◌, arith, eqb}
+use Rattle.std.proofs.lemmas.Bool.{and_left, and_right, or_from, not_from_true, ne_eqb, lt-ltb, le-ltb}
+use Rattle.std.proofs.lemmas.Nat.{div-mul-add}
+use Rattle.mcs_model.specs.declared.board.BoardParts.{BoardParts}
+use Rattle.mcs_model.specs.declared.regs.Regs.{Regs}
+use Rattle.mcs_model.specs.declared.op.Op.{Op}
+use Rattle.mcs_model.specs.declared.op.Op.TheVariants.{Jcn, Fim, Fin, Jun, Jms, Isz, Bbl}
+use Rattle.mcs_model.specs.Boards.{masks_on}
+use Rattle.mcs_model.specs.Command.{lacks_rom}
+use Rattle.mcs_model.specs.Effect.{instruction_at}
+use Rattle.mcs_model.specs.Numbers.{word_on_page}
+use Rattle.mcs_model.specs.Registers.{pair_of}
+use Rattle.mcs_drive.specs.Tracked.{Tracked}
+use Rattle.mcs_check.specs.declared.common_mistakes.Mistakes.{Mistakes}
+use Rattle.mcs_check.specs.declared.conditions.Condition.{Condition}
+use Rattle.mcs_check.specs.Conditions.{is_met, are_met, keeps_to}
+use Rattle.mcs_check.specs.Mistaken.{errs_in_calls, errs_in_chips, errs_in_lines, has_input, has_output, is_fourth_call, is_lone_return, is_mistaken, is_rdr, is_wrr, lacks_ram, lacks_word, last_read, makes, uses_ram}
+use Rattle.mcs_sets.specs.declared.entries.Entry.{Entry}
+use Rattle.mcs_sets.specs.Entries.{has, held, IsIn}
+use Rattle.mcs_sets.specs.Excluding.{AllIn, HasBank, MakesNone, reads_next}
+use Rattle.mcs_sets.specs.Landing.{FitsCalls}
+use Rattle.mcs_sets.proofs.Memory.{has-lt}
+
+-- what is looked at only if it is asked for
+guarded : (a b c : Bool) → (a ≡ true → b ≡ true → c ≡ false) → (a && b && c) ≡ false
+guarded false b c h = refl
+guarded true false c h = refl
+guarded true true c h = h refl refl
+
+guarded-once : (a c : Bool) → (a ≡ true → c ≡ false) → (a && c) ≡ false
+guarded-once false c h = refl
+guarded-once true c h = h refl
+
+-- ---- calls
+
+no-fourth : (op : Op) (calls : ℕ) → FitsCalls op calls → is_fourth_call op calls ≡ false
+no-fourth (Jms h b) calls fits = let few : calls < 3 = fits in le-ltb 2 calls (omega arith)
+no-fourth _ calls fits = refl
+
+no-lone : (op : Op) (calls : ℕ) → FitsCalls op calls → is_lone_return op calls ≡ false
+no-lone (Bbl d) calls fits = let some : 0 < calls = fits in ne_eqb calls 0 (λ e. omega arith)
+no-lone _ calls fits = refl
+
+calls-kept : (asked : Mistakes) (op : Op) (s : Tracked) → FitsCalls op s.2 → errs_in_calls asked op s ≡ false
+calls-kept asked op s fits =
+    or_from _ _ (and_right asked.fourth_call _ (no-fourth op s.2 fits)) (and_right asked.lone_return _ (no-lone op s.2 fits))
+
+-- ---- RAM
+
+held-src : (s : Tracked) (k bank : ℕ) → k ≡ 18 + bank → held s k ≡ slice_index s.1.ram_src bank / 16
+held-src s k bank e =
+    let a : eqb k 16 ≡ false = ne_eqb k 16 (λ x. omega arith) in
+    let b : nat_lt k 16 ≡ false = le-ltb k 16 (omega arith) in
+    let c : eqb k 17 ≡ false = ne_eqb k 17 (λ x. omega arith) in
+    let d : k - 18 ≡ bank = omega arith in
+    rw (a, b, c, d) refl
+
+quarter : (n chips : ℕ) → n / 16 / 4 < chips → n / 64 < chips
+quarter n chips h = omega arith
+
+ram-kept : (board : BoardParts) (e : Entry) (s : Tracked) → s.1.board ≡ board → IsIn e s → AllIn (slice_index e.sets 16) (HasBank board e) → lacks_ram s.0 s.1 ≡ false
+ram-kept board e s same is all =
+    let bank = all s.0.dcl (is.places 16 (omega arith)) in
+    let n = slice_index s.1.ram_src s.0.dcl in
+    let few = bank.few in
+    let set = slice_index e.sets (18 + s.0.dcl) in
+    let inside : has set (n / 16) ≡ true = subst (λ (x : ℕ). has set x ≡ true) (held-src s (18 + s.0.dcl) s.0.dcl refl) (is.places (18 + s.0.dcl) (omega arith)) in
+    let chip : n / 64 < slice_index board.banks s.0.dcl = quarter n (slice_index board.banks s.0.dcl) (bank.chips (n / 16) inside) in
+    let there : n / 64 < slice_index s.1.board.banks s.0.dcl = subst (λ (b : BoardParts). n / 64 < slice_index b.banks s.0.dcl) (sym same) chip in
+    not_from_true _ (lt-ltb (n / 64) (slice_index s.1.board.banks s.0.dcl) there)
+
+-- ---- ROM
+
+on-page : (p a b : ℕ) → a < 16 → b < 16 → (256 * p + (a * 16 + b)) / 256 ≡ p
+on-page p a b u v = omega arith
+
+last-there : (board : BoardParts) (op : Op) (s : Regs) → slice_index s.r 0 < 16 → slice_index s.r 1 < 16 → lacks_rom board s.pc ≡ false → (reads_next op ≡ true → lacks_rom board ((s.pc + 1) % 4096) ≡ false) → lacks_rom board (last_read op s) ≡ false
+last-there board (Jcn c b) s u v here next = next refl
+last-there board (Fim k b) s u v here next = next refl
+last-there board (Fin k) s u v here next =
+    ap (λ (p : ℕ). is_none (masks_on board p)) (on-page ((s.pc + 1) % 4096 / 256) (slice_index s.r 0) (slice_index s.r 1) u v) ∙ next refl
+last-there board (Jun h b) s u v here next = next refl
+last-there board (Jms h b) s u v here next = next refl
+last-there board (Isz r b) s u v here next = next refl
+last-there board _ s u v here next = here
+
+words-kept : (board : BoardParts) (e : Entry) (op : Op) (s : Tracked) → IsIn e s → lacks_rom board e.at ≡ false → (reads_next op ≡ true → lacks_rom board ((e.at + 1) % 4096) ≡ false) → lacks_word op s.0 board ≡ false
+words-kept board e op s is here next =
+    let first = has-lt (slice_index e.sets 0) (slice_index s.0.r 0) (is.places 0 (omega arith)) in
+    let second = has-lt (slice_index e.sets 1) (slice_index s.0.r 1) (is.places 1 (omega arith)) in
+    let at : lacks_rom board s.0.pc ≡ false = subst (λ (a : ℕ). lacks_rom board a ≡ false) (sym is.at) here in
+    let behind : reads_next op ≡ true → lacks_rom board ((s.0.pc + 1) % 4096) ≡ false = subst (λ (a : ℕ). reads_next op ≡ true → lacks_rom board ((a + 1) % 4096) ≡ false) (sym is.at) next in
+    or_from _ _ at (last-there board op s.0 first second at behind)
+
+-- ---- the whole
+
+-- what was looked at of an entry
+pub record Looked (board : BoardParts) (e : Entry) (op : Op) (asked : Mistakes) : Type 0 where
+  pub calls : FitsCalls op e.calls
+  pub ram : asked.absent_ram ≡ true → uses_ram op ≡ true → AllIn (slice_index e.sets 16) (HasBank board e)
+  pub here : asked.absent_rom ≡ true → lacks_rom board e.at ≡ false
+  pub next : asked.absent_rom ≡ true → reads_next op ≡ true → lacks_rom board ((e.at + 1) % 4096) ≡ false
+  pub inputs : asked.no_inputs ≡ true → is_rdr op ≡ true → AllIn (slice_index e.sets 17) (λ n. has_input board n ≡ true)
+  pub outputs : asked.no_outputs ≡ true → is_wrr op ≡ true → AllIn (slice_index e.sets 17) (λ n. has_output board n ≡ true)
+
+chips-kept : (board : BoardParts) (e : Entry) (op : Op) (asked : Mistakes) (s : Tracked) → s.1.board ≡ board → IsIn e s → Looked board e op asked → errs_in_chips asked op s ≡ false
+chips-kept board e op asked s same is h =
+    or_from _ _
+    (guarded asked.absent_ram (uses_ram op) (lacks_ram s.0 s.1) (λ a u. ram-kept board e s same is (h.ram a u)))
+    (guarded-once asked.absent_rom (lacks_word op s.0 s.1.board)
+    (λ a. subst (λ (b : BoardParts). lacks_word op s.0 b ≡ false) (sym same) (words-kept board e op s is (h.here a) (h.next a))))
+
+lines-kept : (board : BoardParts) (e : Entry) (op : Op) (asked : Mistakes) (s : Tracked) → s.1.board ≡ board → IsIn e s → Looked board e op asked → errs_in_lines asked op s ≡ false
+lines-kept board e op asked s same is h =
+    let n = s.1.rom_src / 16 in
+    let inside : has (slice_index e.sets 17) n ≡ true = is.places 17 (omega arith) in
+    or_from _ _
+    (guarded asked.no_inputs (is_rdr op) (not (has_input s.1.board n)) (λ a r. not_from_true _ (subst (λ (b : BoardParts). has_input b n ≡ true) (sym same) (h.inputs a r n inside))))
+    (guarded asked.no_outputs (is_wrr op) (not (has_output s.1.board n)) (λ a r. not_from_true _ (subst (λ (b : BoardParts). has_output b n ≡ true) (sym same) (h.outputs a r n inside))))
+
+pub none-made : (board : BoardParts) (e : Entry) (op : Op) (asked : Mistakes) → Looked board e op asked → MakesNone board e op asked
+none-made board e op asked h = λ s same is.
+    or_from _ _
+    (or_from _ _ (calls-kept asked op s (subst (FitsCalls op) (sym is.calls) h.calls)) (chips-kept board e op asked s same is h))
+    (lines-kept board e op asked s same is h)
+
+mistaken-when : (b : Bool) (o : Option Op) (asked : Mistakes) (op : Op) (s : Tracked) → o ≡ Some op → makes asked op s ≡ false → (b && elim o as (λ _. Bool) [ Some op ↦ makes asked op s | None ↦ asked.no_code ]) ≡ false
+mistaken-when b o asked op s there none = rw there (and_right b _ none)
+
+pub not-mistaken : (asked : Mistakes) (op : Op) (s : Tracked) → instruction_at s.0 s.1 ≡ Some op → makes asked op s ≡ false → is_mistaken asked s ≡ false
+not-mistaken asked op s there none = mistaken-when (not (eqb s.0.owed 1)) (instruction_at s.0 s.1) asked op s there none
+
+-- ---- conditions
+
+pub unmet : (t : Tracked) (cs : List Condition) (i : ℕ) (d : Condition) → i < length cs → is_met t (get_or cs i d) ≡ false → are_met t cs ≡ false
+unmet t [] i d inside h = absurd (omega arith)
+unmet t (c ∷ cs) zero d inside h = and_left (is_met t c) (are_met t cs) h
+unmet t (c ∷ cs) (suc i) d inside h = and_right (is_met t c) (are_met t cs) (unmet t cs i d (omega arith) h)

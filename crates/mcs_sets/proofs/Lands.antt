@@ -1,0 +1,406 @@
+-- The law of one step: where the choice of a machine leads, there it is after the instruction.
+use Rattle.std.proofs.Common.{◌≡◌, ◌≢◌, ◌<◌, ◌≤◌, ◌+◌, inl, inr, ◌-◌, ◌*◌, ◌/◌, ◌%◌, ◌||◌, ℕ, zero, suc, List, [], ◌∷◌, length, replicate, Bool, true, false, cond, Option, Some, None, slice_index, slice_set, nat_lt, refl, sym, ap, ◌∙◌, arith, eqb}
+use Rattle.std.proofs.lemmas.Bool.{cases_eq, cases_lt, eq-eqb, ne_eqb, lt-ltb, le-ltb}
+use Rattle.std.proofs.lemmas.List.{get_or-set_same, get_or-set_other, get_or-replicate, length-set}
+use Rattle.mcs_nibble.specs.declared.lines.LineMask.{LineMask}
+use Rattle.mcs_nibble.specs.Ports.{latch_value}
+use Rattle.mcs_model.specs.declared.regs.Regs.{Regs}
+use Rattle.mcs_model.specs.declared.op.Op.{Op}
+use Rattle.mcs_model.specs.declared.op.Op.TheVariants.{Jcn, Fim, Src, Fin, Jin, Jms, Inc, Isz, Add, Sub, Ld, Xch, Bbl, Wrm, Wmp, Wrr, Wr0, Wr1, Wr2, Wr3, Daa}
+use Rattle.mcs_model.specs.declared.board.BoardParts.{BoardParts}
+use Rattle.mcs_model.specs.Boards.{masks_on}
+use Rattle.mcs_model.specs.Bus.{BusState, fetch_of, ram_of, status_of, chips_of, src_of, has_chip, after_src, with_ram, after_ram, with_status, after_status}
+use Rattle.mcs_model.specs.Effect.{registers_after, after_words, with_word, address_beside, is_taken, after_daa}
+use Rattle.mcs_model.specs.Levels.{clock_levels, chains_clocked, with_rom_ports_at, after_ram_port, after_rom_port}
+use Rattle.mcs_model.specs.Registers.{register_of, with_register}
+use Rattle.mcs_drive.specs.Tracked.{Tracked, calls_after}
+use Rattle.mcs_sets.specs.declared.landing.Landing.{Landing}
+use Rattle.mcs_sets.specs.Entries.{held}
+use Rattle.mcs_sets.specs.Landing.{ChoicesLand, Fits, before, landing, done, choice_of, put, Lands}
+use Rattle.mcs_sets.proofs.Places.{Agrees, KeepsSrc, lands-kept, lands-one, lands-two}
+
+-- ---- the SRC bytes
+
+either-src : (b : Bool) (s m n : BusState) → m.rom_src ≡ s.rom_src → m.ram_src ≡ s.ram_src → n.rom_src ≡ s.rom_src → n.ram_src ≡ s.ram_src → ((cond b m n).rom_src ≡ s.rom_src) × ((cond b m n).ram_src ≡ s.ram_src)
+either-src true s m n e f g h = (e, f)
+either-src false s m n e f g h = (g, h)
+
+ram-src : (m : BusState) (bank src n : ℕ) → ((with_ram m bank src n).rom_src ≡ m.rom_src) × ((with_ram m bank src n).ram_src ≡ m.ram_src)
+unfolding with_ram
+ram-src m bank src n = either-src (has_chip m bank src) m _ m refl refl refl refl
+
+status-src : (m : BusState) (bank high k n : ℕ) → ((with_status m bank high k n).rom_src ≡ m.rom_src) × ((with_status m bank high k n).ram_src ≡ m.ram_src)
+unfolding with_status
+status-src m bank high k n = either-src (nat_lt (high / 4) (chips_of m bank)) m _ m refl refl refl refl
+
+ram_port-src : (m : BusState) (bank n : ℕ) → ((after_ram_port m bank n).rom_src ≡ m.rom_src) × ((after_ram_port m bank n).ram_src ≡ m.ram_src)
+unfolding after_ram_port chains_clocked
+ram_port-src m bank n = either-src (has_chip m bank (src_of m bank)) m _ m refl refl refl refl
+
+rom_port-src-when : (m : BusState) (n : ℕ) (o : Option (List LineMask)) → ((elim o as (λ _. BusState) [ Some mask ↦ chains_clocked (clock_levels m) (with_rom_ports_at m (m.rom_src / 16) (latch_value mask n)) | None ↦ m ]).rom_src ≡ m.rom_src) × ((elim o as (λ _. BusState) [ Some mask ↦ chains_clocked (clock_levels m) (with_rom_ports_at m (m.rom_src / 16) (latch_value mask n)) | None ↦ m ]).ram_src ≡ m.ram_src)
+unfolding chains_clocked
+rom_port-src-when m n (Some mask) = (refl, refl)
+rom_port-src-when m n None = (refl, refl)
+
+rom_port-src : (m : BusState) (n : ℕ) → ((after_rom_port m n).rom_src ≡ m.rom_src) × ((after_rom_port m n).ram_src ≡ m.ram_src)
+unfolding after_rom_port
+rom_port-src m n = rom_port-src-when m n (masks_on m.board (m.rom_src / 16))
+
+after_ram-src : (m : BusState) (bank n : ℕ) → ((after_ram m bank n).rom_src ≡ m.rom_src) × ((after_ram m bank n).ram_src ≡ m.ram_src)
+unfolding after_ram
+after_ram-src m bank n = ram-src m bank (src_of m bank) n
+
+after_status-src : (m : BusState) (bank k n : ℕ) → ((after_status m bank k n).rom_src ≡ m.rom_src) × ((after_status m bank k n).ram_src ≡ m.ram_src)
+unfolding after_status
+after_status-src m bank k n = status-src m bank (src_of m bank / 16) k n
+
+-- ---- the registers
+
+-- a field where a jump may be taken
+jump-acc : (b : Bool) (s : Regs) (w : ℕ) → ((cond b (with_word s w) s).acc ≡ s.acc) × ((cond b (with_word s w) s).cy ≡ s.cy) × ((cond b (with_word s w) s).dcl ≡ s.dcl) × ((cond b (with_word s w) s).r ≡ s.r) × ((cond b (with_word s w) s).ret ≡ s.ret) × ((cond b (with_word s w) s).pc ≡ cond b (address_beside s.pc w) s.pc)
+jump-acc true s w = (refl, refl, refl, refl, refl, refl)
+jump-acc false s w = (refl, refl, refl, refl, refl, refl)
+
+-- ISZ
+isz-acc : (b : Bool) (s : Regs) (w : ℕ) → ((cond b s (with_word s w)).acc ≡ s.acc) × ((cond b s (with_word s w)).cy ≡ s.cy) × ((cond b s (with_word s w)).dcl ≡ s.dcl) × ((cond b s (with_word s w)).r ≡ s.r) × ((cond b s (with_word s w)).ret ≡ s.ret) × ((cond b s (with_word s w)).pc ≡ cond b s.pc (address_beside s.pc w))
+isz-acc true s w = (refl, refl, refl, refl, refl, refl)
+isz-acc false s w = (refl, refl, refl, refl, refl, refl)
+
+-- DAA
+abbrev daa_acc : ℕ → ℕ → ℕ
+daa_acc a c = cond (eqb c 1 || nat_lt 9 a) ((a + 6) % 16) a
+
+abbrev daa_cy : ℕ → ℕ → ℕ
+daa_cy a c = cond (eqb c 1 || nat_lt 9 a) (cond (nat_lt 15 (a + 6)) 1 c) c
+
+daa-when : (b : Bool) (s : Regs) (x y : ℕ) → ((cond b (record s { acc = x; cy = y }) s).acc ≡ cond b x s.acc) × ((cond b (record s { acc = x; cy = y }) s).cy ≡ cond b y s.cy) × ((cond b (record s { acc = x; cy = y }) s).dcl ≡ s.dcl) × ((cond b (record s { acc = x; cy = y }) s).r ≡ s.r) × ((cond b (record s { acc = x; cy = y }) s).ret ≡ s.ret) × ((cond b (record s { acc = x; cy = y }) s).pc ≡ s.pc)
+daa-when true s x y = (refl, refl, refl, refl, refl, refl)
+daa-when false s x y = (refl, refl, refl, refl, refl, refl)
+
+daa-is : (s : Regs) → ((after_daa s).acc ≡ daa_acc s.acc s.cy) × ((after_daa s).cy ≡ daa_cy s.acc s.cy) × ((after_daa s).dcl ≡ s.dcl) × ((after_daa s).r ≡ s.r) × ((after_daa s).ret ≡ s.ret) × ((after_daa s).pc ≡ s.pc)
+daa-is s = daa-when (eqb s.cy 1 || nat_lt 9 s.acc) s ((s.acc + 6) % 16) (cond (nat_lt 15 (s.acc + 6)) 1 s.cy)
+
+-- a register among stand-ins
+stands : (v r : ℕ) → r < 16 → slice_index (replicate 16 v) r ≡ v
+stands v r h = get_or-replicate 16 r v 0 h
+
+-- what was put into one of them
+put-in : (v r x : ℕ) → r < 16 → cond (nat_lt r 16) (slice_index (slice_set (replicate 16 v) r x) r) 0 ≡ x
+put-in v r x h = let lt : nat_lt r 16 ≡ true = lt-ltb r 16 h in rw lt (get_or-set_same (replicate 16 v) r x 0 h)
+
+-- ---- the return addresses
+
+jms-ret : (a b : List ℕ) (n at calls : ℕ) → calls ≡ n + 1 → ((k : ℕ) → k < 3 → k < n → slice_index a k ≡ slice_index b k) →
+    (k : ℕ) → k < 3 → k < calls → slice_index (at ∷ slice_index a 0 ∷ slice_index a 1 ∷ []) k ≡ slice_index (at ∷ slice_index b 0 ∷ slice_index b 1 ∷ []) k
+jms-ret a b n at calls e h zero small inside = refl
+jms-ret a b n at calls e h (suc zero) small inside = h 0 (omega arith) (omega arith)
+jms-ret a b n at calls e h (suc (suc zero)) small inside = h 1 (omega arith) (omega arith)
+jms-ret a b n at calls e h (suc (suc (suc k))) small inside = absurd (omega arith)
+
+bbl-ret : (a b : List ℕ) (n at : ℕ) → ((k : ℕ) → k < 3 → k < n → slice_index a k ≡ slice_index b k) →
+    (k : ℕ) → k < 3 → k < n - 1 → slice_index (slice_index a 1 ∷ slice_index a 2 ∷ at ∷ []) k ≡ slice_index (slice_index b 1 ∷ slice_index b 2 ∷ at ∷ []) k
+bbl-ret a b n at h zero small inside = h 1 (omega arith) (omega arith)
+bbl-ret a b n at h (suc zero) small inside = h 2 (omega arith) (omega arith)
+bbl-ret a b n at h (suc (suc zero)) small inside = refl
+bbl-ret a b n at h (suc (suc (suc k))) small inside = absurd (omega arith)
+
+-- ---- a pair that is written
+
+pair-set : (l q : List ℕ) (k a b x y : ℕ) → length q ≡ 16 → k < 8 → a ≡ x → b ≡ y →
+    slice_set (slice_set l (2 * k) a) (2 * k + 1) b
+    ≡ slice_set (slice_set l (2 * k) (cond (nat_lt (2 * k) 16) (slice_index (slice_set (slice_set q (2 * k) x) (2 * k + 1) y) (2 * k)) 0)) (2 * k + 1)
+    (cond (nat_lt (2 * k + 1) 16) (slice_index (slice_set (slice_set q (2 * k) x) (2 * k + 1) y) (2 * k + 1)) 0)
+pair-set l q k a b x y len small e f =
+    let low : 2 * k < 16 = omega arith in
+    let high : 2 * k + 1 < 16 = omega arith in
+    let lt : nat_lt (2 * k) 16 ≡ true = lt-ltb (2 * k) 16 low in
+    let gt : nat_lt (2 * k + 1) 16 ≡ true = lt-ltb (2 * k + 1) 16 high in
+    let set = slice_set q (2 * k) x in
+    let same : length set ≡ length q = length-set q (2 * k) x in
+    let there : 2 * k < length q = omega arith in
+    let here : 2 * k + 1 < length set = omega arith in
+    let apart : 2 * k ≢ 2 * k + 1 = λ z. omega arith in
+    let upper : cond (nat_lt (2 * k) 16) (slice_index (slice_set set (2 * k + 1) y) (2 * k)) 0 ≡ x =
+    rw lt (get_or-set_other set (2 * k + 1) (2 * k) y 0 apart ∙ get_or-set_same q (2 * k) x 0 there) in
+    let lower : cond (nat_lt (2 * k + 1) 16) (slice_index (slice_set set (2 * k + 1) y) (2 * k + 1)) 0 ≡ y =
+    rw gt (get_or-set_same set (2 * k + 1) y 0 here) in
+    ap (λ (z : ℕ). slice_set (slice_set l (2 * k) z) (2 * k + 1) b) (e ∙ sym upper)
+    ∙ ap (λ (z : ℕ). slice_set (slice_set l (2 * k) (cond (nat_lt (2 * k) 16) (slice_index (slice_set set (2 * k + 1) y) (2 * k)) 0)) (2 * k + 1) z) (f ∙ sym lower)
+
+-- ---- SRC
+
+abbrev sent : Bool → BusState → ℕ → ℕ → BusState
+sent b m bank byte = cond b (record m { rom_src = byte; ram_src = slice_set m.ram_src bank byte }) (record m { rom_src = byte })
+
+sent-ram : (b : Bool) (m : BusState) (bank byte k : ℕ) → length m.ram_src ≡ 8 → bank < 8 → 18 ≤ k → k < 26 →
+    slice_index (sent b m bank byte).ram_src (k - 18) / 16 ≡ cond (eqb k (cond b (18 + bank) 26)) (byte / 16) (slice_index m.ram_src (k - 18) / 16)
+sent-ram false m bank byte k len small low high =
+    let no : eqb k 26 ≡ false = ne_eqb k 26 (λ e. omega arith) in rw no refl
+sent-ram true m bank byte k len small low high =
+    elim (cases_eq k (18 + bank)) [
+      | inl e ↦
+          let yes : eqb k (18 + bank) ≡ true = eq-eqb k (18 + bank) e in
+          let place : k - 18 ≡ bank = omega arith in
+          let there : bank < length m.ram_src = omega arith in
+          rw yes (ap (λ (j : ℕ). slice_index (slice_set m.ram_src bank byte) j / 16) place ∙ ap (λ (n : ℕ). n / 16) (get_or-set_same m.ram_src bank byte 0 there))
+      | inr ne ↦
+          let no : eqb k (18 + bank) ≡ false = ne_eqb k (18 + bank) ne in
+          let apart : k - 18 ≢ bank = λ e. ne (omega arith) in
+          rw no (ap (λ (n : ℕ). n / 16) (get_or-set_other m.ram_src bank (k - 18) byte 0 apart))
+    ]
+
+sent-rom : (b : Bool) (m : BusState) (bank byte : ℕ) → (sent b m bank byte).rom_src ≡ byte
+sent-rom true m bank byte = refl
+sent-rom false m bank byte = refl
+
+sent-len : (b : Bool) (m : BusState) (bank byte : ℕ) → length (sent b m bank byte).ram_src ≡ length m.ram_src
+sent-len true m bank byte = length-set m.ram_src bank byte
+sent-len false m bank byte = refl
+
+second-far : (b : Bool) (bank k : ℕ) → k < 18 → eqb k (cond b (18 + bank) 26) ≡ false
+second-far true bank k h = ne_eqb k (18 + bank) (λ e. omega arith)
+second-far false bank k h = ne_eqb k 26 (λ e. omega arith)
+
+src-places : (b : Bool) (s t : Tracked) (byte v : ℕ) (o : Landing) → byte / 16 ≡ v → t.1 ≡ sent b s.1 s.0.dcl byte → t.0.dcl ≡ o.regs.dcl → t.0.r ≡ s.0.r →
+    o.first ≡ 17 → o.first_value ≡ v → o.second ≡ cond b (18 + s.0.dcl) 26 → o.second_value ≡ v → s.0.dcl < 8 → length s.1.ram_src ≡ 8 →
+    (k : ℕ) → k < 26 → held t k ≡ put o k (held s k)
+src-places b s t byte v o upper bus bank regs first first_value second second_value small len k h =
+    elim (cases_eq k 16) [
+      | inl e ↦ let is : eqb k 16 ≡ true = eq-eqb k 16 e in rw is bank
+      | inr ne ↦
+          let is : eqb k 16 ≡ false = ne_eqb k 16 ne in
+          elim (cases_lt k 16) [
+            | inl low ↦
+                let lt : nat_lt k 16 ≡ true = lt-ltb k 16 low in
+                let near : k < 18 = omega arith in
+                let f : eqb k o.first ≡ false = ne_eqb k o.first (λ e. omega arith) in
+                let g : eqb k o.second ≡ false = ap (eqb k) second ∙ second-far b s.0.dcl k near in
+                rw (is, lt, f, g) (ap (λ (l : List ℕ). slice_index l k) regs)
+            | inr high ↦
+                let lt : nat_lt k 16 ≡ false = le-ltb k 16 high in
+                elim (cases_eq k 17) [
+                  | inl e ↦
+                      let seventeen : eqb k 17 ≡ true = eq-eqb k 17 e in
+                      let f : eqb k o.first ≡ true = ap (eqb k) first ∙ seventeen in
+                      rw (is, lt, f, seventeen) (ap (λ (m : BusState). m.rom_src / 16) bus ∙ ap (λ (n : ℕ). n / 16) (sent-rom b s.1 s.0.dcl byte) ∙ upper ∙ sym first_value)
+                  | inr other ↦
+                      let seventeen : eqb k 17 ≡ false = ne_eqb k 17 other in
+                      let f : eqb k o.first ≡ false = ap (eqb k) first ∙ seventeen in
+                      let far : 18 ≤ k = omega arith in
+                      rw (is, lt, f, seventeen) (ap (λ (m : BusState). slice_index m.ram_src (k - 18) / 16) bus ∙ sent-ram b s.1 s.0.dcl byte k len small far h
+                      ∙ ap (λ (n : ℕ). cond (eqb k (cond b (18 + s.0.dcl) 26)) n (slice_index s.1.ram_src (k - 18) / 16)) (upper ∙ sym second_value)
+                      ∙ ap (λ (n : ℕ). cond (eqb k n) o.second_value (slice_index s.1.ram_src (k - 18) / 16)) (sym second))
+                ]
+          ]
+    ]
+
+src-lands : (k : ℕ) (s : Tracked) (m : BusState) (ret : List ℕ) → Fits (Src k) s m ret → Lands s (done (Src k) s) (landing (Src k) s.0.pc ret s.2 m (choice_of (Src k) s))
+unfolding after_src
+src-lands k s m ret fit =
+    let small = fit.valid in
+    let high : 2 * k + 1 < 16 = omega arith in
+    let v = register_of s.0 (2 * k) in
+    let w = register_of s.0 (2 * k + 1) in
+    let nibble : w < 16 = fit.nibbles (2 * k + 1) high in
+    let upper : (v * 16 + w) / 16 ≡ v = omega arith in
+    let b = nat_lt 0 (chips_of s.1 s.0.dcl) in
+    record {
+      pc = refl;
+      calls = refl;
+      ret = fit.ret;
+      acc = refl;
+      cy = refl;
+      places = src-places b s (done (Src k) s) (v * 16 + w) v (landing (Src k) s.0.pc ret s.2 m (choice_of (Src k) s)) upper refl refl refl refl refl
+          (ap (λ (p : BoardParts). cond (nat_lt 0 (slice_index p.banks s.0.dcl)) (18 + s.0.dcl) 26) fit.board) refl fit.bank fit.banks;
+      registers = fit.registers;
+      banks = sent-len b s.1 s.0.dcl (v * 16 + w) ∙ fit.banks;
+    }
+
+-- ---- instructions that change no register
+
+simple : (op : Op) (s : Tracked) (m : BusState) (ret : List ℕ) → Fits op s m ret → KeepsSrc s (done op s) →
+    Agrees (done op s) (landing op s.0.pc ret s.2 m (choice_of op s)) →
+    (registers_after op (after_words op s.0) s.1).r ≡ s.0.r →
+    (landing op s.0.pc ret s.2 m (choice_of op s)).first ≡ 26 → (landing op s.0.pc ret s.2 m (choice_of op s)).second ≡ 26 →
+    Lands s (done op s) (landing op s.0.pc ret s.2 m (choice_of op s))
+simple op s m ret fit src agrees r first second = lands-kept s (done op s) (landing op s.0.pc ret s.2 m (choice_of op s)) fit.registers fit.banks agrees src r first second
+
+pub lands : ChoicesLand
+unfolding fetch_of ram_of status_of
+lands (Jcn c w) s m ret fit =
+    let level : s.1.test % 2 ≡ s.1.test = let small = fit.test in omega arith in
+    let x = after_words (Jcn c w) s.0 in
+    let y = after_words (Jcn c w) (before (Jcn c w) s.0.pc ret (choice_of (Jcn c w) s)) in
+    let e = jump-acc (is_taken c x s.1.test) x w in
+    let f = jump-acc (is_taken c y (s.1.test % 2)) y w in
+    simple (Jcn c w) s m ret fit (record { rom = refl; ram = refl })
+    (record {
+      pc = e.5 ∙ ap (λ (t : ℕ). cond (is_taken c x t) (address_beside x.pc w) x.pc) (sym level) ∙ sym f.5;
+      calls = refl;
+      ret = λ k h l. ap (λ (xs : List ℕ). slice_index xs k) e.4 ∙ fit.ret k h l ∙ ap (λ (xs : List ℕ). slice_index xs k) (sym f.4);
+      acc = e.0 ∙ sym f.0;
+      cy = e.1 ∙ sym f.1;
+      dcl = e.2 ∙ sym f.2;
+    })
+    e.3 refl refl
+lands Daa s m ret fit =
+    let e = daa-is (after_words Daa s.0) in
+    let f = daa-is (after_words Daa (before Daa s.0.pc ret (choice_of Daa s))) in
+    simple Daa s m ret fit (record { rom = refl; ram = refl })
+    (record {
+      pc = e.5 ∙ sym f.5;
+      calls = refl;
+      ret = λ k h l. ap (λ (xs : List ℕ). slice_index xs k) e.4 ∙ fit.ret k h l ∙ ap (λ (xs : List ℕ). slice_index xs k) (sym f.4);
+      acc = e.0 ∙ sym f.0;
+      cy = e.1 ∙ sym f.1;
+      dcl = e.2 ∙ sym f.2;
+    })
+    e.3 refl refl
+lands (Add r) s m ret fit =
+    let v = stands (register_of s.0 r) r fit.valid in
+    simple (Add r) s m ret fit (record { rom = refl; ram = refl })
+    (record {
+      pc = refl;
+      calls = refl;
+      ret = fit.ret;
+      dcl = refl;
+      acc = ap (λ (x : ℕ). (s.0.acc + x + s.0.cy) % 16) (sym v);
+      cy = ap (λ (x : ℕ). (s.0.acc + x + s.0.cy) / 16) (sym v);
+    })
+    refl refl refl
+lands (Sub r) s m ret fit =
+    let v = stands (register_of s.0 r) r fit.valid in
+    simple (Sub r) s m ret fit (record { rom = refl; ram = refl })
+    (record {
+      pc = refl;
+      calls = refl;
+      ret = fit.ret;
+      dcl = refl;
+      acc = ap (λ (x : ℕ). (s.0.acc + (15 - x) + (1 - s.0.cy)) % 16) (sym v);
+      cy = ap (λ (x : ℕ). (s.0.acc + (15 - x) + (1 - s.0.cy)) / 16) (sym v);
+    })
+    refl refl refl
+lands (Ld r) s m ret fit =
+    simple (Ld r) s m ret fit (record { rom = refl; ram = refl })
+    (record { pc = refl; calls = refl; ret = fit.ret; dcl = refl; cy = refl; acc = sym (stands (register_of s.0 r) r fit.valid) })
+    refl refl refl
+lands (Jin k) s m ret fit =
+    let small = fit.valid in
+    let a = register_of s.0 (2 * k) in
+    let b = register_of s.0 (2 * k + 1) in
+    let other : 2 * k ≡ 2 * k + 1 → ⊥ = λ e. omega arith in
+    let low : 2 * k < 16 = omega arith in
+    let high : 2 * k + 1 < 16 = omega arith in
+    let upper : slice_index (slice_set (replicate 16 a) (2 * k + 1) b) (2 * k) ≡ a = get_or-set_other (replicate 16 a) (2 * k + 1) (2 * k) b 0 other ∙ stands a (2 * k) low in
+    let lower : slice_index (slice_set (replicate 16 a) (2 * k + 1) b) (2 * k + 1) ≡ b = get_or-set_same (replicate 16 a) (2 * k + 1) b 0 high in
+    simple (Jin k) s m ret fit (record { rom = refl; ram = refl })
+    (record {
+      pc = ap (λ (x : ℕ). address_beside ((s.0.pc + 1) % 4096) (x * 16 + b)) (sym upper) ∙ ap (λ (y : ℕ). address_beside ((s.0.pc + 1) % 4096) (slice_index (slice_set (replicate 16 a) (2 * k + 1) b) (2 * k) * 16 + y)) (sym lower);
+      calls = refl;
+      ret = fit.ret;
+      dcl = refl;
+      cy = refl;
+      acc = refl;
+    })
+    refl refl refl
+lands (Jms h b) s m ret fit =
+    let few = fit.calls in
+    let opened : calls_after (Some (Jms h b)) s.2 ≡ s.2 + 1 = let lt : nat_lt s.2 3 ≡ true = lt-ltb s.2 3 few in rw lt refl in
+    simple (Jms h b) s m ret fit (record { rom = refl; ram = refl })
+    (record {
+      pc = refl;
+      calls = refl;
+      dcl = refl;
+      cy = refl;
+      acc = refl;
+      ret = jms-ret s.0.ret ret s.2 ((s.0.pc + 2) % 4096) (calls_after (Some (Jms h b)) s.2) opened fit.ret;
+    })
+    refl refl refl
+lands (Bbl d) s m ret fit =
+    let some = fit.calls in
+    simple (Bbl d) s m ret fit (record { rom = refl; ram = refl })
+    (record {
+      pc = fit.ret 0 (omega arith) some;
+      calls = refl;
+      dcl = refl;
+      cy = refl;
+      acc = refl;
+      ret = bbl-ret s.0.ret ret s.2 ((s.0.pc + 1) % 4096) fit.ret;
+    })
+    refl refl refl
+lands (Fim k b) s m ret fit =
+    let small = fit.valid in
+    let low : 2 * k < 16 = omega arith in
+    let high : 2 * k + 1 < 16 = omega arith in
+    lands-two s (done (Fim k b) s) (landing (Fim k b) s.0.pc ret s.2 m (choice_of (Fim k b) s)) k small fit.registers fit.banks
+    (record { pc = refl; calls = refl; ret = fit.ret; dcl = refl; cy = refl; acc = refl }) (record { rom = refl; ram = refl })
+    (pair-set s.0.r (replicate 16 0) k (b / 16) (b % 16) (b / 16) (b % 16) refl small refl refl) refl refl
+lands (Fin k) s m ret fit =
+    let small = fit.valid in
+    let a = register_of s.0 0 in
+    let b = register_of s.0 1 in
+    let from = address_beside ((s.0.pc + 1) % 4096) (a * 16 + b) in
+    let byte = slice_index s.1.rom from in
+    let other = slice_index m.rom from in
+    let same : byte ≡ other = ap (λ (xs : List ℕ). slice_index xs from) (sym fit.rom) in
+    lands-two s (done (Fin k) s) (landing (Fin k) s.0.pc ret s.2 m (choice_of (Fin k) s)) k small fit.registers fit.banks
+    (record { pc = refl; calls = refl; ret = fit.ret; dcl = refl; cy = refl; acc = refl }) (record { rom = refl; ram = refl })
+    (pair-set s.0.r (slice_set (replicate 16 a) 1 b) k (byte / 16) (byte % 16) (other / 16) (other % 16) refl small (ap (λ (x : ℕ). x / 16) same) (ap (λ (x : ℕ). x % 16) same)) refl refl
+lands (Inc r) s m ret fit =
+    let small = fit.valid in
+    let v = register_of s.0 r in
+    lands-one s (done (Inc r) s) (landing (Inc r) s.0.pc ret s.2 m (choice_of (Inc r) s)) r small fit.registers fit.banks
+    (record { pc = refl; calls = refl; ret = fit.ret; dcl = refl; cy = refl; acc = refl }) (record { rom = refl; ram = refl })
+    (ap (slice_set s.0.r r) (ap (λ (x : ℕ). (x + 1) % 16) (sym (stands v r small)) ∙ sym (put-in v r ((slice_index (replicate 16 v) r + 1) % 16) small))) refl refl
+lands (Xch r) s m ret fit =
+    let small = fit.valid in
+    let v = register_of s.0 r in
+    lands-one s (done (Xch r) s) (landing (Xch r) s.0.pc ret s.2 m (choice_of (Xch r) s)) r small fit.registers fit.banks
+    (record { pc = refl; calls = refl; ret = fit.ret; dcl = refl; cy = refl; acc = sym (stands v r small) }) (record { rom = refl; ram = refl })
+    (ap (slice_set s.0.r r) (sym (put-in v r s.0.acc small))) refl refl
+lands (Isz r w) s m ret fit =
+    let small = fit.valid in
+    let v = register_of s.0 r in
+    let x = after_words (Isz r w) s.0 in
+    let y = after_words (Isz r w) (before (Isz r w) s.0.pc ret (choice_of (Isz r w) s)) in
+    let n = (v + 1) % 16 in
+    let i = (slice_index (replicate 16 v) r + 1) % 16 in
+    let same : n ≡ i = ap (λ (z : ℕ). (z + 1) % 16) (sym (stands v r small)) in
+    let e = isz-acc (eqb n 0) (with_register x r n) w in
+    let f = isz-acc (eqb i 0) (with_register y r i) w in
+    let o = landing (Isz r w) s.0.pc ret s.2 m (choice_of (Isz r w) s) in
+    let value : o.first_value ≡ i = ap (λ (xs : List ℕ). cond (nat_lt r 16) (slice_index xs r) 0) f.3 ∙ put-in v r i small in
+    lands-one s (done (Isz r w) s) o r small fit.registers fit.banks
+    (record {
+      pc = e.5 ∙ ap (λ (z : ℕ). cond (eqb z 0) x.pc (address_beside x.pc w)) same ∙ sym f.5;
+      calls = refl;
+      ret = λ k h l. ap (λ (xs : List ℕ). slice_index xs k) e.4 ∙ fit.ret k h l ∙ ap (λ (xs : List ℕ). slice_index xs k) (sym f.4);
+      acc = e.0 ∙ sym f.0;
+      cy = e.1 ∙ sym f.1;
+      dcl = e.2 ∙ sym f.2;
+    })
+    (record { rom = refl; ram = refl })
+    (e.3 ∙ ap (slice_set s.0.r r) (same ∙ sym value)) refl refl
+lands (Src k) s m ret fit = src-lands k s m ret fit
+lands Wrm s m ret fit =
+    let kept = after_ram-src s.1 s.0.dcl s.0.acc in
+    simple Wrm s m ret fit (record { rom = kept.0; ram = kept.1 }) (record { pc = refl; calls = refl; ret = fit.ret; dcl = refl; cy = refl; acc = refl }) refl refl refl
+lands Wmp s m ret fit =
+    let kept = ram_port-src s.1 s.0.dcl s.0.acc in
+    simple Wmp s m ret fit (record { rom = kept.0; ram = kept.1 }) (record { pc = refl; calls = refl; ret = fit.ret; dcl = refl; cy = refl; acc = refl }) refl refl refl
+lands Wrr s m ret fit =
+    let kept = rom_port-src s.1 s.0.acc in
+    simple Wrr s m ret fit (record { rom = kept.0; ram = kept.1 }) (record { pc = refl; calls = refl; ret = fit.ret; dcl = refl; cy = refl; acc = refl }) refl refl refl
+lands Wr0 s m ret fit =
+    let kept = after_status-src s.1 s.0.dcl 0 s.0.acc in
+    simple Wr0 s m ret fit (record { rom = kept.0; ram = kept.1 }) (record { pc = refl; calls = refl; ret = fit.ret; dcl = refl; cy = refl; acc = refl }) refl refl refl
+lands Wr1 s m ret fit =
+    let kept = after_status-src s.1 s.0.dcl 1 s.0.acc in
+    simple Wr1 s m ret fit (record { rom = kept.0; ram = kept.1 }) (record { pc = refl; calls = refl; ret = fit.ret; dcl = refl; cy = refl; acc = refl }) refl refl refl
+lands Wr2 s m ret fit =
+    let kept = after_status-src s.1 s.0.dcl 2 s.0.acc in
+    simple Wr2 s m ret fit (record { rom = kept.0; ram = kept.1 }) (record { pc = refl; calls = refl; ret = fit.ret; dcl = refl; cy = refl; acc = refl }) refl refl refl
+lands Wr3 s m ret fit =
+    let kept = after_status-src s.1 s.0.dcl 3 s.0.acc in
+    simple Wr3 s m ret fit (record { rom = kept.0; ram = kept.1 }) (record { pc = refl; calls = refl; ret = fit.ret; dcl = refl; cy = refl; acc = refl }) refl refl refl
+lands op s m ret fit = simple op s m ret fit (record { rom = refl; ram = refl }) (record { pc = refl; calls = refl; ret = fit.ret; dcl = refl; cy = refl; acc = refl }) refl refl refl

@@ -1,0 +1,69 @@
+-- One cycle at the counter, and what it leaves as it was.
+use Rattle.std.proofs.Common.{◌≡◌, ◌/◌, ℕ, List, Bool, true, false, cond, Option, Some, None, unwrap_or, nat_lt, refl, ap, ◌∙◌, eqb}
+use Rattle.mcs_nibble.specs.declared.lines.LineMask.{LineMask}
+use Rattle.mcs_nibble.specs.Ports.{latch_value}
+use Rattle.mcs_model.specs.declared.regs.Regs.{Regs}
+use Rattle.mcs_model.specs.declared.op.Op.{Op}
+use Rattle.mcs_model.specs.declared.op.Op.TheVariants.{Src, Wrm, Wmp, Wrr, Wr0, Wr1, Wr2, Wr3}
+use Rattle.mcs_model.specs.Boards.{masks_on}
+use Rattle.mcs_model.specs.Bus.{BusState, fetch_of, after_src, chips_of, src_of, has_chip, with_ram, after_ram, with_status, after_status}
+use Rattle.mcs_model.specs.Levels.{clock_levels, chains_clocked, with_rom_ports_at, after_ram_port, after_rom_port}
+use Rattle.mcs_model.specs.Effect.{bus_after, cycle_of, effect, instruction_at}
+use Rattle.mcs_sets.specs.Landing.{op_at}
+
+-- the instruction at the counter is the one in its ROM
+pub instruction-in : (s : Regs) (m : BusState) → instruction_at s m ≡ op_at m.rom s.pc
+unfolding fetch_of
+instruction-in s m = refl
+
+pub cycle-does : (op : Op) (s : Regs) (m : BusState) → s.owed ≡ 0 → op_at m.rom s.pc ≡ Some op → cycle_of s m ≡ Some (effect op s m)
+unfolding cycle_of fetch_of
+cycle-does op s m free there = let works : eqb s.owed 1 ≡ false = ap (λ n. eqb n 1) free in rw (works, there) refl
+
+-- ROM and board stay
+pub record SameProgram (m n : BusState) : Type 0 where
+  pub rom : n.rom ≡ m.rom
+  pub board : n.board ≡ m.board
+
+either-same : (b : Bool) (m x y : BusState) → SameProgram m x → SameProgram m y → SameProgram m (cond b x y)
+either-same true m x y h k = h
+either-same false m x y h k = k
+
+ram-same : (m : BusState) (bank src n : ℕ) → SameProgram m (with_ram m bank src n)
+unfolding with_ram
+ram-same m bank src n = either-same (has_chip m bank src) m _ m (record { rom = refl; board = refl }) (record { rom = refl; board = refl })
+
+status-same : (m : BusState) (bank high k n : ℕ) → SameProgram m (with_status m bank high k n)
+unfolding with_status
+status-same m bank high k n = either-same (nat_lt (high / 4) (chips_of m bank)) m _ m (record { rom = refl; board = refl }) (record { rom = refl; board = refl })
+
+src-same : (m : BusState) (bank byte : ℕ) → SameProgram m (after_src m bank byte)
+unfolding after_src
+src-same m bank byte = either-same (nat_lt 0 (chips_of m bank)) m _ _ (record { rom = refl; board = refl }) (record { rom = refl; board = refl })
+
+ram_port-same : (m : BusState) (bank n : ℕ) → SameProgram m (after_ram_port m bank n)
+unfolding after_ram_port chains_clocked
+ram_port-same m bank n = either-same (has_chip m bank (src_of m bank)) m _ m (record { rom = refl; board = refl }) (record { rom = refl; board = refl })
+
+rom_port-same-when : (m : BusState) (n : ℕ) (o : Option (List LineMask)) → SameProgram m (elim o as (λ _. BusState) [ Some mask ↦ chains_clocked (clock_levels m) (with_rom_ports_at m (m.rom_src / 16) (latch_value mask n)) | None ↦ m ])
+unfolding chains_clocked
+rom_port-same-when m n (Some mask) = record { rom = refl; board = refl }
+rom_port-same-when m n None = record { rom = refl; board = refl }
+
+pub bus-same : (op : Op) (s : Regs) (m : BusState) → SameProgram m (bus_after op s m)
+unfolding after_ram after_status after_rom_port
+bus-same (Src k) s m = src-same m s.dcl _
+bus-same Wrm s m = ram-same m s.dcl (src_of m s.dcl) s.acc
+bus-same Wmp s m = ram_port-same m s.dcl s.acc
+bus-same Wrr s m = rom_port-same-when m s.acc (masks_on m.board (m.rom_src / 16))
+bus-same Wr0 s m = status-same m s.dcl (src_of m s.dcl / 16) 0 s.acc
+bus-same Wr1 s m = status-same m s.dcl (src_of m s.dcl / 16) 1 s.acc
+bus-same Wr2 s m = status-same m s.dcl (src_of m s.dcl / 16) 2 s.acc
+bus-same Wr3 s m = status-same m s.dcl (src_of m s.dcl / 16) 3 s.acc
+bus-same _ s m = record { rom = refl; board = refl }
+
+-- what was run
+pub ran : (op : Op) (cpu regs : Regs) (rig m : BusState) (x : Regs × BusState) → x ≡ unwrap_or (cycle_of cpu rig) (cpu, rig) → cpu ≡ regs → rig ≡ m → regs.owed ≡ 0 → op_at m.rom regs.pc ≡ Some op → x ≡ effect op regs m
+ran op cpu regs rig m x state e f free there =
+    state ∙ ap (λ (r : Regs). unwrap_or (cycle_of r rig) (r, rig)) e ∙ ap (λ (b : BusState). unwrap_or (cycle_of regs b) (regs, b)) f
+    ∙ ap (λ (o : Option (Regs × BusState)). unwrap_or o (regs, m)) (cycle-does op regs m free there)

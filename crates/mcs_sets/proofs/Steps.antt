@@ -1,0 +1,195 @@
+-- One cycle of all machines of an entry.
+use Rattle.std.proofs.Common.{◌≡◌, ◌≢◌, ◌<◌, ◌+◌, ◌*◌, ◌/◌, ◌%◌, ℕ, inl, inr, List, length, Bool, true, false, cond, Option, Some, None, unwrap_or, slice_index, nat_lt, refl, sym, ap, ◌∙◌, subst, arith, eqb}
+use Rattle.std.specs.Prelude.{All}
+use Rattle.std.proofs.lemmas.Bool.{cases_lt, cases_Bool, ne_eqb, lt-ltb, agree_below_at}
+use Rattle.std.proofs.lemmas.List.{get_or_past}
+use Rattle.mcs_model.specs.declared.board.BoardParts.{BoardParts}
+use Rattle.mcs_model.specs.declared.regs.Regs.{Regs}
+use Rattle.mcs_model.specs.declared.op.Op.{Op}
+use Rattle.mcs_model.specs.declared.op.Op.TheVariants.{Jcn, Src, Fin, Jin, Inc, Isz, Add, Sub, Ld, Xch, Sbm, Rdm, Rdr, Adm, Rd0, Rd1, Rd2, Rd3}
+use Rattle.mcs_model.specs.Bus.{BusState, ram_of, status_of}
+use Rattle.mcs_model.specs.Effect.{effect, cycle_of, instruction_at}
+use Rattle.mcs_model.specs.Levels.{port_of}
+use Rattle.mcs_model.specs.Registers.{register_of}
+use Rattle.mcs_drive.specs.Tracked.{Tracked, machine_in, cycled, calls_after}
+use Rattle.mcs_sets.proofs.Ports.{port-lt}
+use Rattle.mcs_sets.specs.declared.entries.Entry.{Entry}
+use Rattle.mcs_sets.specs.declared.landing.Choice.{Choice}
+use Rattle.mcs_sets.specs.declared.landing.Landing.{Landing}
+use Rattle.mcs_sets.specs.Entries.{has, accs_of, held, IsIn, IsAmong}
+use Rattle.mcs_sets.specs.Following.{IsOf}
+use Rattle.mcs_sets.specs.Landing.{Fits, op_at, first_of, second_of, first_set, second_set, IsValidOp, FitsCalls, landing, done, choice_of, Lands, Takes}
+use Rattle.mcs_sets.specs.Taking.{AllTaken, Allows, EntriesStay, IsTakenBy, choice_at}
+use Rattle.mcs_sets.proofs.Memory.{has-lt}
+use Rattle.mcs_sets.proofs.Running.{instruction-in}
+use Rattle.mcs_sets.proofs.Lands.{lands}
+
+-- ---- what is taken is in the entry
+
+pub taken-in : (e to : Entry) (s t : Tracked) (o : Landing) → IsIn e s → Lands s t o → Takes e to o → IsIn to t
+taken-in e to s t o is l k = record {
+  at = l.pc ∙ sym k.at;
+  calls = l.calls ∙ sym k.calls;
+  ret = λ j h inside. l.ret j h (subst (λ n. j < n) k.calls inside) ∙ sym (k.ret j h inside);
+  acc = ap (λ n. has (accs_of to n) t.0.acc) l.cy ∙ ap (has (accs_of to o.regs.cy)) l.acc ∙ k.acc;
+  places = λ j h. ap (has (slice_index to.sets j)) (l.places j h) ∙ k.places j h (held s j) (is.places j h);
+  carry = subst (λ n. n < 2) (sym l.cy) k.carry;
+  registers = l.registers;
+  banks = l.banks;
+}
+
+-- ---- what a machine of an entry chooses is allowed
+
+register-in : (e : Entry) (s : Tracked) (r : ℕ) → r < 16 → IsIn e s → has (slice_index e.sets r) (register_of s.0 r) ≡ true
+register-in e s r small is =
+    let far : r ≢ 16 = λ z. omega arith in
+    let no : eqb r 16 ≡ false = ne_eqb r 16 far in
+    let lt : nat_lt r 16 ≡ true = lt-ltb r 16 small in
+    let below : r < 26 = omega arith in
+    let place : held s r ≡ register_of s.0 r = rw (no, lt) refl in
+    ap (has (slice_index e.sets r)) (sym place) ∙ is.places r below
+
+any-nibble : (n : ℕ) → n < 16 → has 65535 n ≡ true
+any-nibble n h = agree_below_at (has 65535) (λ _. true) 16 n refl h
+
+any-level : (n : ℕ) → n < 2 → has 3 n ≡ true
+any-level n h = agree_below_at (has 3) (λ _. true) 2 n refl h
+
+nibble-at : (l : List ℕ) (k : ℕ) → All (λ n. n < 16) l → slice_index l k < 16
+nibble-at l k h = elim (cases_lt k (length l)) [
+  | inl inside ↦ h k 0 inside
+  | inr past ↦ let none : slice_index l k ≡ 0 = get_or_past l k 0 past in omega arith
+]
+
+ram-lt : (m : BusState) (bank : ℕ) → All (λ n. n < 16) m.ram → ram_of m bank < 16
+unfolding ram_of
+ram-lt m bank h = nibble-at m.ram _ h
+
+status-lt : (m : BusState) (bank k : ℕ) → All (λ n. n < 16) m.status → status_of m bank k < 16
+unfolding status_of
+status-lt m bank k h = nibble-at m.status _ h
+
+first-in : (board : BoardParts) (rom : List ℕ) (op : Op) (e : Entry) (s : Tracked) → IsValidOp op → IsOf board rom s.1 → IsIn e s → has (first_set op e) (first_of op s.0 s.1) ≡ true
+first-in board rom (Src k) e s small of is = register-in e s (2 * k) (omega arith) is
+first-in board rom (Fin k) e s small of is = register-in e s 0 (omega arith) is
+first-in board rom (Jin k) e s small of is = register-in e s (2 * k) (omega arith) is
+first-in board rom (Inc r) e s small of is = register-in e s r small is
+first-in board rom (Isz r b) e s small of is = register-in e s r small is
+first-in board rom (Add r) e s small of is = register-in e s r small is
+first-in board rom (Sub r) e s small of is = register-in e s r small is
+first-in board rom (Ld r) e s small of is = register-in e s r small is
+first-in board rom (Xch r) e s small of is = register-in e s r small is
+first-in board rom Sbm e s small of is = any-nibble (ram_of s.1 s.0.dcl) (ram-lt s.1 s.0.dcl of.ram)
+first-in board rom Rdm e s small of is = any-nibble (ram_of s.1 s.0.dcl) (ram-lt s.1 s.0.dcl of.ram)
+first-in board rom Adm e s small of is = any-nibble (ram_of s.1 s.0.dcl) (ram-lt s.1 s.0.dcl of.ram)
+first-in board rom Rdr e s small of is = any-nibble (port_of s.1) (port-lt s.1)
+first-in board rom Rd0 e s small of is = any-nibble (status_of s.1 s.0.dcl 0) (status-lt s.1 s.0.dcl 0 of.status)
+first-in board rom Rd1 e s small of is = any-nibble (status_of s.1 s.0.dcl 1) (status-lt s.1 s.0.dcl 1 of.status)
+first-in board rom Rd2 e s small of is = any-nibble (status_of s.1 s.0.dcl 2) (status-lt s.1 s.0.dcl 2 of.status)
+first-in board rom Rd3 e s small of is = any-nibble (status_of s.1 s.0.dcl 3) (status-lt s.1 s.0.dcl 3 of.status)
+first-in board rom _ e s small of is = refl
+
+second-in : (board : BoardParts) (rom : List ℕ) (op : Op) (e : Entry) (s : Tracked) → IsValidOp op → IsOf board rom s.1 → IsIn e s → has (second_set op e) (second_of op s.0 s.1) ≡ true
+second-in board rom (Jcn c b) e s small of is = any-level s.1.test of.test
+second-in board rom (Fin k) e s small of is = register-in e s 1 (omega arith) is
+second-in board rom (Jin k) e s small of is = register-in e s (2 * k + 1) (omega arith) is
+second-in board rom _ e s small of is = refl
+
+pub allows-own : (board : BoardParts) (rom : List ℕ) (op : Op) (e : Entry) (s : Tracked) → IsValidOp op → IsOf board rom s.1 → IsIn e s → Allows e op (choice_of op s)
+allows-own board rom op e s valid of is = record {
+  acc = is.acc;
+  bank = is.places 16 (omega arith);
+  first = first-in board rom op e s valid of is;
+  second = second-in board rom op e s valid of is;
+}
+
+-- ---- the cycle
+
+cycled-when : (b : Bool) (o : Option Op) (op : Op) (s : Tracked) → b ≡ false → o ≡ Some op →
+    (unwrap_or (cond b (Some (record s.0 { owed = 0 }, s.1)) (elim o as (λ _. Option (Regs × BusState)) [ Some op ↦ Some (effect op s.0 s.1) | None ↦ None ])) (machine_in s)) ≡ effect op s.0 s.1
+cycled-when b o op s e f = rw (e, f) refl
+
+opens-when : (b : Bool) (o : Option Op) (op : Op) (n : ℕ) → b ≡ false → o ≡ Some op → calls_after (cond b None o) n ≡ calls_after (Some op) n
+opens-when b o op n e f = rw (e, f) refl
+
+pub cycled-op : (op : Op) (s : Tracked) → eqb s.0.owed 1 ≡ false → instruction_at s.0 s.1 ≡ Some op → cycled s ≡ done op s
+unfolding cycle_of
+cycled-op op s free next =
+    let work = cycled-when (eqb s.0.owed 1) (instruction_at s.0 s.1) op s free next in
+    let opened = opens-when (eqb s.0.owed 1) (instruction_at s.0 s.1) op s.2 free next in
+    ap (λ (m : Regs × BusState). (m.0, m.1, calls_after (cond (eqb s.0.owed 1) None (instruction_at s.0 s.1)) s.2)) work
+    ∙ ap (λ (n : ℕ). ((effect op s.0 s.1).0, (effect op s.0 s.1).1, n)) opened
+
+-- a machine after its idle cycle
+abbrev idle : Tracked → Tracked
+idle s = (record s.0 { owed = 0 }, s.1, s.2)
+
+idle-when : (b : Bool) (o : Option Op) (s : Tracked) → b ≡ true →
+    (unwrap_or (cond b (Some (record s.0 { owed = 0 }, s.1)) (elim o as (λ _. Option (Regs × BusState)) [ Some op ↦ Some (effect op s.0 s.1) | None ↦ None ])) (machine_in s)) ≡ machine_in (idle s)
+idle-when b o s e = rw e refl
+
+idle-opens : (b : Bool) (o : Option Op) (n : ℕ) → b ≡ true → calls_after (cond b None o) n ≡ n
+idle-opens b o n e = rw e refl
+
+cycled-idle : (s : Tracked) → eqb s.0.owed 1 ≡ true → cycled s ≡ idle s
+unfolding cycle_of
+cycled-idle s owed =
+    ap (λ (m : Regs × BusState). (m.0, m.1, calls_after (cond (eqb s.0.owed 1) None (instruction_at s.0 s.1)) s.2)) (idle-when (eqb s.0.owed 1) (instruction_at s.0 s.1) s owed)
+    ∙ ap (λ (n : ℕ). ((idle s).0, (idle s).1, n)) (idle-opens (eqb s.0.owed 1) (instruction_at s.0 s.1) s.2 owed)
+
+idle-in : (e : Entry) (s : Tracked) → IsIn e s → IsIn e (idle s)
+idle-in e s is = record { at = is.at; calls = is.calls; ret = is.ret; acc = is.acc; places = is.places; carry = is.carry; registers = is.registers; banks = is.banks }
+
+-- ---- the whole
+
+-- a choice in which accumulator and carry are one number
+choice-flags : (op : Op) (s : Tracked) → s.0.acc < 16 → s.0.cy < 2 → choice_of op s ≡ choice_at (s.0.acc + 16 * s.0.cy) s.0.dcl (first_of op s.0 s.1) (second_of op s.0 s.1)
+choice-flags op s small carry =
+    let acc : s.0.acc ≡ (s.0.acc + 16 * s.0.cy) % 16 = omega arith in
+    let cy : s.0.cy ≡ (s.0.acc + 16 * s.0.cy) / 16 % 2 = omega arith in
+    ap (λ (n : ℕ). let c : Choice = record { acc = n; cy = s.0.cy; bank = s.0.dcl; first = first_of op s.0 s.1; second = second_of op s.0 s.1 } in c) acc
+    ∙ ap (λ (n : ℕ). let c : Choice = record { acc = (s.0.acc + 16 * s.0.cy) % 16; cy = n; bank = s.0.dcl; first = first_of op s.0 s.1; second = second_of op s.0 s.1 } in c) cy
+
+own-taken : (board : BoardParts) (rom : List ℕ) (entries : List Entry) (op : Op) (e : Entry) (s : Tracked) → IsValidOp op → IsOf board rom s.1 → IsIn e s → AllTaken rom board entries e op → IsTakenBy rom board entries e op (choice_of op s)
+own-taken board rom entries op e s valid of is all =
+    let own = allows-own board rom op e s valid of is in
+    let small = has-lt (accs_of e s.0.cy) s.0.acc own.acc in
+    let carry = is.carry in
+    let same = choice-flags op s small carry in
+    let bank = has-lt (slice_index e.sets 16) s.0.dcl own.bank in
+    let first = has-lt (first_set op e) (first_of op s.0 s.1) own.first in
+    let second = has-lt (second_set op e) (second_of op s.0 s.1) own.second in
+    subst (IsTakenBy rom board entries e op) (sym same)
+    (all (s.0.acc + 16 * s.0.cy) s.0.dcl (first_of op s.0 s.1) (second_of op s.0 s.1) (omega arith) bank first second (subst (Allows e op) same own))
+
+fits-own : (board : BoardParts) (rom : List ℕ) (op : Op) (e : Entry) (s : Tracked) (bus : BusState) → IsValidOp op → FitsCalls op e.calls → IsOf board rom s.1 → IsIn e s → s.0.dcl < 8 → bus.rom ≡ rom → bus.board ≡ board → Fits op s bus e.ret
+fits-own board rom op e s bus valid calls of is few same_rom same_board = record {
+  valid = valid;
+  calls = subst (FitsCalls op) (sym is.calls) calls;
+  registers = is.registers;
+  banks = is.banks;
+  bank = few;
+  rom = same_rom ∙ sym of.rom;
+  board = same_board ∙ sym of.board;
+  test = of.test;
+  ret = λ k h inside. is.ret k h (subst (λ n. k < n) is.calls inside);
+  nibbles = λ k h. has-lt (slice_index e.sets k) (register_of s.0 k) (register-in e s k h is);
+}
+
+pub next-among : (board : BoardParts) (rom : List ℕ) (entries : List Entry) (op : Op) (e : Entry) (s : Tracked) → IsValidOp op → FitsCalls op e.calls → op_at rom e.at ≡ Some op → IsOf board rom s.1 → IsIn e s → eqb s.0.owed 1 ≡ false → AllTaken rom board entries e op → IsAmong entries (cycled s)
+next-among board rom entries op e s valid calls there of is free all =
+    let by = own-taken board rom entries op e s valid of is all in
+    let next : instruction_at s.0 s.1 ≡ Some op = instruction-in s.0 s.1 ∙ ap (λ (l : List ℕ). op_at l s.0.pc) of.rom ∙ ap (op_at rom) is.at ∙ there in
+    let fit = fits-own board rom op e s by.bus valid calls of is by.few by.same_rom by.same_board in
+    let l : Lands s (done op s) (landing op e.at e.ret e.calls by.bus (choice_of op s)) =
+    subst (λ (n : ℕ). Lands s (done op s) (landing op e.at e.ret n by.bus (choice_of op s))) is.calls
+    (subst (λ (n : ℕ). Lands s (done op s) (landing op n e.ret s.2 by.bus (choice_of op s))) is.at (lands op s by.bus e.ret fit)) in
+    subst (IsAmong entries) (sym (cycled-op op s free next))
+    (by.taken.target, by.taken.there, taken-in e by.taken.target s (done op s) (landing op e.at e.ret e.calls by.bus (choice_of op s)) is l by.taken.takes)
+
+pub entries-stay : EntriesStay
+entries-stay board rom entries op e valid calls there all = λ s of is among.
+    elim (cases_Bool (eqb s.0.owed 1)) [
+      | inl owed ↦ subst (IsAmong entries) (sym (cycled-idle s owed)) (e, among, idle-in e s is)
+      | inr free ↦ next-among board rom entries op e s valid calls there of is free all
+    ]

@@ -1,0 +1,21 @@
+use Rattle.std.proofs.Common.{◌<◌, ◌∙◌, ℕ, below_more}
+use Rattle.mcs_sets.specs.Taking.{Allows, IsTakenBy, choice_at}
+use Rattle.mcs_sets.proofs.Taken.{taken-moved}
+use Rattle.mcs_sets.proofs.following.stay_with_flags.Goals as goal
+
+pub loop-bank-preserved : goal.loop-bank-preserved
+loop-bank-preserved c =
+    let es = c.args.entries.now in
+    let e = c.args.entry.now in
+    let op = c.args.op.now in
+    let was = c.loop-bank.invariant in
+    let now = c.stay_with_bank.ensures in
+    let P : ℕ → Type 0 = λ k. (first second : ℕ) → first < 16 → second < 16 → Allows e op (choice_at c.args.flags k first second) → IsTakenBy c.args.rig.now.rom c.args.rig.now.board es e op (choice_at c.args.flags k first second) in
+    record {
+      taken = λ bank first second inside f s ok.
+          below_more P c.loop-bank.bank (λ k h first second f s ok. was.taken k first second h f s ok)
+          (λ first second f s ok. taken-moved c.loop-bank.rig.rom c.args.rig.now.rom c.loop-bank.rig.board c.args.rig.now.board es e op (choice_at c.args.flags c.loop-bank.bank first second) was.rom was.board (now.taken c.if-not-stay_with_bank.false first second f s ok))
+          bank inside first second f s ok;
+      rom = now.rom ∙ was.rom;
+      board = now.board ∙ was.board;
+    }

@@ -1,0 +1,5 @@
+use Rattle.mcs_sets.proofs.Kept.{entries-suffice}
+use Rattle.mcs_sets.proofs.laws.entries_suffice.Goals as goal
+
+pub returns : goal.returns
+returns c = entries-suffice

@@ -1,0 +1,29 @@
+use Rattle.std.proofs.Common.{◌∙◌, slice_index_or, subst, below_more, arith}
+use Rattle.mcs_sets.specs.declared.entries.Entry.{Entry}
+use Rattle.mcs_sets.specs.Following.{Follows}
+use Rattle.mcs_sets.proofs.Certified.{follows-moved, steps-suffice}
+use Rattle.mcs_sets.proofs.settling.has_all.Goals as goal
+
+pub loop-i-preserved : goal.loop-i-preserved
+loop-i-preserved c =
+    let es = c.args.entries.now in
+    let was = c.loop-i.invariant in
+    let now = c.follows_at.ensures in
+    record {
+      follows = λ k d inside.
+          below_more (λ k. (d : Entry) → Follows c.args.rig.now.board c.args.rig.now.rom es (slice_index_or es k d)) c.loop-i.i
+          (λ k h d. was.follows k d h)
+          (λ d. follows-moved c.loop-i.rig.board c.args.rig.now.board c.loop-i.rig.rom c.args.rig.now.rom es (slice_index_or es c.loop-i.i d) was.board was.rom (now.follows c.if-not-follows_at.false d))
+          k inside d;
+      rom = now.rom ∙ was.rom;
+      board = now.board ∙ was.board;
+    }
+
+pub returns : goal.returns
+returns c = λ _.
+    let es = c.args.entries.now in
+    let r = c.args.rig.now in
+    let end = c.loop-i-test.false in
+    steps-suffice r.board r.rom es (c.args.cpu.now, r, 0)
+    (λ e there. subst (Follows r.board r.rom es) there.2 (c.loop-i.invariant.follows there.0 e (let inside = there.1 in omega arith)))
+    c.rig_is_known.ensures (c.begins.ensures c.if-not-begins.false)

@@ -1,0 +1,288 @@
+//! Which conditions an entry excludes: none of its machines meets them.
+ghost use Rattle.std.specs.Prelude.{◌≡◌, ◌<◌, ◌/◌, ◌%◌, ◌+◌, IsTrue, false, true, slice_index, map};
+ghost use Rattle.mcs_model.specs.Command.{lacks_rom};
+ghost use Rattle.mcs_check.specs.declared.conditions.Condition.TheVariants.{Mistaken};
+ghost use Rattle.mcs_check.specs.Conditions.{keeps_to};
+ghost use Rattle.mcs_check.specs.Mistaken.{has_input, has_output, is_rdr, is_wrr, uses_ram};
+ghost use Rattle.mcs_sets.specs.Entries.{has};
+ghost use Rattle.mcs_sets.specs.Excluding.{AllIn, Excludes, ExcludesAll, HasBank, HasChips, HoldsIn, MakesNone, reads_next};
+
+use crate::entries::{Entry, has};
+use crate::settling::fits_calls;
+use mcs_board::BenchRig;
+use mcs_check::{Condition, Mistakes};
+use mcs_cpu4004::Cpu;
+use mcs_model::board::Board;
+use mcs_model::op::Op;
+use mcs_nibble::Addr;
+
+/// Returns whether an instruction reads or writes a RAM chip.
+fn uses_ram(op: &Op) -> bool
+    ensures { result ≡ uses_ram op.now }
+{
+    match op {
+        Op::Wrm | Op::Wmp | Op::Wr0 | Op::Wr1 | Op::Wr2 | Op::Wr3 => true,
+        Op::Sbm | Op::Rdm | Op::Adm | Op::Rd0 | Op::Rd1 | Op::Rd2 | Op::Rd3 => true,
+        _ => false,
+    }
+}
+
+/// Returns whether an instruction reads a second word, or FIN a byte of the page of the next address.
+fn reads_next(op: &Op) -> bool
+    ensures { result ≡ reads_next op.now }
+{
+    match op {
+        Op::Jcn(_, _) | Op::Fim(_, _) | Op::Fin(_) => true,
+        Op::Jun(_, _) | Op::Jms(_, _) | Op::Isz(_, _) => true,
+        _ => false,
+    }
+}
+
+/// Returns whether an instruction is an RDR.
+fn is_rdr(op: &Op) -> bool
+    ensures { result ≡ is_rdr op.now }
+{
+    match op {
+        Op::Rdr => true,
+        _ => false,
+    }
+}
+
+/// Returns whether an instruction is a WRR.
+fn is_wrr(op: &Op) -> bool
+    ensures { result ≡ is_wrr op.now }
+{
+    match op {
+        Op::Wrr => true,
+        _ => false,
+    }
+}
+
+/// Returns whether a board lacks the ROM of an address.
+fn lacks_rom(board: &Board, at: Addr) -> bool
+    ensures { result ≡ lacks_rom board.now at }
+{
+    board.mask(at.page().get()).is_none()
+}
+
+/// Returns whether a ROM's port has an input line.
+fn has_input(board: &Board, chip: u8) -> bool
+    ensures { result ≡ has_input board.now chip }
+{
+    board.is_input(chip, 0)
+        || board.is_input(chip, 1)
+        || board.is_input(chip, 2)
+        || board.is_input(chip, 3)
+}
+
+/// Returns whether a ROM's port has an output line.
+fn has_output(board: &Board, chip: u8) -> bool
+    ensures { result ≡ has_output board.now chip }
+{
+    !board.mask(chip).is_none()
+        && !(board.is_input(chip, 0)
+            && board.is_input(chip, 1)
+            && board.is_input(chip, 2)
+            && board.is_input(chip, 3))
+}
+
+/// Returns whether the chip of a bank that a SRC byte with an upper nibble of a set selects is there.
+fn has_chip(board: &Board, bank: u8, set: u16, n: u8) -> bool
+    ensures { IsTrue result → has set n ≡ true → n / 4 < slice_index board.now.banks bank }
+{
+    !has(set, n) || n / 4 < board.bank_chips(bank)
+}
+
+/// Returns whether each chip of a bank is there that these upper nibbles of a SRC byte select.
+fn has_chips(board: &Board, bank: u8, set: u16) -> bool
+    ensures { IsTrue result → HasChips board.now bank set }
+{
+    for n in 0..16u8 {
+        if !has_chip(board, bank, set, n) {
+            return false;
+        }
+    }
+    true
+}
+
+/// Returns whether a bank is one, and each of its chips is there that may be selected, if an entry may have this bank.
+fn has_bank(board: &Board, entry: &Entry, bank: u8) -> bool
+    ensures few { IsTrue result → has (slice_index entry.now.sets 16) bank ≡ true → bank < 8 }
+    ensures chips { IsTrue result → has (slice_index entry.now.sets 16) bank ≡ true →
+        HasChips board.now bank (slice_index entry.now.sets (18 + bank)) }
+{
+    !has(entry.sets[16], bank)
+        || (bank < 8 && has_chips(board, bank, entry.sets[usize::from(18 + bank)]))
+}
+
+/// Returns whether each RAM chip is there that may be selected.
+fn has_ram(board: &Board, entry: &Entry) -> bool
+    ensures { IsTrue result → AllIn (slice_index entry.now.sets 16) (HasBank board.now entry.now) }
+{
+    for bank in 0..16u8 {
+        if !has_bank(board, entry, bank) {
+            return false;
+        }
+    }
+    true
+}
+
+/// Returns whether a ROM has an input line, if it is one of a set.
+fn input_is_there(board: &Board, set: u16, n: u8) -> bool
+    ensures { IsTrue result → has set n ≡ true → has_input board.now n ≡ true }
+{
+    !has(set, n) || has_input(board, n)
+}
+
+/// Returns whether each ROM of a set has an input line.
+fn has_inputs(board: &Board, set: u16) -> bool
+    ensures { IsTrue result → AllIn set (λ n. has_input board.now n ≡ true) }
+{
+    for n in 0..16u8 {
+        if !input_is_there(board, set, n) {
+            return false;
+        }
+    }
+    true
+}
+
+/// Returns whether a ROM has an output line, if it is one of a set.
+fn output_is_there(board: &Board, set: u16, n: u8) -> bool
+    ensures { IsTrue result → has set n ≡ true → has_output board.now n ≡ true }
+{
+    !has(set, n) || has_output(board, n)
+}
+
+/// Returns whether each ROM of a set has an output line.
+fn has_outputs(board: &Board, set: u16) -> bool
+    ensures { IsTrue result → AllIn set (λ n. has_output board.now n ≡ true) }
+{
+    for n in 0..16u8 {
+        if !output_is_there(board, set, n) {
+            return false;
+        }
+    }
+    true
+}
+
+/// Returns whether the ROM of each word that an instruction reads is there.
+fn has_words(board: &Board, at: Addr, op: &Op) -> bool
+    ensures here { IsTrue result → lacks_rom board.now at ≡ false }
+    ensures next { IsTrue result → reads_next op.now ≡ true → lacks_rom board.now ((at + 1) % 4096) ≡ false }
+{
+    !lacks_rom(board, at) && (!reads_next(op) || !lacks_rom(board, at.plus(1)))
+}
+
+/// Returns whether no machine of an entry makes the mistake with RAM, if it is asked for.
+fn keeps_ram(board: &Board, entry: &Entry, op: &Op, asked: &Mistakes) -> bool
+    ensures { IsTrue result → asked.now.absent_ram ≡ true → uses_ram op.now ≡ true →
+        AllIn (slice_index entry.now.sets 16) (HasBank board.now entry.now) }
+{
+    !asked.absent_ram || !uses_ram(op) || has_ram(board, entry)
+}
+
+/// Returns whether no machine of an entry makes the mistake with ROM, if it is asked for.
+fn keeps_rom(board: &Board, entry: &Entry, op: &Op, asked: &Mistakes) -> bool
+    ensures here { IsTrue result → asked.now.absent_rom ≡ true → lacks_rom board.now entry.now.at ≡ false }
+    ensures next { IsTrue result → asked.now.absent_rom ≡ true → reads_next op.now ≡ true →
+        lacks_rom board.now ((entry.now.at + 1) % 4096) ≡ false }
+{
+    !asked.absent_rom || has_words(board, entry.at, op)
+}
+
+/// Returns whether no machine of an entry makes the mistake with input lines, if it is asked for.
+fn keeps_inputs(board: &Board, entry: &Entry, op: &Op, asked: &Mistakes) -> bool
+    ensures { IsTrue result → asked.now.no_inputs ≡ true → is_rdr op.now ≡ true →
+        AllIn (slice_index entry.now.sets 17) (λ n. has_input board.now n ≡ true) }
+{
+    !asked.no_inputs || !is_rdr(op) || has_inputs(board, entry.sets[17])
+}
+
+/// Returns whether no machine of an entry makes the mistake with output lines, if it is asked for.
+fn keeps_outputs(board: &Board, entry: &Entry, op: &Op, asked: &Mistakes) -> bool
+    ensures { IsTrue result → asked.now.no_outputs ≡ true → is_wrr op.now ≡ true →
+        AllIn (slice_index entry.now.sets 17) (λ n. has_output board.now n ≡ true) }
+{
+    !asked.no_outputs || !is_wrr(op) || has_outputs(board, entry.sets[17])
+}
+
+/// Returns whether no machine of an entry makes one of these mistakes by its instruction.
+fn makes_none(board: &Board, entry: &Entry, op: &Op, asked: &Mistakes) -> bool
+    ensures { IsTrue result → MakesNone board.now entry.now op.now asked.now }
+{
+    if !fits_calls(op, entry.calls) {
+        return false;
+    }
+    if !keeps_ram(board, entry, op, asked) {
+        return false;
+    }
+    if !keeps_rom(board, entry, op, asked) {
+        return false;
+    }
+    if !keeps_inputs(board, entry, op, asked) {
+        return false;
+    }
+    keeps_outputs(board, entry, op, asked)
+}
+
+/// Returns whether no machine of an entry makes one of these mistakes.
+fn excludes_mistakes(rig: &BenchRig, entry: &Entry, asked: &Mistakes) -> bool
+    ensures { IsTrue result → Excludes rig.now.board rig.now.rom (Mistaken asked.now) entry.now }
+{
+    match mcs_board::instruction(&Cpu::new(), rig, entry.at) {
+        None => false,
+        Some(op) => makes_none(rig.board(), entry, &op, asked),
+    }
+}
+
+/// Returns whether no machine of an entry meets a condition. Of comparisons it tells nothing.
+fn excludes(rig: &BenchRig, entry: &Entry, condition: &Condition) -> bool
+    ensures { IsTrue result → Excludes rig.now.board rig.now.rom condition.now entry.now }
+{
+    match condition {
+        Condition::Compare(_) => false,
+        Condition::Mistaken(asked) => excludes_mistakes(rig, entry, asked),
+    }
+}
+
+/// Returns whether no machine of an entry meets all of these conditions.
+fn excludes_all(rig: &BenchRig, entry: &Entry, conditions: &[Condition]) -> bool
+    ensures { IsTrue result → ExcludesAll rig.now.board rig.now.rom conditions.now entry.now }
+{
+    for i in 0..conditions.len() {
+        if excludes(rig, entry, &conditions[i]) {
+            return true;
+        }
+    }
+    false
+}
+
+/// Returns whether each machine of an entry keeps to these: it never meets all conditions of one of them.
+pub(crate) fn keeps(rig: &BenchRig, entry: &Entry, nevers: &[Vec<Condition>]) -> bool
+    ensures { IsTrue result → HoldsIn rig.now.board rig.now.rom (keeps_to (map (λ n. n.items) nevers.now)) entry.now }
+{
+    for i in 0..nevers.len() {
+        if !excludes_all(rig, entry, nevers[i].as_slice()) {
+            return false;
+        }
+    }
+    true
+}
+
+/// Returns whether an entry may exclude a condition.
+fn is_told(condition: &Condition) -> bool {
+    match condition {
+        Condition::Compare(_) => false,
+        Condition::Mistaken(_) => true,
+    }
+}
+
+/// Returns whether entries may tell that a machine keeps to these.
+pub(crate) fn can_keep(nevers: &[Vec<Condition>]) -> bool {
+    for i in 0..nevers.len() {
+        if !nevers[i].iter().any(|condition| is_told(condition)) {
+            return false;
+        }
+    }
+    true
+}

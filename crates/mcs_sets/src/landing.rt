@@ -1,0 +1,213 @@
+//! Where an instruction leads.
+ghost use Rattle.std.specs.Prelude.{◌≡◌, ◌<◌, Some};
+ghost use Rattle.mcs_drive.specs.Tracked.{calls_after};
+ghost use Rattle.mcs_model.specs.Effect.{after_words, registers_after};
+ghost use Rattle.mcs_sets.specs.Landing.{before, landing, op_at, first_set, first_written, second_set, second_written, stand_ins, value_written, with_read};
+
+use crate::entries::Entry;
+use mcs_board::BenchRig;
+use mcs_cpu4004::Cpu;
+use mcs_model::op::Op;
+use mcs_model::regs::Regs;
+use mcs_nibble::{Bit, Nibble};
+
+/// Where one choice of what is held leads: the registers but for the index registers, how many calls are open, and up to two
+/// places with what they hold then. Place 26 is none.
+#[derive(Clone, Copy)]
+pub(crate) struct Landing {
+    pub(crate) regs: Regs,
+    pub(crate) calls: u8,
+    pub(crate) first: u8,
+    pub(crate) first_value: u8,
+    pub(crate) second: u8,
+    pub(crate) second_value: u8,
+}
+
+/// The set of all nibbles.
+const ANY: u16 = 65535;
+
+/// Returns which numbers an instruction may take first.
+pub(crate) fn first_set(op: &Op, entry: &Entry) -> u16
+    ensures { result ≡ first_set op.now entry.now }
+{
+    match op {
+        Op::Src(k) | Op::Jin(k) => entry.sets[usize::from(2 * k.get())],
+        Op::Fin(_) => entry.sets[0],
+        Op::Inc(r) | Op::Isz(r, _) | Op::Add(r) | Op::Sub(r) | Op::Ld(r) | Op::Xch(r) =>
+            entry.sets[usize::from(r.get())],
+        Op::Sbm | Op::Rdm | Op::Rdr | Op::Adm | Op::Rd0 | Op::Rd1 | Op::Rd2 | Op::Rd3 => ANY,
+        _ => 1,
+    }
+}
+
+/// Returns which numbers an instruction may take next: of TEST, its levels.
+pub(crate) fn second_set(op: &Op, entry: &Entry) -> u16
+    ensures { result ≡ second_set op.now entry.now }
+{
+    match op {
+        Op::Jcn(_, _) => 3,
+        Op::Fin(_) => entry.sets[1],
+        Op::Jin(k) => entry.sets[usize::from(2 * k.get() + 1)],
+        _ => 1,
+    }
+}
+
+/// Returns index registers that hold both numbers where the instruction takes them.
+pub(crate) fn stand_ins(op: &Op, first: Nibble, second: Nibble) -> [Nibble; 16]
+    ensures { result ≡ stand_ins op.now first second }
+{
+    let mut r = [first; 16];
+    match op {
+        Op::Fin(_) => r[1] = second,
+        Op::Jin(k) => r[usize::from(2 * k.get() + 1)] = second,
+        _ => {}
+    }
+    r
+}
+
+/// Returns the registers after an instruction that reads this nibble of RAM or of a port.
+pub(crate) fn with_read(op: &Op, n: Nibble, before: &Regs, after: Regs) -> Regs
+    ensures { result ≡ with_read op.now n before.now after }
+{
+    let mut regs = after;
+    match op {
+        Op::Sbm => (regs.acc, regs.cy) = before.acc.sub_borrow(n, before.cy),
+        Op::Adm => (regs.acc, regs.cy) = before.acc.add(n, before.cy),
+        Op::Rdm | Op::Rdr | Op::Rd0 | Op::Rd1 | Op::Rd2 | Op::Rd3 => regs.acc = n,
+        _ => {}
+    }
+    regs
+}
+
+/// Returns the first place that an instruction changes.
+pub(crate) fn first_written(op: &Op) -> u8
+    ensures { result ≡ first_written op.now }
+{
+    match op {
+        Op::Fim(k, _) | Op::Fin(k) => 2 * k.get(),
+        Op::Src(_) => 17,
+        Op::Inc(r) | Op::Isz(r, _) | Op::Xch(r) => r.get(),
+        _ => 26,
+    }
+}
+
+/// Returns the second place that an instruction changes, where the bank has so many chips.
+pub(crate) fn second_written(op: &Op, chips: u8, bank: u8) -> u8
+    requires { bank < 8 }
+    ensures { result ≡ second_written op.now chips bank }
+{
+    match op {
+        Op::Fim(k, _) | Op::Fin(k) => 2 * k.get() + 1,
+        Op::Src(_) => { if 0 < chips { 18 + bank } else { 26 } }
+        _ => 26,
+    }
+}
+
+/// Returns what an instruction that took this number leaves in a place.
+pub(crate) fn value_written(op: &Op, first: Nibble, after: &Regs, place: u8) -> u8
+    ensures { result ≡ value_written op.now first after.now place }
+{
+    match op {
+        Op::Src(_) => first.get(),
+        _ => {
+            if place < 16 {
+                after.r[usize::from(place)].get()
+            } else {
+                0
+            }
+        }
+    }
+}
+
+/// Returns how many calls are open after an instruction, if so many are before.
+pub(crate) fn calls_after(op: &Op, calls: u8) -> u8
+    ensures { result ≡ calls_after (Some op.now) calls }
+{
+    match op {
+        Op::Jms(_, _) => { if calls < 3 { calls + 1 } else { calls } }
+        Op::Bbl(_) => calls.saturating_sub(1),
+        _ => calls,
+    }
+}
+
+/// What is chosen of what an entry allows: accumulator, carry and bank, and the two numbers that an instruction takes.
+#[derive(Clone, Copy)]
+pub(crate) struct Choice {
+    pub(crate) acc: Nibble,
+    pub(crate) cy: Bit,
+    pub(crate) bank: u8,
+    pub(crate) first: Nibble,
+    pub(crate) second: Nibble,
+}
+
+/// Returns a processor with these registers.
+fn processor(regs: &Regs) -> Cpu
+    requires bank { regs.now.dcl < 8 }
+    requires owed { regs.now.owed < 2 }
+    ensures { result ≡ regs.now }
+{
+    let mut cpu = Cpu::new();
+    cpu.set_acc(regs.acc);
+    cpu.set_cy(regs.cy);
+    cpu.set_r(regs.r);
+    cpu.set_pc(regs.pc);
+    cpu.set_ret(regs.ret);
+    cpu.set_dcl(regs.dcl);
+    cpu.set_owed(regs.owed);
+    cpu
+}
+
+/// Returns the registers before an instruction, whose index registers hold what it takes.
+fn before(op: &Op, entry: &Entry, choice: &Choice) -> Regs
+    ensures { result ≡ before op.now entry.now.at entry.now.ret choice.now }
+{
+    Regs {
+        acc: choice.acc,
+        cy: choice.cy,
+        r: stand_ins(op, choice.first, choice.second),
+        pc: entry.at,
+        ret: entry.ret,
+        dcl: choice.bank,
+        owed: 0,
+    }
+}
+
+/// Runs the instruction at the counter for one cycle, with TEST at a level, and returns the registers after it.
+fn run(rig: &mut BenchRig, op: &Op, regs: &Regs, level: Bit) -> Regs
+    requires bank { regs.now.dcl < 8 }
+    requires free { regs.now.owed ≡ 0 }
+    requires there { op_at rig.old.rom regs.now.pc ≡ Some op.now }
+    ensures ran { result ≡ registers_after op.now (after_words op.now regs.now) (record rig.old { test = level }) }
+    ensures rom { rig.new.rom ≡ rig.old.rom }
+    ensures board { rig.new.board ≡ rig.old.board }
+{
+    let mut cpu = processor(regs);
+    rig.set_test(level);
+    let _cycle = mcs_board::cycle(&mut cpu, rig);
+    cpu.regs()
+}
+
+/// Returns where an instruction leads.
+pub(crate) fn land(rig: &mut BenchRig, op: &Op, entry: &Entry, choice: &Choice) -> Landing
+    requires bank { choice.now.bank < 8 }
+    requires there { op_at rig.old.rom entry.now.at ≡ Some op.now }
+    ensures landing { result ≡ landing op.now entry.now.at entry.now.ret entry.now.calls rig.old choice.now }
+    ensures rom { rig.new.rom ≡ rig.old.rom }
+    ensures board { rig.new.board ≡ rig.old.board }
+{
+    let before = before(op, entry, choice);
+    let ran = run(rig, op, &before, Bit::low_of(choice.second.get()));
+    let regs = with_read(op, choice.first, &before, ran);
+    let first = first_written(op);
+    let second = second_written(op, rig.board().bank_chips(choice.bank), choice.bank);
+    let first_value = value_written(op, choice.first, &regs, first);
+    let second_value = value_written(op, choice.first, &regs, second);
+    Landing {
+        regs,
+        calls: calls_after(op, entry.calls),
+        first,
+        first_value,
+        second,
+        second_value,
+    }
+}

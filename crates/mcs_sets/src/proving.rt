@@ -1,0 +1,152 @@
+//! Whether conditions are never met by a machine, whatever its keys and its TEST pin do, by sets of values.
+ghost use Rattle.std.specs.Prelude.{◌≡◌, ◌<◌, IsTrue, ℕ, length, map, slice_index_or};
+ghost use Rattle.mcs_check.specs.Conditions.{keeps_to};
+ghost use Rattle.mcs_check.specs.Promised.{IsProved};
+ghost use Rattle.mcs_sets.specs.declared.entries.Entry.{Entry};
+ghost use Rattle.mcs_sets.specs.Excluding.{HoldsIn};
+
+use crate::entries::Entry;
+use crate::excluding::{can_keep, keeps};
+use crate::finding::{Certificate, Stop, find};
+use crate::precision::{LEVELS, all_needed};
+use crate::settling::{entry_of, has_all, rig_is_known};
+use mcs_board::BenchRig;
+use mcs_check::{Condition, Outcome};
+use mcs_cpu4004::Cpu;
+use std::alloc::Global;
+
+/// The bytes that an entry takes, at most: itself, its links, and its part of the index.
+const ENTRY_BYTES: usize = 256;
+
+/// Returns whether each machine of entry `i` keeps to these.
+fn keeps_at(rig: &BenchRig, entries: &[Entry], nevers: &[Vec<Condition>], i: usize) -> bool
+    requires { i < length entries.now }
+    ensures { IsTrue result → (d : Entry) →
+        HoldsIn rig.now.board rig.now.rom (keeps_to (map (λ n. n.items) nevers.now)) (slice_index_or entries.now i d) }
+{
+    keeps(rig, &entries[i], nevers)
+}
+
+/// Returns whether each machine of each entry keeps to these.
+fn all_keep(rig: &BenchRig, entries: &[Entry], nevers: &[Vec<Condition>]) -> bool
+    ensures { IsTrue result → (k : ℕ) (d : Entry) → k < length entries.now →
+        HoldsIn rig.now.board rig.now.rom (keeps_to (map (λ n. n.items) nevers.now)) (slice_index_or entries.now k d) }
+{
+    for i in 0..entries.len() {
+        if !keeps_at(rig, entries, nevers, i) {
+            return false;
+        }
+    }
+    true
+}
+
+/// Returns the outcome of a certificate for a machine in which no call is open.
+fn outcome_of(
+    cpu: &Cpu,
+    rig: &mut BenchRig,
+    entries: &[Entry],
+    links: &[usize],
+    nevers: &[Vec<Condition>],
+) -> Outcome
+    ensures { IsProved (keeps_to (map (λ n. n.items) nevers.now)) (cpu.now, rig.old, 0) result }
+{
+    rig_is_known(rig);
+    if !all_keep(rig, entries, nevers) {
+        return Outcome::GaveUp;
+    }
+    if !has_all(cpu, rig, entries, links) {
+        return Outcome::GaveUp;
+    }
+    Outcome::Holds(entries.len())
+}
+
+/// Returns the next level of a try after level `i` that needs further exact registers, and adds them. If there is none, it
+/// returns the number of levels.
+fn next_level(rig: &BenchRig, entries: &[Entry], i: usize, exact: &mut u16) -> usize {
+    for k in 0..LEVELS.len() {
+        if k > i {
+            let more = all_needed(rig, LEVELS[k], entries);
+            if more & !*exact != 0 {
+                *exact |= more;
+                return k;
+            }
+        }
+    }
+    LEVELS.len()
+}
+
+/// Why no certificate was found that shows what is asked.
+#[derive(Clone, Copy, Debug)]
+enum Missed {
+    /// No try found a certificate: there are too many entries.
+    TooMany,
+    /// Memory has room for this many entries.
+    NoMemory(usize),
+    /// Some try found a certificate, which does not show it.
+    Unshown,
+}
+
+/// Looks for a certificate whose machines keep to these, level by level, on a rig `own` with the board and the program of `rig`.
+fn find_shown(
+    alloc: Global,
+    cpu: &Cpu,
+    rig: &BenchRig,
+    own: &mut BenchRig,
+    nevers: &[Vec<Condition>],
+    most: usize,
+) -> Result<Certificate, Missed> {
+    let begin = entry_of(cpu, rig);
+    let mut missed = Missed::TooMany;
+    let mut exact = 0;
+    let mut next = 0;
+    for i in 0..LEVELS.len() {
+        if i < next {
+            continue;
+        }
+        match find(alloc, own, &begin, LEVELS[i], &mut exact, most) {
+            Ok(found) => {
+                if all_keep(rig, found.entries.as_slice(), nevers) {
+                    return Ok(found);
+                }
+                missed = Missed::Unshown;
+                next = next_level(rig, found.entries.as_slice(), i, &mut exact);
+            }
+            Err(Stop::NoMemory(entries)) => return Err(Missed::NoMemory(entries)),
+            Err(_) => {}
+        }
+    }
+    Err(missed)
+}
+
+/// Looks for a certificate that shows that a machine in which no call is open keeps to these, whatever its inputs do: it never
+/// meets all conditions of one of them. A certificate has at most `most` entries, in about `memory` bytes. The search runs on
+/// a rig of its own, with the board and the program of the machine's.
+pub fn check_by_sets(
+    alloc: Global,
+    cpu: &Cpu,
+    rig: &mut BenchRig,
+    own: &mut BenchRig,
+    nevers: &[Vec<Condition>],
+    most: usize,
+    memory: usize,
+) -> Outcome
+    ensures { IsProved (keeps_to (map (λ n. n.items) nevers.now)) (cpu.now, rig.old, 0) result }
+{
+    if !can_keep(nevers) {
+        return Outcome::GaveUp;
+    }
+    let limit = most.min(memory / ENTRY_BYTES);
+    match find_shown(alloc, cpu, rig, own, nevers, limit) {
+        Ok(found) => outcome_of(
+            cpu,
+            rig,
+            found.entries.as_slice(),
+            found.links.as_slice(),
+            nevers,
+        ),
+        Err(Missed::NoMemory(entries)) => Outcome::NoMemory(entries),
+        Err(Missed::TooMany) if limit < most => Outcome::NoMemory(limit),
+        Err(Missed::TooMany) => Outcome::TooMany,
+        Err(Missed::Unshown) => Outcome::GaveUp,
+    }
+}

@@ -1,0 +1,181 @@
+//! The lines of standard error, for people: a line if a session is refused or ends by a fault, and
+//! the usage. A line that could not be written there is not reported elsewhere. Standard output
+//! and the exit status are the same without these lines.
+use crate::ends::ShellEnd;
+use crate::faults::BeginFault;
+use mcs_host::{Choice, FileDisk, FileFault, RefusedStreams, StreamsFault};
+use mcs_journal::StoreFault;
+use std::path::Path;
+
+/// The reason why a session was refused, and what was found in its file.
+#[derive(Clone, Copy)]
+pub struct Refusal {
+    /// The reason.
+    pub fault: BeginFault,
+    /// True if the device has no space.
+    pub is_full: bool,
+    /// True if the file has the size and the name of a session file.
+    pub is_named_session: bool,
+}
+
+/// Prints the usage, the place of the manual, and the versions of the program and of its session
+/// files.
+pub fn print_usage(rt: &HostRuntime) {
+    let _ = eprintln!(rt; "usage: mcs4 new FILE or mcs4 open FILE");
+    let _ = eprintln!(rt; "manual: docs/MANUAL.md in the folder that mcs4 was built in");
+    let _ = eprintln!(rt;
+        "version: mcs4 2.0, session files MCS4BEN1 of version 2; those of version 1 are carried over"
+    );
+}
+
+/// Prints why the standard streams are refused, unless standard error may be a session file.
+pub fn print_streams(rt: &HostRuntime, refused: RefusedStreams) {
+    if refused.unusable.errors {
+        return;
+    }
+    let words = match refused.fault {
+        StreamsFault::IntoSession => {
+            "standard output goes into a session file; send it elsewhere"
+        }
+        StreamsFault::Unknown => {
+            "cannot find out which files standard input, output and error are; mount /proc"
+        }
+        StreamsFault::NoStandIn => {
+            "standard input, output or error is closed, and /dev/null cannot be opened in its place"
+        }
+    };
+    let _ = eprintln!(rt; "mcs4: {words}");
+}
+
+/// Prints a line on a file that was opened and whose name may not stay; nothing on any other.
+pub fn print_opening(rt: &HostRuntime, file: &str, opened: &Result<FileDisk, FileFault>) {
+    if let Ok(disk) = opened {
+        if !disk.is_name_stable() {
+            let _ = eprintln!(rt;
+                "mcs4: {file}: its folder cannot be synced; a power cut may undo a name that it was only just given"
+            );
+        }
+    }
+}
+
+/// Prints what is wrong with the file of a refused session, and what to do, unless standard error is
+/// that file; nothing if no session was refused.
+pub fn print_no_session(rt: &HostRuntime, choice: &Choice, refused: Option<Refusal>) {
+    let Some(refusal) = refused else {
+        return;
+    };
+    if refusal.fault.streams().errors {
+        return;
+    }
+    let file = choice.file();
+    // If standard error takes nothing, the number that standard output got is all that is
+    // reported.
+    let _ = match (choice, refusal.fault) {
+        (Choice::Open(_), BeginFault::File(FileFault::NotThere)) if has_folder(rt, file) => {
+            eprintln!(rt; "mcs4: {file}: no such file; begin a session with: mcs4 new {file}")
+        }
+        (_, BeginFault::Create(StoreFault::NotBlank)) if refusal.is_named_session => {
+            eprintln!(rt; "mcs4: {file}: already a session file; go on with it: mcs4 open {file}")
+        }
+        (_, fault) => {
+            let words = begin_words(fault, refusal.is_full);
+            eprintln!(rt; "mcs4: {file}: {words}")
+        }
+    };
+}
+
+// Returns the words for a session that was not begun.
+fn begin_words(fault: BeginFault, is_full: bool) -> &'static str {
+    match fault {
+        BeginFault::File(fault) => file_words(fault),
+        BeginFault::Create(fault) => create_words(fault, is_full),
+        BeginFault::Open(fault) => open_words(fault, is_full),
+    }
+}
+
+// Returns the words for a file that was not opened.
+fn file_words(fault: FileFault) -> &'static str {
+    match fault {
+        FileFault::InUse => "in use by another program; wait until that has ended",
+        FileFault::NoLock => "the host has no lock for it; put it on a disk of this machine",
+        FileFault::NotThere => "no such folder; make it first",
+        FileFault::Denied => "no permission to read and write it",
+        FileFault::Folder => "it is a folder; name a file in it",
+        FileFault::NotAFile => "not a regular file; name another",
+        FileFault::NameTooLong => "its name is too long; choose a shorter one",
+        FileFault::NoSpace => "no space for it on the device; make room and try again",
+        FileFault::FolderUnsynced => {
+            "its folder cannot be synced, so a power cut could lose it; choose another folder"
+        }
+        FileFault::TooManyFiles => "too many files are open; close some, or raise the limit",
+        FileFault::Stream(_) => {
+            "standard input or output is this very file; send that elsewhere"
+        }
+        FileFault::StreamsUnknown => {
+            "cannot find out whether standard input or output is this file; mount /proc"
+        }
+        FileFault::Device => "the host refused it, or its device failed",
+        FileFault::NoMemory => "out of memory",
+    }
+}
+
+// Returns the words for a session that was not made.
+fn create_words(fault: StoreFault, is_full: bool) -> &'static str {
+    match fault {
+        StoreFault::Device if is_full => {
+            "no space left on the device; make room, then remove it and begin again"
+        }
+        StoreFault::Device => "the device failed; remove it and begin again",
+        fault => open_words(fault, is_full),
+    }
+}
+
+// Returns the words for a session that was not opened.
+fn open_words(fault: StoreFault, is_full: bool) -> &'static str {
+    match fault {
+        StoreFault::NotASession => "not a session file; begin a session in another file",
+        StoreFault::Damaged => "damaged; go on with a copy of it, if there is one",
+        StoreFault::Device => device_words(is_full),
+        StoreFault::NotBlank => "not a session file; choose another name",
+        StoreFault::NoMemory => "out of memory",
+    }
+}
+
+// Returns the words for a device that failed.
+fn device_words(is_full: bool) -> &'static str {
+    if is_full {
+        "no space left on the device; make room, then open it again"
+    } else {
+        "the device failed; open it again"
+    }
+}
+
+// Returns true if the folder of the file of this name is there, as far as that can be found out.
+fn has_folder(rt: &HostRuntime, file: &str) -> bool {
+    match Path::new(file).parent() {
+        Some(folder) => folder.as_str().is_empty() || folder.is_dir(rt),
+        None => true,
+    }
+}
+
+/// Prints why a session ended, unless its input reached its end. It takes the end of its shell,
+/// and true if its device is full.
+pub fn print_end(rt: &HostRuntime, file: &str, ended: Option<(ShellEnd, bool)>) {
+    let Some((end, is_full)) = ended else {
+        return;
+    };
+    let reason = match end {
+        ShellEnd::End => return,
+        ShellEnd::ReadFault => "standard input could not be read; what was answered ok is kept",
+        ShellEnd::WriteFault => "standard output took no more; what was answered ok is kept",
+        ShellEnd::DeviceFault => device_words(is_full),
+        ShellEnd::InputLimit => "no more than 16777216 bytes are read; open it again to go on",
+        ShellEnd::NoMemory => "out of memory",
+    };
+    let _ = eprintln!(rt; "mcs4: {file}: {reason}");
+}
+
+/// Prints that there was no memory for the arguments.
+pub fn print_no_memory(rt: &HostRuntime) {
+    let _ = eprintln!(rt; "mcs4: out of memory");
+}

@@ -1,0 +1,203 @@
+//! The calls that a page makes.
+ghost use Rattle.std.specs.Prelude.{◌≡◌, ◌≤◌, ◌↔◌, drop, length, take, IfErr, IfOk, IsTrue, OnErr, OnOk};
+ghost use Rattle.mcs_wasm.specs.Page.{AnswersInBuffer, AnswersAndSettles, ServesAllInput, IsNewFile, IsFileRefused};
+ghost use Rattle.mcs_wasm.specs.Page.{IsServedWhole, IsWhyNotServed, StandsForSameState, WouldAnswer};
+ghost use Rattle.mcs_journal.specs.declared.format.TheConstants.{FILE_SIZE};
+
+use crate::disks::{resume, settle_into, write_back};
+use crate::fault::ServeFault;
+use mcs_disk::MemDisk;
+use mcs_journal::{FILE_SIZE, StoreFault};
+use mcs_session::session::Session;
+use mcs_shell::ends::ShellEnd;
+use mcs_shell::shell::run_shell;
+use std::alloc::{AllocError, Global};
+
+/// The result of input that was served.
+#[derive(Clone, Copy, Debug, PartialEq, Eq)]
+pub struct ServedInput {
+    /// The end of the shell: its input was served to its end, or to the limit of what a shell
+    /// reads.
+    pub end: ShellEnd,
+    /// The number of bytes of the answers.
+    pub count: usize,
+}
+
+/// A session that has served input, and its answers.
+#[derive(Drop)]
+struct Answered {
+    session: Session<MemDisk>,
+    end: ShellEnd,
+    output: Vec<u8>,
+}
+
+/// Makes the file of a new session. If memory runs out, it fails and the bytes stay.
+pub fn begin(alloc: Global, file: &mut [u8]) -> Result<(), AllocError>
+    requires size { length file.old ≡ FILE_SIZE }
+    ensures made { OnOk result (IsNewFile file.new) }
+    ensures stays { OnErr result (file.new ≡ file.old) }
+{
+    let disk = MemDisk::new(alloc, FILE_SIZE)?;
+    let Ok(begun) = Session::create(alloc, disk) else {
+        return Err(AllocError);
+    };
+    write_back(&begun.into_disk(), file);
+    Ok(())
+}
+
+/// Returns true if the shell served all of its input, or as much as it reads.
+fn is_whole(end: ShellEnd) -> bool
+    ensures { IsTrue result ↔ IsServedWhole end }
+{
+    match end {
+        ShellEnd::End | ShellEnd::InputLimit => true,
+        ShellEnd::ReadFault | ShellEnd::WriteFault | ShellEnd::DeviceFault | ShellEnd::NoMemory => {
+            false
+        }
+    }
+}
+
+/// Continues the session that the bytes of a file hold, on a copy of them, and serves the lines of
+/// an input on it. It fails if the bytes hold no session, if memory runs out, or if the answers
+/// have more than `room` bytes.
+fn serve_on(alloc: Global, file: &[u8], input: &[u8], room: usize) -> Result<Answered, ServeFault>
+    ensures served { IfOk result (λ a.
+        ServesAllInput file.now input.now a.end a.output.items a.session) }
+    ensures room { IfOk result (λ a. length a.output.items ≤ room) }
+    ensures refused { IfErr result (λ why. IsWhyNotServed why file.now input.now room) }
+{
+    let mut session = match resume(alloc, file) {
+        Ok(session) => session,
+        Err(fault) => return Err(ServeFault::Refused(fault)),
+    };
+    let mut reader = input;
+    let mut output = Vec::new(alloc);
+    let end = run_shell(alloc, &mut reader, &mut output, &mut session);
+    // Every other end means that memory ran out: over a slice, a vector and bytes in memory nothing
+    // else fails.
+    if !is_whole(end) {
+        return Err(ServeFault::Refused(StoreFault::NoMemory));
+    }
+    if room < output.len() {
+        return Err(ServeFault::NoRoom(output.len()));
+    }
+    Ok(Answered {
+        session,
+        end,
+        output,
+    })
+}
+
+/// Writes answers to the front of a buffer, and returns the number of their bytes.
+pub fn put_in_front(buffer: &mut [u8], answers: &[u8]) -> usize
+    requires room { length answers.now ≤ length buffer.old }
+    ensures count { result ≡ length answers.now }
+    ensures answers { take result buffer.new ≡ answers.now }
+    ensures rest { drop result buffer.new ≡ drop result buffer.old }
+{
+    let count = answers.len();
+    buffer[..count].copy_from_slice(answers);
+    count
+}
+
+/// Continues the session that the bytes of a file hold, and serves the lines of an input on it. It
+/// writes the answers to the front of a buffer, and replaces the bytes of the file with those that
+/// the session's disk has then.
+///
+/// It does all of that or nothing. If the bytes hold no session (50, 51), memory runs out (90), or
+/// the answers have no room, it fails, and the file and the buffer stay as they were.
+pub fn serve(
+    alloc: Global,
+    file: &mut [u8],
+    input: &[u8],
+    answers: &mut [u8],
+) -> Result<ServedInput, ServeFault>
+    ensures served { IfOk result (λ served.
+        AnswersInBuffer file.old input.now served.end served.count
+        answers.old answers.new file.new) }
+    ensures refused { IfErr result (λ why.
+        IsWhyNotServed why file.old input.now (length answers.old)) }
+    ensures stays { OnErr result ((file.new ≡ file.old) × (answers.new ≡ answers.old)) }
+{
+    let Answered {
+        session,
+        end,
+        output,
+    } = match serve_on(alloc, file, input, answers.len()) {
+        Ok(answered) => answered,
+        Err(why) => return Err(why),
+    };
+    write_back(&session.into_disk(), file);
+    let count = put_in_front(answers, &output);
+    Ok(ServedInput { end, count })
+}
+
+/// Serves input as [`serve`] does, and then replaces the records of the file with a snapshot, as
+/// [`settle`] does: opening it has no command to repeat.
+///
+/// It does all of that or nothing.
+pub fn serve_and_settle(
+    alloc: Global,
+    file: &mut [u8],
+    input: &[u8],
+    answers: &mut [u8],
+) -> Result<ServedInput, ServeFault>
+    ensures served { IfOk result (λ served. AnswersAndSettles file.old input.now served.end
+        served.count answers.old answers.new file.new) }
+    ensures refused { IfErr result (λ why.
+        IsWhyNotServed why file.old input.now (length answers.old)) }
+    ensures stays { OnErr result ((file.new ≡ file.old) × (answers.new ≡ answers.old)) }
+{
+    let Answered {
+        session,
+        end,
+        output,
+    } = match serve_on(alloc, file, input, answers.len()) {
+        Ok(answered) => answered,
+        Err(why) => return Err(why),
+    };
+    settle_into(session, file);
+    let count = put_in_front(answers, &output);
+    Ok(ServedInput { end, count })
+}
+
+/// Answers an input as [`serve`] would, and leaves the file as it is.
+pub fn ask(
+    alloc: Global,
+    file: &[u8],
+    input: &[u8],
+    answers: &mut [u8],
+) -> Result<ServedInput, ServeFault>
+    ensures served { IfOk result (λ served. WouldAnswer file.now input.now served.end served.count
+        answers.old answers.new) }
+    ensures refused { IfErr result (λ why.
+        IsWhyNotServed why file.now input.now (length answers.old)) }
+    ensures stays { OnErr result (answers.new ≡ answers.old) }
+{
+    let Answered {
+        session: _,
+        end,
+        output,
+    } = match serve_on(alloc, file, input, answers.len()) {
+        Ok(answered) => answered,
+        Err(why) => return Err(why),
+    };
+    let count = put_in_front(answers, &output);
+    Ok(ServedInput { end, count })
+}
+
+/// Replaces the records of a session's file with a snapshot. The file then stands for the same
+/// state, and opening it has no command to repeat. If the bytes hold no session (50, 51) or memory
+/// runs out (90), it fails and they stay.
+pub fn settle(alloc: Global, file: &mut [u8]) -> Result<(), StoreFault>
+    ensures settled { OnOk result (StandsForSameState file.old file.new) }
+    ensures refused { IfErr result (λ fault. IsFileRefused fault file.old) }
+    ensures stays { OnErr result (file.new ≡ file.old) }
+{
+    let session = match resume(alloc, file) {
+        Ok(session) => session,
+        Err(fault) => return Err(fault),
+    };
+    settle_into(session, file);
+    Ok(())
+}

@@ -1,0 +1,17 @@
+use Rattle.std.proofs.Common.{◌≡◌, ◌+◌, ◌≤◌, length, string_bytes}
+use denote.Shadow.{shadow}
+use denote.Text.{Utf8}
+use Rattle.std.specs.List.{slice_split}
+use Rattle.mcs_model.specs.TextLines.{is_line_feed}
+use Rattle.mcs_wiring.specs.Parts.{has_part, line_from, line_of_part}
+use Rattle.mcs_wiring.specs.PartView.{part_view}
+use Rattle.mcs_wiring.proofs.report.line_of_part.Given as goal
+
+abbrev pub invariant-loop-line : goal.invariant-loop-line
+invariant-loop-line l =
+    shadow (Utf8 l.rest)
+    × (line_from (has_part (part_view l.part)) l.number (string_bytes l.before) (slice_split is_line_feed l.rest) ≡ line_of_part l.text (part_view l.part))
+    × (l.number + length l.rest ≤ length l.text + 1)
+
+abbrev pub decreases-loop-line : goal.decreases-loop-line
+decreases-loop-line l = length l.rest

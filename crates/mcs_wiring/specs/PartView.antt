@@ -1,0 +1,16 @@
+-- What the code's parts stand for. It is cited by clauses of private functions alone.
+use Rattle.std.specs.Option.{option_copied}
+use Rattle.mcs_wiring.specs.declared.fault.WiringFault.{WiringFault}
+use Rattle.mcs_wiring.specs.declared.fault.WiringFault.TheVariants.{DoubleChip, NoSuchLine, WrongDirection}
+use Rattle.mcs_wiring.specs.declared.flawed.Part as code
+use Rattle.mcs_wiring.specs.Parts.{Part}
+
+abbrev pub part_view : code.Part → Part
+part_view p = record { section = p.section; number = p.number; key = option_copied p.key }
+
+-- a refusal of what the tables say together
+abbrev pub IsOfParts : WiringFault → Type 0
+IsOfParts DoubleChip = Unit {0}
+IsOfParts NoSuchLine = Unit {0}
+IsOfParts WrongDirection = Unit {0}
+IsOfParts fault = ⊥

@@ -1,0 +1,296 @@
+-- The part of a board text that is wrong, and what is told of a text: that it has a board, or its refusal with that part and the line on
+-- which it begins. (Our own choice.)
+use Rattle.std.specs.Prelude.{ℕ, ◌+◌, ◌-◌, Bool, true, false, not, ◌&&◌, ◌||◌, List, [], ◌∷◌, ◌++◌, length, take, find, codes, Option, Some, None, is_some, is_none, option_map, Result, Ok, Err, nat_lt, nat_le, ◌==◌, if◌then◌else◌}
+use Rattle.std.specs.List.{list_any, list_all, slice_split, range_with_len}
+use Rattle.std.specs.Option.{option_or}
+use Rattle.std.specs.Char.{is_ascii_digit, is_ascii_uppercase, is_ascii_lowercase}
+use Rattle.std.specs.Fmt.{decimal}
+use Rattle.toml.specs.Data.{Data, table, Members, get_member, as_str}
+use Rattle.toml.specs.Parse.{parse_document}
+use Rattle.mcs_model.specs.declared.board.BoardParts.{BoardParts}
+use Rattle.mcs_model.specs.declared.board.ChainPart.{ChainPart}
+use Rattle.mcs_model.specs.declared.board.KeyMatrix.{KeyMatrix}
+use Rattle.mcs_model.specs.declared.board.Line.{Line}
+use Rattle.mcs_model.specs.declared.limits.TheConstants.{ROMS, BANKS, BANK_CHIPS, CHAINS, CHAIN_BITS, CHAIN_CHIPS, KEY_COLUMNS, KEY_ROWS, LAMPS}
+use Rattle.mcs_model.specs.Boards.{chain_bits, chain_count, exists_on, is_input_line, is_output_line}
+use Rattle.mcs_model.specs.Options.{◌>>=◌}
+use Rattle.mcs_model.specs.TextLines.{as_line, is_line_feed}
+use Rattle.mcs_wiring.specs.declared.fault.WiringFault.{WiringFault}
+use Rattle.mcs_wiring.specs.declared.fault.WiringFault.TheVariants as fault
+use Rattle.mcs_wiring.specs.declared.sections.Flaw.{Flaw}
+use Rattle.mcs_wiring.specs.declared.sections.Flaw.TheVariants.{UnknownKey, MissingKey, BadValue}
+use Rattle.mcs_wiring.specs.declared.sections.Numbered.{Numbered}
+use Rattle.mcs_wiring.specs.declared.sections.Section.{Section}
+use Rattle.mcs_wiring.specs.declared.sections.Section.TheVariants.{Rom, Ram, Chain, Keys, Lamp}
+use Rattle.mcs_wiring.specs.declared.flawed.LineFlaw.{LineFlaw}
+use Rattle.mcs_wiring.specs.declared.flawed.LineFlaw.TheVariants.{Missing, NoOutput, NoInput, Input}
+use Rattle.mcs_wiring.specs.Flaws.{has_flaw}
+use Rattle.mcs_wiring.specs.Format.{sections, section_key, table_keys, is_board_key, is_table_key}
+use Rattle.mcs_wiring.specs.LineNames.{masks_named}
+use Rattle.mcs_wiring.specs.RefusalNumbers.{wiring_fault_number}
+use Rattle.mcs_wiring.specs.Wiring.{keys_of, section_values, values_at, number_at, line_at, has_bad_columns, lacks_array, column_values, roms_of, rams_of, parts_in, board_of_table}
+
+-- a key at the top, what stands at the key of a section, or one of its tables by its number from 1 (the key matrix has none); with the
+-- key of it that is meant, if one is
+pub record Part : Type 0 where
+  pub section : Option Section
+  pub number : Option ℕ
+  pub key : Option (List ℕ)
+
+abbrev pub at_key : List ℕ → Part
+at_key key = record { section = None; number = None; key = Some key }
+
+abbrev pub at_section : Section → Part
+at_section s = record { section = Some s; number = None; key = None }
+
+abbrev pub table_number : Section → ℕ → Option ℕ
+table_number Keys i = None
+table_number s i = Some (i + 1)
+
+-- the table of a section that has this index
+abbrev pub at_table : Section → ℕ → Option (List ℕ) → Part
+at_table s i key = record { section = Some s; number = table_number s i; key = key }
+
+-- ---- 21, 22 and 23: the first table that has the flaw, and the first key of it that is meant
+
+abbrev pub other_key : Section → Members → Option (List ℕ)
+other_key s ms = find (λ key. not (is_table_key s key)) (keys_of ms)
+
+abbrev pub missing_key : Section → Members → Option (List ℕ)
+missing_key s ms = find (λ key. is_none (get_member key ms)) (table_keys s)
+
+-- a key, where its value is bad
+abbrev pub if_bad : Bool → List ℕ → Option (List ℕ) → Option (List ℕ)
+if_bad true key next = Some key
+if_bad false key next = next
+
+abbrev pub bad_key : Section → Members → Option (List ℕ)
+bad_key Rom ms =
+    if_bad (is_none (number_at (codes "chip") 0 (ROMS - 1) ms)) (codes "chip")
+    (if_bad (is_none (get_member (codes "port") ms >>= as_str >>= masks_named)) (codes "port") None)
+bad_key Ram ms =
+    if_bad (is_none (number_at (codes "bank") 0 (BANKS - 1) ms)) (codes "bank")
+    (if_bad (is_none (number_at (codes "chips") 1 BANK_CHIPS ms)) (codes "chips") None)
+bad_key Chain ms =
+    if_bad (is_none (line_at (codes "clock") ms)) (codes "clock")
+    (if_bad (is_none (line_at (codes "data") ms)) (codes "data")
+    (if_bad (is_none (number_at (codes "chips") 1 CHAIN_CHIPS ms)) (codes "chips") None))
+bad_key Keys ms =
+    if_bad (is_none (number_at (codes "chain") 0 (CHAINS - 1) ms)) (codes "chain")
+    (if_bad (is_none (number_at (codes "first") 0 (CHAIN_BITS - 1) ms)) (codes "first")
+    (if_bad (is_none (number_at (codes "rows") 1 KEY_ROWS ms)) (codes "rows")
+    (if_bad (has_bad_columns ms) (codes "columns") None)))
+bad_key Lamp ms = if_bad (is_none (line_at (codes "line") ms)) (codes "line") None
+
+-- the key that a flaw of a value means, if the value is a table
+abbrev pub key_in_table : Flaw → Section → Members → Option (List ℕ)
+key_in_table UnknownKey s ms = other_key s ms
+key_in_table MissingKey s ms = missing_key s ms
+key_in_table BadValue s ms = bad_key s ms
+
+abbrev pub flawed_key : Flaw → Section → Data → Option (List ℕ)
+flawed_key f s (table ms) = key_in_table f s ms
+flawed_key f s d = None
+
+-- the first of these values that has a flaw; the first of them has this index
+abbrev pub flawed_from : Flaw → Section → ℕ → List Data → Option Part
+flawed_from f s i [] = None
+flawed_from f s i (d ∷ ds) =
+    if has_flaw f s d then Some (at_table s i (flawed_key f s d)) else flawed_from f s (i + 1) ds
+
+abbrev pub flawed_in : Flaw → Members → Section → Option Part
+flawed_in f ms s = flawed_from f s 0 (section_values s ms)
+
+-- the first of some parts that is there
+abbrev pub first_of : (Section → Option Part) → List Section → Option Part
+first_of part [] = None
+first_of part (s ∷ ss) = option_or (part s) (first_of part ss)
+
+abbrev pub flawed : Flaw → Members → Option Part
+flawed f ms = first_of (flawed_in f ms) sections
+
+abbrev pub unknown_key : Members → Option Part
+unknown_key ms =
+    option_or (option_map at_key (find (λ key. not (is_board_key key)) (keys_of ms)))
+    (flawed UnknownKey ms)
+
+abbrev pub bad_value : Members → Option Part
+bad_value ms =
+    option_or (option_map at_section (find (lacks_array ms) sections)) (flawed BadValue ms)
+
+-- ---- 27: the first table too many; of the columns, their key
+
+abbrev pub part_if : Bool → Part → Option Part → Option Part
+part_if true part next = Some part
+part_if false part next = next
+
+abbrev pub too_many : Members → Option Part
+too_many ms =
+    part_if (nat_lt ROMS (length (values_at (codes "rom") ms))) (at_table Rom ROMS None)
+    (part_if (nat_lt BANKS (length (values_at (codes "ram") ms))) (at_table Ram BANKS None)
+    (part_if (nat_lt CHAINS (length (values_at (codes "chain") ms))) (at_table Chain CHAINS None)
+    (part_if (nat_lt KEY_COLUMNS (length (column_values ms))) (at_table Keys 0 (Some (codes "columns")))
+    (part_if (nat_lt LAMPS (length (values_at (codes "lamp") ms))) (at_table Lamp LAMPS None) None))))
+
+-- ---- 24: the first table whose number an earlier one has
+
+-- the first of these parts whose number an earlier one or one of `seen` has; the first of them has this index
+abbrev pub repeated_from : {A : Type 0} → List ℕ → ℕ → List (Numbered A) → Option ℕ
+repeated_from seen i [] = None
+repeated_from seen i (p ∷ ps) =
+    if list_any (λ n. n == p.number) seen then Some i
+    else repeated_from (p.number ∷ seen) (i + 1) ps
+
+abbrev pub double_in : {A B : Type 0} → List (Numbered A) → List (Numbered B) → Option Part
+double_in roms rams =
+    option_or (option_map (λ i. at_table Rom i (Some (codes "chip"))) (repeated_from [] 0 roms))
+    (option_map (λ i. at_table Ram i (Some (codes "bank"))) (repeated_from [] 0 rams))
+
+abbrev pub double_chip : Members → Option Part
+double_chip ms = double_in (roms_of ms) (rams_of ms)
+
+-- ---- 25 and 26: the first table with a line that is wrong
+
+abbrev pub is_wrong : LineFlaw → BoardParts → Line → Bool
+is_wrong Missing b line = not (exists_on b line)
+is_wrong NoOutput b line = not (is_output_line b line)
+is_wrong NoInput b line = not (is_input_line b line)
+is_wrong Input b line = is_input_line b line
+
+abbrev pub wrong_key : LineFlaw → BoardParts → ChainPart → Option (List ℕ)
+wrong_key f b c =
+    if_bad (is_wrong f b c.clock) (codes "clock") (if_bad (is_wrong f b c.data_in) (codes "data") None)
+
+abbrev pub wrong_chain_from : LineFlaw → BoardParts → ℕ → List ChainPart → Option Part
+wrong_chain_from f b i [] = None
+wrong_chain_from f b i (c ∷ cs) =
+    elim (wrong_key f b c) [
+      | Some key ↦ Some (at_table Chain i (Some key))
+      | None ↦ wrong_chain_from f b (i + 1) cs
+    ]
+
+abbrev pub wrong_lamp_from : LineFlaw → BoardParts → ℕ → List Line → Option Part
+wrong_lamp_from f b i [] = None
+wrong_lamp_from f b i (l ∷ ls) =
+    if is_wrong f b l then Some (at_table Lamp i (Some (codes "line")))
+    else wrong_lamp_from f b (i + 1) ls
+
+abbrev pub wrong_column_of : LineFlaw → BoardParts → Option KeyMatrix → Option Part
+wrong_column_of f b None = None
+wrong_column_of f b (Some m) =
+    part_if (list_any (is_wrong f b) m.columns.items) (at_table Keys 0 (Some (codes "columns"))) None
+
+abbrev pub lacking_rows_of : BoardParts → Option KeyMatrix → Option Part
+lacking_rows_of b None = None
+lacking_rows_of b (Some m) =
+    part_if (nat_le (chain_count b) m.chain) (at_table Keys 0 (Some (codes "chain")))
+    (part_if (nat_lt (chain_bits b m.chain) (m.first + m.rows)) (at_table Keys 0 (Some (codes "rows"))) None)
+
+abbrev pub no_such_line : BoardParts → Option Part
+no_such_line b =
+    option_or (wrong_chain_from Missing b 0 b.chains.items)
+    (option_or (lacking_rows_of b b.keys)
+    (option_or (wrong_column_of Missing b b.keys) (wrong_lamp_from Missing b 0 b.lamps.items)))
+
+abbrev pub wrong_direction : BoardParts → Option Part
+wrong_direction b =
+    option_or (wrong_chain_from NoOutput b 0 b.chains.items)
+    (option_or (wrong_column_of NoInput b b.keys) (wrong_lamp_from Input b 0 b.lamps.items))
+
+-- the first part for which a refusal holds of a table
+abbrev pub part_of : WiringFault → Members → Option Part
+part_of fault.UnknownKey ms = unknown_key ms
+part_of fault.MissingKey ms = flawed MissingKey ms
+part_of fault.BadValue ms = bad_value ms
+part_of fault.TooManyParts ms = too_many ms
+part_of fault.DoubleChip ms = double_chip ms
+part_of fault.NoSuchLine ms = no_such_line (parts_in ms)
+part_of fault.WrongDirection ms = wrong_direction (parts_in ms)
+part_of fault.BadToml ms = None
+part_of fault.NoMemory ms = None
+
+-- ---- the line
+
+-- whether a part is there
+abbrev pub stands_at : Option Section → Option ℕ → Option (List ℕ) → Members → Bool
+stands_at (Some s) (Some n) key ms = nat_le n (length (values_at (section_key s) ms))
+stands_at (Some s) None key ms = is_some (get_member (section_key s) ms)
+stands_at None n (Some key) ms = is_some (get_member key ms)
+stands_at None n None ms = true
+
+abbrev pub stands_in : Part → Members → Bool
+stands_in p ms = stands_at p.section p.number p.key ms
+
+-- whether a text is TOML that has a part
+abbrev pub has_part : Part → List ℕ → Bool
+has_part p text = elim (parse_document text) [ None ↦ false | Some ms ↦ stands_in p ms ]
+
+abbrev pub is_toml : List ℕ → Bool
+is_toml text = is_some (parse_document text)
+
+-- the number of the first of these lines with which `holds` is true of the text up to it, after the text before them; the first of them
+-- has this number. What follows the last line feed is no line
+abbrev pub line_from : (List ℕ → Bool) → ℕ → List ℕ → List (List ℕ) → ℕ
+line_from holds n before [] = n
+line_from holds n before (l ∷ []) = n
+line_from holds n before (l ∷ next ∷ ls) =
+    if holds (before ++ as_line l) then n else line_from holds (n + 1) (before ++ as_line l) (next ∷ ls)
+
+-- the number of the line after the last of these with which `holds` is true of the text up to it; `found` where there is none
+abbrev pub line_after : (List ℕ → Bool) → ℕ → ℕ → List ℕ → List (List ℕ) → ℕ
+line_after holds n found before [] = found
+line_after holds n found before (l ∷ []) = found
+line_after holds n found before (l ∷ next ∷ ls) =
+    line_after holds (n + 1) (if holds (before ++ as_line l) then n + 1 else found)
+    (before ++ as_line l) (next ∷ ls)
+
+-- the line with which a part is there, and the first with which a text is no longer TOML
+unfoldable pub line_of_part : List ℕ → Part → ℕ
+line_of_part text p = line_from (has_part p) 1 [] (slice_split is_line_feed text)
+
+unfoldable pub line_after_toml : List ℕ → ℕ
+line_after_toml text = line_after is_toml 1 1 [] (slice_split is_line_feed text)
+
+-- ---- as it is told
+
+-- a key of other bytes than letters, digits, `_` and `-`, as quotes allow it, is told as `?`
+abbrev pub is_bare_byte : ℕ → Bool
+is_bare_byte b =
+    is_ascii_digit b || is_ascii_uppercase b || is_ascii_lowercase b || b == 95 || b == 45
+
+abbrev pub key_name : List ℕ → List ℕ
+key_name key = if nat_lt 0 (length key) && list_all is_bare_byte key then key else codes "?"
+
+abbrev pub section_text : Option Section → List ℕ
+section_text None = []
+section_text (Some s) = codes " " ++ section_key s
+
+abbrev pub number_text : Option ℕ → List ℕ
+number_text None = []
+number_text (Some n) = codes " " ++ decimal n
+
+abbrev pub key_text : Option (List ℕ) → List ℕ
+key_text None = []
+key_text (Some key) = codes " key " ++ key_name key
+
+abbrev pub part_text : Part → List ℕ
+part_text p = section_text p.section ++ number_text p.number ++ key_text p.key
+
+abbrev pub refusal_text : ℕ → ℕ → Part → List ℕ
+refusal_text number line p =
+    as_line (codes "no " ++ decimal number ++ codes " line " ++ decimal line ++ part_text p)
+
+abbrev pub refused_text : List ℕ → WiringFault → Option Part → List ℕ
+refused_text text f None = as_line (codes "no " ++ decimal (wiring_fault_number f))
+refused_text text f (Some p) = refusal_text (wiring_fault_number f) (line_of_part text p) p
+
+abbrev pub judged_text : List ℕ → Members → Result BoardParts WiringFault → List ℕ
+judged_text text ms (Ok b) = as_line (codes "wiring valid")
+judged_text text ms (Err f) = refused_text text f (part_of f ms)
+
+-- what is told of a text
+unfoldable pub wiring_text : List ℕ → List ℕ
+wiring_text text = elim (parse_document text) [
+  | None ↦ as_line (codes "no 20 line " ++ decimal (line_after_toml text))
+  | Some ms ↦ judged_text text ms (board_of_table ms)
+]

@@ -1,0 +1,603 @@
+//! The part of a board text that is wrong.
+ghost use Rattle.std.specs.Prelude.{◌≡◌, ◌<◌, ◌^◌, [], not, find, is_none, length, map, codes, option_and_then, option_map, slice_index, IfSome, Err};
+ghost use Rattle.std.specs.List.{list_any};
+ghost use Rattle.std.specs.Option.{option_copied};
+ghost use Rattle.toml.specs.Data.{as_str, get_member};
+ghost use Rattle.toml.specs.View.{view, table_view};
+ghost use Rattle.mcs_model.specs.Boards.{chain_bits, exists_on, is_input_line, is_output_line, masks_on};
+ghost use Rattle.mcs_wiring.specs.Flaws.{IsWithinLimits};
+ghost use Rattle.mcs_wiring.specs.Format.{is_board_key, sections};
+ghost use Rattle.mcs_wiring.specs.LineNames.{masks_named};
+ghost use Rattle.mcs_wiring.specs.Wiring.{keys_of, lacks_array, board_of_table};
+ghost use Rattle.mcs_wiring.specs.Parts.{at_key, at_section, at_table, other_key, missing_key, bad_key, flawed_key, flawed_from, flawed_in, flawed, unknown_key, bad_value, too_many, repeated_from, double_in, is_wrong, wrong_key, wrong_chain_from, wrong_lamp_from, wrong_column_of, lacking_rows_of, no_such_line, wrong_direction, part_of};
+ghost use Rattle.mcs_wiring.specs.PartView.{part_view, IsOfParts};
+
+use crate::fault::WiringFault;
+use crate::names::masks_named;
+use crate::parts::{has_bad_columns, rams, roms};
+use crate::reading::{column_count, has_flaw, has_number, lacks_array, parts_in};
+use crate::sections::{Flaw, Numbered, Section, is_board_key};
+use crate::values::{count_at, lacks, line_at, member, number_at, values_at};
+use mcs_model::board::{BoardParts, ChainPart, Line};
+use mcs_model::limits::{
+    BANK_CHIPS, BANKS, CHAIN_BITS, CHAIN_CHIPS, CHAINS, KEY_COLUMNS, KEY_ROWS, LAMPS, ROMS,
+};
+use mcs_nibble::LineMask;
+use toml::{Table, Value};
+
+/// A part of a board text: a key at the top, the value at the key of a section, or one of its
+/// tables, with one of the table's keys or without.
+#[derive(Clone, Copy)]
+pub(crate) struct Part<'a> {
+    /// The section.
+    pub(crate) section: Option<Section>,
+    /// The number of the table, from 1. The key matrix has none.
+    pub(crate) number: Option<usize>,
+    /// The key.
+    pub(crate) key: Option<&'a str>,
+}
+
+fn at_key<'a>(key: &'a str) -> Part<'a>
+    ensures { part_view result ≡ at_key key.now }
+{
+    Part {
+        section: None,
+        number: None,
+        key: Some(key),
+    }
+}
+
+fn at_section<'a>(section: Section) -> Part<'a>
+    ensures { part_view result ≡ at_section section }
+{
+    Part {
+        section: Some(section),
+        number: None,
+        key: None,
+    }
+}
+
+/// Returns the table of a section that has this index.
+fn at_table<'a>(section: Section, index: usize, key: Option<&'a str>) -> Part<'a>
+    requires { index < 2 ^ 63 }
+    ensures { part_view result ≡ at_table section index (option_copied key.entry) }
+{
+    let number = match section {
+        Section::Keys => None,
+        Section::Rom | Section::Ram | Section::Chain | Section::Lamp => Some(index + 1),
+    };
+    Part {
+        section: Some(section),
+        number,
+        key,
+    }
+}
+
+// ---- 21, 22 and 23
+
+/// Returns the first key of a table that the tables of a section do not have.
+#[tactic(auto, using(crate::proofs::Seen::keys_seen))]
+fn other_key<'a>(section: Section, table: &'a Table) -> Option<&'a str>
+    ensures { option_copied result ≡ other_key section (table_view table.now) }
+{
+    for key in table.keys() {
+        if !section.has_key(key.as_str()) {
+            return Some(key.as_str());
+        }
+    }
+    None
+}
+
+/// Returns the first key of a section's tables that a table lacks.
+fn missing_key<'a>(section: Section, table: &Table) -> Option<&'a str>
+    ensures { option_copied result ≡ missing_key section (table_view table.now) }
+{
+    match section {
+        Section::Rom => {
+            if lacks(table, "chip") {
+                return Some("chip");
+            }
+            if lacks(table, "port") {
+                return Some("port");
+            }
+        }
+        Section::Ram => {
+            if lacks(table, "bank") {
+                return Some("bank");
+            }
+            if lacks(table, "chips") {
+                return Some("chips");
+            }
+        }
+        Section::Chain => {
+            if lacks(table, "clock") {
+                return Some("clock");
+            }
+            if lacks(table, "data") {
+                return Some("data");
+            }
+            if lacks(table, "chips") {
+                return Some("chips");
+            }
+        }
+        Section::Keys => {
+            if lacks(table, "chain") {
+                return Some("chain");
+            }
+            if lacks(table, "first") {
+                return Some("first");
+            }
+            if lacks(table, "rows") {
+                return Some("rows");
+            }
+            if lacks(table, "columns") {
+                return Some("columns");
+            }
+        }
+        Section::Lamp => {
+            if lacks(table, "line") {
+                return Some("line");
+            }
+        }
+    }
+    None
+}
+
+fn has_bad_port(table: &Table) -> bool
+    ensures { result ≡ is_none (option_and_then masks_named (option_and_then as_str (get_member (codes "port") (table_view table.now)))) }
+{
+    match member(table, "port") {
+        Some(Value::String(text)) => masks_named(text.as_str()).is_none(),
+        _ => true,
+    }
+}
+
+/// Returns the first key of a section's table whose value has another type or form, or is out of
+/// its range.
+fn bad_key<'a>(section: Section, table: &Table) -> Option<&'a str>
+    ensures { option_copied result ≡ bad_key section (table_view table.now) }
+{
+    match section {
+        Section::Rom => {
+            if number_at(table, "chip", 0, ROMS as u8 - 1).is_none() {
+                return Some("chip");
+            }
+            if has_bad_port(table) {
+                return Some("port");
+            }
+        }
+        Section::Ram => {
+            if number_at(table, "bank", 0, BANKS as u8 - 1).is_none() {
+                return Some("bank");
+            }
+            if number_at(table, "chips", 1, BANK_CHIPS).is_none() {
+                return Some("chips");
+            }
+        }
+        Section::Chain => {
+            if line_at(table, "clock").is_none() {
+                return Some("clock");
+            }
+            if line_at(table, "data").is_none() {
+                return Some("data");
+            }
+            if number_at(table, "chips", 1, CHAIN_CHIPS).is_none() {
+                return Some("chips");
+            }
+        }
+        Section::Keys => {
+            if number_at(table, "chain", 0, CHAINS as u8 - 1).is_none() {
+                return Some("chain");
+            }
+            if number_at(table, "first", 0, CHAIN_BITS - 1).is_none() {
+                return Some("first");
+            }
+            if number_at(table, "rows", 1, KEY_ROWS).is_none() {
+                return Some("rows");
+            }
+            if has_bad_columns(table) {
+                return Some("columns");
+            }
+        }
+        Section::Lamp => {
+            if line_at(table, "line").is_none() {
+                return Some("line");
+            }
+        }
+    }
+    None
+}
+
+/// Returns the key of a value that has a flaw.
+fn flawed_key<'a>(flaw: Flaw, section: Section, value: &'a Value) -> Option<&'a str>
+    ensures { option_copied result ≡ flawed_key flaw section (view value.now) }
+{
+    let Value::Table(table) = value else {
+        return None;
+    };
+    match flaw {
+        Flaw::UnknownKey => other_key(section, table),
+        Flaw::MissingKey => missing_key(section, table),
+        Flaw::BadValue => bad_key(section, table),
+    }
+}
+
+/// Returns the first of the values of an array that has a flaw.
+#[tactic(auto, using(crate::proofs::PartLists::flawed_step))]
+fn flawed_value<'a>(flaw: Flaw, section: Section, values: &'a [Value]) -> Option<Part<'a>>
+    ensures { option_map part_view result ≡ flawed_from flaw section 0 (map view values.now) }
+{
+    for i in 0..values.len() {
+        if has_flaw(flaw, section, &values[i]) {
+            return Some(at_table(section, i, flawed_key(flaw, section, &values[i])));
+        }
+    }
+    None
+}
+
+/// Returns the first table of a section that has a flaw.
+fn flawed_in<'a>(flaw: Flaw, table: &'a Table, section: Section) -> Option<Part<'a>>
+    ensures { option_map part_view result ≡ flawed_in flaw (table_view table.now) section }
+{
+    match section {
+        Section::Keys => {
+            let value = member(table, "keys")?;
+            if has_flaw(flaw, section, value) {
+                Some(at_table(section, 0, flawed_key(flaw, section, value)))
+            } else {
+                None
+            }
+        }
+        Section::Rom | Section::Ram | Section::Chain | Section::Lamp => {
+            flawed_value(flaw, section, values_at(table, section.key()))
+        }
+    }
+}
+
+/// Returns the first table of the sections that has a flaw.
+fn flawed<'a>(flaw: Flaw, table: &'a Table) -> Option<Part<'a>>
+    ensures { option_map part_view result ≡ flawed flaw (table_view table.now) }
+{
+    if let Some(part) = flawed_in(flaw, table, Section::Rom) {
+        return Some(part);
+    }
+    if let Some(part) = flawed_in(flaw, table, Section::Ram) {
+        return Some(part);
+    }
+    if let Some(part) = flawed_in(flaw, table, Section::Chain) {
+        return Some(part);
+    }
+    if let Some(part) = flawed_in(flaw, table, Section::Keys) {
+        return Some(part);
+    }
+    flawed_in(flaw, table, Section::Lamp)
+}
+
+/// Returns the first key at the top that no board has.
+#[tactic(auto, using(crate::proofs::Seen::keys_seen))]
+fn other_board_key(table: &Table) -> Option<&str>
+    ensures { option_copied result ≡ find (λ key. not (is_board_key key)) (keys_of (table_view table.now)) }
+{
+    for key in table.keys() {
+        if !is_board_key(key.as_str()) {
+            return Some(key.as_str());
+        }
+    }
+    None
+}
+
+fn unknown_key<'a>(table: &'a Table) -> Option<Part<'a>>
+    ensures { option_map part_view result ≡ unknown_key (table_view table.now) }
+{
+    match other_board_key(table) {
+        Some(key) => Some(at_key(key)),
+        None => flawed(Flaw::UnknownKey, table),
+    }
+}
+
+/// Returns the first section with another value in the place of its array.
+fn section_without_array(table: &Table) -> Option<Section>
+    ensures { result ≡ find (lacks_array (table_view table.now)) sections }
+{
+    if lacks_array(table, Section::Rom) {
+        return Some(Section::Rom);
+    }
+    if lacks_array(table, Section::Ram) {
+        return Some(Section::Ram);
+    }
+    if lacks_array(table, Section::Chain) {
+        return Some(Section::Chain);
+    }
+    if lacks_array(table, Section::Keys) {
+        return Some(Section::Keys);
+    }
+    if lacks_array(table, Section::Lamp) {
+        return Some(Section::Lamp);
+    }
+    None
+}
+
+/// Returns the first section with another value in the place of its array, or else the first table
+/// with a bad value.
+fn bad_value<'a>(table: &'a Table) -> Option<Part<'a>>
+    ensures { option_map part_view result ≡ bad_value (table_view table.now) }
+{
+    match section_without_array(table) {
+        Some(section) => Some(at_section(section)),
+        None => flawed(Flaw::BadValue, table),
+    }
+}
+
+// ---- 27 and 24
+
+fn too_many<'a>(table: &Table) -> Option<Part<'a>>
+    ensures { option_map part_view result ≡ too_many (table_view table.now) }
+{
+    if count_at(table, "rom") > ROMS {
+        return Some(at_table(Section::Rom, ROMS, None));
+    }
+    if count_at(table, "ram") > BANKS {
+        return Some(at_table(Section::Ram, BANKS, None));
+    }
+    if count_at(table, "chain") > CHAINS {
+        return Some(at_table(Section::Chain, CHAINS, None));
+    }
+    if column_count(table) > KEY_COLUMNS {
+        return Some(at_table(Section::Keys, 0, Some("columns")));
+    }
+    if count_at(table, "lamp") > LAMPS {
+        return Some(at_table(Section::Lamp, LAMPS, None));
+    }
+    None
+}
+
+/// Returns the index of the first part with the number of an earlier part.
+#[tactic(auto, using(crate::proofs::PartLists::repeated_step))]
+fn repeated<T: Copy>(parts: &[Numbered<T>]) -> Option<usize>
+    ensures same { result ≡ repeated_from [] 0 parts.now }
+    ensures within { IfSome result (λ i. i < length parts.now) }
+{
+    for i in 0..parts.len() {
+        if has_number(&parts[..i], parts[i].number) {
+            return Some(i);
+        }
+    }
+    None
+}
+
+fn double_chip<'a>(
+    roms: &[Numbered<Option<[LineMask; 4]>>],
+    rams: &[Numbered<u8>],
+) -> Option<Part<'a>>
+    ensures { option_map part_view result ≡ double_in roms.now rams.now }
+{
+    if let Some(i) = repeated(roms) {
+        return Some(at_table(Section::Rom, i, Some("chip")));
+    }
+    if let Some(i) = repeated(rams) {
+        return Some(at_table(Section::Ram, i, Some("bank")));
+    }
+    None
+}
+
+// ---- 25 and 26
+
+/// An error of a line.
+#[derive(Clone, Copy)]
+pub(crate) enum LineFlaw {
+    /// The board lacks it.
+    Missing,
+    /// It is no output line of the board.
+    NoOutput,
+    /// It is no input line of the board.
+    NoInput,
+    /// It is an input line of the board.
+    Input,
+}
+
+/// Returns the masks of a ROM, if the board has it.
+fn masks_on(parts: &BoardParts, chip: u8) -> Option<[LineMask; 4]>
+    ensures { result ≡ masks_on parts.now chip }
+{
+    match parts.roms.get(usize::from(chip)) {
+        Some(masks) => *masks,
+        None => None,
+    }
+}
+
+fn bank_chips(parts: &BoardParts, bank: u8) -> u8
+    ensures { result ≡ slice_index parts.now.banks bank }
+{
+    match parts.banks.get(usize::from(bank)) {
+        Some(chips) => *chips,
+        None => 0,
+    }
+}
+
+fn chain_bits(parts: &BoardParts, n: u8) -> u16
+    ensures { result ≡ chain_bits parts.now n }
+{
+    match parts.chains.get(usize::from(n)) {
+        Some(chain) => chain.bits(),
+        None => 0,
+    }
+}
+
+fn has_line(parts: &BoardParts, line: Line) -> bool
+    ensures { result ≡ exists_on parts.now line }
+{
+    match line {
+        Line::Rom(chip, k) => masks_on(parts, chip).is_some() && k < 4,
+        Line::Ram(bank, chip, k) => chip < bank_chips(parts, bank) && k < 4,
+        Line::Chain(n, i) => u16::from(i) < chain_bits(parts, n),
+    }
+}
+
+fn is_input(parts: &BoardParts, line: Line) -> bool
+    ensures { result ≡ is_input_line parts.now line }
+{
+    match line {
+        Line::Rom(chip, k) => match masks_on(parts, chip) {
+            Some(mask) => k < 4 && mask[usize::from(k)] == LineMask::Input,
+            None => false,
+        },
+        Line::Ram(_, _, _) | Line::Chain(_, _) => false,
+    }
+}
+
+fn is_output(parts: &BoardParts, line: Line) -> bool
+    ensures { result ≡ is_output_line parts.now line }
+{
+    match line {
+        Line::Rom(_, _) => has_line(parts, line) && !is_input(parts, line),
+        Line::Ram(_, _, _) => has_line(parts, line),
+        Line::Chain(_, _) => false,
+    }
+}
+
+fn is_wrong(flaw: LineFlaw, parts: &BoardParts, line: Line) -> bool
+    ensures { result ≡ is_wrong flaw parts.now line }
+{
+    match flaw {
+        LineFlaw::Missing => !has_line(parts, line),
+        LineFlaw::NoOutput => !is_output(parts, line),
+        LineFlaw::NoInput => !is_input(parts, line),
+        LineFlaw::Input => is_input(parts, line),
+    }
+}
+
+/// Returns the first key of a chain whose line is wrong.
+fn wrong_key<'a>(flaw: LineFlaw, parts: &BoardParts, chain: ChainPart) -> Option<&'a str>
+    ensures { option_copied result ≡ wrong_key flaw parts.now chain }
+{
+    if is_wrong(flaw, parts, chain.clock) {
+        return Some("clock");
+    }
+    if is_wrong(flaw, parts, chain.data_in) {
+        return Some("data");
+    }
+    None
+}
+
+/// Returns the first chain with a wrong line.
+#[tactic(auto, using(crate::proofs::PartLists::chain_step))]
+fn wrong_chain<'a>(flaw: LineFlaw, parts: &BoardParts) -> Option<Part<'a>>
+    ensures { option_map part_view result ≡ wrong_chain_from flaw parts.now 0 parts.now.chains.items }
+{
+    let chains = parts.chains.as_slice();
+    for i in 0..chains.len() {
+        if let Some(key) = wrong_key(flaw, parts, chains[i]) {
+            return Some(at_table(Section::Chain, i, Some(key)));
+        }
+    }
+    None
+}
+
+fn has_wrong_line(flaw: LineFlaw, parts: &BoardParts, lines: &[Line]) -> bool
+    ensures { result ≡ list_any (is_wrong flaw parts.now) lines.now }
+{
+    lines.iter().any(|line| is_wrong(flaw, parts, *line))
+}
+
+/// Returns the key matrix, if one of its columns is wrong.
+fn wrong_column<'a>(flaw: LineFlaw, parts: &BoardParts) -> Option<Part<'a>>
+    ensures { option_map part_view result ≡ wrong_column_of flaw parts.now parts.now.keys }
+{
+    let Some(keys) = &parts.keys else {
+        return None;
+    };
+    if has_wrong_line(flaw, parts, keys.columns.as_slice()) {
+        return Some(at_table(Section::Keys, 0, Some("columns")));
+    }
+    None
+}
+
+/// Returns the first lamp at a wrong line.
+#[tactic(auto, using(crate::proofs::PartLists::lamp_step))]
+fn wrong_lamp<'a>(flaw: LineFlaw, parts: &BoardParts) -> Option<Part<'a>>
+    ensures { option_map part_view result ≡ wrong_lamp_from flaw parts.now 0 parts.now.lamps.items }
+{
+    let lamps = parts.lamps.as_slice();
+    for i in 0..lamps.len() {
+        if is_wrong(flaw, parts, lamps[i]) {
+            return Some(at_table(Section::Lamp, i, Some("line")));
+        }
+    }
+    None
+}
+
+/// Returns the key matrix, if the board lacks its chain or a bit for a row.
+fn lacking_rows<'a>(parts: &BoardParts) -> Option<Part<'a>>
+    ensures { option_map part_view result ≡ lacking_rows_of parts.now parts.now.keys }
+{
+    let Some(keys) = &parts.keys else {
+        return None;
+    };
+    if usize::from(keys.chain) >= parts.chains.len() {
+        return Some(at_table(Section::Keys, 0, Some("chain")));
+    }
+    if u16::from(keys.first) + u16::from(keys.rows) > chain_bits(parts, keys.chain) {
+        return Some(at_table(Section::Keys, 0, Some("rows")));
+    }
+    None
+}
+
+fn no_such_line<'a>(parts: &BoardParts) -> Option<Part<'a>>
+    ensures { option_map part_view result ≡ no_such_line parts.now }
+{
+    if let Some(part) = wrong_chain(LineFlaw::Missing, parts) {
+        return Some(part);
+    }
+    if let Some(part) = lacking_rows(parts) {
+        return Some(part);
+    }
+    if let Some(part) = wrong_column(LineFlaw::Missing, parts) {
+        return Some(part);
+    }
+    wrong_lamp(LineFlaw::Missing, parts)
+}
+
+fn wrong_direction<'a>(parts: &BoardParts) -> Option<Part<'a>>
+    ensures { option_map part_view result ≡ wrong_direction parts.now }
+{
+    if let Some(part) = wrong_chain(LineFlaw::NoOutput, parts) {
+        return Some(part);
+    }
+    if let Some(part) = wrong_column(LineFlaw::NoInput, parts) {
+        return Some(part);
+    }
+    wrong_lamp(LineFlaw::Input, parts)
+}
+
+/// Returns the wrong part for a refusal of the parts together.
+fn part_within<'a>(fault: WiringFault, table: &Table) -> Option<Part<'a>>
+    requires within { IsWithinLimits (table_view table.now) }
+    requires kind { IsOfParts fault }
+    ensures { option_map part_view result ≡ part_of fault (table_view table.now) }
+{
+    let roms = roms(values_at(table, "rom"));
+    let rams = rams(values_at(table, "ram"));
+    match fault {
+        WiringFault::DoubleChip => double_chip(&roms, &rams),
+        WiringFault::NoSuchLine => no_such_line(&parts_in(table, &roms, &rams)),
+        WiringFault::WrongDirection => wrong_direction(&parts_in(table, &roms, &rams)),
+        _ => None,
+    }
+}
+
+/// Returns the first part of a table for which a refusal holds.
+pub(crate) fn part_of<'a>(fault: WiringFault, table: &'a Table) -> Option<Part<'a>>
+    requires { board_of_table (table_view table.now) ≡ Err fault }
+    ensures { option_map part_view result ≡ part_of fault (table_view table.now) }
+{
+    match fault {
+        WiringFault::UnknownKey => unknown_key(table),
+        WiringFault::MissingKey => flawed(Flaw::MissingKey, table),
+        WiringFault::BadValue => bad_value(table),
+        WiringFault::TooManyParts => too_many(table),
+        WiringFault::DoubleChip | WiringFault::NoSuchLine | WiringFault::WrongDirection => {
+            part_within(fault, table)
+        }
+        WiringFault::BadToml | WiringFault::NoMemory => None,
+    }
+}

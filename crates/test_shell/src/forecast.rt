@@ -1,0 +1,40 @@
+//! `count` and `trace` on a closed session, and with a writer that fails.
+use crate::checks::equal;
+use crate::sessions::{answered, blank, new_in_memory, new_session, seq_of, serve};
+use mcs_disk::FuseDisk;
+use mcs_fixtures::streams::CutWriter;
+use mcs_shell::ends::ShellEnd;
+
+/// Checks that a session that a device fault has closed still answers `count` and `trace`.
+#[test]
+fn a_closed_session(rt: HostRuntime) {
+    let alloc = rt.alloc();
+    let mut session = new_session(alloc, &rt, FuseDisk::after(blank(alloc, &rt), 5));
+    let mut reader = b"poke r5 9\n".as_slice();
+    let (end, _) = answered(alloc, &mut reader, &mut session);
+    equal(&rt, end, ShellEnd::DeviceFault);
+    let mut reader = b"count 2\ntrace 2 pc\nrun 2\n".as_slice();
+    let (_, text) = answered(alloc, &mut reader, &mut session);
+    equal(
+        &rt,
+        text.as_slice(),
+        b"session 0\ncount ran 2 end lines 2\n000 1\n001 1\ntrace ran 2 end lines 2 000\n0 000 001\n1 001 002\nno 54\n",
+    );
+}
+
+/// Checks that a writer that fails in an answer ends the shell, and that the shell does nothing
+/// after it.
+#[test]
+fn the_writer_fails_in_an_answer(rt: HostRuntime) {
+    let answers =
+        b"session 0\ncount ran 2 end lines 2\n000 1\n001 1\ntrace ran 2 end lines 2\n0 000\n1 001\n".as_slice();
+    for left in 0..answers.len() {
+        let mut session = new_in_memory(rt.alloc(), &rt);
+        let mut writer = CutWriter::new(rt.alloc(), left, 1);
+        let mut reader = b"count 2\ntrace 2\npoke r5 9\n".as_slice();
+        let end = serve(rt.alloc(), &mut reader, &mut writer, &mut session);
+        equal(&rt, end, ShellEnd::WriteFault);
+        equal(&rt, Some(writer.held()), answers.get(..left));
+        equal(&rt, seq_of(&session), 0);
+    }
+}

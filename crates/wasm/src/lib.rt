@@ -1,0 +1,186 @@
+//! The calls that a page in a browser makes: the bench over the bytes of a session file that the
+//! page keeps, and the prover.
+#![tactic(auto)]
+
+ghost use Rattle.std.specs.Prelude.{◌≡◌, length, true, false};
+ghost use Rattle.mcs_journal.specs.declared.format.TheConstants.{FILE_SIZE};
+ghost use Rattle.mcs_wasm.specs.Page.{IsNewFile, StandsForSameState};
+ghost use Rattle.wasm.specs.ReportedNumbers.{HasLineInFront, ReportsAndSettles, ReportsAnswers, ReportsDryRun, ReportsWhyNoLine};
+ghost use Rattle.wasm.specs.ReportedNumbers.{ReportsWhyNot, reported_count, reported_number};
+ghost use Rattle.mcs_shell.specs.Shell.{exit_status_of};
+
+use mcs_journal::StoreFault;
+use mcs_prove::{Answer, answer_to};
+use mcs_shell::ends::status;
+use mcs_shell::faults::store_number;
+use mcs_wasm::fault::ServeFault;
+use mcs_wasm::page::{ServedInput, ask, begin, put_in_front, serve, serve_and_settle, settle};
+use std::alloc::Global;
+use std::str;
+
+/// The result of a call.
+#[derive(Clone, Copy)]
+#[repr(C)]
+pub struct CallResult {
+    /// If input was served, the exit status of the shell's end. Otherwise the number of the
+    /// refusal, or 0 if the answers have no room.
+    pub number: u32,
+    /// The number of bytes of the answers, also if they have no room.
+    pub count: usize,
+}
+
+/// Writes the result of input that was served, and returns true.
+fn report_served(served: ServedInput, report: &mut CallResult) -> bool
+    ensures is { result ≡ true }
+    ensures number { report.new.number ≡ exit_status_of served.end }
+    ensures count { report.new.count ≡ served.count }
+{
+    *report = CallResult {
+        number: u32::from(status(served.end)),
+        count: served.count,
+    };
+    true
+}
+
+/// Writes why input was not served, and returns false.
+fn report_why(why: ServeFault, report: &mut CallResult) -> bool
+    ensures is { result ≡ false }
+    ensures number { report.new.number ≡ reported_number why }
+    ensures count { report.new.count ≡ reported_count why }
+{
+    *report = match why {
+        ServeFault::Refused(fault) => CallResult {
+            number: u32::from(store_number(fault)),
+            count: 0,
+        },
+        ServeFault::NoRoom(count) => CallResult { number: 0, count },
+    };
+    false
+}
+
+/// Returns the number of bytes of a session file.
+#[unsafe(no_mangle)]
+pub extern "C" fn bench_file_size() -> usize
+    ensures { result ≡ FILE_SIZE }
+{
+    mcs_journal::FILE_SIZE
+}
+
+/// Makes the file of a new session. If it returns false, memory ran out, and the bytes stay.
+#[unsafe(no_mangle)]
+pub extern "C" fn bench_begin(alloc: Global, file: &mut [u8]) -> bool
+    requires size { length file.old ≡ FILE_SIZE }
+    ensures made { result ≡ true → IsNewFile file.new }
+    ensures stays { result ≡ false → file.new ≡ file.old }
+{
+    begin(alloc, file).is_ok()
+}
+
+/// Continues the session that the bytes of a file hold, and serves the lines of an input on it. It
+/// writes the answers to the front of a buffer, and replaces the bytes of the file with those that
+/// its disk has then. If it returns false, nothing was done, and the call result has the reason.
+#[unsafe(no_mangle)]
+pub extern "C" fn bench_serve(
+    alloc: Global,
+    file: &mut [u8],
+    input: &[u8],
+    answers: &mut [u8],
+    report: &mut CallResult,
+) -> bool
+    ensures served { result ≡ true → ReportsAnswers file.old input.now report.new.number report.new.count
+        answers.old answers.new file.new }
+    ensures refused { result ≡ false → ReportsWhyNot file.old input.now report.new.number report.new.count
+        (length answers.old) }
+    ensures stays { result ≡ false → (file.new ≡ file.old) × (answers.new ≡ answers.old) }
+{
+    match serve(alloc, file, input, answers) {
+        Ok(served) => report_served(served, report),
+        Err(why) => report_why(why, report),
+    }
+}
+
+/// Serves as `bench_serve` does, and then replaces the records of the file with a snapshot. If it
+/// returns false, nothing was done, and the call result has the reason.
+#[unsafe(no_mangle)]
+pub extern "C" fn bench_serve_and_settle(
+    alloc: Global,
+    file: &mut [u8],
+    input: &[u8],
+    answers: &mut [u8],
+    report: &mut CallResult,
+) -> bool
+    ensures served { result ≡ true → ReportsAndSettles file.old input.now report.new.number
+        report.new.count answers.old answers.new file.new }
+    ensures refused { result ≡ false → ReportsWhyNot file.old input.now report.new.number report.new.count
+        (length answers.old) }
+    ensures stays { result ≡ false → (file.new ≡ file.old) × (answers.new ≡ answers.old) }
+{
+    match serve_and_settle(alloc, file, input, answers) {
+        Ok(served) => report_served(served, report),
+        Err(why) => report_why(why, report),
+    }
+}
+
+/// Answers as `bench_serve` would, and leaves the file as it is. If it returns false, nothing was
+/// done, and the call result has the reason.
+#[unsafe(no_mangle)]
+pub extern "C" fn bench_ask(
+    alloc: Global,
+    file: &[u8],
+    input: &[u8],
+    answers: &mut [u8],
+    report: &mut CallResult,
+) -> bool
+    ensures served { result ≡ true → ReportsDryRun file.now input.now report.new.number
+        report.new.count answers.old answers.new }
+    ensures refused { result ≡ false → ReportsWhyNot file.now input.now report.new.number report.new.count
+        (length answers.old) }
+    ensures stays { result ≡ false → answers.new ≡ answers.old }
+{
+    match ask(alloc, file, input, answers) {
+        Ok(served) => report_served(served, report),
+        Err(why) => report_why(why, report),
+    }
+}
+
+/// Replaces the records of a session's file with a snapshot. If it returns false, the bytes hold no
+/// session or memory ran out, and they stay.
+#[unsafe(no_mangle)]
+pub extern "C" fn bench_settle(alloc: Global, file: &mut [u8]) -> bool
+    ensures settled { result ≡ true → StandsForSameState file.old file.new }
+    ensures stays { result ≡ false → file.new ≡ file.old }
+{
+    settle(alloc, file).is_ok()
+}
+
+/// Answers a question to the prover as the program mcs4_prove does. The line of the answer is at
+/// the front of the buffer, and the call result has the exit status and the number of its bytes. If
+/// it returns false, the buffer stays. Then the call result has 90 if memory ran out, or 0 and the
+/// number of bytes if they have no room.
+#[unsafe(no_mangle)]
+pub extern "C" fn bench_prove(
+    alloc: Global,
+    question: &[u8],
+    answers: &mut [u8],
+    report: &mut CallResult,
+) -> bool
+    ensures answered { result ≡ true → HasLineInFront report.new.count answers.old answers.new }
+    ensures refused { result ≡ false →
+        ReportsWhyNoLine report.new.number report.new.count (length answers.old) }
+    ensures stays { result ≡ false → answers.new ≡ answers.old }
+{
+    // as the program does: bytes that are not text are no question
+    let Ok(Answer { text, status }) = answer_to(alloc, str::from_utf8(question).unwrap_or(""))
+    else {
+        return report_why(ServeFault::Refused(StoreFault::NoMemory), report);
+    };
+    let line = text.as_bytes();
+    if answers.len() < line.len() {
+        return report_why(ServeFault::NoRoom(line.len()), report);
+    }
+    *report = CallResult {
+        number: u32::from(status),
+        count: put_in_front(answers, line),
+    };
+    true
+}

@@ -1,0 +1,98 @@
+// The snapshot of a session: its queries, and the changes since the last answers.
+
+import { readRam } from "./answers.js";
+import { matchAnswers } from "./inputs.js";
+import { itemsOf, partsOfState, portsOf, registersOf } from "./state_line.js";
+
+/**
+ * @typedef {import("./answers.js").Board} Board
+ * @typedef {import("./answers.js").Ports} Ports
+ * @typedef {import("./answers.js").Ram} Ram
+ * @typedef {import("./answers.js").Registers} Registers
+ * @typedef {import("./inputs.js").Input} Input
+ * @typedef {import("./state_line.js").StateParts} StateParts
+ * @typedef {{ lamps?: string, keys?: string[], test?: string }} ChangedFront
+ * @typedef {{ registers?: Registers, ports?: Ports, breakpoints?: string[], watches?: string[], ram?: Ram[] }} Changed
+ */
+
+/**
+ * The queries of a snapshot of a board.
+ * @param {Pick<Board, "banks">} board
+ */
+export function questionsOf(board) {
+  return ["state", ...board.banks.map(({ bank }) => `ram ${bank}`)];
+}
+
+/**
+ * The answers to such queries, each as one text.
+ * @param {Input[]} inputs the questions, read
+ * @param {string[]} answers
+ */
+export function snapshotOf(inputs, answers) {
+  return matchAnswers(inputs, answers).map((lines) => lines.join("\n"));
+}
+
+/** @type {StateParts} */
+const NOTHING = { registers: "", test: "", ports: "", keys: "", lamps: "", breaks: "", watches: "" };
+
+/**
+ * Reads one snapshot after the other and returns the changes: of the front panel in each snapshot, of all else only in those that are
+ * drawn.
+ */
+export class SnapshotReader {
+  constructor() {
+    /** @type {string[]} the last snapshot */
+    this.snapshot = [];
+    this.parts = NOTHING;
+    /** @type {string[]} the last snapshot that was read whole */
+    this.before = [];
+    this.partsBefore = NOTHING;
+    /** @type {Registers | null} the registers that were read last */
+    this.registers = null;
+  }
+
+  /** Everything counts as changed at the next snapshot. */
+  forget() {
+    this.snapshot = this.before = [];
+    this.parts = this.partsBefore = NOTHING;
+  }
+
+  /**
+   * Takes a snapshot; returns the changes of the front panel since the last one.
+   * @param {string[]} snapshot
+   * @returns {ChangedFront}
+   */
+  take(snapshot) {
+    const { parts: old } = this;
+    const parts = partsOfState(snapshot[0]);
+    this.snapshot = snapshot;
+    this.parts = parts;
+    /** @type {ChangedFront} */
+    const changed = {};
+    if (parts.lamps !== old.lamps) changed.lamps = itemsOf(parts.lamps).join("");
+    if (parts.keys !== old.keys) changed.keys = itemsOf(parts.keys);
+    if (parts.test !== old.test) changed.test = parts.test;
+    return changed;
+  }
+
+  /**
+   * Returns the changes of all other parts of the last snapshot since the last call.
+   * @returns {Changed}
+   */
+  readRest() {
+    const { snapshot, parts, before, partsBefore: old } = this;
+    this.before = snapshot;
+    this.partsBefore = parts;
+    /** @type {Changed} */
+    const changed = {};
+    if (snapshot === before) return changed;
+    if (parts.registers !== old.registers) changed.registers = this.registers = registersOf(parts.registers);
+    if (parts.ports !== old.ports) changed.ports = portsOf(parts.ports);
+    if (parts.breaks !== old.breaks) changed.breakpoints = itemsOf(parts.breaks);
+    if (parts.watches !== old.watches) changed.watches = itemsOf(parts.watches);
+    for (let at = 1; at < snapshot.length; at++) {
+      if (snapshot[at] !== before[at]) (changed.ram = changed.ram || []).push(readRam(snapshot[at].split("\n")));
+    }
+    return changed;
+  }
+}

@@ -1,0 +1,24 @@
+// A state whose runs nothing stops: without its breakpoints and watches.
+
+import { readMarks } from "../bench/answers.js";
+import { linesOf } from "../bench/inputs.js";
+
+/**
+ * The lines that take away all breakpoints and watches.
+ * @param {string[]} answers the answers to `breaks` and `watches`
+ */
+function linesWithoutStops([breaks, watches]) {
+  const unwatches = readMarks(watches).map((each) => each.split(".")).map(([bank, source]) => `unwatch ${bank} 0x${source}`);
+  return linesOf([...readMarks(breaks).map((address) => `unbreak 0x${address}`), ...unwatches]);
+}
+
+/**
+ * Returns a copy of a state without breakpoints and watches.
+ * @param {import("./engine_host.js").EngineHost} engine
+ * @param {Uint8Array} file
+ */
+export function withoutStops(engine, file) {
+  const copy = file.slice();
+  engine.serve(copy, linesWithoutStops(engine.ask(copy, "breaks\nwatches\n").answers), copy);
+  return copy;
+}

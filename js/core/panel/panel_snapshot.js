@@ -1,0 +1,144 @@
+// The state of a session at one time, from the answers to queries: its state, RAM, the brightness of its lamps, the instructions round
+// the counter.
+
+import { readRam } from "../bench/answers.js";
+import { linesOf, matchAnswers, readInputs } from "../bench/inputs.js";
+import { hex, upTo } from "../bench/numbers.js";
+import { itemsOf, partsOfState, registersOf, valueIn } from "../bench/state_line.js";
+import { FULL_LEVEL, levelOf } from "../board/brightness.js";
+import { KeysDown } from "../board/key_place.js";
+import { wholeText } from "../board/display_text.js";
+import { SEEN_QUESTION, SeenText, seenBrightness } from "../engine/seen_text.js";
+import { ListingReader } from "../machine/listing_reader.js";
+import { stretchOf } from "../machine/listing_stretch.js";
+
+/**
+ * @typedef {import("../bench/answers.js").Listed} Listed
+ * @typedef {import("../bench/answers.js").Ram} Ram
+ * @typedef {import("../bench/answers.js").Registers} Registers
+ * @typedef {import("../board/brightness.js").Brightness} Brightness
+ * @typedef {import("../board/seen_lamps.js").SeenLamp} SeenLamp
+ * @typedef {import("./terminal_panel.js").Panel} Panel
+ */
+
+/** Each chip has this many rows: its registers and its port. */
+export const CHIP_ROWS = 5;
+/** A listing begins this many bytes before the counter; it stays while the counter is in it, and not in its last lines. */
+const BYTES_BEFORE = 6;
+const LINES_AFTER = 2;
+
+export class PanelSnapshot {
+  /** @param {Panel} panel */
+  constructor(panel) {
+    this.panel = panel;
+    const { board, face } = panel.of;
+    /** @type {{ bank: number, name: string }[]} the RAM chips of the board, named as in `0.1` */
+    this.chips = board.banks.flatMap(({ bank, chips }) => upTo(chips).map((chip) => ({ bank, name: `${bank}.${chip}` })));
+    this.hasDisplay = face.groups.some(({ kind }) => kind === "display");
+    this.text = new SeenText(face, board.lamps.length);
+    this.reader = new ListingReader(panel.ask);
+    this.commands = "0";
+    /** @type {Registers | null} */
+    this.registers = null;
+    this.down = new KeysDown();
+    /** Returns a `*` for each lamp that is on at this instant. */
+    this.marks = "";
+    /** @type {Brightness | null} that of lamps while time runs */
+    this.brightness = null;
+    /** @type {string[]} addresses, as answers write them */
+    this.breakpoints = [];
+    /** @type {Ram} of the chips that are shown */
+    this.ram = { registers: new Map(), ports: new Map() };
+    /** @type {Listed[]} */
+    this.listing = [];
+  }
+
+  get test() {
+    return this.registers ? this.registers.test : "";
+  }
+
+  get counter() {
+    return this.registers ? parseInt(this.registers.counter, 16) : 0;
+  }
+
+  get isAtBreakpoint() {
+    return this.breakpoints.includes(hex(this.counter, 3));
+  }
+
+  /** @param {import("../board/key_place.js").Key} key */
+  isDown(key) {
+    return this.down.has(key, this.test);
+  }
+
+  /**
+   * Returns the chips that fit some rows.
+   * @param {number} rows
+   */
+  shownChips(rows) {
+    const { firstChip } = this.panel;
+    return this.chips.slice(firstChip, firstChip + Math.floor(rows / CHIP_ROWS));
+  }
+
+  /**
+   * Asks for all that fits some rows.
+   * @param {number} rows 0 for the state only
+   */
+  async take(rows) {
+    const banks = new Set(this.shownChips(rows).map(({ bank }) => bank));
+    const isShining = rows > 0 && !this.panel.isPaused && this.panel.of.board.lamps.length > 0;
+    const questions = `${linesOf(["state", ...[...banks].map((bank) => `ram ${bank}`)])}${isShining ? SEEN_QUESTION : ""}`;
+    const answers = matchAnswers(readInputs(questions), await this.panel.ask(questions));
+    this.takeState(answers[0][0]);
+    this.takeRam(answers.slice(1, 1 + banks.size));
+    const { face, board } = this.panel.of;
+    this.brightness = isShining ? seenBrightness(face, board.lamps.length, answers[answers.length - 1]) : null;
+    if (rows > 0) await this.takeListing(rows);
+  }
+
+  /** @param {string} answer */
+  takeState(answer) {
+    const { registers, keys, lamps, breaks } = partsOfState(answer);
+    this.commands = valueIn(answer, "seq");
+    this.registers = registersOf(registers);
+    this.down = new KeysDown(itemsOf(keys));
+    this.marks = itemsOf(lamps).join("");
+    this.breakpoints = itemsOf(breaks);
+  }
+
+  /** @param {string[][]} answers to the questions for banks */
+  takeRam(answers) {
+    const read = answers.map(readRam);
+    this.ram = {
+      registers: new Map(read.flatMap(({ registers }) => [...registers])),
+      ports: new Map(read.flatMap(({ ports }) => [...ports])),
+    };
+  }
+
+  /** @param {number} rows */
+  async takeListing(rows) {
+    const { counter } = this;
+    if (this.listing.slice(0, -LINES_AFTER).some(({ address }) => address === counter)) return;
+    const from = Math.max(0, counter - BYTES_BEFORE);
+    this.listing = stretchOf(await this.reader.read({ from, anchor: counter }, rows), from, rows);
+  }
+
+  /** The terminal has another size, and other lines. */
+  forgetListing() {
+    this.listing = [];
+  }
+
+  /**
+   * Returns the level of brightness of a lamp: as perceived while time runs, otherwise at this instant.
+   * @param {SeenLamp} lamp
+   */
+  levelOf(lamp) {
+    if (this.brightness) return levelOf(lamp.part(this.brightness));
+    return lamp.isLit(this.marks) ? FULL_LEVEL : 0;
+  }
+
+  /** Returns the text of the displays. */
+  get display() {
+    const { text } = this.text;
+    return wholeText(this.brightness ? this.text.ofBrightness(this.brightness) : text.read(this.marks));
+  }
+}

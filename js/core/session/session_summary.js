@@ -1,0 +1,44 @@
+// A summary of texts for someone who has not seen them yet.
+
+import { counted } from "../bench/numbers.js";
+import { Face } from "../board/face.js";
+import { headOf } from "../board/face_words.js";
+import * as say from "../../words/session.js";
+
+/** @typedef {import("../bench/answers.js").Board} Board */
+
+/**
+ * Returns the first sentence of the comment at the beginning of a text, "" if there is none. A line of a front panel is not a sentence.
+ * @param {string} text
+ * @param {string} mark begins a comment
+ */
+function firstSentence(text, mark) {
+  const comment = [];
+  for (const line of text.split("\n")) {
+    const words = line.startsWith(mark) ? line.replace(/^[#; ]+|[#; ]+$/g, "") : "";
+    if (words === "" || headOf(line)) break;
+    comment.push(words);
+  }
+  const [sentence] = comment.join(" ").split(/[.:](?: |$)/);
+  return sentence && `${sentence[0].toUpperCase()}${sentence.slice(1)}.`;
+}
+
+/**
+ * Returns a title: the one in the board's text, or the first sentence of a text.
+ * @param {string} boardText
+ * @param {string} programText
+ */
+export function titleOf(boardText, programText) {
+  return new Face(boardText).title || firstSentence(boardText, "#") || firstSentence(programText, ";");
+}
+
+/**
+ * Returns the parts of a board, as `2 ROMs, 1 RAM chip, 3 lamps`.
+ * @param {Board} board
+ */
+export function wordsOfBoard({ roms, banks, chains, lamps, rows, columns }) {
+  const chips = banks.reduce((sum, bank) => sum + bank.chips, 0);
+  const shifts = chains.reduce((sum, chain) => sum + chain.chips, 0);
+  const counts = [roms.length, chips, shifts, lamps.length, rows * columns];
+  return counts.map((count, at) => count > 0 && counted(count, say.PARTS[at])).filter(Boolean).join(", ") || say.NO_CHIP;
+}

@@ -1,0 +1,44 @@
+// The printout of a test: what the program has sent to the board's printer since the test began, or in the state that it is from.
+
+import { linesOf } from "../board/strip.js";
+import { Printing } from "../engine/printing.js";
+
+/**
+ * @typedef {import("../board/face.js").Printer} Printer
+ * @typedef {import("../engine/tracing.js").Answers} Answers
+ */
+
+export class Printout {
+  /**
+   * @param {Printer} printer
+   * @param {number[]} codes that were sent before
+   */
+  constructor(printer, codes) {
+    this.printer = printer;
+    this.printing = new Printing({ ...printer, codes: codes.map((code) => [0, code]) });
+  }
+
+  /** @param {number} cycles */
+  questions(cycles) {
+    return this.printing.questions(cycles);
+  }
+
+  /**
+   * @param {Answers} answers
+   * @param {number} elapsed the cycles of the test before the run
+   */
+  take(answers, elapsed) {
+    const from = answers.at;
+    answers.takeTrace();
+    this.printing.take([answers.answers.slice(from, answers.at)], elapsed);
+  }
+
+  get codes() {
+    return this.printing.codes.map(([, code]) => code);
+  }
+
+  /** Returns the words of the completed lines. */
+  get words() {
+    return linesOf(this.codes, this.printer.words).slice(0, -1).join(" ").split(/\s+/).filter(Boolean);
+  }
+}

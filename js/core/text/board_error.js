@@ -1,0 +1,230 @@
+// The errors in a board's text, in words: the bench reports the error and its part, the text's reader finds the place of the part, and the
+// manual says what each key must be.
+
+import { KEYS, LINE_NAMES, MOST, MOST_COLUMNS, BITS, RANGES, linesOf } from "../bench/board_form.js";
+import { meant, mostAlike } from "./alike.js";
+import { partsWithLines, readBoardText } from "./board_reader.js";
+import { faultAt } from "./text_fault.js";
+import * as say from "../../words/text.js";
+
+/**
+ * @typedef {import("../bench/text_judgement.js").BoardError} BoardError
+ * @typedef {import("./board_reader.js").BoardText} BoardText
+ * @typedef {import("./board_reader.js").Entry} Entry
+ * @typedef {import("./board_reader.js").Key} Key
+ * @typedef {import("./board_reader.js").Value} Value
+ * @typedef {import("./text_fault.js").Fault} Fault
+ *
+ * Returns the wrong part, as far as the text has it.
+ * @typedef {{ entry: Entry | null, key: Key | null }} Meant
+ */
+
+/** Refusals of a board's text. */
+const NOT_TOML = 20;
+const UNKNOWN_KEY = 21;
+const MISSING_KEY = 22;
+const BAD_VALUE = 23;
+const THERE_TWICE = 24;
+const LACKS_LINE = 25;
+const WRONG_DIRECTION = 26;
+const TOO_MANY = 27;
+/** Keys whose values are lines. */
+const LINE_KEYS = ["clock", "data", "line", "columns"];
+
+/**
+ * Returns the line that begins a table of this kind.
+ * @param {string} kind
+ */
+const headerOf = (kind) => (kind === "keys" ? "[keys]" : `[[${kind}]]`);
+
+class Words {
+  /**
+   * @param {BoardText} text
+   * @param {BoardError} error
+   * @param {Map<string, Map<string, string>>} tables of the manual: the values of each key
+   * @param {(number: number) => string} wordsOf returns the message of a refusal
+   */
+  constructor(text, error, tables, wordsOf) {
+    this.text = text;
+    this.error = error;
+    this.tables = tables;
+    this.wordsOf = wordsOf;
+    this.parts = partsWithLines(text.entries);
+    this.lines = new Map(linesOf(this.parts).map((line) => [line.name, line]));
+  }
+
+  /** Returns the tables of the wrong section. */
+  get entries() {
+    const { section } = this.error;
+    return this.text.entries.filter(({ table }) => table.replace(/[[\]]/g, "") === section);
+  }
+
+  /** @returns {Meant} */
+  meant() {
+    const { section, index, key: name } = this.error;
+    const key = (/** @type {Key[]} */ keys) => keys.find((each) => each.name === name) || null;
+    if (section === "") {
+      const entry = this.text.entries.find(({ table }) => table.replace(/[[\]]/g, "") === name) || null;
+      return { entry, key: key(this.text.keys) };
+    }
+    const entry = this.entries[Math.max(0, index - 1)] || null;
+    if (entry) return { entry, key: key(entry.keys) };
+    return { entry: null, key: this.text.keys.find((each) => each.name === section) || null };
+  }
+
+  /** Returns the error with its place and words. @returns {Fault} */
+  fault() {
+    const { number } = this.error;
+    if (number === NOT_TOML) return this.noToml();
+    const { entry, key } = this.meant();
+    if (number === UNKNOWN_KEY) return this.unknown(entry, key);
+    const value = key && number !== MISSING_KEY ? this.valueMeant(key) : null;
+    const words = this.words(entry, key, value);
+    const place = value || entry;
+    return place ? faultAt(number, place, words) : this.wholeLine(words);
+  }
+
+  /** Returns the error of a text that is no TOML. */
+  noToml() {
+    const { number, line } = this.error;
+    const found = this.text.faults.find((each) => each.line === line);
+    if (found) return found;
+    for (const keys of [this.text.keys, ...this.text.entries.map((entry) => entry.keys)]) {
+      const again = keys.find((key) => key.line === line);
+      const first = keys.find(({ name }) => again && name === again.name);
+      if (again && first && first !== again) return faultAt(number, again, say.alreadyThere(again.name, first.line));
+    }
+    return this.wholeLine(this.wordsOf(number));
+  }
+
+  /**
+   * Returns the value of a key, or the wrong one of several columns.
+   * @param {Key} key
+   * @returns {Value}
+   */
+  valueMeant({ name, value }) {
+    const { number } = this.error;
+    if (name !== "columns" || !Array.isArray(value.inner)) return value;
+    return value.inner.find(({ inner }) => {
+      const line = this.lines.get(String(inner));
+      if (number === BAD_VALUE) return !LINE_NAMES.has(String(inner));
+      return number === LACKS_LINE ? !line : number === WRONG_DIRECTION && line && !line.isInput;
+    }) || value;
+  }
+
+  /**
+   * Returns the error in words.
+   * @param {Entry | null} entry
+   * @param {Key | null} key
+   * @param {Value | null} value the wrong one
+   */
+  words(entry, key, value) {
+    const { number, section, key: name } = this.error;
+    if (number === MISSING_KEY) return say.lacks(section, name);
+    if (number === BAD_VALUE) return this.wordsOfForm(value);
+    if (number === TOO_MANY) return name === "" ? say.mostTables(MOST[section], section) : say.mostColumns(MOST_COLUMNS);
+    if (!entry || !key || !value) return this.wordsOf(number);
+    if (number === THERE_TWICE) return say.alreadyThere(`${name} ${value.inner}`, this.lineOfFirst(entry, key));
+    if (number === LACKS_LINE) return name === "rows" ? this.rowsNeed(entry) : this.lacking(String(value.inner));
+    const { kind = "" } = this.lines.get(String(value.inner)) || {};
+    return name === "columns" ? say.needsInput(String(value.inner)) : say.needsOutput(name, String(value.inner), kind === "bit");
+  }
+
+  /**
+   * Returns what a key or a table must be.
+   * @param {Value | null} value
+   */
+  wordsOfForm(value) {
+    const { section, index, key } = this.error;
+    const values = (this.tables.get(section) || new Map()).get(key);
+    const inner = value ? value.inner : null;
+    const isLine = LINE_KEYS.includes(key) && typeof inner !== "object" && (key !== "columns" || value !== this.meant().key?.value);
+    if (isLine) return say.noLineName(String(inner));
+    if (typeof inner === "string" && `${section}.${key}` in RANGES && /^\d+$/.test(inner)) return say.withoutQuotes(key, inner);
+    if (key) return values ? say.keyMustBe(key, values) : this.wordsOf(BAD_VALUE);
+    if (section !== "keys" && index === 0) return say.several(section);
+    return section === "keys" ? say.ONE_MATRIX : say.mustBeTable(section);
+  }
+
+  /**
+   * Returns why the board lacks a line, or a chain.
+   * @param {string} name
+   */
+  lacking(name) {
+    const [, kind = "", number = "", chip = ""] = /^(rom|ram|chain)(\d+)\.(\d+)/.exec(name) || [];
+    const { banks, chains } = this.parts;
+    if (kind === "") return say.noChain(name, chains.length);
+    if (kind === "rom") return say.noSuchRom(name, number);
+    const bank = banks.find((each) => String(each.bank) === number);
+    if (kind === "ram") return bank && Number(chip) >= bank.chips ? say.bankHas(name, number, bank.chips) : say.noSuchBank(name, number);
+    const chain = chains[Number(number)];
+    return chain ? say.chainHas(name, number, BITS * chain.chips - 1) : say.noChain(number, chains.length);
+  }
+
+  /**
+   * Returns which bits the rows of the key matrix need.
+   * @param {Entry} entry
+   */
+  rowsNeed({ keys }) {
+    const [chain, first, rows] = ["chain", "first", "rows"].map((name) => {
+      const key = keys.find((each) => each.name === name);
+      return key ? Number(key.value.inner) : 0;
+    });
+    const { chips = 0 } = this.parts.chains[chain] || {};
+    return say.rowsNeed(first, first + rows - 1, chain, BITS * chips - 1);
+  }
+
+  /**
+   * Returns the line of the table that has the same value first.
+   * @param {Entry | null} entry
+   * @param {Key} key
+   */
+  lineOfFirst(entry, key) {
+    const first = this.entries.find((each) => each !== entry
+      && each.keys.some(({ name, value }) => name === key.name && value.inner === key.value.inner));
+    return first ? first.line : 1;
+  }
+
+  /**
+   * Returns the error of a key or a part that no board has, with suggestions.
+   * @param {Entry | null} entry
+   * @param {Key | null} key
+   * @returns {Fault}
+   */
+  unknown(entry, key) {
+    const { section, key: name } = this.error;
+    const known = section === "" ? Object.keys(KEYS) : KEYS[section];
+    const likes = mostAlike(name, known);
+    const instead = meant(likes) || say.whichHas(known.join(", "));
+    const words = section === "" ? say.noPart(name, instead) : say.noKeyOf(name, section, instead);
+    const place = key || entry;
+    const fault = place ? faultAt(UNKNOWN_KEY, place, words) : this.wholeLine(words);
+    const cures = key ? likes : likes.map(headerOf);
+    return cures.length > 0 && place ? { ...fault, cures } : fault;
+  }
+
+  /**
+   * Returns an error of the line that the bench names.
+   * @param {string} words
+   * @returns {Fault}
+   */
+  wholeLine(words) {
+    const { number } = this.error;
+    const line = Math.max(1, this.error.line);
+    return { number, line, from: 0, to: Infinity, words };
+  }
+}
+
+/**
+ * Returns the error that the bench reports of a board's text, with its place and words.
+ * @param {string} text with the places of the original
+ * @param {BoardError} error
+ * @param {Map<string, Map<string, string>>} tables of the manual
+ * @param {(number: number) => string} wordsOf returns the message of a refusal
+ * @returns {Fault}
+ */
+export function errorOfBoard(text, error, tables, wordsOf) {
+  const fault = new Words(readBoardText(text), error, tables, wordsOf).fault();
+  const line = text.split("\n")[fault.line - 1] || "";
+  return { ...fault, to: Math.min(fault.to, line.length) };
+}

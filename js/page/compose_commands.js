@@ -1,0 +1,292 @@
+// Composes commands: connects them to the page's parts, the palette and the keys.
+
+import { textOfKey } from "../core/board/key_place.js";
+import { COMMANDS, oneOf } from "./commands/command_table.js";
+import { fillEmptyPanels } from "./commands/empty_panels.js";
+import { listenToKeys } from "./commands/keys.js";
+import { PaletteView } from "./commands/palette_view.js";
+import { placesOf } from "./commands/palette_places.js";
+import { isOffered } from "./commands/offered.js";
+import { WelcomeView } from "./session/welcome_view.js";
+import { ToolbarView } from "./commands/toolbar_view.js";
+import { runToLine } from "./compose_debug.js";
+import { insertKeyScan } from "./compose_texts.js";
+import { Choices } from "./ui/choices.js";
+import { block, button, byId, field, isDialogOpen } from "./ui/dom.js";
+import { Theme } from "./ui/theme.js";
+import { Tooltips } from "./ui/tooltips.js";
+import * as say from "../words/page_commands.js";
+
+/**
+ * @typedef {import("./commands/command_table.js").Command} Command
+ * @typedef {import("./commands/command_table.js").CommandCalls} CommandCalls
+ * @typedef {import("./commands/command_table.js").TextName} TextName
+ * @typedef {import("./commands/palette_search.js").Entry} Entry
+ * @typedef {import("../core/engine/examples.js").Example} Example
+ * @typedef {import("./help/guide.js").Guide} Guide
+ * @typedef {import("./bench_page.js").Page} Page
+ */
+
+/** The stored choice that says that the cards of a first visit were seen. */
+const SEEN = "welcome";
+
+/** @type {TextName[]} in the order of the page's editors */
+const EDITORS = ["board", "program", "tests", "properties"];
+
+/**
+ * Brings a text, a view or a panel to the front.
+ * @param {Page} page
+ * @param {string} name "" for the parts that are always there
+ */
+function show({ layout }, name) {
+  if (name in say.TEXTS) layout.showText(name);
+  else if (name) layout.showPanel(name);
+}
+
+/**
+ * Makes the parts that exist before the page: the theme, tooltips and the toolbar.
+ * @typedef {{ theme: Theme, tips: Tooltips, toolbar: ToolbarView }} Shell
+ * @returns {Shell}
+ */
+export function shellOf() {
+  const theme = new Theme(new Choices());
+  const tips = new Tooltips();
+  return { theme, tips, toolbar: new ToolbarView(tips, theme) };
+}
+
+/**
+ * Returns the calls of commands for projects, files and messages.
+ * @param {Page} page
+ */
+function projectCalls({ export: exports, notice, recovery, sessionsController, sharing }) {
+  const { manager, view } = sessionsController;
+  return {
+    open: () => field("file").click(),
+    save: () => void manager.save(),
+    saveSession: () => void manager.saveSession(),
+    exportFiles: () => exports.open(),
+    projects: () => void view.open(),
+    examples: () => void view.openExamples(),
+    share: () => {
+      sharing.share().catch((fault) => recovery.failed(fault));
+    },
+    notices: () => notice.list.open(),
+    hasNotices: () => notice.list.all.length > 0,
+    print: () => print(),
+  };
+}
+
+/**
+ * Returns the calls of commands for time.
+ * @param {Page} page
+ */
+function timeCalls(page) {
+  const { snapshotView, programEditor, running, serving, travel } = page;
+  return {
+    isRunning: () => running.clock.isRunning,
+    runOrStop: () => running.runOrStop(),
+    step: () => void running.step(),
+    goOn: travel.goOn.bind(travel),
+    goBack: travel.goBack.bind(travel),
+    goForward: () => void travel.goForward(),
+    canGoForward: () => !button("forward").disabled,
+    runToCursor: () => runToLine(page, programEditor.editor.editor.getCursor().line + 1),
+    /** @param {string} line */
+    serve: (line) => void serving.act(line),
+    test: () => void serving.act(`test ${snapshotView.test.isOn ? 0 : 1}\n`),
+    /** @param {string} id */
+    setSpeed: (id) => {
+      const speeds = byId("speed", HTMLSelectElement);
+      speeds.value = id;
+      speeds.dispatchEvent(new Event("change"));
+    },
+  };
+}
+
+/**
+ * Returns the calls of commands for the texts.
+ * @param {Page} page
+ */
+function textCalls(page) {
+  const { layout, programEditor } = page;
+  const front = () => page.textEditors[EDITORS.findIndex((name) => name === layout.tabs.shown)];
+  return {
+    /** @param {TextName} name */
+    send: (name) => {
+      show(page, name);
+      page.textEditors[EDITORS.indexOf(name)].calls.send();
+    },
+    /** @param {boolean} isSource */
+    hasText: (isSource) => front() !== undefined && (!isSource || front() === programEditor),
+    /** @param {import("./commands/command_table.js").TextAct} what */
+    inText: (what) => front() && front().act(what),
+    /** @param {import("./machine/breakpoint_row.js").BreakpointField} [what] */
+    breakpoint: (what) => {
+      show(page, "program");
+      if (what) programEditor.editBreakpoint(what);
+      else programEditor.toggleBreakpoint();
+    },
+  };
+}
+
+/**
+ * Returns the word at the caret of the text with the focus, "" for none.
+ * @param {Page} page
+ */
+function wordAtCaret({ textEditors }) {
+  const at = textEditors.find(({ editor }) => editor.editor.view.hasFocus);
+  if (!at) return "";
+  const { line, ch } = at.editor.editor.getCursor();
+  const text = at.editor.editor.getLine(line) || "";
+  const before = (/[A-Za-z]\w*$/.exec(text.slice(0, ch)) || [""])[0];
+  return before + (/^\w*/.exec(text.slice(ch)) || [""])[0];
+}
+
+/** All that can be done with the page: commands, the palette that lists them and their keys. */
+export class Commands {
+  /**
+   * @param {Page} page
+   * @param {Guide} guide
+   * @param {Example[]} examples
+   * @param {Shell} shell
+   */
+  constructor(page, guide, examples, { theme, toolbar }) {
+    this.page = page;
+    this.examples = examples;
+    /** @type {{ id: string, name: string }[]} the saved projects, as they were listed last */
+    this.projects = [];
+    this.calls = this.callsOf(guide, theme);
+    this.welcome = this.welcomeOf(guide);
+    this.palette = new PaletteView({
+      commands: () => [...COMMANDS, ...this.ownCommands()].map((each) => this.entryOf(each)),
+      places: (wanted) => placesOf(wanted, this.placeCalls()),
+    });
+    theme.changed = () => page.scope.view.ask();
+    listenToKeys((command) => this.do(command), isDialogOpen);
+    toolbar.act = (command) => this.do(command);
+    fillEmptyPanels(toolbar.act);
+    page.running.showRunning = (isRunning) => toolbar.showRunning(isRunning);
+  }
+
+  /**
+   * @param {Guide} guide
+   * @param {Theme} theme
+   * @returns {CommandCalls}
+   */
+  callsOf(guide, theme) {
+    const { page } = this;
+    return {
+      ...timeCalls(page),
+      ...textCalls(page),
+      ...projectCalls(page),
+      setTheme: (name) => theme.set(name),
+      show: (name) => show(page, name),
+      press: (id, shown) => {
+        show(page, shown);
+        button(id).click();
+      },
+      isOffered: (id) => isOffered(button(id)),
+      enter: (id, shown) => {
+        show(page, shown);
+        const details = block(id).closest("details");
+        if (details) details.open = true;
+        block(id).focus();
+      },
+      toggle: (id) => field(id).click(),
+      togglePanel: (id) => page.layout.panels.toggle(id),
+      fullPanel: (id) => page.layout.panels.toggleFull(id),
+      scanKeys: () => insertKeyScan(page, page.snapshotView.board),
+      hasKeys: () => page.snapshotView.board.matrix !== null,
+      resetLayout: () => page.layout.panels.reset(),
+      welcome: () => this.welcome.open(),
+      toggleHelp: () => guide.help.toggle(wordAtCaret(page)),
+      help: (wanted) => guide.help.open(wanted),
+      palette: (begin) => this.open(begin),
+    };
+  }
+
+  /** @param {Guide} guide */
+  welcomeOf(guide) {
+    const { layout, sessionsController } = this.page;
+    return new WelcomeView(this.examples, {
+      beginTour: () => void guide.tour.begin(),
+      begin: (name) => sessionsController.beginNamed(name),
+      draw: () => show(this.page, "wiring"),
+      seen: () => layout.choices.set(SEEN, "yes"),
+    });
+  }
+
+  /** Shows the cards, if nobody has seen them in this browser. */
+  welcomeFirst() {
+    if (!this.page.layout.choices.get(SEEN)) this.welcome.open();
+  }
+
+  /** @returns {import("./commands/palette_places.js").PlaceCalls} */
+  placeCalls() {
+    const { page, calls, examples } = this;
+    return {
+      map: () => page.source.map,
+      examples: () => examples.map(({ name }) => name),
+      projects: () => this.projects,
+      show: calls.show,
+      line: (line) => {
+        show(page, "program");
+        page.programEditor.editor.goTo({ line: line - 1, ch: 0 });
+      },
+      address: (address) => page.snapshotView.goTo.show(address),
+      example: (name) => void page.sessionsController.beginNamed(name),
+      project: (id) => void page.sessionsController.open(id),
+    };
+  }
+
+  /**
+   * Commands that depend on the examples and on the board.
+   * @returns {Command[]}
+   */
+  ownCommands() {
+    const { snapshotView, pressing, sessionsController } = this.page;
+    return [
+      ...this.examples.map((example) => oneOf(`example.${example.name}`, say.openExample(example.name), "example",
+        () => void sessionsController.begin(example), "examples")),
+      ...snapshotView.front.keys.map((key) => oneOf(`key.${textOfKey(key.key)}`,
+        say.pressKey(key.legend || textOfKey(key.key)), "key", () => {
+        pressing.down(key, false);
+        pressing.up(key.key);
+      })),
+    ];
+  }
+
+  /**
+   * @param {Command} command
+   * @returns {Entry}
+   */
+  entryOf(command) {
+    const { calls } = this;
+    const { words, group, keys, icon, wordsNow } = command;
+    const name = wordsNow ? wordsNow(calls) : words;
+    return { words: name, hint: say.GROUPS[group], why: command.whyNot(calls), keys, icon, act: () => command.act(calls) };
+  }
+
+  /**
+   * Does a command, or reports why it cannot be done.
+   * @param {Command} command
+   */
+  do(command) {
+    const why = command.whyNot(this.calls);
+    if (why) this.page.running.showMessage(say.notDone(command.words, why));
+    else command.act(this.calls);
+  }
+
+  /**
+   * Opens the palette. Projects are listed once the store has reported them.
+   * @param {string} begin the initial text of its field
+   */
+  open(begin) {
+    const { recovery, sessionsController } = this.page;
+    this.palette.open(begin);
+    sessionsController.manager.kept().then((records) => {
+      this.projects = records.map(({ id, name }) => ({ id, name }));
+      this.palette.refresh();
+    }, (fault) => recovery.failed(fault));
+  }
+}

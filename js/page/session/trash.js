@@ -1,0 +1,79 @@
+// Deleted sessions: several at once, and each can be restored as long as the page is open.
+
+import { wordsOfStoreFault } from "./store.js";
+import * as say from "../../words/session.js";
+
+/**
+ * @typedef {import("./locks.js").Locks} Locks
+ * @typedef {import("./store.js").SessionRecord} SessionRecord
+ * @typedef {import("./store.js").SessionStore} SessionStore
+ */
+
+/** @param {SessionRecord[]} records */
+export function namesOf(records) {
+  return records.length === 1 ? `"${records[0].name}"` : say.manySessions(records.length);
+}
+
+export class Trash {
+  /**
+   * @param {SessionStore} store
+   * @param {Locks} locks
+   * @param {(words: string) => void} refuse
+   */
+  constructor(store, locks, refuse) {
+    this.store = store;
+    this.locks = locks;
+    this.refuse = refuse;
+    /** @type {SessionRecord[]} what was deleted while the page is there, the last one first */
+    this.deleted = [];
+  }
+
+  /**
+   * Deletes sessions; returns those that were deleted. A session that is open in another tab stays, which is reported.
+   * @param {SessionRecord[]} records
+   */
+  async remove(records) {
+    const done = [];
+    for (const record of records) if (await this.removeOne(record)) done.push(record);
+    this.deleted = [...done, ...this.deleted];
+    return done;
+  }
+
+  /** @param {SessionRecord} record */
+  async removeOne(record) {
+    const release = await this.locks.take(record.id);
+    if (!release) {
+      this.refuse(say.openElsewhere(record.name));
+      return false;
+    }
+    try {
+      // Changes by another tab since it was listed are not lost either.
+      const newest = await this.store.get(record.id);
+      if (newest) Object.assign(record, newest);
+      await this.store.remove(record.id);
+      return true;
+    } catch (fault) {
+      this.refuse(say.notDeleted(record.name, wordsOfStoreFault(fault)));
+      return false;
+    } finally {
+      release();
+    }
+  }
+
+  /**
+   * Restores sessions; one that the store rejects stays here, which is reported.
+   * @param {SessionRecord[]} records
+   */
+  async bringBack(records) {
+    for (const record of records.filter((each) => this.deleted.includes(each))) {
+      try {
+        // It has no forerunner in the store.
+        record.revision = 0;
+        await this.store.put(record);
+        this.deleted = this.deleted.filter((each) => each !== record);
+      } catch (fault) {
+        this.refuse(say.notRestored(record.name, wordsOfStoreFault(fault)));
+      }
+    }
+  }
+}

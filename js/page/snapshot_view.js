@@ -1,0 +1,246 @@
+// All views of the board and its machine: snapshots are read one after the other, and the changes go to their views.
+
+import { readBoard, refusalOf } from "../core/bench/answers.js";
+import { CellEditor } from "./machine/cell_editor.js";
+import { Changes } from "./machine/changes.js";
+import { Cell, Switch, block, button } from "./ui/dom.js";
+import { Face } from "../core/board/face.js";
+import { FrontView } from "./board/front_view.js";
+import { GoToView } from "./machine/go_to_view.js";
+import { ListingView } from "./machine/listing_view.js";
+import { SnapshotReader } from "../core/bench/snapshot.js";
+import { PortsView, RegistersView } from "./machine/machine_view.js";
+import { hex } from "../core/bench/numbers.js";
+import { RamView } from "./machine/ram_view.js";
+import { PrinterView } from "./board/printer_view.js";
+import { StackView } from "./machine/stack_view.js";
+import { PopupMessage } from "./ui/popup_message.js";
+import { WiringView } from "./board/wiring_view.js";
+import * as say from "../words/page.js";
+
+/**
+ * @typedef {import("../core/board/board_keys.js").BoardKey} BoardKey
+ * @typedef {import("../core/bench/snapshot.js").Changed} Changed
+ * @typedef {import("../core/bench/snapshot.js").ChangedFront} ChangedFront
+ * @typedef {import("../core/machine/source_map.js").SourceMap} SourceMap
+ */
+
+/**
+ * The calls that the views of a snapshot make to the page.
+ * @typedef {object} SnapshotOwnCalls
+ * @property {(node: HTMLButtonElement, key: BoardKey) => void} listen Makes a button press its key.
+ * @property {() => boolean} isRunning Returns whether time runs.
+ * @property {() => boolean} isFast Returns whether time runs so fast that the listing follows no instruction.
+ * @property {() => boolean} isWiringShown Returns whether the picture of the wiring is in front.
+ * @property {(lines: string) => Promise<string[]>} ask Resolves to the bench's answers to questions.
+ * @property {(line: string) => Promise<string | null>} act Serves a line. Resolves to its answer, null if the call failed, which is then
+ *   reported.
+ * @property {(number: number) => string} wordsOfRefusal Returns the message of a refusal.
+ * @property {(name: string) => string} explain Returns the meaning of a place, or of a name of the program, as words.
+ * @property {(counter: number) => void} isAt The counter of the machine is at an address; source and listing follow.
+ * @property {(breakpoints: string[]) => void} breakAt The bench has breakpoints at these addresses, each as three hexadecimal digits.
+ * @property {(address: number) => void} toggleBreakpoint Sets or removes the breakpoint of an address.
+ * @property {(address: number) => void} wentTo The listing went to an address, which the source shows too.
+ * @property {(face: string, number: number) => void} watchLamps Asks the bench how long lamps are on, by the text of a front panel and its
+ * number.
+ * @property {(cycles: number) => number} timeOf Returns the milliseconds that cycles take at the present speed; Infinity at full speed.
+ * @property {(fault: unknown) => void} failed Reports an error that a call threw.
+ */
+
+/** @typedef {import("./board/printer_view.js").PrinterCalls & SnapshotOwnCalls} SnapshotCalls */
+
+/** @typedef {{ seeLamps: (lamps: string) => void, seeKeys: (keysDown: number) => void }} Watcher */
+
+/** The milliseconds between drawings, while time runs, of what nobody can read in a frame. */
+const DRAWN_TIME = 100;
+
+export class SnapshotView {
+  /** @param {SnapshotCalls} calls */
+  constructor(calls) {
+    this.calls = calls;
+    this.board = readBoard([]);
+    this.face = new Face("");
+    this.reader = new SnapshotReader();
+    /** The time at which all was drawn last. */
+    this.drawn = 0;
+    this.changes = new Changes();
+    this.front = new FrontView(calls.listen, calls.watchLamps);
+    this.strip = new PrinterView(calls);
+    this.message = new PopupMessage();
+    this.editor = new CellEditor({
+      poke: async (place, value) => this.refusalOf(await calls.act(`poke ${place} ${value}\n`)),
+      showMessage: (words, at) => this.message.show(words, at),
+    });
+    this.registers = new RegistersView(this.changes, this.editor, calls.explain);
+    this.ram = new RamView(this.changes, this.editor, (bank, source, isSet, cell) => (
+      this.toggleWatch(isSet, `${bank} 0x${hex(source, 2)}`, cell)));
+    this.ports = new PortsView(this.changes, this.editor, calls.explain);
+    this.wiring = new WiringView(calls.isWiringShown);
+    /** @type {Watcher | null} is informed of lamps and keys */
+    this.watcher = null;
+    this.listing = new ListingView(calls.ask, calls.toggleBreakpoint, () => this.showListing());
+    this.goTo = new GoToView(this.listing, calls.toggleBreakpoint, (address) => {
+      this.showListing();
+      calls.wentTo(address);
+    });
+    this.stack = new StackView(this.changes, calls.explain, calls.ask, (address) => this.goTo.show(address));
+    this.sourceStatus = new Cell(block("source-status"));
+    this.testWord = new Cell(button("test"));
+    /** True if the TEST pin is at 1. */
+    this.test = new Switch((isOn) => button("test").setAttribute("aria-pressed", String(isOn)));
+  }
+
+  /**
+   * Sets or clears a watch; a refusal is reported near the click.
+   * @param {boolean} isSet
+   * @param {string} place
+   * @param {HTMLElement} [at]
+   */
+  async toggleWatch(isSet, place, at) {
+    const refusal = this.refusalOf(await this.calls.act(`${isSet ? "un" : ""}watch ${place}\n`));
+    if (refusal) this.message.show(say.notSet(refusal), at);
+  }
+
+  /**
+   * Returns the message of a refusal, "" for another answer.
+   * @param {string | null} answer
+   */
+  refusalOf(answer) {
+    if (answer === null) return say.NOT_DONE;
+    const refusal = refusalOf(answer);
+    return refusal ? `${this.calls.wordsOfRefusal(refusal.number)}.` : "";
+  }
+
+  /** The counter that is shown, as it is written. */
+  get counter() {
+    return this.reader.registers ? this.reader.registers.counter : "";
+  }
+
+  /**
+   * Draws another board.
+   * @param {string[]} answers to `board`
+   * @param {string} boardText has the face
+   */
+  draw(answers, boardText) {
+    this.board = readBoard(answers);
+    this.reader.forget();
+    this.changes.forget();
+    this.editor.close(false);
+    const face = new Face(boardText);
+    this.face = face;
+    this.front.draw(this.board, face);
+    this.strip.draw(this.board, face);
+    this.ram.draw(this.board);
+    this.ports.draw(this.board, face);
+    this.wiring.forget();
+    this.forgetRom();
+  }
+
+  /** The bytes of ROM may have changed. */
+  forgetRom() {
+    this.listing.forget();
+    this.stack.forget();
+  }
+
+  /** @param {string} boardText of this board, which may have another face */
+  readFace(boardText) {
+    const face = new Face(boardText);
+    this.face = face;
+    this.front.change(this.board, face);
+    this.strip.change(this.board, face);
+  }
+
+  /**
+   * Shows the names of the program in ROM.
+   * @param {SourceMap | null} map null if the source is not that program
+   * @param {string} words the reason
+   */
+  nameLines(map, words) {
+    this.sourceStatus.set(words);
+    this.listing.nameLines(map);
+    this.goTo.takeNames(map);
+    this.showListing();
+  }
+
+  /**
+   * Shows a snapshot: lamps, displays and keys at once; all else less often while time runs.
+   * @param {string[]} snapshot
+   * @param {boolean} [isPassing] whether time runs and another snapshot follows
+   * @param {import("../core/engine/brightness_meter.js").LitShares | null} [litShares] the light in that time
+   */
+  show(snapshot, isPassing = false, litShares = null) {
+    const changed = this.reader.take(snapshot);
+    this.showLamps(changed.lamps, isPassing && this.calls.isRunning() ? litShares : null);
+    this.showFront(changed);
+    if (isPassing && this.calls.isFast() && performance.now() - this.drawn < DRAWN_TIME) return;
+    this.showRest();
+    if (this.calls.isRunning()) this.changes.runs();
+    else this.changes.stops();
+  }
+
+  /** Draws the rest of the last snapshot. */
+  showRest() {
+    this.drawn = performance.now();
+    this.showChanged(this.reader.readRest());
+  }
+
+  /**
+   * Shows lamps as perceived while time runs, otherwise as they are at this instant.
+   * @param {string | undefined} lamps if they have changed
+   * @param {import("../core/engine/brightness_meter.js").LitShares | null} litShares
+   */
+  showLamps(lamps, litShares) {
+    const { front } = this;
+    const marks = lamps === undefined ? front.marks : lamps;
+    if (litShares && litShares.face === front.faces) front.shine(marks, litShares, this.calls.timeOf(litShares.cycles));
+    else if (lamps !== undefined || front.isShining) front.showLamps(marks);
+  }
+
+  /** @param {ChangedFront} changed */
+  showFront({ lamps, keys, test }) {
+    if (keys) this.front.showKeys(keys);
+    if (test !== undefined) {
+      this.testWord.set(`TEST ${test}`);
+      this.test.set(test === "1");
+      this.front.showTest(test);
+      this.wiring.showTest(test === "1");
+    }
+    if (this.watcher && (keys || lamps !== undefined)) {
+      this.watcher.seeKeys(this.front.down.count);
+      this.watcher.seeLamps(this.front.marks);
+    }
+  }
+
+  /** @param {Changed} changed */
+  showChanged({ registers, ports, breakpoints, watches, ram = [] }) {
+    if (ports) {
+      this.ports.show(ports);
+      this.wiring.showPorts(ports);
+    }
+    if (registers) {
+      this.registers.show(registers);
+      this.stack.show(registers);
+      this.listing.counter = parseInt(registers.counter, 16);
+    }
+    for (const entry of ram) {
+      this.ram.show(entry);
+      this.wiring.showRam(entry);
+    }
+    if (watches) this.ram.showWatches(watches);
+    if (breakpoints) this.calls.breakAt(breakpoints);
+    if (registers || breakpoints || this.listing.lines.length === 0) this.showListing();
+  }
+
+  /** @param {Map<number, import("../core/machine/breakpoint_marks.js").BreakpointMark>} marks of breakpoints, by their addresses */
+  showBreakpoints(marks) {
+    this.listing.breakpoints = new Map([...marks].map(([address, mark]) => [hex(address, 3), mark]));
+    this.showListing();
+  }
+
+  showListing() {
+    this.calls.isAt(this.listing.counter);
+    const isRunning = this.calls.isRunning();
+    this.listing.show(this.calls.isFast()).catch(this.calls.failed);
+    this.stack.explain(this.listing.map, isRunning).catch(this.calls.failed);
+  }
+}

@@ -1,0 +1,93 @@
+// A key that is typed again before the page knows that it went up: it is pressed again, and no press counts as a release.
+
+import assert from "node:assert/strict";
+import test from "node:test";
+import { PendingKeys } from "../core/board/pending_keys.js";
+import { matrixKey } from "../core/board/key_place.js";
+import { Pressing } from "../page/board/pressing.js";
+import { begin } from "./page_session.js";
+
+const KEY = { key: matrixKey(0, 0), isSwitch: false };
+
+/** Fingers on a key while time runs: the worker has the requests once `arrive` is called, and reports them by `look`. */
+async function typing() {
+  const calls = await begin("calculator");
+  const asked = new PendingKeys();
+  const words = [];
+  let [isDown, onTheWay] = [false, []];
+  const send = (word) => {
+    words.push(word);
+    onTheWay.push([word, asked.send({ word, key: KEY.key })]);
+  };
+  const pressing = new Pressing({
+    isRunning: () => true,
+    isDown: (key) => asked.willBeDown(key, isDown),
+    press: () => send("press"),
+    release: () => send("release"),
+    change: () => {},
+    meant: () => undefined,
+  });
+  const arrive = () => {
+    for (const [word, arrived] of onTheWay) {
+      asked.waiting = structuredClone(calls[word](KEY.key));
+      arrived();
+    }
+    onTheWay = [];
+  };
+  /** This many cycles later the page gets the present state. */
+  const look = (cycles) => {
+    arrive();
+    const frame = structuredClone(calls.advance(cycles));
+    isDown = / keys [^ ]*\b0\.0\b/.test(frame.snapshot.join("\n"));
+    asked.waiting = frame.waiting;
+    return isDown;
+  };
+  return { pressing, words, arrive, look };
+}
+
+test("a key is typed again while its release waits for its time", async () => {
+  const { pressing, words, look } = await typing();
+  pressing.down(KEY, false);
+  assert.equal(look(1500), true);
+  pressing.up(KEY.key);
+  assert.equal(look(1500), true);
+  pressing.down(KEY, false);
+  pressing.up(KEY.key);
+  assert.deepEqual(words, ["press", "release", "press", "release"]);
+  assert.deepEqual([look(1001), look(2000), look(4000)], [false, true, false]);
+});
+
+test("a key is typed again while its release is on its way", async () => {
+  const { pressing, words, look } = await typing();
+  pressing.down(KEY, false);
+  assert.equal(look(6000), true);
+  pressing.up(KEY.key);
+  pressing.down(KEY, false);
+  assert.deepEqual(words, ["press", "release", "press"]);
+});
+
+test("a key that stays down is let go by a press, also while that press waits", async () => {
+  const { pressing, words, look } = await typing();
+  pressing.down(KEY, true);
+  pressing.up(KEY.key);
+  pressing.down(KEY, false);
+  pressing.up(KEY.key);
+  assert.deepEqual(words, ["press", "release"]);
+  assert.equal(look(1), true);
+  assert.equal(look(4000), false);
+  pressing.down(KEY, true);
+  pressing.up(KEY.key);
+  assert.equal(look(8000), true);
+  pressing.down(KEY, false);
+  assert.deepEqual(words, ["press", "release", "press", "release"]);
+});
+
+test("what is forgotten of a key leaves it as the bench reports it", () => {
+  const asked = new PendingKeys();
+  const arrived = asked.send({ word: "press", key: matrixKey(0, 0) });
+  assert.deepEqual([asked.willBeDown(matrixKey(0, 0), false), asked.willBeDown(matrixKey(0, 1), false)], [true, false]);
+  asked.send({ word: "forget", key: matrixKey(0, 0) });
+  assert.deepEqual([asked.willBeDown(matrixKey(0, 0), false), asked.willBeDown(matrixKey(0, 0), true)], [false, true]);
+  arrived();
+  assert.equal(asked.sent.length, 1);
+});

@@ -1,0 +1,55 @@
+# Compiles a crate once more, for another processor or as an object alone, over the libraries that the gate or tools/build has proved here.
+# A script reads it by `.`, after tools/lib/sums.sh.
+# shellcheck shell=sh
+
+# The file that lists the libraries below a crate as they were built here, each with the checksum of its file `format`, to which its others are held.
+libraries_of() {
+    echo "$top/crates/$1/out/libraries"
+}
+
+# Notes the libraries below a crate, which were just proved and built from the sources that are here.
+note_libraries() {
+    mkdir -p "$top/crates/$1/out"
+    lines_of "$1" | crates_of_lines | grep -vxF -- "$1" | sed 's|.*|crates/&/out/rlib/&.rlib/format|' | sums_of_files > "$(libraries_of "$1")"
+    note_built "$(sum_of_crate "$1")" "$(libraries_of "$1")"
+}
+
+# Whether the libraries below a crate are still those that this user proved and built here from the sources that are here.
+has_libraries() {
+    is_own_note && [ -f "$(libraries_of "$1")" ] && grep -qxF -- "$(sum_of_crate "$1") $(sum_of_input < "$(libraries_of "$1")")" "$built_from" &&
+        (cd "$top" && sha256sum --status -c "$(libraries_of "$1")")
+}
+
+# Proves a crate over the libraries that are here and compiles it: its name, its source, the file for what rattle prints, and more words for `rattle build`.
+# The status is 0 if rattle says that it is proved.
+compile_crate() {
+    crate=$1 source=$2 log=$3
+    shift 3
+    kit=$(dirname -- "$(rt doc)")
+    set -- --crate-name "$crate" "$source" --extern "std=$kit/rlibs/std.rlib" -L "dependency=$kit/rlibs" "$@"
+    for name in $(uses_of "$crate"); do set -- "$@" --extern "$name=$top/crates/$name/out/rlib/$name.rlib"; done
+    for rlib in "$top"/crates/*/out/rlib; do set -- "$@" -L "dependency=$rlib"; done
+    (cd "$top/crates/$crate" && exec "$kit/bin/rattle" build "$@" --antt-project "$kit/rattle/logic/antt-project.json" \
+        --logic-built "$kit/logic_built" --links "$crate=" --incremental out/incremental) > "$log" 2>&1 || return
+    case $(tail -n 1 "$log") in
+    "logic=proved "*) ;;
+    *) return 1 ;;
+    esac
+}
+
+# Makes the object of a program that was built here, if there is none: of its crate's name, the file for what the kit prints. Linked as the kit links
+# it, it must be that program.
+need_object() {
+    made=$top/crates/$1/out/$1
+    if [ -f "$made.o" ]; then return; fi
+    kit=$(dirname -- "$(rt doc)")
+    has_libraries "$1" && compile_crate "$1" src/main.rt "$2" --toolchain "$kit/toolchain" --backend llvm -o "$made.new.o" &&
+        "$kit/bin/rattle-link" --target x86_64-unknown-linux-gnu --toolchain "$kit/toolchain" -o "$made.new" "$made.new.o" "$kit/c/libos_c.a" \
+            "$kit/c/liblibc_c.a" > "$2" 2>&1 || return
+    cmp -s "$made.new" "$made" || {
+        echo "it is not the program that was built" > "$2"
+        return 1
+    }
+    rm -f "$made.new"
+    mv "$made.new.o" "$made.o"
+}
