@@ -9,7 +9,7 @@ use std::alloc::{AllocError, Global};
 use std::process::Abort;
 
 /// More entries than a program of these has.
-const ENTRIES: usize = 1_000;
+const ENTRIES: usize = 10_000;
 
 /// Returns the conditions, never to be met, that these mistakes are made.
 fn never(alloc: Global, asked: Mistakes) -> Result<Vec<Vec<Condition>>, AllocError> {
