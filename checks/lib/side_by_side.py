@@ -210,6 +210,7 @@ class Run:
         self.running, self.ended, self.times = [], [], {}
         self.passed = self.failed = 0
         self.left_out = []
+        self.begun = time.monotonic()
 
     def program(self):
         """Returns the program that a check of now looks at."""
@@ -260,7 +261,10 @@ class Run:
             if self.waiting and not pathlib.Path(os.environ["BUILT_PROGRAM"]).exists():
                 self.waiting.clear()
                 self.show("test: the gate built no program, so no more checks run")
-            self.show(f"the gate took {seconds / 60:.0f} min; the checks run on {self.program()}" if self.checks else f"the gate took {seconds / 60:.0f} min")
+            self.show(f"the gate took {seconds / 60:.0f} min on {self.processors} processors, load {os.getloadavg()[2]:.0f}; {self.gate.anew} of "
+                      f"{self.gate.passed} crates were proved anew")
+            if self.checks:
+                self.show(f"the checks run on {self.program()}")
         else:
             self.show(f"== {each.check.title(self.mode)}\n{text}checks/{each.check.label} took {seconds:.0f} s")
 
@@ -336,15 +340,16 @@ class Run:
         (self.folder / "left_out").write_text("".join(f"{line}\n" for line in self.left_out))
         longest = sorted(self.times.items(), key=lambda pair: -pair[1])[:10]
         self.show("longest: " + ", ".join(f"{name} {seconds:.0f} s" for name, seconds in longest))
+        self.show(f"all took {(time.monotonic() - self.begun) / 60:.0f} min on {self.processors} processors")
 
 
 class Gate:
-    """The output of the gate as it grows, and how many crates it has passed."""
+    """The output of the gate as it grows, how many crates it has passed, and how many of these it has proved anew."""
 
     def __init__(self, output):
         self.output = output
         self.shown = 0
-        self.passed = 0
+        self.passed = self.anew = 0
         self.is_over = False
         self.crates = len(re.findall(r"^\w+:", (TOP / "crates.txt").read_text(), re.M))
 
@@ -356,7 +361,9 @@ class Gate:
         lines = text[: text.rfind(b"\n") + 1]
         if lines:
             self.shown += len(lines)
-            self.passed += len(re.findall(rb"^rt: \w+ (?:proved|as before)", lines, re.M))
+            ends = re.findall(rb"^rt: \w+ (proved|is kept)", lines, re.M)
+            self.passed += len(ends)
+            self.anew += ends.count(b"proved")
             show(lines.decode(errors="replace").rstrip("\n"))
 
     def end(self):
