@@ -117,7 +117,7 @@ export const HAS_ZERO_BYTES = "the project has zero bytes; it is not a text";
 
 // --- session/project_parts.js ---
 /** The first line of the project file of a folder. */
-export const ABOUT_PROJECT_FILE = "# The project of this folder: what commands, editors and the page use when nothing else is named.";
+export const ABOUT_PROJECT_FILE = "# The project of this folder: commands, editors and the page use these files unless others are named.";
 export const UNNAMED = "session";
 /** @type {(line: number) => string} */
 export const noBreakpoint = (line) => `line ${line} is not a breakpoint such as \`break line 14\` or \`break at 0x00F\``;
