@@ -314,7 +314,7 @@ lime = "rom0.0"
 # What mends it, a word after the other, and the error before that, with what is underlined.
 MENDED_BOARD = [("size = 3\n", "", "line 4: size is not a key of rom, which has chip, port", "size"),
                 ("lime", "line", "line 6: lime is not a key of lamp; line?", "lime"),
-                ("77", "7", "line 2: chip must be 0 to 15, no number twice", "77")]
+                ("77", "7", "line 2: chip must be a unique number from 0 to 15", "77")]
 
 
 def check_board(browser):

@@ -113,7 +113,7 @@ test("what is not TOML", () => {
 });
 
 test("keys and values", () => {
-  assert.equal(wordsOf('[[rom]]\nchip = 16\nport = "0000"\n'), "2: 23 chip must be 0 to 15, no number twice");
+  assert.equal(wordsOf('[[rom]]\nchip = 16\nport = "0000"\n'), "2: 23 chip must be a unique number from 0 to 15");
   assert.equal(wordsOf('[[rom]]\nchip = "0"\nport = "0000"\n'), "2: 23 chip is a number: write 0 without quotes");
   assert.equal(shown('[[rom]]\nchip = 16\nport = "0000"\n'), "16");
   assert.equal(shown('[[rom]]\nchip = 1\nport = "oooo"\n'), '"oooo"');
@@ -126,7 +126,7 @@ test("keys and values", () => {
   assert.equal(wordsOf("[[keys]]\n"), "1: 23 a board has one key matrix: [keys]");
   assert.equal(wordsOf("[rom]\nchip = 0\nport = \"0000\"\n"), "1: 23 there may be several: [[rom]]");
   assert.equal(wordsOf("rom = [\n  { chip = 0, port = '1i0i' }, # one\n  { chip = 0x4D, port = '0000' },\n]\n"),
-    "3: 23 chip must be 0 to 15, no number twice");
+    "3: 23 chip must be a unique number from 0 to 15");
 });
 
 test("parts that the board lacks, and lines of the wrong direction", () => {
@@ -165,7 +165,7 @@ test("the keys of a board's tables are those of the manual", () => {
   assert.deepEqual([...tables].map(([table, keys]) => [table, [...keys.keys()].join()]),
     [["rom", "chip,port"], ["ram", "bank,chips"], ["chain", "clock,data,chips"], ["keys", "chain,first,rows,columns"], ["lamp", "line"]]);
   assert.deepEqual([tableAt(["[[rom]]", "c"], 1), tableAt(["rom = [", "  { chip = 0 },"], 1), tableAt(["# x"], 0)], ["rom", "rom", ""]);
-  assert.equal(helpForBoard(["[[rom]]", "chip = 0"], 1, 2, tables), "chip of rom: 0 to 15, no number twice.");
+  assert.equal(helpForBoard(["[[rom]]", "chip = 0"], 1, 2, tables), "chip of rom: a unique number from 0 to 15.");
   const texts = (lines, line, at) => completeBoard(lines, line, at, tables).list.map(({ text }) => text);
   assert.deepEqual(texts(["[[rom]]", "p"], 1, 1), ["port"]);
   assert.deepEqual(texts(["[[r"], 0, 3), ["rom", "ram"]);
