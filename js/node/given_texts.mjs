@@ -1,7 +1,7 @@
 // The texts that are given to a tool by their names: files, pipes, and `-`, standard input.
-import { closeSync, openSync, statSync } from "node:fs";
+import { closeSync, openSync } from "node:fs";
 import { CommandError } from "./output.mjs";
-import { readStream, readUserFile } from "./user_files.mjs";
+import { readStream, readUserFile, statOfInput } from "./user_files.mjs";
 import { noAnswers } from "../words/commands.js";
 
 /** The most bytes of a script of lines, and of a text. */
@@ -41,7 +41,7 @@ export function decodedFile(name, most) {
 
 /** @param {string} name */
 function isPipe(name) {
-  const stat = statSync(name, { throwIfNoEntry: false });
+  const stat = statOfInput(name);
   return stat !== undefined && (stat.isFIFO() || stat.isCharacterDevice());
 }
 
@@ -99,7 +99,7 @@ export class GivenTexts {
   text(name, word) {
     const bytes = this.read(name, MOST_SCRIPT);
     const { text, encoding } = decoded(bytes);
-    const lines = text.split("\n").map((line) => line.replace(/\r$/, ""));
+    const lines = text.split(/\r\n?|\n/);
     const begin = lines.findIndex((line) => line.replace(/[ \t]+$/, "") === word);
     if (begin < 0 && bytes.length > MOST_GIVEN) {
       throw new CommandError(`${name} has ${bytes.length} bytes, more than the text of a board or a program can have (${MOST_GIVEN})`);

@@ -31,7 +31,7 @@ const REASONS = {
   ENOENT: "there is no such file", EACCES: "no permission", EPERM: "no permission", ENOSPC: "no space left on the device",
   EDQUOT: "the disk quota is used up", EFBIG: "it would exceed the size limit for files", EROFS: "the file system is read-only",
   EISDIR: "it is a folder", ENOTDIR: "a part of its path is not a folder", ELOOP: "too many symbolic links", ENXIO: "it is not a regular file",
-  ENAMETOOLONG: "its name is too long",
+  ENAMETOOLONG: "its name is too long", EEXIST: "something else has its name",
 };
 
 /** @param {unknown} thrown */
@@ -56,6 +56,14 @@ function tried(what, act) {
 }
 
 // --- reading ---
+
+/**
+ * Returns what is known of a file that is going to be read; undefined if there is none.
+ * @param {string} name
+ */
+export function statOfInput(name) {
+  return tried(`cannot read ${name}`, () => statSync(name, { throwIfNoEntry: false }));
+}
 
 /**
  * Returns whether a file is in a folder, with all links followed.
@@ -264,7 +272,7 @@ export function writeUserFile(name, bytes) {
  * @param {string} other
  */
 function isSameFile(one, other) {
-  const [first, second] = [one, other].map((name) => statSync(name, { throwIfNoEntry: false }));
+  const [first, second] = [one, other].map(statOfInput);
   return first !== undefined && second !== undefined && first.dev === second.dev && first.ino === second.ino;
 }
 
@@ -365,9 +373,10 @@ function putAll(replacements) {
  * @param {string[]} names that must not be there
  */
 export function writeNewFiles(folder, files, names) {
-  const stat = statSync(folder, { throwIfNoEntry: false });
+  const inFolder = (/** @type {() => any} */ act) => tried(`cannot write in ${folder}`, act);
+  const stat = inFolder(() => statSync(folder, { throwIfNoEntry: false }));
   if (stat && !stat.isDirectory()) throw new UserFileError(say.isNoFolder(folder));
-  const taken = names.map((name) => join(folder, name)).find((name) => lstatSync(name, { throwIfNoEntry: false }));
+  const taken = inFolder(() => names.map((name) => join(folder, name)).find((name) => lstatSync(name, { throwIfNoEntry: false })));
   if (taken) throw new UserFileError(say.isThere(taken));
   const made = tried(`cannot make ${folder}`, () => makeFolder(folder));
   const replacements = [];

@@ -723,7 +723,7 @@ export const noSessionFile = (name) => `${name} is not a session file`;
 /** @type {(name: string) => string} */
 export const emptyName = (name) => `${name} is empty; it is the name of the session`;
 /** @type {(folder: string) => string} */
-export const noFolder = (folder) => `${folder} is no folder`;
+export const noFolder = (folder) => `there is no folder ${folder}`;
 export const NO_PROJECT = "is no project";
 /** @type {(folder: string) => string} */
 export const isNoFolder = (folder) => `${folder} exists and is not a folder`;

@@ -20,19 +20,24 @@ else
     echo "not run: a full folder for temporary files (a file system cannot be mounted here)"
 fi
 
-# Files that are none of a command's: empty, a folder, absent, 100 MB; and a program that refuses the session.
+# Files that are none of a command's: empty, a folder, absent, 100 MB, a link to itself, a name that no file can have; and a program that refuses
+# the session.
 : > "$folder/empty"
+ln -s loop "$folder/loop"
+longest=$(printf '%256s' | tr ' ' x)
 dd if=/dev/null of="$folder/huge" bs=1 seek=100000000 2> /dev/null
 wrong_files() {
     most=$1
     shift
-    for file in empty none huge .; do
+    for file in empty none huge . loop $longest; do
         path=$folder/$file
         case $file in
         empty) words="$path is empty" ;;
         none) words="cannot read $path: there is no such file" ;;
         huge) words="cannot read $path: it has more than $most bytes" ;;
         .) words="cannot read $path: it is a folder" ;;
+        loop) words="cannot read $path: too many symbolic links" ;;
+        *) words="cannot read $path: its name is too long" ;;
         esac
         verdict "$(outcome "$@" "$path" $last_word)" "$2: $words
 status 1" "$* with $file"
@@ -50,6 +55,12 @@ wrong_files 16777216 ./mcs4 resume
 wrong_files 16777216 ./mcs4 panel
 last_word=10
 wrong_files 1048576 ./mcs4 trace
+refuses 1 "cover: cannot read $folder/loop: too many symbolic links" ./mcs4 cover --lcov "$folder/lcov" $lock/board.toml $lock/lock.asm "$folder/loop"
+refuses 1 "project: cannot read $folder/loop: too many symbolic links" ./mcs4 project join "$folder/loop" "$folder/joined.mcsp"
+refuses 1 "project: there is no folder $folder/none" ./mcs4 project join "$folder/none" "$folder/joined.mcsp"
+refuses 1 "project: cannot write in $folder/loop: too many symbolic links" ./mcs4 project split examples/a_fault_to_find.mcsp "$folder/loop"
+ln -s none "$folder/dangling"
+refuses 1 "project: cannot make $folder/dangling: something else has its name" ./mcs4 project split examples/a_fault_to_find.mcsp "$folder/dangling"
 refuses 1 "rom: no answers on standard input; it reads what mcs4 has answered, as in: mcs4 rom save FIRST COUNT < ANSWERS" ./mcs4 rom save 0 1
 refuses 1 "cycles: no answers on standard input; it reads what mcs4 has answered, as in: mcs4 cycles .. < ANSWERS" ./mcs4 cycles
 refuses 1 "explain: no answers on standard input; it reads what mcs4 has answered, as in: mcs4 explain .. < ANSWERS" ./mcs4 explain "$folder/two.txt"

@@ -24,6 +24,13 @@ verdict "$(outcome ./mcs4 test "$folder/marked.toml" "$folder/marked.asm" "$fold
 ok 1 - t
 status 0" "texts with a byte order mark"
 verdict "$(outcome ./mcs4 listing "$folder/marked.asm" | sed 1q)" "                 ; z$(printf '\303\244')hle" "a listing with letters beyond ASCII"
+# Lines may end with a carriage return alone; one with a byte that cannot be sent is named and shown.
+printf ' LDM 1\r FOO\r' > "$folder/returns.asm"
+refuses 1 "listing: $folder/returns.asm: line 2: no 30: FOO is not an instruction; a label has a colon: FOO:
+listing:      FOO" ./mcs4 listing "$folder/returns.asm"
+printf ' LDM 1\r LDM 2\r\001' > "$folder/returns.asm"
+refuses 1 "listing: $folder/returns.asm: line 3: no 14: a control character; only tabs and printing characters of ASCII can be sent
+listing:     \x01" ./mcs4 listing "$folder/returns.asm"
 # Comments and indentation do not count: a text of 20,000 bytes, and a line of 300. The script keeps them where the bench takes them.
 { awk 'BEGIN { for (i = 0; i < 200; i++) { printf "%40s NOP ; ", ""; for (n = 0; n < 50; n++) printf "."; print "" } }' && echo "here: JUN here"; } > "$folder/long.asm"
 awk 'BEGIN { printf " NOP ;"; for (n = 0; n < 300; n++) printf "."; print "" }' >> "$folder/long.asm"

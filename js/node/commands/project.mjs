@@ -1,5 +1,5 @@
 // `mcs4 project`: splits a project of the page into files of a folder, and joins such files.
-import { existsSync, realpathSync, statSync } from "node:fs";
+import { existsSync, realpathSync } from "node:fs";
 import { basename, join } from "node:path";
 import { LONGEST_PROJECT, NotAProject, projectText, readProject, wordsOfLength } from "../../core/session/project_file.js";
 import { PART_NAMES, breakpointsIn, partsOfProject, valuesIn } from "../../core/session/project_parts.js";
@@ -10,7 +10,7 @@ import { MOST_GIVEN } from "../given_texts.mjs";
 import { SESSION_BYTES } from "../native_engine.mjs";
 import { endOnSignals, errorOfTexts, startEngine } from "../native_program.mjs";
 import { CommandError, UsageError } from "../output.mjs";
-import { isInside, needOwnFile, readUserFile, writeNewFiles, writeUserFile } from "../user_files.mjs";
+import { isInside, needOwnFile, readUserFile, statOfInput, writeNewFiles, writeUserFile } from "../user_files.mjs";
 
 const PROJECT_BEGINS = "fethsaim project ";
 const SESSION_BEGINS = "MCS4BEN1";
@@ -136,7 +136,7 @@ function listIn(folder, part, read) {
  * @param {string} name of the project
  */
 async function joinFiles(folder, name) {
-  if (!statSync(folder, { throwIfNoEntry: false })?.isDirectory()) throw new CommandError(say.noFolder(folder));
+  if (!statOfInput(folder)?.isDirectory()) throw new CommandError(say.noFolder(folder));
   needOwnFile(name, PROJECT_BEGINS, say.NO_PROJECT, []);
   const names = await textNames(folder);
   const [boardText, programText, testText, propertiesText] = [names.board, names.program, names.tests, names.properties]
