@@ -79,6 +79,7 @@ misuses "there is no option -n" ./mcs4 listing -n $lock/lock.asm
 misuses "--names takes no value" ./mcs4 listing --names=3 $lock/lock.asm
 misuses "--names is given twice" ./mcs4 listing --names --names $lock/lock.asm
 misuses "--names and --labels exclude each other" ./mcs4 listing --names --labels $lock/lock.asm
+for words in "-C $lock" "--seconds 3" "--jobs 2" "--seed 4" --allow-model; do misuses "--merge and ${words%% *} exclude each other" ./mcs4 explore $words --merge x; done
 misuses "FOLDER is missing after -C" ./mcs4 listing -C
 misuses "FOLDER is missing after --folder" ./mcs4 listing --folder --names
 misuses "SEED: '-1' is not a decimal number from 1 to 99999999" ./mcs4 explore --seed -1

@@ -4,10 +4,10 @@ import { isRight, tapOf, testsOfReport } from "../../core/explore/report.js";
 import { namesWithProperties, needCount, needWords } from "../arguments.mjs";
 import { exploreAsJob, exploreTexts, jobOf, mergeReports } from "../explore_processes.mjs";
 import { GivenTexts } from "../given_texts.mjs";
-import { print } from "../output.mjs";
+import { UsageError, print } from "../output.mjs";
 import { temporaryFolder } from "../temporary.mjs";
 import { needOwnFile, writeUserFile } from "../user_files.mjs";
-import { NO_FINDS, NO_REPORT } from "../../words/commands.js";
+import { NO_FINDS, NO_REPORT, excludeEachOther } from "../../words/commands.js";
 
 /** Begin the files that are written. */
 const FINDS_BEGIN = "# Found by ";
@@ -16,6 +16,8 @@ const REPORT_BEGIN = "{\"form\":\"explore 1\"";
 const SECONDS = { most: 86400, usual: 10 };
 const JOBS = { most: 64, usual: 1 };
 const SEED = { most: 99999999, usual: 1 };
+/** The options of a search, which joined reports do not need. */
+const OF_SEARCH = ["folder", "seconds", "jobs", "seed", "allow-model"];
 
 /** @type {(name: string, word: string | undefined, range: { most: number, usual: number }) => number} */
 const count = (name, word, { most, usual }) => (word === undefined ? usual : needCount(name, word, most));
@@ -28,6 +30,8 @@ export async function run(values, positionals) {
   const limits = {
     seconds: count("SECONDS", values.seconds, SECONDS), jobs: count("JOBS", values.jobs, JOBS), seed: count("SEED", values.seed, SEED),
   };
+  const idle = merge && OF_SEARCH.find((name) => values[name] !== undefined);
+  if (idle) throw new UsageError(excludeEachOther("--merge", idle === "folder" ? "-C" : `--${idle}`));
   const names = merge ? positionals : await namesWithProperties(folder, positionals);
   if (merge) needWords(names, ["REPORT"], Infinity);
   else needWords(names, ["BOARD", "PROGRAM", "PROPERTIES"], 3, true);

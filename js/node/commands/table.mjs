@@ -72,7 +72,7 @@ export const COMMANDS = {
     group: "tests",
     usage: [
       "[-C FOLDER] [BOARD PROGRAM] [PROPERTIES] [--seconds N] [--jobs N] [--seed N] [--out FINDS.test] [--report REPORT] [--allow-model]",
-      "--merge [--out FINDS.test] REPORT ..",
+      "--merge [--out FINDS.test] [--report REPORT] REPORT ..",
     ],
     options: {
       folder: FOLDER,
