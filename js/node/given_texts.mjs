@@ -10,6 +10,8 @@ export const MOST_ANSWERS = 67108864;
 export const MOST_GIVEN = 1048576;
 export const STANDARD_INPUT = 0;
 const MARK = Buffer.from([0xEF, 0xBB, 0xBF]);
+/** @type {Record<string, string>} the byte order marks of UTF-16, in which PowerShell writes, each with the name of its encoding */
+const UTF_16 = { fffe: "utf-16le", feff: "utf-16be" };
 
 /**
  * The text of a board or a program, with the name of its file, the number of lines before it, and the encoding of its bytes.
@@ -17,11 +19,13 @@ const MARK = Buffer.from([0xEF, 0xBB, 0xBF]);
  */
 
 /**
- * Returns bytes as a text, without a byte order mark; bytes that are not UTF-8 are read as Latin 1.
+ * Returns bytes as a text, without a byte order mark; bytes that are neither UTF-8 nor have a mark of UTF-16 are read as Latin 1.
  * @param {Buffer} bytes
  * @returns {{ text: string, encoding: BufferEncoding }}
  */
 function decoded(bytes) {
+  const wide = UTF_16[bytes.toString("hex", 0, 2)];
+  if (wide) return { text: new TextDecoder(wide).decode(bytes), encoding: "utf8" };
   try {
     return { text: new TextDecoder("utf-8", { fatal: true }).decode(bytes), encoding: "utf8" };
   } catch {
@@ -87,7 +91,7 @@ export class GivenTexts {
    * @param {string} name
    */
   source(name) {
-    return { name, text: decoded(this.read(name, MOST_GIVEN)).text };
+    return { name, text: decoded(this.read(name, MOST_GIVEN)).text.replace(/\r\n?/g, "\n") };
   }
 
   /**

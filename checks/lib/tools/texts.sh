@@ -31,6 +31,20 @@ listing:      FOO" ./mcs4 listing "$folder/returns.asm"
 printf ' LDM 1\r LDM 2\r\001' > "$folder/returns.asm"
 refuses 1 "listing: $folder/returns.asm: line 3: no 14: a control character; only tabs and printing characters of ASCII can be sent
 listing:     \x01" ./mcs4 listing "$folder/returns.asm"
+printf '# one\rtest t\r run 5\r' > "$folder/returns.test"
+verdict "$(outcome ./mcs4 test "$folder/marked.toml" "$folder/marked.asm" "$folder/returns.test" | sed -n 3p)" "ok 1 - t" "tests whose lines end with carriage returns alone"
+printf '# one\rnever acc 5\r' > "$folder/returns.props"
+verdict "$(outcome ./mcs4 prove "$folder/marked.toml" "$folder/marked.asm" "$folder/returns.props" | sed -n 3p | cut -d '#' -f 1)" "ok 1 - never acc 5 " \
+    "properties whose lines end with carriage returns alone"
+printf '; one\r LDM 1H\r' > "$folder/returns.asm"
+verdict "$(outcome ./mcs4 import "$folder/returns.asm" | tr '\r' R)" "; one
+        LDM 1
+status 0" "an import of lines that end with carriage returns alone"
+# UTF-16 with a byte order mark, as PowerShell writes it.
+for order in le be; do
+    { if [ $order = le ]; then printf '\377\376'; else printf '\376\377'; fi && iconv -f utf-8 -t "utf-16$order" $lock/lock.asm; } > "$folder/wide.asm"
+    verdict "$(outcome ./mcs4 listing "$folder/wide.asm")" "$(outcome ./mcs4 listing $lock/lock.asm)" "a program in UTF-16, $order"
+done
 # Comments and indentation do not count: a text of 20,000 bytes, and a line of 300. The script keeps them where the bench takes them.
 { awk 'BEGIN { for (i = 0; i < 200; i++) { printf "%40s NOP ; ", ""; for (n = 0; n < 50; n++) printf "."; print "" } }' && echo "here: JUN here"; } > "$folder/long.asm"
 awk 'BEGIN { printf " NOP ;"; for (n = 0; n < 300; n++) printf "."; print "" }' >> "$folder/long.asm"

@@ -32,10 +32,10 @@ export async function run(values, words) {
   needWords(words, ["PROGRAM"]);
   const [name] = words;
   // One character for each byte: comments keep theirs.
-  const source = new GivenTexts().read(name, MOST_GIVEN).toString("latin1").replace(MARK, "");
+  const source = new GivenTexts().read(name, MOST_GIVEN).toString("latin1").replace(MARK, "").replace(/\r\n?/g, "\n");
   const { text, faults } = importProgram(source);
   if (faults.length > 0) throw new CommandError(faults.map(({ line, words: why }) => `${name}:${line}: ${why}`).join("\n"));
-  await tryOnBench(name, source.replace(/\r(?=\n|$)/g, ""), text);
+  await tryOnBench(name, source, text);
   printFile(text, "latin1");
   return 0;
 }
