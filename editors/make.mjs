@@ -225,7 +225,11 @@ export const FILES = {
 };
 
 if (process.argv[1] === fileURLToPath(import.meta.url)) {
-  const folder = process.argv[2] || OWN;
+  const [, , folder = OWN, ...others] = process.argv;
+  if (folder === "" || folder.startsWith("-") || others.length > 0) {
+    process.stderr.write("usage: node editors/make.mjs [FOLDER]\n");
+    process.exit(2);
+  }
   for (const [name, text] of Object.entries(FILES)) {
     mkdirSync(dirname(`${folder}/${name}`), { recursive: true });
     writeFileSync(`${folder}/${name}`, text);

@@ -9,8 +9,13 @@ import { COMMANDS } from "../js/node/commands/table.mjs";
 import { sumOfFiles } from "../js/node/joined.cjs";
 import { TOP } from "../js/node/top.mjs";
 
-const folder = resolve(process.argv[2]);
-const names = process.argv.length > 3 ? process.argv.slice(3) : Object.keys(COMMANDS);
+const [, , place = "", ...given] = process.argv;
+if (place === "" || place.startsWith("-") || given.some((name) => !Object.hasOwn(COMMANDS, name))) {
+  process.stderr.write("usage: node tools/join_commands.mjs FOLDER [NAME ..]\n");
+  process.exit(2);
+}
+const folder = resolve(place);
+const names = given.length > 0 ? given : Object.keys(COMMANDS);
 const ESBUILD = ["--bundle", "--platform=node", "--format=cjs", "--target=node18", "--minify", "--legal-comments=none", "--log-level=error",
   // Modules that are imported lazily are required lazily: Node's loader of modules takes longer.
   "--supported:dynamic-import=false",

@@ -162,6 +162,10 @@ export function commandPages() {
   ];
 }
 
-const [, , folder = ""] = process.argv;
+const [, , folder = "", ...others] = process.argv;
+if (folder === "" || folder.startsWith("-") || others.length > 0) {
+  process.stderr.write("usage: node js/node/command_pages.mjs FOLDER\n");
+  process.exit(2);
+}
 for (const part of ["help", "man", "completions"]) mkdirSync(join(folder, part), { recursive: true });
 for (const [name, text] of commandPages()) writeFileSync(join(folder, name), text);

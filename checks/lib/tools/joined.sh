@@ -7,6 +7,14 @@ if [ ! -e tools/join_commands.mjs ]; then
 elif ! command -v esbuild > /dev/null; then
     echo "not run: joined files, in checks/tools (Debian's package: esbuild)"
 else
+    # What makes files takes no option for a folder, and no command that is none.
+    mkdir "$folder/empty"
+    for words in "tools/join_commands.mjs" "tools/join_commands.mjs --help" "tools/join_commands.mjs pages none" "js/node/command_pages.mjs" \
+        "js/node/command_pages.mjs --help" "js/node/command_pages.mjs pages more" "editors/make.mjs --help" "editors/make.mjs made more"; do
+        # shellcheck disable=SC2086
+        verdict "$(cd "$folder/empty" && outcome node "$top"/$words | cut -d ' ' -f 1-3; ls)" "usage: node ${words%% *}
+status 2" "node $words"
+    done
     tree=$folder/tree
     mkdir -p "$tree/shipped/commands" "$tree/tools"
     cp -R mcs4 js examples "$tree"
