@@ -163,6 +163,17 @@ test("what holds for all inputs is proved first, and is not searched for", async
     ["2 false", "0 true", "2 false", "0 true", "0 false", "2 false", "2 false", "2 false"]);
 });
 
+test("a program that runs for long without a read does not hold up the search", async () => {
+  const board = 'rom = [{ chip = 0, port = "0000" }]\n';
+  const slow = subjectOf(engine, board, "all: INC R0\nmore: NOP\n ISZ R1, more\n ISZ R2, more\n ISZ R3, more\n ISZ R4, more\n ISZ R5, more\n JUN all\n");
+  const { campaign } = readCampaign("test\nnever r6 = 1\n", slow);
+  const run = new CampaignRun(slow, campaign, 1, () => true, PATIENCE, null, undefined, 100);
+  const before = process.cpuUsage();
+  await run.goOn(20);
+  // In microseconds; a thousand stretches of a million cycles take minutes.
+  assert.ok(process.cpuUsage(before).user < 10000000);
+});
+
 test("a model says what the display has to show, and what is wrong with it is reported", async () => {
   const board = BOARD.replace("# lamp 0: on", "# display 0: 1 digit")
     .replace("lamp = [", 'lamp = [{ line = "ram0.0.3" }, { line = "ram0.0.2" }, ')

@@ -16,6 +16,8 @@ import { askedOf, boundsUpTo, questionOf, readAnswer } from "../prove/question.j
 /** The bound of the first question, and the most states. */
 const FIRST = 1000;
 const MOST = 999999999;
+/** Keeps the first question short, also of a program that runs for long without a read. */
+const PAUSE = 1000;
 
 export class ProofFirst {
   /**
@@ -62,7 +64,8 @@ export class ProofFirst {
   /** @param {Question} question */
   answerTo({ nevers, mistakes }) {
     const { engine, texts } = this.subject;
-    const answer = engine.prove ? readAnswer(engine.prove(questionOf(texts, nevers, mistakes, { most: this.bounds[0] }))) : null;
+    const limits = { most: this.bounds[0], pause: PAUSE };
+    const answer = engine.prove ? readAnswer(engine.prove(questionOf(texts, nevers, mistakes, limits))) : null;
     return answer || { kind: /** @type {const} */ ("lost") };
   }
 

@@ -21,11 +21,12 @@ import * as say from "../../words/prove.js";
  * @typedef {{ kind: "holds", states: number } | { kind: "fails", values: number[] } | NoAnswer} Answer
  *
  * The limits of a question: the most states, and the most memory for them in MB (0: all that there is). With `sets`, the most sets of
- * states, the prover does not search, but computes what each register may hold at each address; 0 if it searches.
- * @typedef {{ most: number, memory?: number, sets?: number }} QuestionLimits
+ * states, the prover does not search, but computes what each register may hold at each address; 0 if it searches. A stretch of more than
+ * `pause` cycles without a read counts as several states, so a search runs at most `most` times `pause` cycles.
+ * @typedef {{ most: number, memory?: number, sets?: number, pause?: number }} QuestionLimits
  */
 
-/** A stretch of this many cycles without a read is cut. */
+/** The usual `pause` of a question. */
 export const PAUSE = 1000000;
 /** The most sets of states for a question that is not searched. */
 export const MOST_SETS = 100000;
@@ -86,9 +87,9 @@ export function askedOf(property, { from }, board) {
  * @param {string[]} mistakes their words
  * @param {QuestionLimits} limits
  */
-export function questionOf({ board, program }, nevers, mistakes, { most, memory = 0, sets = 0 }) {
+export function questionOf({ board, program }, nevers, mistakes, { most, memory = 0, sets = 0, pause = PAUSE }) {
   const given = Object.entries({ memory, sets }).filter(([, number]) => number > 0);
-  const limits = [["most", most], ...given, ["pause", PAUSE]].map((words) => words.join(" "));
+  const limits = [["most", most], ...given, ["pause", pause]].map((words) => words.join(" "));
   const texts = [`wire\n${sentText(board, "#")}.`, `asm\n${sentText(program, ";")}.`];
   const made = mistakes.length > 0 ? [["never", ["mistake", ...mistakes].join(" ")]] : [];
   return `${[...limits, ...texts, ...nevers.map((all) => ["never", ...all]), ...made, ["prove"]].flat().join("\n")}\n`;
