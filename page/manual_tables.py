@@ -1,4 +1,4 @@
-"""The tables that the page shows: of docs/MANUAL.md, so that they stand once, and of page/help.md, which tells of the page alone."""
+"""The tables that the page shows: those of docs/MANUAL.md, so that each is written once, and those of page/help.md, about the page itself."""
 
 import pathlib
 import re

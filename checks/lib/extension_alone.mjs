@@ -90,7 +90,7 @@ async function tryTests(editor) {
   const [[, ], [kind, , message]] = results;
   const { given: [uri, at] } = message.location;
   verdict([results[0], kind, uri.fsPath, at.line], [["passed", "it begins"], "failed", join(folder, "lone", "three_lamps.test"), 5], "a test that fails, and where");
-  verdict(/^acc is \w+, and has to be 9\n/.test(message.given[0]), true, `why it fails: ${message.given[0].split("\n")[0]}`);
+  verdict(/^acc is \w+, but must be 9\n/.test(message.given[0]), true, `why it fails: ${message.given[0].split("\n")[0]}`);
   await runTests(editor, "Debug", [fails]);
   return shown.launched.pop();
 }
@@ -121,7 +121,7 @@ async function tryDebuggedTest(editor, configuration) {
   const { client, end } = await debug(editor, configuration);
   await client.event("stopped");
   const output = client.output();
-  verdict(/three_lamps\.test:6: it fails: acc is \w+, and has to be 9/.test(output), true, `a test is debugged: ${output.trim()}`);
+  verdict(/three_lamps\.test:6: it fails: acc is \w+, but must be 9/.test(output), true, `a test is debugged: ${output.trim()}`);
   const counter = async () => (await client.frames())[0].instructionPointerReference;
   const before = await counter();
   await client.move("stepBack");

@@ -13,7 +13,7 @@ CONTROL, SHIFT, UP = "\ue009", "\ue008", "\ue013"
 F1, F5, F8, F9, F10, F11 = "\ue031", "\ue035", "\ue038", "\ue039", "\ue03a", "\ue03b"
 # F5 may pause inside of a subroutine or before a call of one: that is a matter of time.
 STEPPED_OVER = re.compile(f"{STEPPED.pattern}|^Returned to [0-9A-F]{{3}}, after ")
-STEPPED_OUT = re.compile("^Returned to |no call waits for its return here")
+STEPPED_OUT = re.compile("^Returned to |no call is open here")
 OPEN = "const palette = document.getElementById('palette'); return palette !== null && palette.open"
 WORDS = "return [...document.querySelectorAll('#palette-list li .grow')].map((each) => each.textContent)"
 FIRST = "return document.querySelector('#palette-list li').textContent"
@@ -99,7 +99,7 @@ def check_listbox(browser):
     eventually(browser, "words find a command, which shows its key", FIRST, "Step overTimeF10")
     verdict("the field has the focus", browser.script("return document.activeElement.getAttribute('role')"), "combobox")
     browser.type_into("#palette input", " qqq")
-    eventually(browser, "what nothing has is said", FIRST, "Nothing is called step ov qqq")
+    eventually(browser, "what nothing has is said", FIRST, "Nothing is named step ov qqq")
     browser.keys([ESCAPE])
     eventually(browser, "Escape closes it", OPEN, False)
     verdict("and the focus is back", browser.script(FOCUS), "name")

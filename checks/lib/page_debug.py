@@ -159,15 +159,15 @@ def check_condition(browser):
     check_typed(browser)
     browser.script(FILL, CONDITION, "r44 = 9")
     eventually(browser, "a condition that cannot be read says why, in its place", FAULTS,
-               "It stops at each arrival, because of an error: r44: no such place; the registers are r0 to r15 (column 1).")
+               "It stops every time, because of an error: r44: no such place; the registers are r0 to r15 (column 1).")
     browser.click("#run")
-    eventually(browser, "and stops at each arrival", STATUS,
+    eventually(browser, "and stops every time", STATUS,
                "Paused at 011, at a breakpoint that has an error, r44: no such place; the registers are r0 to r15 (column 1).")
     browser.script(FILL, CONDITION, "R9 == 3 || (r9 >= 0xF && lamp 1 on)")
     eventually(browser, "once it is mended it is as any other", FAULTS, "")
     browser.script(FILL, CONDITION, "rom3 in 1")
     eventually(browser, "one that names what the board lacks", FAULTS,
-               "It stops at each arrival, because of an error: the board has no ROM 3 (column 1).")
+               "It stops every time, because of an error: the board has no ROM 3 (column 1).")
     browser.script(CHANGE_AND_RUN, "r9 = 7", "", "r9 = 5")
     eventually(browser, "a run right after a change goes by the new condition", STATUS, "Paused at 011, at a breakpoint, when r9 = 5.")
     browser.script(FILL, CONDITION, "")
@@ -223,7 +223,7 @@ def check_back(browser):
     browser.script(FILL, CONDITION, "r9 = 9 and r9 = 8")
     browser.click("#back-breakpoint")
     eventually(browser, "there is none where it never holds", STATUS,
-               re.compile("^Back at ..., .* at the beginning of what is remembered: no breakpoint was passed since"))
+               re.compile("^Back at ..., .* at the beginning of the remembered past: no breakpoint was passed since then"))
     browser.click("#forward")
     eventually(browser, "and forward again", STATUS, re.compile("^Forward again to 011"))
 
@@ -290,7 +290,7 @@ def check_row(browser):
     browser.until(ASKED, ROW_LINE)
     browser.keys([*"r44 = 9", ENTER])
     eventually(browser, "an error is said in the row, in the words of conditions", ROW_FAULT,
-               "It stops at each arrival, because of an error: r44: no such place; the registers are r0 to r15 (column 1).")
+               "It stops every time, because of an error: r44: no such place; the registers are r0 to r15 (column 1).")
     verdict("where the caret stays", browser.script(ASKED), ROW_LINE)
     browser.keys([*[BACKSPACE] * 7, *"r9 = 9", TAB, *"0", ENTER])
     eventually(browser, "a count that is none is marked", "return document.activeElement.getAttribute('aria-invalid')", "true")

@@ -71,7 +71,7 @@ loop:   NOP
 loop:   NOP
 """
 WORDS = re.compile(r"^line 1: LDX is not an instruction; .*\|line 2: FIM takes a pair, P0 to P7\|line 3: JMP is not an instruction; JUN\?"
-                   r"\|line 4: LDM takes a value, 0 to 15\|line 6: loop is defined in line 5 already$")
+                   r"\|line 4: LDM takes a value, 0 to 15\|line 6: loop is already defined in line 5$")
 
 
 def put(browser, editor, text):
@@ -273,7 +273,7 @@ def check_running(browser):
     put(browser, PROGRAM, "\tLDM 7\nstop:\tJUN stop\n")
     browser.click("#assemble-only")
     eventually(browser, "assembling alone says what it leaves", STATUS_OF.format(PROGRAM), re.compile(
-        r"^3 bytes assembled\. \d+ bytes from before stay in ROM, from 0x0..? on\. The counter stays at ..., nothing was reset\.$".replace(", n", "; n")))
+        r"^3 bytes assembled\. \d+ bytes from before stay in ROM, from 0x0..?\. The counter stays at ..., nothing was reset\.$".replace(", n", "; n")))
     browser.script(SET_CARET, PROGRAM, 0, 0)
     browser.chord(CONTROL, ENTER)
     eventually(browser, "Control and Enter assemble and run", STATUS_OF.format(PROGRAM), "Assembled 3 bytes; running from 000.")
@@ -340,7 +340,7 @@ def check_board(browser):
         browser.keys([ENTER])
     eventually(browser, "and a board of such parts has no fault", FAULTS.format(BOARD), "")
     put(browser, BOARD, "[[rom]]\nchip = 0\nport = 0000\n")
-    eventually(browser, "what is no TOML", FAULTS.format(BOARD), 'line 3: a number has no leading zero; a text is in quotes: "0000"')
+    eventually(browser, "what is no TOML", FAULTS.format(BOARD), 'line 3: a number has no leading zero; write a text in quotes: "0000"')
     show_text(browser, "program")
 
 

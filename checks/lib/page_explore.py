@@ -164,13 +164,13 @@ def check_faults(browser):
     put(browser, "properties", "wait 0 to 5\nnever lamp purple on\npress A\n")
     show_text(browser, "properties")
     eventually(browser, "faults are reported while one types", FAULTS,
-               ["line 1: it is written as `wait TIME to TIME`, from 1 cycle to 100,000 (1.08 s), as in: wait 1 ms to 20 ms",
+               ["line 1: write `wait TIME to TIME`, from 1 cycle to 100,000 (1.08 s), as in: wait 1 ms to 20 ms",
                 "line 2: the board has no lamp purple; it has: locked open alarm (column 7)",
                 "line 3: the board has no key A; it has: 1 2 3 4 5 6 7 8 9 * 0 #"])
     verdict("the tab shows how many", browser.script(MARK), "3 faults")
     browser.click("#explore")
-    eventually(browser, "nothing is looked for then", PROPERTIES_STATUS, re.compile("^Nothing was run: Properties, line 1: it is written as .* and 2 more.$"))
-    for seconds, seed, words in ((0, 1, "The seconds are a number, 1 to 86,400."), ("x", -1, re.compile("^The seconds .* The seed is a number"))):
+    eventually(browser, "nothing is looked for then", PROPERTIES_STATUS, re.compile("^Nothing was run: Properties, line 1: write .* and 2 more.$"))
+    for seconds, seed, words in ((0, 1, "Seconds must be a number from 1 to 86,400."), ("x", -1, re.compile("^Seconds .* The seed must be a number"))):
         explore(browser, seconds, seed)
         verdict(f"{seconds} seconds are refused", browser.script(PROPERTIES_STATUS), words)
     board = text_of(browser, "board")
@@ -194,7 +194,7 @@ def check_proof_first(browser):
     """Checks a board and a program of the user's own that reach few states: what holds in all of them is proved."""
     choose_example(browser, "empty bench")
     explore(browser, 5)
-    eventually(browser, "without a board nothing may change", PROPERTIES_STATUS, re.compile("^Nothing was run: Properties, line 1: there is nothing that may change"))
+    eventually(browser, "without a board nothing may change", PROPERTIES_STATUS, re.compile("^Nothing was run: Properties, line 1: nothing may change"))
     put(browser, "board", BOARD)
     put(browser, "program", PROGRAM)
     put(browser, "properties", "test\nwait 1 to 20\nnever lamp 1 on\nnever lamp 0 on\nreach lamp 1 on\n")
@@ -209,7 +209,7 @@ def check_from_a_state(browser):
     put(browser, "tests", "test it is lit\n  set test 1\n  run 40\n  save lit\n")
     put(browser, "properties", "from lit\ntest\nwait 1 to 20\nnever lamp 0 on\nfrom dark\n")
     show_text(browser, "properties")
-    eventually(browser, "a second state is a fault", FAULTS, ["line 5: it begins from a state in a line before"])
+    eventually(browser, "a second state is a fault", FAULTS, ["line 5: an earlier line already says from which state it begins"])
     put(browser, "properties", "from dark\ntest\nnever lamp 0 on\n")
     eventually(browser, "and one that no test saves", FAULTS, ["line 1: no test saves a state dark; there is: lit"])
     put(browser, "properties", "from lit\ntest\nwait 1 to 20\nnever lamp 0 on\n")
@@ -247,7 +247,7 @@ def check_kept(browser, folder):
     browser.type_into("#file", str(LOCK / "lock.props"))
     eventually(browser, "a file of properties comes into its tab", TEXT_OF_EDITOR.replace("arguments[0]", f"'{EDITOR}'"),
                (LOCK / "lock.props").read_text())
-    eventually(browser, "and says what to do with it", NOTICE, re.compile("lock.props is in Properties. Search looks for what breaks it"))
+    eventually(browser, "and says what to do with it", NOTICE, re.compile("lock.props is in Properties. Search looks for counterexamples"))
 
 
 def check(browser, page, folder, mcs4):

@@ -180,10 +180,10 @@ def check_bad_faces(browser):
     verdict("a board with a face that is none is wired", status_of(browser, "#board-editor", bad + board_of_lamps(16)),
             "Board applied.")
     eventually(browser, "what is wrong with it is reported with its lines", FAULTS, "; ".join(f"line {line} of the board's text: {words}" for line, words in (
-        (2, "pink is no colour; there are red, amber, yellow, green, blue and white"),
-        (3, "the lamp nobody is number 16, and the board has 16"),
-        (5, "the display needs lamps up to number 18, and the board has 16"),
-        (6, "no lamp has the name ghost"))))
+        (2, "pink is not a colour; the colours are red, amber, yellow, green, blue and white"),
+        (3, "the lamp nobody is number 16, but the board has 16"),
+        (5, "the display needs lamps up to number 18, but the board has 16"),
+        (6, "no lamp is named ghost"))))
     eventually(browser, "what is not understood stands at its lines in the editor, too", AT_LINES, "line 2: pink is no colour")
     verdict("the rest of it is shown, as letters", [browser.script(TITLE), browser.script("return document.querySelector('#front i, #front h2 b')")],
             ["Odd <b>one</b>", None])

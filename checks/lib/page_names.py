@@ -193,7 +193,7 @@ def check_pointing(browser, source, values, lines):
         "scan": f"scan: address 0x{values['scan']}, line {source[values['scan']][0]}",
         "JMS": re.compile(r"^JMS t: 2 words, 2 cycles\. .*The carry stays\.$"),
         "nonzero": re.compile(f"^nonzero = 0x{values['nonzero'][-2:]}, {int(values['nonzero'], 16)}(, {int(values['nonzero'], 16):04b})?$"),
-        "P1": re.compile(r"^(?:P1 = ([0-9A-F])([0-9A-F]): R2 \1, R3 \2\. )?P1: the pair of R2, its upper four bits, and R3, its lower ones\.$"),
+        "P1": re.compile(r"^(?:P1 = ([0-9A-F])([0-9A-F]): R2 \1, R3 \2\. )?P1: the pair of R2 \(upper four bits\) and R3 \(lower four bits\)\.$"),
     }.items():
         point_at(browser, line_of[word], word)
         eventually(browser, f"the pointer on {word} shows what it is", MEANING, words)

@@ -123,7 +123,7 @@ def check_numbers(browser):
     for number in ("-5", "99999999999999999999", "abc"):
         browser.script(SET, "record-cycles", number)
         browser.click("#record")
-        eventually(browser, f"{number} cycles are refused", "return document.getElementById('scope-status').textContent", re.compile("^How many cycles"))
+        eventually(browser, f"{number} cycles are refused", "return document.getElementById('scope-status').textContent", re.compile("^Enter a number of cycles"))
     show_text(browser, "properties")
     browser.script(SET, "explore-seconds", "abc")
     browser.click("#explore")

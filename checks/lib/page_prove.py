@@ -27,7 +27,7 @@ CONTROL, SHIFT, ENTER = "\ue009", "\ue008", "\ue007"
 LONG = 900
 # The mistakes that every program is asked for.
 MISTAKES = 7
-CHANGED = "the program, the board or the text has changed since"
+CHANGED = "the program, the board or the text has changed since then"
 # The lamp is on while TEST is 0, and nothing turns the other one on.
 BOARD = ('# lamp 0: lit\n# test: button WALK\nlamp = [{ line = "ram0.0.0" }, { line = "ram0.0.1" }]\nrom = [{ chip = 0, port = "0000" }]\n'
          "ram = [{ bank = 0, chips = 1 }]\n")
@@ -145,7 +145,7 @@ def check_kinds(browser):
     browser.click("#kept button[aria-label='open empty bench']")
     eventually(browser, "back in the session, its verdicts are there", LIT, 1 + MISTAKES)
     prove_to_end(browser, "20 states are soon searched", 20)
-    verdict("too many states decide nothing", browser.script(ROWS), re.compile("'not decided . never lamp 1 on . more than 20 states; a larger number"))
+    verdict("too many states decide nothing", browser.script(ROWS), re.compile("'not decided . never lamp 1 on . more than 20 states; enter a larger number"))
     browser.click("#clear-finds")
     verdict("what was proved is cleared", browser.script("return isShown(document.getElementById('proof-results'))"), False)
 
@@ -153,7 +153,7 @@ def check_kinds(browser):
 def check_wrong(browser):
     for states in ("0", "x", ""):
         prove(browser, states)
-        verdict(f"{states or 'no'} states are refused", browser.script(PROPERTIES_STATUS), "The states are a number, 1 to 999,999,999.")
+        verdict(f"{states or 'no'} states are refused", browser.script(PROPERTIES_STATUS), "The number of states must be 1 to 999,999,999.")
     put(browser, "properties", "never lamp purple on\n")
     prove_to_end(browser, "nothing is proved of a text with an error")
     verdict("which is reported", browser.script(PROPERTIES_STATUS), re.compile("^Nothing was run: Properties, line 1: the board has no lamp purple"))

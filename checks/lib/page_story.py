@@ -149,7 +149,7 @@ def check_file(browser, folder):
     verdict("a project has the text as it is", all(line in whole.decode() for line in ("; my first program", "read: RDR")), True)
     browser.script(DROP, "holiday.jpg", "no session at all")
     eventually(browser, "a wrong file that is dropped is refused in words", NOTICE,
-               re.compile(r"Cannot open holiday\.jpg: not a kind of text that the bench has; supported are projects .*The session that is shown is as it was"))
+               re.compile(r"Cannot open holiday\.jpg: not a kind of text that the bench has; supported are projects .*The session shown is unchanged"))
     verdict("and the texts are as they were", browser.script(TEXTS), texts)
     go_to_source(browser)
     browser.script(SET_CARET, PROGRAM, 0, 0)

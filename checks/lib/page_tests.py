@@ -52,7 +52,7 @@ def check_failing(browser):
     run_tests(browser)
     eventually(browser, "a test fails", TESTS_STATUS, "1 of 2 tests failed.")
     verdict("the tab says so", browser.script(MARK), "1 failed")
-    verdict("with its line, and what is wrong", browser.script(WRONG), ["line 14 expect cycles 538: cycles are 536, and have to be 538"])
+    verdict("with its line, and what is wrong", browser.script(WRONG), ["line 14 expect cycles 538: cycles are 536, but must be 538"])
     browser.click("#test-list .wrong button")
     verdict("the line is shown", browser.script(SELECTED), "  expect cycles 538")
     browser.click("#test-list details summary")
@@ -125,7 +125,7 @@ def check_cancel(browser):
     browser.click(f"{EDITOR} .send")
     browser.until("return isShown(document.getElementById('work'))", True)
     browser.click("#cancel")
-    eventually(browser, "a test that does not end is cancelled", TESTS_STATUS, "It was cancelled; what is shown is from before.")
+    eventually(browser, "a test that does not end is cancelled", TESTS_STATUS, "It was cancelled; the results shown are from before.")
 
 
 def check_kept(browser, folder):

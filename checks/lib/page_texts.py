@@ -86,7 +86,7 @@ def check_damaged(browser, folder, whole):
                         (foreign, "not a text, a session or a project; supported are projects")):
         browser.type_into("#file", str(path))
         eventually(browser, f"{path.name} is refused in words", NOTICE,
-                   re.compile(f"Cannot open {path.name}: .*{words}.*The session that is shown is as it was"))
+                   re.compile(f"Cannot open {path.name}: .*{words}.*The session shown is unchanged"))
     plain = folder / "plain"
     plain.write_text("hello")
     browser.type_into("#file", str(plain))
@@ -216,7 +216,7 @@ def check_many_notices(browser, folder):
     browser.click("#notices-button")
     browser.click("#notices li:nth-child(2) button")
     eventually(browser, "and undone in the list", PROGRAM_TEXT, " LDM 1\n")
-    eventually(browser, "which has a notice, too", NOTICE, "The source is back as it was.")
+    eventually(browser, "which has a notice, too", NOTICE, "The source is restored.")
 
 
 def open_link(browser, page, link):
@@ -267,7 +267,7 @@ def check_link(browser, page):
     for what, made in (("a cut link", link[:-9]), ("a link that is made by hand", "link=1.aGVsbG8"), ("another one", "link=hello")):
         before = browser.script(TEXTS)
         open_link(browser, page, made)
-        eventually(browser, f"{what} is refused in words", NOTICE, re.compile("Cannot open the link: it is cut off, or was changed"))
+        eventually(browser, f"{what} is refused in words", NOTICE, re.compile("Cannot open the link: it is cut off or was changed"))
         verdict("and the bench is as it was", browser.script(TEXTS), before)
 
 
@@ -287,7 +287,7 @@ def check_foreign_links(browser, page):
     shown = browser.script(TEXTS)
     open_link(browser, page, link_of("a clock", hanging, ""))
     eventually(browser, "a link with a text that is too long is refused in words", NOTICE, re.compile(
-        rf"^Cannot open the link: the board's text has {len(hanging):,} characters; at most 65,536 are accepted\. What was here stays as it was\.$"))
+        rf"^Cannot open the link: the board's text has {len(hanging):,} characters; at most 65,536 are accepted\. Nothing was changed\.$"))
     verdict("and the bench is as it was", browser.script(TEXTS), shown)
     board = f"# title: {'long words ' * 20}\n# lamp 0: {' '.join(names[:400])}\n# grid 0: {' '.join(f'-{at}' for at in range(600))}\n"
     open_link(browser, page, link_of("\u202etxe\u2066\t" + "name " * 900, board, ""))
@@ -321,7 +321,7 @@ document.body.dispatchEvent(new DragEvent("drop", { dataTransfer: data, bubbles:
     eventually(browser, "at the speed that it names", "return document.getElementById('speed').value", "tenth")
     browser.script(drop, [*files[:2], ["mcs4.toml", names + "lamps = 1\n"]])
     eventually(browser, "what is wrong in it is reported with its line", NOTICE, re.compile(
-        r"^Cannot open the folder: mcs4\.toml: line 4: a project has no key lamps; .*The session that is shown is as it was"))
+        r"^Cannot open the folder: mcs4\.toml: line 4: a project has no key lamps; .*The session shown is unchanged"))
     browser.script(drop, files[2:])
     eventually(browser, "alone it is refused", NOTICE, re.compile(r"^Cannot open mcs4\.toml: it names files of a project: drop its folder"))
     browser.script("document.getElementById('speed').value = 'real'; document.getElementById('speed').dispatchEvent(new Event('change'))")
@@ -383,7 +383,7 @@ def check_image(browser, folder, image):
     other = folder / "other.bin"
     other.write_bytes(bytes(byte ^ 0x80 if at < 4 else byte for at, byte in enumerate(image)))
     browser.type_into("#file", str(other))
-    eventually(browser, "an image is opened", NOTICE, re.compile(f"^{len(image):,} bytes of other.bin are in ROM, from 000 on; nothing was reset\\."))
+    eventually(browser, "an image is opened", NOTICE, re.compile(f"^{len(image):,} bytes of other.bin are in ROM, from 000; nothing was reset\\."))
     verdict("it stands in ROM", saved_as(browser, folder, ".bin"), other.read_bytes())
     large = folder / "large.hex"
     large.write_text(":010F0000D11F\n:00000001FF\n")

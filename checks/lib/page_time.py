@@ -273,7 +273,7 @@ def check_never(browser):
     browser.reload()
     until_ready(browser)
     eventually(browser, "a reload ends it, which is reported", STATUS, re.compile("^Paused at 002: the return from the subroutine was not reached, as "
-                                                                              "the page was loaded again"))
+                                                                              "the page was reloaded"))
     browser.click("#back-stop")
     # How many cycles passed before the session was kept for the last time depends on the browser.
     eventually(browser, "and nothing is lost", STATUS, re.compile("^Back at the stop at 002"))

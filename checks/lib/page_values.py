@@ -173,7 +173,7 @@ def check_heat(browser):
     eventually(browser, "a character has the name that the source gives it", names, ["2 digit"])
     browser.script(CHOOSE, "heat", "often")
     browser.script(CHOOSE, "heat-cycles", "some")
-    eventually(browser, "a number of cycles is wanted", HEAT, re.compile("^How many cycles"))
+    eventually(browser, "a number of cycles is wanted", HEAT, re.compile("^Enter a number of cycles"))
     browser.script(CHOOSE, "heat-cycles", "100")
     eventually(browser, "what changed is reported", HEAT, f"In the last 100 cycles, 1.080 ms, one character has changed: digit, {HEATED}.")
     cell = f"5 digit, bank 0, chip 0, register 1, character 2: SRC byte 12; changed {HEATED}"

@@ -147,7 +147,7 @@ def check_file(browser, folder, mcs4):
         browser.script("document.querySelector('#wave-boxes input').click()")
     look_for(browser, "")
     eventually(browser, "values are recorded from the next recording on", "return document.getElementById('signals-status').textContent",
-               "acc, cy, r5 .. are recorded from the next recording on.")
+               "acc, cy, r5 .. are recorded from the next recording.")
     verdict("they are recorded", record(browser, 3000), re.compile("^3,000 cycles recorded"))
     browser.script("document.getElementById('waves-all').click()")
     names = browser.script(NAMES).split(" ")
@@ -262,7 +262,7 @@ def check_triggers(browser):
     verdict("it waits for its trigger", record(browser, 3000, "live"), "Records as soon as the machine runs. Waiting for lamp15 rises.")
     browser.click("#run")
     status = browser.until(SCOPE_STATUS, re.compile(r"^Recorded [0-9,]+ cycles, .*\. The trigger was at cycle [0-9,]+\.$"))
-    eventually(browser, "time stops with it", STATUS, re.compile(r"^Paused at .*, because the waves after the trigger are recorded\.$"))
+    eventually(browser, "time stops with it", STATUS, re.compile(r"^Paused at .*, because the waves after the trigger have been recorded\.$"))
     browser.script(CHOOSE, ["lamp15"])
     at = re.search(r"at cycle ([0-9,]+)", status)[1]
     eventually(browser, "the cursor stands at the trigger", FIRST, re.compile(f"^A: cycle {at}, "))
@@ -278,7 +278,7 @@ def check_triggers(browser):
         verdict(f"the trigger {words} is reported", record(browser, 3000, "live"), re.compile(f"^{re.escape(fault)}"))
         verdict(f"at its field, {words}", browser.script("return document.getElementById('trigger').getAttribute('aria-invalid')"), "true")
     browser.script(FILL, {"trigger": "lamp15 rises", "behind": "4000"})
-    verdict("more behind than is kept", record(browser, 3000, "live"), "3,000 cycles are kept: no more of them can follow the trigger.")
+    verdict("more behind than is kept", record(browser, 3000, "live"), "3,000 cycles are kept: at most that many can follow the trigger.")
     browser.script(FILL, {"trigger": "", "behind": "500"})
     browser.script("document.getElementById('stops-time').checked = false")
 
@@ -301,8 +301,8 @@ def check_search(browser):
     eventually(browser, "the next one is another", f"return document.getElementById('wave-first').textContent === {first!r}", False)
     browser.click("#find-before")
     eventually(browser, "and back to the first", FIRST, first)
-    for words, fault in (("r77 = 3", "Nothing that was recorded is called r77: choose it, and record again."),
-                         ("r3 = 16", "r3 has 4 bits: it is 15 at most."), ("cy = 1", "Nothing that was recorded is called cy"),
+    for words, fault in (("r77 = 3", "Nothing that was recorded is called r77: select it and record again."),
+                         ("r3 = 16", "r3 has 4 bits: its value is at most 15."), ("cy = 1", "Nothing that was recorded is called cy"),
                          ("@nowhere", "The program of this recording has no label nowhere.")):
         browser.script(FILL, {"wave-search": words})
         browser.click("#find-after")
@@ -409,7 +409,7 @@ def check_pictures(browser, folder):
 
 def check_refusals(browser):
     for words in ("0", "10000001", "many", ""):
-        verdict(f"{words or 'nothing'} cycles are refused", record(browser, words), "How many cycles? A number from 1 to 10,000,000.")
+        verdict(f"{words or 'nothing'} cycles are refused", record(browser, words), "Enter a number of cycles, from 1 to 10,000,000.")
     browser.script("document.getElementById('waves-none').click()")
     browser.click("#wave-files summary")
     browser.click("#save-waves")

@@ -37,7 +37,7 @@ test("what cannot be launched is refused in words, and another launch can follow
   assert.match(await refused(undefined), /^launch needs "project"/);
   assert.match(await refused({ program: 3 }), /program is a text/);
   assert.match(await refused({ program: "/none.asm" }), /cannot read \/none.asm/);
-  assert.match(await refused({ program: "/a.asm" }), /^a.asm, line 1: the line has no form that the assembler knows \(no 30\)$/);
+  assert.match(await refused({ program: "/a.asm" }), /^a.asm, line 1: the assembler does not know the form of the line \(no 30\)$/);
   assert.match(await refused({ program: "/b/b.asm" }), /^there is no board.toml beside \/b\/b.asm/);
   assert.match(await refused({ session: "/none.mcs" }), /^\/none.mcs does not exist/);
   assert.match(await refused({ project: "/b" }), /^there is no \/b\/mcs4.toml/);
@@ -56,8 +56,8 @@ test("breakpoints at lines, labels and addresses, with conditions, hits and note
     { line: 34, hitCondition: "often" }]);
   assert.deepEqual([plain.verified, plain.line, plain.instructionReference], [true, 31, "0x033"]);
   assert.deepEqual([moved.verified, moved.line], [true, 26]);
-  assert.match(none.message, /No instruction follows on line 500/);
-  assert.match(unread.message, /^It stops at each arrival, because of an error: foo: no such place; places are .* \(column 1\)\.$/);
+  assert.match(none.message, /No instruction follows line 500/);
+  assert.match(unread.message, /^It stops every time, because of an error: foo: no such place; places are .* \(column 1\)\.$/);
   assert.match(hits.message, /a hit count is a number/);
   const [other] = await set([{ line: 31 }], { path: "/lock/board.toml" });
   assert.match(other.message, /not in the program that is debugged, \/lock\/lock.asm/);
@@ -97,8 +97,8 @@ test("over, into, out, back and back again; goto; values are set", async () => {
   assert.deepEqual([arrival.reason, arrival.hitBreakpointIds.length, await lines()], ["function breakpoint", 1, [80, 29]]);
   const beginning = await move("reverseContinue");
   assert.deepEqual([beginning.reason, await lines()], ["entry", [16]]);
-  assert.match(beginning.description, /^Back at 000 .*, at the beginning of what is remembered: no breakpoint was passed since\.$/);
-  assert.match((await move("reverseContinue")).description, /^Nothing was done: what is remembered reaches no further back\.$/);
+  assert.match(beginning.description, /^Back at 000 .*, at the beginning of the remembered past: no breakpoint was passed since then\.$/);
+  assert.match((await move("reverseContinue")).description, /^Nothing was done: the remembered past reaches no further back\.$/);
   await ask("setFunctionBreakpoints", { breakpoints: [] });
   for (const command of ["stepIn", "next", "next", "next", "stepIn"]) await move(command);
   assert.deepEqual(await lines(), [80, 29]);
@@ -192,14 +192,14 @@ test("memory is written whole or not at all, and one wrong reference spoils no o
   const { breakpoints } = await ask("setInstructionBreakpoints", { breakpoints: [{ instructionReference: "0x02C" },
     { instructionReference: "nowhere" }, { instructionReference: "0xFFF", offset: 9 }, { instructionReference: "0x02D" }] });
   assert.deepEqual(breakpoints.map(({ verified }) => verified), [true, false, false, true]);
-  assert.match(breakpoints[1].message, /^nowhere is no label of the program/);
+  assert.match(breakpoints[1].message, /^nowhere is neither a label of the program/);
 });
 
 test("a step out without an open call is refused with words that are shown", async () => {
   const { begin, answer, ask, move, stops, until } = served();
   await begin();
   const refused = await answer("stepOut", { threadId: 1 });
-  assert.deepEqual([refused.success, refused.message, refused.body.error.showUser], [false, "no call waits for its return here", true]);
+  assert.deepEqual([refused.success, refused.message, refused.body.error.showUser], [false, "no call is open here", true]);
   await ask("continue", { threadId: 1 });
   assert.equal((await answer("stepOut", { threadId: 1 })).success, false);
   const before = stops().length;
@@ -349,7 +349,7 @@ test("a test is debugged: where it fails, or at its end, with its past", async (
   const { ask, begin, move, messages } = served(files);
   await begin({ test: "it fails", tests: "/lock/a b.test" });
   const output = () => messages.filter(({ event }) => event === "output").map(({ body }) => body.output).join("");
-  assert.match(output(), /^\/lock\/a b\.test:15: it fails: acc is \d+, and has to be 9\n/);
+  assert.match(output(), /^\/lock\/a b\.test:15: it fails: acc is \d+, but must be 9\n/);
   const counter = async () => (await ask("stackTrace", { threadId: 1 })).stackFrames[0].instructionPointerReference;
   const failed = await counter();
   await move("stepBack");

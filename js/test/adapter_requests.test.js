@@ -50,7 +50,7 @@ test("what cannot be attached to is refused in words", async () => {
   const { ask, answer } = served({ ...FILES, "/lock/other.asm": "LDM 1\n" }, sessions);
   await ask("initialize", {});
   const refused = async (args) => (await answer("attach", args)).message;
-  assert.equal(await refused({ program: "/lock/lock.asm" }), "attach needs \"session\", a session file; launch begins a program");
+  assert.equal(await refused({ program: "/lock/lock.asm" }), "attach needs \"session\", a session file; launch starts a program");
   assert.equal(await refused({ session: "/nowhere.mcs" }), "there is no session file /nowhere.mcs");
   assert.equal(await refused({ session: "/used.mcs" }), "/used.mcs is in use by mcs4 open (process 7)");
   assert.match(await refused({ session: "/none.mcs" }), /^none\.mcs: .* \(no 50\)$/);

@@ -156,7 +156,7 @@ test("a common mistake stops where its condition holds", async () => {
   const { breakpoints } = await ask("setExceptionBreakpoints", { filters: [], filterOptions: [{ filterId: "lines", condition: "r0 = 9" },
     { filterId: "nothing" }, { filterId: "chip", condition: "r0 ~ 9" }] });
   assert.deepEqual(breakpoints.map(({ verified }) => verified), [true, false, false]);
-  assert.match(breakpoints[2].message, /^It stops at each arrival, because of an error: .*column/);
+  assert.match(breakpoints[2].message, /^It stops every time, because of an error: .*column/);
   const stop = await move("continue");
   assert.deepEqual([stop.reason, await evaluate("r0")], ["exception", "0x9"]);
   assert.equal(output().match(/RDR/g).length, 1, "it is reported once");

@@ -105,9 +105,9 @@ test("what a board can have is what the bench takes, to each edge", async () => 
 test("what is not TOML", () => {
   assert.equal(wordsOf("[[rom\n"), "1: 20 ] is missing: [[rom]]");
   assert.equal(wordsOf('[[rom]]\nchip 0\nport = "0000\n'), "2: 20 = is missing after chip");
-  assert.equal(wordsOf("port = 0000\n"), '1: 20 a number has no leading zero; a text is in quotes: "0000"');
+  assert.equal(wordsOf("port = 0000\n"), '1: 20 a number has no leading zero; write a text in quotes: "0000"');
   assert.equal(wordsOf("[[rom]]\nport = iiii\n"), '2: 20 iiii is a text: write it in quotes: "iiii"');
-  assert.equal(wordsOf('[[rom]]\nchip = 0\nchip = 1\nport = "0000"\n'), "3: 20 chip is there already, in line 2");
+  assert.equal(wordsOf('[[rom]]\nchip = 0\nchip = 1\nport = "0000"\n'), "3: 20 chip is already in line 2");
   // A text that the reader accepts and the bench rejects has the message of the refusal.
   assert.equal(wordsOf("[[rom]]\n[rom]\n"), "2: 20 words of 20");
 });
@@ -124,20 +124,20 @@ test("keys and values", () => {
   assert.deepEqual(errorOf("[[rmo]]\n").cures, ["[[rom]]"]);
   assert.equal(wordsOf("speed = 3\n"), "1: 21 speed is not a part of a board, which has rom, ram, chain, keys, lamp");
   assert.equal(wordsOf("[[keys]]\n"), "1: 23 a board has one key matrix: [keys]");
-  assert.equal(wordsOf("[rom]\nchip = 0\nport = \"0000\"\n"), "1: 23 there may be several: [[rom]]");
+  assert.equal(wordsOf("[rom]\nchip = 0\nport = \"0000\"\n"), "1: 23 there can be several: write [[rom]]");
   assert.equal(wordsOf("rom = [\n  { chip = 0, port = '1i0i' }, # one\n  { chip = 0x4D, port = '0000' },\n]\n"),
     "3: 23 chip must be a unique number from 0 to 15");
 });
 
 test("parts that the board lacks, and lines of the wrong direction", () => {
   const lamp = (line) => `${ROM}${CHAIN}[[ram]]\nbank = 2\nchips = 1\n[[lamp]]\nline = ${line}\n`;
-  assert.equal(wordsOf(`${ROM}${ROM}`), "5: 24 chip 0 is there already, in line 1");
+  assert.equal(wordsOf(`${ROM}${ROM}`), "5: 24 chip 0 is already in line 1");
   assert.equal(wordsOf(lamp('"rom9.0"')), "12: 25 the board has no line rom9.0: no [[rom]] has chip = 9");
   assert.equal(wordsOf(lamp('"ram1.0.0"')), "12: 25 the board has no line ram1.0.0: no [[ram]] has bank = 1");
-  assert.equal(wordsOf(lamp('"ram2.1.0"')), "12: 25 the board has no line ram2.1.0: bank 2 has chip 0 alone");
+  assert.equal(wordsOf(lamp('"ram2.1.0"')), "12: 25 the board has no line ram2.1.0: bank 2 has only chip 0");
   assert.equal(wordsOf(lamp('"chain0.10"')), "12: 25 the board has no line chain0.10: chain 0 has bits 0 to 9");
-  assert.equal(wordsOf(lamp('"chain1.0"')), "12: 25 the board has no chain 1: it has chain 0 alone");
-  assert.equal(wordsOf(lamp('"led"')), '12: 23 led is not the name of a line; names are as "rom1.0", "ram0.0.3" and "chain0.5"');
+  assert.equal(wordsOf(lamp('"chain1.0"')), "12: 25 the board has no chain 1: it has only chain 0");
+  assert.equal(wordsOf(lamp('"led"')), '12: 23 led is not the name of a line; names are like "rom1.0", "ram0.0.3" and "chain0.5"');
   assert.equal(wordsOf(lamp('["rom0.0"]')), "12: 23 line must be a line that is not an input line");
   assert.equal(wordsOf(lamp("{}")), "12: 23 line must be a line that is not an input line");
   assert.equal(wordsOf(lamp('"rom0.1"')), "12: 26 rom0.1 is an input line (i in its ROM's port); a lamp needs an output line");

@@ -203,7 +203,7 @@ test("what cannot be read is reported; one that is off is kept; hits are counted
   keeper.count({ hits: [[second.id, 2], [second.id, 1]], notes: [], noted: 0 });
   assert.equal(second.hits, 3);
   assert.deepEqual([...marksOf(keeper.list.all, keeper.faults).lines.values()].map(({ mark, words }) => `${mark} ${words}`),
-    ["\u25CF breakpoint if no: it stops at each arrival, because of an error: it is none", "\u25CB breakpoint: it is off"]);
+    ["\u25CF breakpoint if no: it stops every time, because of an error: it is none", "\u25CB breakpoint: it is off"]);
   assert.deepEqual(keeper.list.kept[1], { line: 4, address: 2, isOn: false, condition: "", from: 1, note: "" });
 });
 

@@ -219,7 +219,7 @@ test("A names the accumulator where the user has given A to nothing", () => {
   assert.deepEqual(conditionOf("A = 10", label).condition.places, []);
 });
 
-test("an error in a condition is the same in each place of use; a breakpoint with it stops at each arrival", async () => {
+test("an error in a condition is the same in each place of use; a breakpoint with it stops every time", async () => {
   for (const [use, holds] of Object.entries(USES)) {
     assert.match(String(await holds("accu = 10")), /accu: no such place; the accumulator is acc/, use);
   }
@@ -259,7 +259,7 @@ test("searches of the past, and on: a condition is found where it became true, i
       const want = rises.length === 0 ? all[last] : all[rises[rises.length - 1] - 1];
       assert.deepEqual([went.isDone, bench.count.total], [rises.length > 0, want.total], `back ${text}: ${went.words}`);
       if (rises.length > 0) assert.match(went.words, /: this instruction makes .* true\.$/);
-      else assert.match(went.words, /has not become true as far back as is remembered\.$/);
+      else assert.match(went.words, /has not become true in the remembered past\.$/);
       if (went.isDone) own.forward();
       assert.equal(bench.count.total, all[last].total);
       compared += rises.length > 0 ? 1 : 0;
@@ -296,9 +296,9 @@ test("errors point at their column, and propose", () => {
     ["count > 16", 8, "count holds 0 to 15, not 16"], ["lamp 9 on or r5 = 1", 0, "the board has no lamp 9; it has: 1 2 4 8 or"],
     ["key B down", 0, "the board has no key B; it has: A = no # WALK"], ["rom3 = 1", 0, "the board has no ROM 3"],
     ["(r5 = 1) = 3", 9, "=: a condition ends before this; join two by and, or"],
-    ["r5 = (cy = 1)", 5, "(cy = 1): this is a condition, and a value is needed"],
+    ["r5 = (cy = 1)", 5, "(cy = 1): this is a condition, but a value is needed"],
     ['display "3', 8, "the closing quotation mark is missing"], ["ret = 3", 0, "ret is not one number"],
-    [`${"(".repeat(MOST_DEPTH + 1)}r5 = 1`, MOST_DEPTH, "at most 30 parentheses are inside each other"],
+    [`${"(".repeat(MOST_DEPTH + 1)}r5 = 1`, MOST_DEPTH, "parentheses can be nested at most 30 deep"],
     ["x".repeat(LONGEST + 1), LONGEST - 1, "a condition has at most 2000 characters"],
   ]) {
     const read = conditionOf(text, names);
@@ -377,7 +377,7 @@ test("the conditions of the examples' tests mean the same here", () => {
       assert.equal(old.fault, "", text);
       // Forms for the lines of a test only are rejected, as before.
       if (old.condition.needs.some((need) => need !== "test")) {
-        assert.match(read.fault, /^(the digits are lit|what is printed|no run changes)/, text);
+        assert.match(read.fault, /^(the digits are multiplexed|printed text|no run changes)/, text);
         continue;
       }
       if (old.condition.needs.length > 0) continue;

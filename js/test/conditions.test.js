@@ -69,13 +69,13 @@ test("conditions hold by what the bench reports of their places", async () => {
 test("what does not hold is reported as mcs4 test reports it", async () => {
   const { calls } = await bench("run 19\n");
   const shown = (text) => read(text).explain(valuesNow(calls, read(text)));
-  assert.equal(shown("acc 2"), "acc is 1, and has to be 2");
-  assert.equal(shown("not acc 1"), "acc is 1, and has not to be 1");
-  assert.equal(shown("@start"), "pc is 00B (end), and has to be @start");
-  assert.equal(shown("acc 1 and lamp alarm off"), "lamp alarm is on, and has to be off");
-  assert.equal(shown("lamps none"), "lamps are ..*.*, and have to be ??...; lit: locked alarm");
-  assert.equal(shown("ram.0.0 4 1"), "ram.0.0x00 is 4 0, and has to be 4 1");
-  assert.equal(shown("r2 < 4"), "r2 is 4, and has to be < 4");
+  assert.equal(shown("acc 2"), "acc is 1, but must be 2");
+  assert.equal(shown("not acc 1"), "acc is 1, but must not be 1");
+  assert.equal(shown("@start"), "pc is 00B (end), but must be @start");
+  assert.equal(shown("acc 1 and lamp alarm off"), "lamp alarm is on, but must be off");
+  assert.equal(shown("lamps none"), "lamps are ..*.*, but must be ??...; lit: locked alarm");
+  assert.equal(shown("ram.0.0 4 1"), "ram.0.0x00 is 4 0, but must be 4 1");
+  assert.equal(shown("r2 < 4"), "r2 is 4, but must be < 4");
 });
 
 test("places are reported once, and what a query takes is not exceeded", () => {
@@ -93,25 +93,25 @@ test("what cannot be read is reported, with what the board has", () => {
     ["", "a condition is missing"], ["not", "a condition is missing"], ["acc 1 and", "a condition is missing"],
     ["lamp purple on", "the board has no lamp purple; it has: locked open alarm"],
     ["lamp 5 on", "the board has no lamp 5; it has: locked open alarm"],
-    ["lamp 3", "it is written as `lamp NAME on` or `lamp NAME off`"], ["lamps *.", "a pattern of 2 lamps; the board has 5"],
+    ["lamp 3", "write `lamp NAME on` or `lamp NAME off`"], ["lamps *.", "a pattern of 2 lamps; the board has 5"],
     ["lamps locked purple", "the board has no lamp purple; it has: locked open alarm"],
     ["r16 3", "r16: no such place; the registers are r0 to r15"],
     ["r9 16", "r9 holds 0 to 15, not 16"], ["cy = 2", "cy holds 0 to 1, not 2"],
     ["r9", "r9: a comparison is missing, as in: r9 = 4"], ["r9 =", "a value is missing after ="], ["r9 1 2", "r9 is one value"],
     ["r9 x", "x: no such place; places are acc, "], ["cy @end", "cy holds 0 to 1, not @end (11)"],
-    ["@away", "the program has no label away"], ["at limit", "the program has no label limit"], ["at", "it is written as `at LABEL`"],
-    ["display", "it is written as `display TEXT`, as in: display -18"],
+    ["@away", "the program has no label away"], ["at limit", "the program has no label limit"], ["at", "write `at LABEL`"],
+    ["display", "write `display TEXT`, as in: display -18"],
     ["lamps > x", "x: no such place; "], ["lamps = 32", "lamps holds 0 to 31, not 32"],
-    ["rom2 in 3", "the board has no ROM 2"], ["rom1 at 3", "it is written as `rom1 in VALUE` or `rom1 out VALUE`, 0 to 15"],
+    ["rom2 in 3", "the board has no ROM 2"], ["rom1 at 3", "write `rom1 in VALUE` or `rom1 out VALUE`, 0 to 15"],
     ["rom1.4 1", "rom1.4: no such place; ports are rom1 and ram0.1, their lines rom1.0 to rom1.3"],
     ["ram0.2 out 1", "the board has no RAM chip 0.2"],
     ["ram0.0.1 2", "ram0.0.1 holds 0 to 1, not 2"], ["chain1.0 1", "the board has no chain1.0"], ["chain1 01", "the board has no chain 1"],
     ["chain0 01", "chain 0 has 10 bits, each 0, 1, or ? for any"], ["ram.1.0 1", "the board has no RAM chip for ram.1.0"],
     ["ram.0.127 1 2", "the board has no RAM chip for the last of these characters"],
     ["ram.8.0 1", "ram.8.0: no such place; a place of RAM is ram.BANK.SRC or st.BANK.REGISTER.NUMBER"],
-    ["display < 5", "it is written as `display TEXT`"], ["display != ", "it is written as `display TEXT`"],
+    ["display < 5", "write `display TEXT`"], ["display != ", "write `display TEXT`"],
     ["foo 1", "foo: no such place; places are acc, cy, pc, dcl, test, r0 to r15, p0 to p7, ram.B.S, st.B.H.K"],
-    ["cycles at most 3", "no run changes cycles, and no trace shows it: it is for the lines of a test"],
+    ["cycles at most 3", "no run changes cycles, and no trace shows it: it is only for the lines of a test"],
     ["r2 < 4 5", "5: a condition ends before this; join two by and, or"],
     ["ram.0.0 4 < 5", "<: a condition ends before this; join two by and, or"], ["= 3", "a value is missing before ="],
   ];
@@ -124,7 +124,7 @@ test("what cannot be read is reported, with what the board has", () => {
   assert.equal(conditionOf("display 3", bare).fault, "the board's text names no display (`# display 0: 4 digits`)");
   assert.match(conditionOf("printed 3", bare).fault, /^the board's text names no printer /);
   const printing = { ...names, face: new Face(`${WIRED}\n# printer rom0.0: ram0.0 0 1 feed\n`) };
-  assert.match(conditionOf("printed 3", printing).fault, /^what is printed comes line by line/);
+  assert.match(conditionOf("printed 3", printing).fault, /^printed text arrives line by line/);
 });
 
 test("the lines of a test ask for what no trace shows as well", () => {
@@ -138,9 +138,9 @@ test("the lines of a test ask for what no trace shows as well", () => {
   assert.deepEqual(held, [true, false, false]);
   assert.equal(condition.holds([], beside), true);
   assert.equal(ofTest("cycles at most 6 ms").condition.holds([], beside), true);
-  assert.equal(ofTest("cycles 537").condition.explain([], beside), "cycles are 538, and have to be 537");
-  assert.equal(ofTest("@end").condition.explain(["00B"], beside), "pc is 00B (end), within an instruction, and has to be @end");
-  assert.equal(ofTest("cycles").fault, "it is written as `cycles TIME`, `cycles at most TIME` or `cycles at least TIME`");
+  assert.equal(ofTest("cycles 537").condition.explain([], beside), "cycles are 538, but must be 537");
+  assert.equal(ofTest("@end").condition.explain(["00B"], beside), "pc is 00B (end), within an instruction, but must be @end");
+  assert.equal(ofTest("cycles").fault, "write `cycles TIME`, `cycles at most TIME` or `cycles at least TIME`");
 });
 
 test("times", () => {

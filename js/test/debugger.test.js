@@ -122,7 +122,7 @@ test("conditional breakpoints stop where one of the bench does, whatever the fra
   }
 });
 
-test("a breakpoint stops a move; one that cannot be read says why, and stops at each arrival until it is mended", async () => {
+test("a breakpoint stops a move; one that cannot be read says why, and stops every time until it is mended", async () => {
   const session = open();
   session.breakpoints.add({ line: LINE.write, condition: "r4 = 0" });
   const broken = session.breakpoints.add({ line: LINE.increment, condition: "r44 = 0" });
@@ -209,9 +209,9 @@ test("back to the last arrival at a breakpoint: the stops of the way there, what
   }
   const begin = await backToArrival(session);
   assert.deepEqual([begin.isDone, begin.end, bench.count.total], [true, "beginning", 0]);
-  assert.match(begin.words, /^Back at 000 \(start, line 2\), .* earlier, at the beginning of what is remembered: no breakpoint was passed/);
+  assert.match(begin.words, /^Back at 000 \(start, line 2\), .* earlier, at the beginning of the remembered past: no breakpoint was/);
   const none = await backToArrival(session);
-  assert.deepEqual([none.isDone, none.words], [false, "Nothing was done: what is remembered reaches no further back."]);
+  assert.deepEqual([none.isDone, none.words], [false, "Nothing was done: the remembered past reaches no further back."]);
   for (let times = 0; times < seen.length + 1; times++) session.forward();
   assert.equal(bench.count.total, total);
 });

@@ -376,7 +376,7 @@ onBench("a wire that cannot be is refused in words", () => {
   assert.equal(refusal("chain0.3", "data 0"),
     "chain0.3 is a bit of a chain: the data of chain 0 needs an output line of a ROM or a RAM chip.");
   assert.match(refusal("rom0.1", "column 0"), /output line: column 0 of the keys/);
-  assert.match(refusal("chain0.0", "row 1"), /follow one another/);
+  assert.match(refusal("chain0.0", "row 1"), /^Consecutive bits of one chain/);
   assert.match(refusal("rom9.0", "lamp 0"), /no rom9.0/);
 });
 

@@ -101,9 +101,9 @@ test("what is wrong with a text of properties is reported with what there is", (
   assert.deepEqual(faultsOf("press A E\n"), ["1: the board has no key E; it has: A B C D WALK"]);
   assert.deepEqual(faultsOf("# a comment\n\nnever lamp purple on\n"), ["3: the board has no lamp purple; it has: on (column 7)"]);
   assert.deepEqual(faultsOf("every 20 ms @there"), ["1: the program has no label there"]);
-  assert.match(faultsOf("wait 0 to 5")[0], /^1: it is written as `wait TIME to TIME`/);
-  assert.match(faultsOf("wait 1 to 2 s")[0], /^1: it is written as `wait TIME to TIME`/);
-  assert.match(faultsOf("wait 10 ms to 1 ms")[0], /^1: it is written as `wait TIME to TIME`/);
+  assert.match(faultsOf("wait 0 to 5")[0], /^1: write `wait TIME to TIME`/);
+  assert.match(faultsOf("wait 1 to 2 s")[0], /^1: write `wait TIME to TIME`/);
+  assert.match(faultsOf("wait 10 ms to 1 ms")[0], /^1: write `wait TIME to TIME`/);
   assert.match(faultsOf("sometimes lamp on on")[0], /^1: no line begins with `sometimes`; they begin with press, test/);
   assert.match(faultsOf("reach line 1000")[0], /^1: line 1000 of the program has no instruction/);
   assert.match(faultsOf("model ./sum")[0], /names no display/);
@@ -115,7 +115,7 @@ test("what is wrong with a text of properties is reported with what there is", (
 
 test("nothing that may change is a fault, but where the face has a key or TEST, all of them may", () => {
   const bare = subjectOf(engine, BOARD.replace(/^#.*\n/gm, ""), PROGRAM);
-  assert.match(readCampaign("never lamp 0 on\n", bare).faults[0].words, /^there is nothing that may change/);
+  assert.match(readCampaign("never lamp 0 on\n", bare).faults[0].words, /^nothing may change/);
   assert.deepEqual(readCampaign("test\n", bare).campaign.inputs.map(({ downWords }) => downWords), ["set test 0"]);
   assert.deepEqual(campaignOf("").campaign.inputs.map(({ name }) => name), ["A", "B", "C", "D", "WALK"]);
   assert.deepEqual(campaignOf("press B\nreset\n").campaign.inputs.map(({ name }) => name), ["B"]);
@@ -424,8 +424,8 @@ test("what is wrong with the state to begin with is reported", async () => {
   };
   assert.equal(await faultOf("from there"), "1: no test saves a state there; there is: lit both");
   assert.equal(await faultOf("from lit", ""), "1: there are no tests, so none saves the state lit");
-  assert.match(await faultOf("from lit of"), /^1: it is written as `from STATE` or `from STATE of FILE.test`/);
-  assert.match(await faultOf("from lit\nfrom both"), /^2: it begins from a state in a line before/);
+  assert.match(await faultOf("from lit of"), /^1: write `from STATE` or `from STATE of FILE.test`/);
+  assert.match(await faultOf("from lit\nfrom both"), /^2: an earlier line already says from which state it begins/);
   const wrong = await faultOf("from lit", SAVING.replace("run 400", "rune 400"));
   assert.match(wrong, /^1: its tests have an error in line 3: no line of a test/);
   const failing = SAVING.replace("run 400", "expect lamp on on");

@@ -68,7 +68,7 @@ test("a bad record is reported by its line", () => {
   refused(":00000001FF\n:00000001FF\n", /line 2: a record after the last one/);
   refused(":020FFF00D1E23D\n:00000001FF\n", /past the last address, FFF/);
   refused(":01000000D12E\n:01000000D12E\n", /line 2: the address 000, which an earlier line has/);
-  refused(":020000021000EC\n", /type 02 with another value than 0/);
+  refused(":020000021000EC\n", /type 02 with a value other than 0/);
   refused(":0000000AF6\n", /type 0A, which has no meaning/);
   refused("D1E2", /begins with `:`/);
 });
@@ -108,7 +108,7 @@ test("an image comes into the ROMs of the board, and goes into a file", async ()
   assert.deepEqual(done, []);
   const image = new Int16Array(4096).fill(NONE);
   image[256] = 209;
-  assert.equal(await rom.load("x.hex", image), "1 byte of x.hex is in ROM, from 100 on; nothing was reset.");
+  assert.equal(await rom.load("x.hex", image), "1 byte of x.hex is in ROM, from 100; nothing was reset.");
   assert.deepEqual(done, ["stop", "asm\nORG 0x100\nDB 209\n.\n"]);
   const file = await rom.image();
   assert.deepEqual([file.length, file[0], file[256]], [512, 0, 209]);

@@ -42,8 +42,8 @@ test("go to: names, addresses of listings, numbers of lines", () => {
 test("go to: what is no address is refused in words", () => {
   for (const [text, words] of [["4096", /^4096 is not an address: the last one is FFF/], ["0x1000", /the last one/],
     ["put2", /^put2 is neither/], ["put + 4095", /^put \+ 4095 is neither/],
-    ["", /^Nothing to go to/], ["1E", /^1E is neither/], ["-1", /neither/], ["01E0", /neither/]]) {
+    ["", /^Enter where to go/], ["1E", /^1E is neither/], ["-1", /neither/], ["01E0", /neither/]]) {
     assert.match(goalOf(text, MAP).words, words);
   }
-  assert.match(goalOf("put", null).words, /^put is not an address: .* Names are known while/);
+  assert.match(goalOf("put", null).words, /^put is not an address: .* Names are known only while/);
 });

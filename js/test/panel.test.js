@@ -148,7 +148,7 @@ test("paused, a key goes down and up as it is typed; one that was down before st
   await typed("z");
   assert.match(text(), /the board has no key z\n/);
   await typed("\u001b[21~");
-  assert.match(text(), /this key does nothing here; the last line has those that do\n/);
+  assert.match(text(), /this key does nothing here; the last line lists the keys\n/);
   await typed("\u0014");
   assert.match(text(), / test 0 /);
   await typed("\u0012");

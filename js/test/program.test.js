@@ -54,8 +54,8 @@ test("what is not an instruction, and what may be meant", () => {
   for (const rest of ["NOP", "jun x", "FIM P0, 3", "= 3 + 4"]) {
     assert.equal(wordsOf(`x ${rest}`).includes("a label has a colon: x:"), !rest.startsWith("="), rest);
   }
-  assert.equal(wordsOf("zero EQU 4"), "a name gets its number by =: zero = 4");
-  assert.equal(wordsOf("zero  set 0x10"), "a name gets its number by =: zero = 0x10");
+  assert.equal(wordsOf("zero EQU 4"), "define a name with =: zero = 4");
+  assert.equal(wordsOf("zero  set 0x10"), "define a name with =: zero = 0x10");
 });
 
 test("what an instruction takes", () => {
@@ -82,7 +82,7 @@ test("numbers as other assemblers write them", () => {
 test("names, values and addresses", () => {
   assert.equal(wordsOf("JUN strat", 32, "start: NOP\nJUN strat"), "strat is not defined; start?");
   assert.equal(wordsOf("JUN FF", 32), "FF is not defined; 0xFF?");
-  assert.equal(wordsOf("a: NOP", 31, "a: NOP\na: NOP"), "a is defined in line 1 already");
+  assert.equal(wordsOf("a: NOP", 31, "a: NOP\na: NOP"), "a is already defined in line 1");
   assert.equal(wordsOf("LDM 16", 33), "LDM takes a value, 0 to 15");
   assert.match(wordsOf("JCN 4, far", 34), /^far is on another page; JCN reaches/);
 });
@@ -108,7 +108,7 @@ test("all errors of lines get their words and characters; lines that cannot be s
   const text = "start: LDX 5\n FIM P0, strat\ncaf\u00e9: NOP\n";
   const found = await findProgramFaults(text, instructions, () => "", bench);
   assert.deepEqual(found.faults.map(({ line, from, words }) => [line, from, words.split(";")[0]]),
-    [[1, 7, "LDX is not an instruction"], [2, 9, "strat is not defined"], [3, 3, "\u00e9 is not a character of ASCII"]]);
+    [[1, 7, "LDX is not an instruction"], [2, 9, "strat is not defined"], [3, 3, "\u00e9 is not an ASCII character"]]);
   assert.deepEqual([found.areAll, found.rest, bench.asked.refused], [true, null, 0]);
   assert.deepEqual(bench.asked.sent, ["start: LDX 5\nFIM P0, strat\n\n"]);
 });
@@ -179,7 +179,7 @@ test("a program comes into ROM alone, by one text where it has room", () => {
 
 test("what assembling alone leaves, in words", () => {
   assert.equal(wordsOfAssembled({ size: 3, left: [0x41, 0x42] }, "012"),
-    "3 bytes assembled. 2 bytes from before stay in ROM, from 0x041 on. The counter stays at 012; nothing was reset.");
+    "3 bytes assembled. 2 bytes from before stay in ROM, from 0x041. The counter stays at 012; nothing was reset.");
   assert.deepEqual([counted(1, "byte"), counted(0, "byte"), counted(1543, "cycle"), counted(2, "property is", "properties are")],
     ["1 byte", "0 bytes", "1,543 cycles", "2 properties are"]);
 });

@@ -131,7 +131,7 @@ test("breakpoints of the source stand in the head, and come back as they were", 
   assert.equal(read(projectText(project({ breakpoints: [] }))).breakpoints, undefined);
   for (const wrong of ["break", "break here", "break line x", "break line 3 if r4", "break at 0x12"]) {
     const changed = text.replace(/\ncksum .*/, "").replace("break at 0x7FF", wrong);
-    assert.throws(() => read(changed), /must be one of the head: `name`, `unended`, `break`/);
+    assert.throws(() => read(changed), /must be a line of the head: `name`, `unended`, `break`/);
   }
 });
 
@@ -142,7 +142,7 @@ test("values are in the head, and come back as they were", () => {
   assert.deepEqual(read(text).watched, watched);
   assert.equal(read(projectText(project({ watched: [] }))).watched, undefined);
   for (const wrong of ["value", "value ", "values x"]) {
-    assert.throws(() => read(text.replace(/\ncksum .*/, "").replace("value P2", wrong)), /one of the head: .* `break`, `value`/);
+    assert.throws(() => read(text.replace(/\ncksum .*/, "").replace("value P2", wrong)), /a line of the head: .* `break`, `value`/);
   }
 });
 

@@ -57,7 +57,7 @@ test("the table of commands: each is there, is found by its words, and has help"
     assert.ok(use.startsWith(name === "x" ? "x[" : name), name);
   }
   assert.equal(commandOf("und").command.name, "undisplay");
-  assert.equal(commandOf("re").words, "re is not clear: reverse-step, reverse-next, reverse-continue, release, reset");
+  assert.equal(commandOf("re").words, "re is ambiguous: reverse-step, reverse-next, reverse-continue, release, reset");
   assert.equal(commandOf("bogus").words, "there is no command bogus; help shows them all");
 });
 
@@ -91,7 +91,7 @@ test("moves, and the same way back", async () => {
   assert.match((await ask("next"))[0], /^Returned to 009/);
   assert.match((await ask("back lamps")).join(), /Back at 006 .*: this instruction changes lamps from \.\.\. to \.\.\*\./);
   assert.match((await ask("forward"))[1], /^Forward again to 009/);
-  assert.deepEqual(await ask("finish"), ["refused: no call waits for its return here"]);
+  assert.deepEqual(await ask("finish"), ["refused: no call is open here"]);
 });
 
 test("back to arrivals at breakpoints, to changes of what is watched, and to the stop before", async () => {
@@ -106,9 +106,9 @@ test("back to arrivals at breakpoints, to changes of what is watched, and to the
   assert.equal(total(), first);
   await ask("watch lamps");
   assert.match(await words("rc"), /: this instruction changes lamps from \.\.\. to \.\.\*\.$/);
-  assert.match(await words("rc"), /^Back at 000 .*, at the beginning of what is remembered: no breakpoint was passed since\.$/);
+  assert.match(await words("rc"), /^Back at 000 .*, at the beginning of the remembered past: no breakpoint was passed since then\.$/);
   assert.equal(total(), 0);
-  assert.deepEqual(await ask("rc"), ["refused: Nothing was done: what is remembered reaches no further back."]);
+  assert.deepEqual(await ask("rc"), ["refused: Nothing was done: the remembered past reaches no further back."]);
   assert.match((await ask("rc 3")).join(), /^refused: reverse-continue takes no argument/);
 });
 
@@ -135,7 +135,7 @@ test("breakpoints with conditions, counts and notes; watches", async () => {
   assert.match((await ask("break wait from 3"))[0], /^Breakpoint 1 at 014 \(wait, line \d+\)\.$/);
   assert.match((await ask("continue")).join("|"), /Paused at 014 \(wait, line \d+\), at a breakpoint, at hit 3\.\|>\*/);
   assert.match((await ask("info breakpoints"))[0], /^1 {2}line \d+ at 0x014 from 3, 3 hits$/);
-  assert.deepEqual(await ask("disable 1", "delete 7"), ["refused: there is no breakpoint 7; info breakpoints has their numbers"]);
+  assert.deepEqual(await ask("disable 1", "delete 7"), ["refused: there is no breakpoint 7; info breakpoints shows their numbers"]);
   await ask("delete", "break next if r4 = 4 log \"R4 is {r4}\"");
   const notes = (await ask("run 100 ms")).filter((line) => line.startsWith("R4"));
   assert.deepEqual(notes, Array(session.breakpoints.all[0].hits).fill("R4 is 4"));
@@ -144,7 +144,7 @@ test("breakpoints with conditions, counts and notes; watches", async () => {
   assert.match(refused, /^refused: /);
   assert.equal(session.breakpoints.all.length, 1, "the one before stays");
   await ask("delete");
-  assert.deepEqual(await ask("continue"), ["refused: nothing would stop it: set a breakpoint, or let a time pass by run 100 ms"]);
+  assert.deepEqual(await ask("continue"), ["refused: nothing would stop it: set a breakpoint, or run for a time, as in run 100 ms"]);
   assert.deepEqual(await ask("watch r4", "info watches"), ["r4 is watched by continue.", "r4, by continue"]);
   assert.match((await ask("continue")).join(), /after r4 changed/);
   assert.match((await ask("watch acc"))[0], /^refused: r4 is watched/);
@@ -165,7 +165,7 @@ test("what is shown, printed and set", async () => {
     "refused: x: no such place; places are acc, cy, pc, dcl, test, r0 to r15, p0 to p7, ram.B.S, st.B.H.K, rom1, ram0.1, lamps, and names "
     + "of the source, of Watch and of lamps (column 11)",
     "refused: no run changes test, and no trace shows it: ask for it at a breakpoint (column 1)"]);
-  assert.match((await ask("set"))[0], /^refused: it is written as `set PLACE = VALUE`, as in: set r4 = 7, .* \(column 1\)$/);
+  assert.match((await ask("set"))[0], /^refused: write `set PLACE = VALUE`, as in: set r4 = 7, .* \(column 1\)$/);
   assert.deepEqual((await ask("set pc = wait + 2", "set pc = 0")).length, 2);
   assert.deepEqual(await ask("x/2 wait"), ["  014 22 0C wait: FIM P1, 0x0C", "  016 73 16 turn: ISZ R3, 0x016"]);
   assert.deepEqual(await ask("set RAM 0 2 = 7", "x/4 ram.0.0x00", "x/4 RAM 0 0"), ["ram.0.0x00  0070", "ram.0.0x00  0070"]);
@@ -184,7 +184,7 @@ test("what is shown, printed and set", async () => {
 test("the view: source, registers, lamps, in any size; values that are others stand out", async () => {
   const { prompt, ask } = await prompted();
   assert.match((await ask("view")).join(), /^refused: the view needs a terminal/);
-  assert.match((await ask("view far")).join(), /^refused: it is written as view, view on or view off$/);
+  assert.match((await ask("view far")).join(), /^refused: write view, view on or view off$/);
   const turned = [];
   prompt.calls.view = { toggle: () => "no room", turn: (isOn) => { turned.push(isOn); return ""; } };
   assert.deepEqual(await ask("tui enable", "layout src", "view off"), []);
@@ -256,7 +256,7 @@ test("breakpoints that are deleted at their stop, that change, and that let hits
   assert.equal(session.breakpoints.get(2).hits, 6);
   assert.deepEqual(await ask("ignore $bpnum 0"), ["Breakpoint 2 stops at its next hit."]);
   for (const [line, words] of [
-    ["condition", /^refused: it is written as condition N/], ["condition 9 acc = 1", /no breakpoint 9/],
+    ["condition", /^refused: write condition N/], ["condition 9 acc = 1", /no breakpoint 9/],
     ["ignore 2", /0 to 999,999,999, not nothing/],
     ["ignore 2 -1", /not -1/], ["commands 2 3", /commands N/], ["tbreak nothing", /not a place in the program/],
   ]) assert.match((await ask(line)).join(), words, line);
@@ -294,7 +294,7 @@ test("values in formats, at a stop too", async () => {
     ["print/x r4", "0xA"], ["p/d r4", "10"], ["p/u r4 + r5", "13"], ["p/o r4", "012"], ["p/t r4", "0b1010"], ["p/b r5", "0b11"],
     ["p/x r5 - r4", "-0x7"], ["p/a 0x014", "0x014 <wait>"], ["p/x r4 = 10", "0x1"], ["p/x wait", "0x14"],
     ["p/q r4", "refused: q is not a format; formats are x, d, u, o, t, b, a"],
-    ["p/x lamps", "refused: lamps is not a number, so it has no format"], ["p/x", "refused: it is written as print WHAT, as print r4"],
+    ["p/x lamps", "refused: lamps is not a number, so it has no format"], ["p/x", "refused: write print WHAT, as in print r4"],
     ["display/t r4", "1: /t r4 = 0b1010"], ["info display", "1: /t r4"],
   ]) assert.deepEqual(await ask(line), [words], line);
   assert.equal((await ask("step")).at(-1), "1: /t r4 = 0b1010");
@@ -336,7 +336,7 @@ test("breakpoints in a file, and commands of one", async () => {
   assert.equal(session.breakpoints.all.length, 1);
   assert.match((await ask("source cut")).at(-1), /^refused: cut ends too soon; the commands of breakpoint \d+ are dropped$/);
   assert.match((await ask("source itself")).at(-1), /at most 8 deep$/);
-  assert.deepEqual(await ask("save"), ["refused: it is written as save breakpoints FILE"]);
+  assert.deepEqual(await ask("save"), ["refused: write save breakpoints FILE"]);
   assert.deepEqual(await prompt.complete("source b"), [["bad"], "b"]);
   assert.deepEqual(await prompt.complete("save breakpoints sa"), [["saved"], "sa"]);
   assert.deepEqual(await prompt.complete("save b"), [["breakpoints"], "b"]);

@@ -101,7 +101,7 @@ test("properties are asked together, and alone only if that decides something", 
   const many = await judged((bound) => (bound < 50000 ? "too many\n" : "no 90\n"));
   assert.deepEqual(kinds(many.all), ["open", "open", "open"]);
   assert.deepEqual(many.engine.asked.map(([, nevers]) => nevers), [2, 2, 2, 2, 1, 1, 1, 1]);
-  assert.match(many.all[0].verdict.words, /no memory for more than 40,000 states/);
+  assert.match(many.all[0].verdict.words, /memory has room for only 40,000 states/);
   const single = await judged(() => LIGHTS, { propertiesText: "test\nnever lamp lit on\n" });
   assert.deepEqual(single.engine.asked, [[10000, 1]]);
 });

@@ -144,9 +144,9 @@ test("what a display shows is a question about its lamps", () => {
 
 test("conditions that look at inputs, or at too much, are refused with the reason", () => {
   const wrong = (text) => askedOf(readCampaign(`press A\n${text}`, subject).campaign.properties[0], { from: null }, board);
-  assert.deepEqual(wrong("never rom1 in 3"), { nevers: null, words: "its condition looks at rom1, an input" });
-  assert.deepEqual(wrong("never rom1.1 = 1"), { nevers: null, words: "its condition looks at rom1.1, an input" });
-  assert.match(wrong("never r0 + r1 + r2 + r3 + r4 = 9").words, /looks at too much/);
+  assert.deepEqual(wrong("never rom1 in 3"), { nevers: null, words: "its condition uses rom1, an input" });
+  assert.deepEqual(wrong("never rom1.1 = 1"), { nevers: null, words: "its condition uses rom1.1, an input" });
+  assert.match(wrong("never r0 + r1 + r2 + r3 + r4 = 9").words, /uses too many places/);
   assert.match(wrong("never r0 = 1 for 1 ms").words, /of the form "never for" cannot be proved yet/);
   assert.match(wrong("once r0 = 2, never r0 = 1").words, /guard/);
   assert.equal(wrong("while r0 = 2, never r1 = 1").nevers.length, 1);

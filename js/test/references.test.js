@@ -28,13 +28,13 @@ test("another name has to be one", () => {
   const fault = (/** @type {string} */ wanted) => faultOfRenaming(LINES, "loop", wanted, isInstruction);
   assert.equal(fault("again"), "");
   assert.equal(fault("loop"), "");
-  assert.match(fault("9"), /begins with no digit/);
+  assert.match(fault("9"), /does not begin with a digit/);
   assert.match(fault("a_name_of_17_long"), /at most 16 characters; this has 17/);
   assert.equal(fault("jun"), "jun is an instruction.");
   assert.equal(fault("WPM"), "WPM is an instruction.");
   assert.equal(fault("db"), "db is an instruction.");
   assert.equal(fault("R5"), "R5 is a register.");
-  assert.equal(fault("count"), "count is defined already, in line 1.");
+  assert.equal(fault("count"), "count is already defined in line 1.");
 });
 
 test("lines become comments, and lines again", () => {

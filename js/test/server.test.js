@@ -160,7 +160,7 @@ test("all faults of a program, on the board beside it, and cures", async () => {
   assert.deepEqual(found.map(({ range, message }) => [range.start.line, range.start.character, range.end.character, message]), [
     [0, 7, 10, "JMP is not an instruction; JUN?"],
     [1, 6, 9, "LDM takes a value, 0 to 15; hexadecimal is 0x0F"],
-    [2, 5, 10, "a name gets its number by =: zero = 4"],
+    [2, 5, 10, "define a name with =: zero = 4"],
   ]);
   const range = { start: { line: 0, character: 0 }, end: { line: 9, character: 0 } };
   const actions = await ask("textDocument/codeAction", { textDocument: { uri }, range });

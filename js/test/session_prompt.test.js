@@ -75,7 +75,7 @@ test("lines, typed texts, and what is wrong with them", async () => {
     "(    b: LDN 17)",
   ]);
   const [, why] = await ask("asm", "; \u00e9", ".");
-  assert.match(why, /a byte that is neither a tab nor a printing character of ASCII/);
+  assert.match(why, /a byte that is neither a tab nor a printable ASCII character/);
 });
 
 test("a text that is dropped, and the end of input within one", async () => {
@@ -102,7 +102,7 @@ test("files in the place of typed texts, without their comments", async () => {
   ]);
   assert.deepEqual(await ask("wiring b.toml", "wiring bad.toml"), [
     "wiring valid", "no 23 line 3 lamp 1 key line",
-    '(bad.toml: line 4: led is not the name of a line; names are as "rom1.0", "ram0.0.3" and "chain0.5")', "(    line = 'led')",
+    '(bad.toml: line 4: led is not the name of a line; names are like "rom1.0", "ram0.0.3" and "chain0.5")', "(    line = 'led')",
   ]);
   assert.match((await ask("asm far.asm"))[1], /^\(far\.asm: line 2: /);
   assert.deepEqual(await ask("asm none"), ["(cannot read none: there is no such file)"]);
@@ -118,7 +118,7 @@ test("lines of a file, up to an error", async () => {
     "(two: line 3: this line is at 000, and the board has no ROM 0: wire a [[rom]] with chip = 0)", "(     NOP)", "seq 1",
   ]);
   assert.deepEqual((await ask("source cut")), ["(cut ends too soon; the text of asm is dropped)"]);
-  assert.deepEqual(await ask("source itself"), ["(itself: line 1: files serve the lines of others at most 8 deep)"]);
+  assert.deepEqual(await ask("source itself"), ["(itself: line 1: source files can be nested at most 8 deep)"]);
   assert.deepEqual(await ask("source"), ["(source is written as: source FILE)"]);
   assert.deepEqual(await ask("source none"), ["(cannot read none: there is no such file)"]);
   assert.equal(prompt.sources.files.length, 0);

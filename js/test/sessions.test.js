@@ -71,7 +71,7 @@ test("what another tab has open is not deleted, and what the store refuses can b
   await bin.bringBack([one]);
   assert.deepEqual(bin.deleted, [one]);
   assert.deepEqual(refused, ['The session "two" is open in another tab, so it was not deleted.',
-    'The session "one" was not brought back: the browser has no more space for this page.']);
+    'The session "one" was not restored: the browser has no more space for this page.']);
 });
 
 test("the browser is asked once to keep what it keeps", async () => {

@@ -59,7 +59,7 @@ test("each cut of a link is refused, and each letter that is another one", async
 
 test("links that are made by hand", async () => {
   for (const link of ["", "hello", "1.", "0.", "1.%%%", "0.QQ", "1.QUJD", `0.${btoa("0\nname x\n").replace(/=/g, "")}`]) {
-    await assert.rejects(readLink(link), { message: "it is cut off, or was changed" }, link);
+    await assert.rejects(readLink(link), { message: "it is cut off or was changed" }, link);
   }
   await assert.rejects(readLink("2.QQ"), /newer page/);
 });

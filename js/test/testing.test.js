@@ -39,7 +39,7 @@ test("a test that fails reports its line, its trace, and gives the session as it
   const quick = programText.replace("0x0C", "0x0D");
   const { outcomes } = await runTests(engine, texts(example("three_lamps.test"), quick), always);
   const { failure } = outcomes[1];
-  assert.deepEqual([failure.line, failure.text, failure.words], [14, "expect cycles 538", "cycles are 536, and have to be 538"]);
+  assert.deepEqual([failure.line, failure.text, failure.words], [14, "expect cycles 538", "cycles are 536, but must be 538"]);
   assert.deepEqual([failure.cycles, failure.lamps], [536, ".*."]);
   assert.equal(failure.trace[0], "     522  01A C0    BBL 0            acc 0 cy 0  ret 000 000 01B");
   assert.equal(failure.trace[failure.trace.length - 1], "     536  007 50 14 JMS wait         comes next");
@@ -49,7 +49,7 @@ test("a test that fails reports its line, its trace, and gives the session as it
 test("a test whose state was never saved was not begun", async () => {
   const text = "test one\n expect acc 1\n save there\ntest two\n from there\n run 1\n";
   const { outcomes } = await runTests(engine, texts(text), always);
-  assert.equal(outcomes[0].failure.words, "acc is 0, and has to be 1");
+  assert.equal(outcomes[0].failure.words, "acc is 0, but must be 1");
   assert.equal(outcomes[1].failure.words, "the state there is missing, because the test `one` did not reach its `save`");
   assert.equal(outcomes[1].failure.file, null);
 });
@@ -76,9 +76,9 @@ test("what is repeated, shared steps, and the label that was passed last", async
   const { outcomes } = await runTests(engine, texts(text.join("\n")), always);
   assert.deepEqual([outcomes[0].cycles, outcomes[0].failure.line], [7 + 13 * 538, 15]);
   assert.equal(outcomes[0].failure.words,
-    "cycles are 2152, and have to be at most 2000; in turn 4 of 5 of line 13, in turn 1 of 2 of line 12");
-  assert.equal(outcomes[1].failure.words, "it did not become true within 4 cycles: pc is 016 (turn), and has to be @first; "
-    + "the label passed last is turn, 2 cycles ago; @first was passed last 10 cycles ago");
+    "cycles are 2152, but must be at most 2000; in turn 4 of 5 of line 13, in turn 1 of 2 of line 12");
+  assert.equal(outcomes[1].failure.words, "it did not become true within 4 cycles: pc is 016 (turn), but must be @first; "
+    + "the last label passed is turn, 2 cycles ago; @first was passed last 10 cycles ago");
 });
 
 test("a test that repeats for long can be left", async () => {
@@ -93,13 +93,13 @@ test("faults of the texts are reported, and nothing is run", async () => {
   assert.deepEqual(report.faults.map(({ text, line, words }) => `${text}:${line}: ${words}`), [
     "tests:2: the board has no lamp green; it has: left middle right (column 9)",
     "tests:3: the board has no key x; its text names no keys (`# row 0: NAME ..`)",
-    "tests:4: it is written as `run TIME`, as in: run 500, run 20 ms, run 1.5 s",
+    "tests:4: write `run TIME`, as in: run 500, run 20 ms, run 1.5 s",
   ]);
   assert.deepEqual([report.outcomes, report.coverage, report.profile], [[], null, null]);
   assert.deepEqual(readTested(engine, texts("", " JUN nowhere\n")).faults, [{ text: "program", line: 1, number: 32, words: "" }]);
   assert.equal(readTested(engine, { ...texts(""), boardText: "rom = 3\n" }).faults[0].text, "board");
   const [named] = readTested(engine, { ...texts(""), boardText: `# lamp 7: x\n${boardText}` }).faults;
-  assert.equal(named.words, "the lamp x is number 7, and the board has 3");
+  assert.equal(named.words, "the lamp x is number 7, but the board has 3");
   assert.equal(readTested(engine, texts("")).faults[0].words, "there is no line `test NAME`");
   assert.match(readTested(engine, texts("test a\n run 1 \u00fc\n")).faults[0].words, /^a byte that is neither/);
 });

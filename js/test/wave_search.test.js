@@ -59,12 +59,12 @@ test("what is looked for is found, in both directions", () => {
 test("what cannot be looked for, in words", () => {
   const waves = wavesOf();
   const fault = (text, marked = 6) => readSearch(text, waves, marked).fault;
-  assert.match(fault(""), /^Enter something to find: a value of the marked line/);
-  assert.match(fault("A"), /^A is no number: 10, 0x0A or 0b1010 is one/);
-  assert.equal(fault("16"), "r5 has 4 bits: it is 15 at most.");
-  assert.equal(fault("2", 0), "rom0.0 has 1 bit: it is 1 at most.");
-  assert.equal(fault("r9 = 3"), "Nothing that was recorded is called r9: choose it, and record again.");
-  assert.equal(fault("r5 rises"), "r5 is a number: it changes, or it is = 5.");
+  assert.match(fault(""), /^Enter a search: a value of the marked line/);
+  assert.match(fault("A"), /^A is not a number such as 10, 0x0A or 0b1010/);
+  assert.equal(fault("16"), "r5 has 4 bits: its value is at most 15.");
+  assert.equal(fault("2", 0), "rom0.0 has 1 bit: its value is at most 1.");
+  assert.equal(fault("r9 = 3"), "Nothing that was recorded is called r9: select it and record again.");
+  assert.equal(fault("r5 rises"), "r5 is a number: search for a change, or for a value such as = 5.");
   assert.equal(fault("@nowhere"), "The program of this recording has no label nowhere.");
   assert.equal(fault("3", -1), "No line is marked.");
 });

@@ -141,10 +141,10 @@ test("what ends a recording, in words", async () => {
     assert.equal((await calls.serve("step\n")).waves, null);
     return live.words.replace(/^Recorded [^.]*\.\d+ m?s\. /, "");
   };
-  assert.equal(await ends((calls) => calls.goBack({ kind: "instruction" })), "It ended where the session went back or forward.");
+  assert.equal(await ends((calls) => calls.goBack({ kind: "instruction" })), "It ended when the session went back or forward.");
   const board = "wire\n[[rom]]\nchip = 0\nport = \"0000\"\n.\n";
-  assert.equal(await ends((calls) => calls.serve(board)), "It ended where the board was wired again.");
-  assert.equal(await ends((calls) => calls.serve("asm\nNOP\n.\n")), "It ended where other bytes were put into ROM.");
+  assert.equal(await ends((calls) => calls.serve(board)), "It ended when the board was wired again.");
+  assert.equal(await ends((calls) => calls.serve("asm\nNOP\n.\n")), "It ended when other bytes were put into ROM.");
   assert.equal(await ends((calls) => calls.serve("run 100000\n".repeat(30))), "It ended at lines that did more than it can follow.");
 });
 
@@ -153,8 +153,8 @@ test("a trigger that is not understood is reported, and nothing is recorded", as
   const faultOf = (trigger) => calls.recordLive(texts, { trigger, behind: 0, stopsTime: false });
   const faults = {
     "r99 rises": 'nothing here is called r99; Rows lists the names',
-    "rom0 rises": "rom0 is a number: it is written as rom0 changes, or as rom0 = 5",
-    "pc changes": "a place of the program is written as @LABEL",
+    "rom0 rises": "rom0 is a number: write rom0 changes, or as rom0 = 5",
+    "pc changes": "write a place of the program as @LABEL",
     "r9 = 16": /15/,
     "@nowhere": /nowhere/,
     rubbish: /./,

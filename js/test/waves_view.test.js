@@ -129,7 +129,7 @@ test("what is at a cursor, in words", () => {
 test("what was recorded, in words", () => {
   const waves = wavesWith([2], 3);
   assert.equal(recordedText(waves, 3, false), "3 cycles recorded, 0.032 ms.");
-  assert.equal(recordedText(waves, 9, true), "3 cycles recorded, 0.032 ms. The past reaches no further back.");
+  assert.equal(recordedText(waves, 9, true), "3 cycles recorded, 0.032 ms. The remembered past reaches no further back.");
   waves.isStuck = true;
   assert.match(recordedText(waves, 9, false), /Then comes a code that is not an instruction\.$/);
   assert.match(recordedText(wavesWith([], 0), 9, true), /^Nothing was recorded/);

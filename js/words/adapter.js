@@ -23,7 +23,7 @@ export const rowsAre = (most) => `instructionCount is 0 to ${most}`;
 /** @type {(what: string) => string} */
 export const boardHasNo = (what) => `the board has no ${what}`;
 export const COUNT_IS = "count is 0 or more";
-export const OUTSIDE_OF_MEMORY = "it is outside of the memory";
+export const OUTSIDE_OF_MEMORY = "it is outside the memory";
 /** @type {(line: string, answer: string) => string} */
 export const benchAnswered = (line, answer) => `${line}: the bench answered ${answer}`;
 export const BASE_64 = "data must be in base 64";
@@ -45,24 +45,24 @@ export const changes = (place) => `${place} changes`;
 export const HELP = `Lines of the bench (regs, list @show 5, ram 0, poke r4 7, run 100, step, reset, ..), with @NAME for an address.
 press KEY, release KEY: a key goes down, or up; while running, press is a short press. keys KEYS: short presses, as time passes.
 until LABEL or ADDRESS, change PLACE: runs up to there. back, back PLACE: an instruction back, or before the last change. forward: returns.
-R4, P2, ram.0.0x12, rom1, lamps, display, a name, a condition (r9 = 9 or lamp open on): its present value. set PLACE = VALUE.`;
+R4, P2, ram.0.0x12, rom1, lamps, display, a name, a condition (r9 = 9 or lamp open on): its current value. set PLACE = VALUE.`;
 /** @type {(most: number) => string} */
 export const tooLong = (most) => `a line has at most ${most} characters`;
 /** @type {(why: string) => string} */
 export const seeHelp = (why) => `${why}; help shows what a line can be`;
 /** @type {(word: string) => string} */
-export const keyForm = (word) => `it is written as ${word} KEY`;
+export const keyForm = (word) => `write ${word} KEY`;
 /** @type {(count: number) => string} */
 export const keysWait = (count) => `${count} key${count === 1 ? " waits" : "s wait"} until the machine runs (continue)`;
 export const TIME_RUNS = "the machine is running: pause it first";
 /** @type {(form: string) => string} */
-export const placeForm = (form) => `it is written as ${form}`;
+export const placeForm = (form) => `write ${form}`;
 export const UNTIL_FORM = "until LABEL, until ADDRESS or until CONDITION";
 export const CHANGE_FORM = "change PLACE, as in change r4";
 /** @type {(most: number) => string} */
 export const tooManyLines = (most) => `at most ${most} lines are accepted at once`;
 /** @type {(word: string) => string} */
-export const noAddress = (word) => `${word} is no label of the program, and no address as 0x00D`;
+export const noAddress = (word) => `${word} is neither a label of the program nor an address such as 0x00D`;
 export const ADDRESS_RANGE = "addresses are 0x000 to 0xFFF";
 
 // --- adapter/debug_adapter.js ---
@@ -98,13 +98,13 @@ export const LAUNCH_NEEDS =
 export const andBoard = (words) => `${words}; without "board" it is the project's, or board.toml beside the program`;
 export const ONE_FILE = "program and session name the same file";
 /** @type {(file: string) => string} */
-export const noProjectFile = (file) => `there is no ${file}; it names board and program of a project`;
+export const noProjectFile = (file) => `there is no ${file}, which names the board and the program of a project`;
 export const DOT_ALONE = "a line with only a dot";
 /** @type {(program: string) => string} */
 export const noBoardBeside = (program) => `there is no board.toml beside ${program}: "board" names the board's text`;
 /** @type {(session: string) => string} */
 export const sessionMissing = (session) => `${session} does not exist; "board" and "program" create it`;
-export const ATTACH_NEEDS = "attach needs \"session\", a session file; launch begins a program";
+export const ATTACH_NEEDS = "attach needs \"session\", a session file; launch starts a program";
 /** @type {(session: string) => string} */
 export const noSession = (session) => `there is no session file ${session}`;
 export const PROGRAM_HAS_ERRORS = "the program has errors";
@@ -128,7 +128,7 @@ export const TEST_NEEDS_TESTS = "a test needs `tests`, the name of its text";
 /** @type {(name: string, file: string) => string} */
 export const noSuchTest = (name, file) => `${file} has no test ${name}`;
 /** @type {(name: string) => string} */
-export const testHasPassed = (name) => `The test passes: ${name}. This is its end; step back for what led there.`;
+export const testHasPassed = (name) => `The test passes: ${name}. This is its end; step back to see what led to it.`;
 /** @type {(file: string, line: number, words: string) => string} */
 export const testsHaveFault = (file, line, words) => `${file}, line ${line}: ${words || "it has an error"}; no test is run`;
 
@@ -183,7 +183,7 @@ export const holds = (place, most) => `${place} holds 0 to ${most}`;
 export const cannotBeSet = (place, answer) => `${place} cannot be set: the bench answered ${answer}`;
 
 // --- adapter/shown_board.js ---
-export const KEY_PLACE = "a key's place is its row and column, as 0 2, or test and a level";
+export const KEY_PLACE = "a key's place is its row and column, such as 0 2, or test and a level";
 
 // --- adapter/expression_values.js ---
 export const NOTHING_TO_EVALUATE = "there is nothing to evaluate";

@@ -5,7 +5,7 @@
 export const FIRST_IS_SESSION = "the first line of the answers must be `session N`";
 /** @type {(at: number, answer: string, line: number, input: string) => string} */
 export const noAnswer = (at, answer, line, input) => (
-  `line ${at} of the answers, \`${answer}\`, is no answer to line ${line} of the script, \`${input}\``);
+  `line ${at} of the answers, \`${answer}\`, does not answer line ${line} of the script, \`${input}\``);
 /** @type {(words: string, commands: number) => string} */
 export const otherCountOfCommands = (words, commands) => `${words}: ${commands} commands were accepted before it`;
 /** @type {(at: number, answer: string) => string} */
@@ -14,7 +14,7 @@ export const comesAfterLast = (at, answer) => (
 
 // --- bench/begun_script.js ---
 /** @type {(commands: number, most: number) => string} */
-export const acceptedMore = (commands, most) => `it has accepted ${commands} commands, and the whole script makes ${most}`;
+export const acceptedMore = (commands, most) => `it has accepted ${commands} commands, but the whole script makes ${most}`;
 /** @type {(commands: number) => string} */
 export const someDiffer = (commands) => `after ${commands} commands some answers differ`;
 
@@ -24,7 +24,7 @@ export const WORKER_STOPPED = "the bench's worker has stopped";
 
 // --- bench/names_in_lines.js ---
 export const NO_SUCH_NAME = "the program has no such name";
-export const NAMES_UNKNOWN = "names are known while the source is the same as ROM";
+export const NAMES_UNKNOWN = "names are known only while the source is the same as ROM";
 
 // --- bench/run_log.js ---
 /** @type {(runs: number, cycles: string) => string} */
@@ -35,7 +35,7 @@ export const NO_BYTE = "it has no byte";
 /** @type {(bytes: string, room: string) => string} */
 export const tooManyBytes = (bytes, room) => `it has ${bytes} bytes, and ROM has ${room}`;
 /** @type {(bytes: string, room: string, from: string) => string} */
-export const tooManyFrom = (bytes, room, from) => `it has ${bytes} bytes, and only ${room} fit from the address ${from} on`;
+export const tooManyFrom = (bytes, room, from) => `it has ${bytes} bytes, and only ${room} fit from the address ${from}`;
 export const BEGINS_WITH_COLON = "a record of Intel HEX begins with `:`";
 export const RECORD_FORM = "a record has `:`, ten hexadecimal digits and two for each byte";
 /** @type {(count: number, bytes: number) => string} */
@@ -46,7 +46,7 @@ export const PAST_LAST = "past the last address, FFF";
 /** @type {(address: string) => string} */
 export const secondTime = (address) => `the address ${address}, which an earlier line has`;
 /** @type {(type: number) => string} */
-export const beyondAll = (type) => `type 0${type} with another value than 0: an address past FFF`;
+export const beyondAll = (type) => `type 0${type} with a value other than 0: an address past FFF`;
 /** @type {(type: string, size: number) => string} */
 export const otherSize = (type, size) => `a record of type ${type} has ${["no", "one", "two", "three", "four"][size]} bytes`;
 /** @type {(type: string) => string} */

@@ -124,8 +124,8 @@ export const hasNoDisplay = (board) => `${board} has no display: a comment \`# d
 export const isRefusal = (line, answer) => `line ${line} of the answers is a refusal: ${answer}; mcs4 explain says why`;
 /** @type {(line: number, board: string) => string} */
 export const isInstant = (line, board) => (
-  `line ${line} of the answers has the lamps at an instant, and the digits of ${board} are lit by turns; `
-  + `\`trace ${EYE_CYCLES} lamps\` asks what is seen in ${EYE_MS} ms`);
+  `line ${line} of the answers has the lamps at an instant, and the digits of ${board} are multiplexed; `
+  + `\`trace ${EYE_CYCLES} lamps\` reports what is perceived in ${EYE_MS} ms`);
 /** @type {(line: number, count: number, board: string, needed: number) => string} */
 export const tooFewLamps = (line, count, board, needed) => (
   `line ${line} of the answers has ${count} lamps, and the display of ${board} needs ${needed}`);

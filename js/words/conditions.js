@@ -1,24 +1,24 @@
 // Texts that users read about conditions: their errors, the names of places, and what is and must be.
 
 // --- conditions/places.js ---
-export const NAMED_PLACES = "acc, cy, dcl, r0 to r15, ram.B.S, st.B.H.K, rom1.2, ram0.0.3, chain0.5, a whole port as rom1 or ram0.0, lamp "
-  + "3 or lamps";
+export const NAMED_PLACES = "acc, cy, dcl, r0 to r15, ram.B.S, st.B.H.K, rom1.2, ram0.0.3, chain0.5, a whole port such as rom1 or ram0.0, "
+  + "lamp 3 or lamps";
 
 // --- conditions/forms.js ---
 /** @type {(name: string, there: string) => string} */
 export const noLamp = (name, there) => (
   `the board has no lamp ${name}; ${there ? `it has: ${there}` : "its text names no lamps (`# lamp 0: NAME ..`)"}`);
-export const LAMPS_FORM = "it is written as `lamps PATTERN`, or `lamps NAME ..`, or `lamps none`";
+export const LAMPS_FORM = "write `lamps PATTERN`, or `lamps NAME ..`, or `lamps none`";
 /** @type {(wanted: number, count: number) => string} */
 export const otherPattern = (wanted, count) => `a pattern of ${wanted} lamps; the board has ${count}`;
 /** @type {(names: string) => string} */
 export const litLamps = (names) => `; lit: ${names}`;
-export const LAMP_FORM = "it is written as `lamp NAME on` or `lamp NAME off`";
+export const LAMP_FORM = "write `lamp NAME on` or `lamp NAME off`";
 export const NO_DISPLAY = "the board's text names no display (`# display 0: 4 digits`)";
-export const DISPLAY_FORM = "it is written as `display TEXT`, as in: display -18; its text is compared, not as a number";
+export const DISPLAY_FORM = "write `display TEXT`, as in: display -18; it is compared as a text, not as a number";
 export const NO_PRINTER = "the board's text names no printer (`# printer rom0.2: ram0.2 0 1 2 + feed`)";
-export const PRINTED_FORM = "it is written as `printed TEXT`, the last lines of the printout, as in: printed 12+ 30= 42";
-export const CYCLES_FORM = "it is written as `cycles TIME`, `cycles at most TIME` or `cycles at least TIME`";
+export const PRINTED_FORM = "write `printed TEXT`, the last lines of the printout, as in: printed 12+ 30= 42";
+export const CYCLES_FORM = "write `cycles TIME`, `cycles at most TIME` or `cycles at least TIME`";
 export const WITHIN_INSTRUCTION = ", within an instruction";
 /** @type {(name: string) => string} */
 export const noLabel = (name) => `the program has no label ${name}`;
@@ -27,9 +27,9 @@ export const noRom = (chip) => `the board has no ROM ${chip}`;
 /** @type {(chain: number) => string} */
 export const noChain = (chain) => `the board has no chain ${chain}`;
 /** @type {(name: string) => string} */
-const romPortForm = (name) => `it is written as \`${name} in VALUE\` or \`${name} out VALUE\`, 0 to 15`;
+const romPortForm = (name) => `write \`${name} in VALUE\` or \`${name} out VALUE\`, 0 to 15`;
 /** @type {(name: string) => string} */
-const ramPortForm = (name) => `it is written as \`${name} out VALUE\`, 0 to 15`;
+const ramPortForm = (name) => `write \`${name} out VALUE\`, 0 to 15`;
 /** @type {(chain: string, bits: number) => string} */
 export const chainBits = (chain, bits) => `chain ${chain} has ${bits} bits, each 0, 1, or ? for any`;
 export const NO_RAM_FOR_LAST = "the board has no RAM chip for the last of these characters";
@@ -42,14 +42,14 @@ export const holds = (place, most, word) => `${place} holds 0 to ${most}, not ${
 export const NO_CONDITION = "a condition is missing";
 /** @type {(what: string, is: string, want: string, isMany: boolean, isNot: boolean) => string} */
 export const hasToBe = (what, is, want, isMany, isNot) => (
-  `${what} ${isMany ? "are" : "is"} ${is || "dark"}, and ${isMany ? "have" : "has"} ${isNot ? "not " : ""}to be ${want}`);
+  `${what} ${isMany ? "are" : "is"} ${is || "dark"}, but must ${isNot ? "not " : ""}be ${want}`);
 /** @type {(count: number, most: number) => string} */
 export const tooManyPlaces = (count, most) => `it reads ${count} places; at most ${most} are allowed`;
-export const AT_FORM = "it is written as `at LABEL`";
-export const LIT_BY_TURNS = "the digits are lit by turns, so no instant shows a number: `display` is for the lines of a test";
-export const LINE_BY_LINE = "what is printed comes line by line: `printed` is for the lines of a test";
+export const AT_FORM = "write `at LABEL`";
+export const LIT_BY_TURNS = "the digits are multiplexed, so no instant shows a number: `display` is only for the lines of a test";
+export const LINE_BY_LINE = "printed text arrives line by line: `printed` is only for the lines of a test";
 /** @type {(what: string) => string} */
-export const onlyInTests = (what) => `no run changes ${what}, and no trace shows it: it is for the lines of a test`;
+export const onlyInTests = (what) => `no run changes ${what}, and no trace shows it: it is only for the lines of a test`;
 /** @type {(place: string) => string} */
 export const noTraceShows = (place) => `no run changes ${place}, and no trace shows it: ask for it at a breakpoint`;
 
@@ -64,7 +64,7 @@ export const noNumeral = (text) => `${text} is not a number; numbers are 10, 0xA
 /** @type {(most: number) => string} */
 export const tooLong = (most) => `a condition has at most ${most} characters`;
 /** @type {(most: number) => string} */
-export const tooDeep = (most) => `at most ${most} parentheses are inside each other`;
+export const tooDeep = (most) => `parentheses can be nested at most ${most} deep`;
 export const NOT_CLOSED = "this parenthesis is not closed";
 /** @type {(word: string) => string} */
 export const notExpected = (word) => `${word}: a condition ends before this; join two by and, or`;
@@ -73,13 +73,13 @@ export const noComparison = (value) => `${value}: a comparison is missing, as in
 /** @type {(name: string) => string} */
 export const portForm = (name) => (/^rom/i.test(name) ? romPortForm(name) : ramPortForm(name));
 /** @type {(condition: string) => string} */
-export const noValue = (condition) => `${condition}: this is a condition, and a value is needed`;
+export const noValue = (condition) => `${condition}: this is a condition, but a value is needed`;
 /** @type {(word: string) => string} */
 export const missingBefore = (word) => `a value is missing before ${word}`;
 /** @type {(sign: string) => string} */
 export const missingBehind = (sign) => `a value is missing after ${sign}`;
-export const SPACED_FORM = "it is written as ram.BANK.SRC or st.BANK.REGISTER.NUMBER";
-export const KEY_FORM = "it is written as `key NAME down` or `key NAME up`";
+export const SPACED_FORM = "write ram.BANK.SRC or st.BANK.REGISTER.NUMBER";
+export const KEY_FORM = "write `key NAME down` or `key NAME up`";
 
 // --- conditions/values.js ---
 /** @type {(name: string, there: string) => string} */
@@ -115,18 +115,18 @@ export const PLACES_ARE = "places are acc, cy, pc, dcl, test, r0 to r15, p0 to p
   + "and names of the source, of Watch and of lamps";
 
 /** @type {(name: string, most: number) => string} */
-export const namesTooDeep = (name, most) => `${name} names others, which name others: at most ${most} in a row`;
+export const namesTooDeep = (name, most) => `${name} uses names that use other names: at most ${most} levels are allowed`;
 /** @type {(name: string, text: string) => string} */
-export const isNoValue = (name, text) => `${name} is the condition ${text}, and a value is needed`;
+export const isNoValue = (name, text) => `${name} is the condition ${text}, but a value is needed`;
 /** @type {(name: string, fault: string) => string} */
 export const inName = (name, fault) => `in ${name}: ${fault}`;
 /** @type {(text: string) => string} */
 export const noConstant = (text) => `${text}is neither a number nor a name of the program`;
 /** @type {(text: string) => string} */
-export const noNames = (text) => `${text}is not a number; names are known while the source is the same as ROM`;
+export const noNames = (text) => `${text}is not a number; names are known only while the source is the same as ROM`;
 
 // --- conditions/setting.js ---
-export const SET_FORM = "it is written as `set PLACE = VALUE`, as in: set r4 = 7, set test 0, set ram.0.0x12 = 7";
+export const SET_FORM = "write `set PLACE = VALUE`, as in: set r4 = 7, set test 0, set ram.0.0x12 = 7";
 /** @type {(place: string) => string} */
 export const cannotBeSet = (place) => (
   `${place} cannot be set; places to set are acc, cy, pc, dcl, test, r0 to r15, p0 to p7, ram.B.S, st.B.H.K and rom.A`);

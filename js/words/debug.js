@@ -12,7 +12,7 @@ export const mostBreakpoints = (most) => `At most ${most} breakpoints are kept: 
 /** @type {(line: number, next: number) => string} */
 export const movedToNext = (line, next) => `Line ${line} puts no bytes into ROM: its breakpoint is at the next instruction, line ${next}.`;
 /** @type {(line: number) => string} */
-export const nothingFollows = (line) => `No instruction follows on line ${line}: its breakpoint stops nothing.`;
+export const nothingFollows = (line) => `No instruction follows line ${line}: its breakpoint stops nothing.`;
 /** @type {(address: string, line: number) => string} */
 export const insideInstruction = (address, line) => `${address} is inside the instruction of line ${line}.`;
 /** @type {(address: string, line: number, next: number) => string} */
@@ -22,7 +22,7 @@ export const insideAndMoved = (address, line, next) => (
 // --- debug/data_watches.js ---
 /** @type {(place: string, from: string, to: string) => string} */
 export const changedFrom = (place, from, to) => `${place} changed from ${from} to ${to}`;
-export const CHANGES_ALWAYS = "pc changes with each instruction";
+export const CHANGES_ALWAYS = "pc changes at each instruction";
 
 // --- debug/debug_session.js ---
 /** @type {(why: string, line: string) => string} */
@@ -96,7 +96,7 @@ export const portOfRom = (chip, out, read) => `ROM ${chip}: puts out ${out}, RDR
 /** @type {(bank: number, chip: number, out: string) => string} */
 export const portOfRam = (bank, chip, out) => `bank ${bank}, chip ${chip}: ${out === "" ? LACKED : `its port puts out ${out}`}`;
 export const LACKED = "the board lacks it";
-export const NEVER_CHANGES = "it looks at no place, so it never becomes true";
+export const NEVER_CHANGES = "it uses no place of the machine, so it never becomes true";
 /** @type {(bank: number, chip: number, register: number, character: string) => string} */
 export const statusAt = (bank, chip, register, character) => (
   `bank ${bank}, chip ${chip}, register ${register}, status character ${character}`);

@@ -10,7 +10,7 @@ export const needsInput = (name, target) => `${name} is an output line: ${target
 export const needsOutput = (name, target) => `${name} is an input line: ${target} needs an output line.`;
 /** @type {(name: string) => string} */
 export const cannotDrive = (name) => (
-  `The rows of the keys are driven by bits of one chain that follow one another: ${name} cannot drive this one.`);
+  `Consecutive bits of one chain drive the rows of the keys: ${name} cannot drive this one.`);
 /** @type {(name: string, kind: string, target: string) => string} */
 export const needsChipLine = (name, kind, target) => (
   `${name} is a ${kind} of a chain: ${target} needs an output line of a ROM or a RAM chip.`);
@@ -24,7 +24,7 @@ export const TEST_NEEDS_NAME = "What is at TEST needs a name.";
 export const BUZZER_NEEDS_NAME = "A buzzer needs a name.";
 export const NO_OWN_NAME = "This has no name of its own.";
 /** @type {(colour: string, colours: string) => string} */
-export const noColour = (colour, colours) => `${colour} is no colour; there are ${colours}.`;
+export const noColour = (colour, colours) => `${colour} is not a colour; the colours are ${colours}.`;
 /** @type {(digits: string) => string} */
 export const displayAdded = (digits) => `A display of ${digits} was added`;
 /** @type {(part: string, original: string) => string} */
@@ -48,7 +48,7 @@ export const named = (part, name) => (name ? `${part} is called ${name}` : `${pa
 /** @type {(lamp: number, colour: string) => string} */
 export const lampIs = (lamp, colour) => `Lamp ${lamp} is ${colour}`;
 export const USUAL_RED = "red, as usual";
-export const FACE_UNREADABLE = "The front panel of the board could not be read then.";
+export const FACE_UNREADABLE = "The front panel of the board could then not be read.";
 export const TEXT_HAS_ERRORS = "The board's text has errors: see Board.";
 /** @type {(parts: string) => string} */
 export const withAlso = (parts) => `, with ${parts}`;
@@ -81,7 +81,7 @@ export const mostLamps = (most, count) => `A board has at most ${most} lamps; it
 export const ONE_BUZZER = "A board has one buzzer: delete that one first.";
 export const LEAST_DIGITS = "A display has a whole number of digits, at least 1.";
 /** @type {(most: number) => string} */
-export const mostScanned = (most) => `A display whose digits are lit in turn has 1 to ${most} digits.`;
+export const mostScanned = (most) => `A multiplexed display has 1 to ${most} digits.`;
 /** @type {(place: string) => string} */
 export const buzzerIsAt = (place) => `The buzzer is at ${place}: give it another line first.`;
 /** @type {(line: string) => string} */
@@ -139,10 +139,10 @@ export const SHELF = {
   lamp: ["Lamp", "at the chosen output line, else at the next free one"],
   digit: ["Number display", "a display whose digits are numbers of four lines each"],
   segments: ["7 segments", "a display whose digits are seven lines each"],
-  scanned: ["Multiplexed display", "digits that are lit by turns: seven lines for all of them, and a line for each"],
+  scanned: ["Multiplexed display", "multiplexed digits: seven lines for all of them, and one line for each"],
   button: ["Button", "at the processor's TEST pin; it springs back"],
   switch: ["Switch", "at the processor's TEST pin; it stays"],
-  buzzer: ["Buzzer", "at the chosen output line, else at the next free one; the edges of its line are sound"],
+  buzzer: ["Buzzer", "at the chosen output line, else at the next free one; each edge of its line makes a sound"],
 };
 export const NOT_WIRED = "Not applied yet.";
 export const SHOW_IN_BOARD = "Show in text";

@@ -9,11 +9,11 @@ export const longLine = (most) => `the line has more than ${most} bytes before i
 export const notUnderstood = (rest) => `\`${rest}\` is not understood`;
 export const DIVISION_BY_0 = "a division by 0";
 /** @type {(most: number) => string} */
-export const tooDeep = (most) => `more than ${most} brackets or signs inside each other`;
+export const tooDeep = (most) => `more than ${most} nested brackets or signs`;
 /** @type {(text: string) => string} */
 export const noNumber = (text) => `\`${text}\` is not a number`;
 /** @type {(text: string) => string} */
-export const noCharacter = (text) => `${text} has a character that is not of ASCII`;
+export const noCharacter = (text) => `${text} has a character that is not ASCII`;
 export const NO_OPERAND = "an operand is missing";
 export const NO_BRACKET = "a bracket is missing";
 /** @type {(name: string) => string} */
@@ -36,7 +36,7 @@ export const NC_OF_WHOM = "NC means no condition (0) for Intel, and no carry (10
 export const of4040 = (word) => `${word} is an instruction of the 4040`;
 export const NO_PROGRAM_RAM = "WPM writes program RAM, which a board here does not have";
 /** @type {(word: string) => string} */
-export const notSupported = (word) => `${word} is not supported; write out what it stands for`;
+export const notSupported = (word) => `${word} is not supported; write the lines that it stands for`;
 export const PAST_LAST = "past the last address, FFF";
 /** @type {(word: string) => string} */
 export const noInstruction = (word) => `\`${word}\` is neither an instruction nor a directive that is supported`;

@@ -10,7 +10,7 @@ export const breakpointThat = (details) => `breakpoint${details && ` ${details}`
 /** @type {(note: string) => string} */
 export const logs = (note) => `: logs "${note}" and continues`;
 /** @type {(words: string, fault: string) => string} */
-export const stopsAlwaysByError = (words, fault) => `${words}: it stops at each arrival, because of an error: ${fault}`;
+export const stopsAlwaysByError = (words, fault) => `${words}: it stops every time, because of an error: ${fault}`;
 /** @type {(words: string) => string} */
 export const isOff = (words) => `${words}: it is off`;
 /** @type {(words: string) => string} */
@@ -32,7 +32,7 @@ export const moreNotes = (count) => `${count} more`;
 export const WORDS_OF_BREAKPOINT = "Breakpoint";
 export const CONDITION = "Condition";
 /** @type {(fault: string) => string} */
-export const stopsEachTime = (fault) => `It stops at each arrival, because of an error: ${fault}.`;
+export const stopsEachTime = (fault) => `It stops every time, because of an error: ${fault}.`;
 export const STOPS_WHERE = "stops if this is true, as in: R5 >= 8 and cy = 1, count = 9 or lamp 3 on, display 42";
 export const SUCH_AS_CONDITION = "such as r9 = 9";
 export const HIT_COUNT = "Hit count";
@@ -52,7 +52,7 @@ export const ENABLE = "Enable breakpoint";
 export const RUN_TO_LINE = "Run to this line";
 
 // --- machine/cell_editor.js ---
-export const NOT_HEXADECIMAL = "Type hexadecimal digits, as they are shown: 0 to 9, A to F.";
+export const NOT_HEXADECIMAL = "Type hexadecimal digits: 0 to 9, A to F.";
 /** @type {(name: string) => string} */
 export const inHexadecimal = (name) => `${name}, in hexadecimal digits`;
 
@@ -61,11 +61,11 @@ export const inHexadecimal = (name) => `${name}, in hexadecimal digits`;
 export const beyondLast = (word) => `${word} is not an address: the last one is FFF, or 4095.`;
 export const ADDRESS_FORMS = "write an address as the listing does (01E), as 0x01E or in decimal (30)";
 /** @type {(forms: string) => string} */
-export const nothingToGoTo = (forms) => `Nothing to go to: ${forms}.`;
+export const nothingToGoTo = (forms) => `Enter where to go: ${forms}.`;
 /** @type {(word: string, forms: string) => string} */
 export const noNameOrAddress = (word, forms) => `${word} is neither a name of the program nor an address: ${forms}.`;
 /** @type {(word: string, forms: string) => string} */
-export const noAddress = (word, forms) => `${word} is not an address: ${forms}. Names are known while the source is the same as ROM.`;
+export const noAddress = (word, forms) => `${word} is not an address: ${forms}. Names are known only while the source is the same as ROM.`;
 
 // --- machine/warmth.js ---
 /** @type {(line: string) => string} */
@@ -97,7 +97,7 @@ export const manyChanged = (reach, count, often, last, how) => `${reach} ${count
 
 // --- machine/heat_view.js ---
 /** @type {(most: string) => string} */
-export const howManyCycles = (most) => `How many cycles? A number from 1 to ${most}.`;
+export const howManyCycles = (most) => `Enter a number of cycles, from 1 to ${most}.`;
 export const SEARCHING_PAST = "Searching the past.";
 /** @type {(how: string) => string} */
 export const changedHow = (how) => `changed ${how}`;
@@ -105,17 +105,17 @@ export const changedHow = (how) => `changed ${how}`;
 // --- machine/listing_rows.js ---
 /** @type {(address: string) => string} */
 export const insideBreakpoint = (address) => (
-  `breakpoint at ${address}, inside this instruction: a run that gets here does not stop; a click clears it`);
+  `breakpoint at ${address}, inside this instruction: a run that gets here does not stop; click to clear it`);
 
 // --- machine/machine_view.js ---
-export const OWED_STAYS = "No line changes the pending cycle: a step or a run does.";
-export const PORTS_STAY = "No line changes a port: a program writes its latch, by WRR, and what it reads comes from keys and wires.";
+export const OWED_STAYS = "No line can set the pending cycle; a step or a run changes it.";
+export const PORTS_STAY = "No line can set a port: a program writes its latch by WRR, and keys and wires determine what it reads.";
 export const LINES_3_TO_0 = "lines 3 to 0";
 export const PORTS_OF_ROMS = "Ports of the ROMs";
 export const SRC_OF_ROMS = "SRC, ROMs";
 
 // --- machine/ram_view.js ---
-export const RAM_PORTS_STAY = "No line changes the output of a RAM chip's port: a program does, by WMP.";
+export const RAM_PORTS_STAY = "No line can set the output of a RAM chip's port: a program does, by WMP.";
 /** @type {(bank: number, chip: number, register: number) => string} */
 export const registerOfChip = (bank, chip, register) => `bank ${bank}, chip ${chip}, register ${register}`;
 export const NO_RAM = "This board has no RAM.";
@@ -132,7 +132,7 @@ export const portTitle = (bank, chip) => `bank ${bank}, chip ${chip}: what its o
 
 // --- machine/returns.js ---
 export const LEFT_OVER = "stale";
-export const NO_CALL_WAITS = "No call waits for a BBL with this address.";
+export const NO_CALL_WAITS = "No call is waiting for a BBL with this address.";
 /** @type {(line: number) => string} */
 export const callInLine = (line) => `call in line ${line}`;
 

@@ -73,9 +73,9 @@ export const boardOf = (name) => `${name}: board`;
 
 // --- recovery.js ---
 export const STOPPED = "Paused.";
-export const WORKER_RESTARTED = "The bench's worker has stopped and was started again. The session is as it was before.";
+export const WORKER_RESTARTED = "The bench's worker stopped and was restarted. The session is unchanged.";
 /** @type {(why: string) => string} */
-export const cannotRestart = (why) => `The bench has stopped and could not be started again: ${why}. Save the session to a file.`;
+export const cannotRestart = (why) => `The bench has stopped and could not be restarted: ${why}. Save the session to a file.`;
 
 // --- compose_session.js ---
 export const TAKE_FROM_ROM = "Disassemble ROM";

@@ -186,7 +186,7 @@ export const countOfCommands = (count) => (count === 1 ? "1 command" : `${count}
 /** @type {(count: number) => string} */
 export const countOfPlaces = (count) => (count === 1 ? "1 place" : `${count} places`);
 /** @type {(wanted: string) => string} */
-export const noneHas = (wanted) => `Nothing is called ${wanted}`;
+export const noneHas = (wanted) => `Nothing is named ${wanted}`;
 
 // --- commands/palette_places.js ---
 /** @type {(address: string) => string} */

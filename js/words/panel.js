@@ -3,7 +3,7 @@
 // --- panel/terminal_panel.js ---
 /** @type {(line: string, answer: string, words: string) => string} */
 export const refused = (line, answer, words) => `${line} is rejected: ${answer}: ${words}`;
-export const NOTHING_HERE = "this key does nothing here; the last line has those that do";
+export const NOTHING_HERE = "this key does nothing here; the last line lists the keys";
 /** @type {(key: string) => string} */
 export const noKey = (key) => `the board has no key ${key}`;
 

@@ -1,16 +1,16 @@
 // Texts that users read at the prompt of mcs4 debug.
 
 // --- prompt/breakpoint_commands.js ---
-export const WHICH_ONE = "which one? info breakpoints has their numbers";
+export const WHICH_ONE = "which one? info breakpoints shows their numbers";
 /** @type {(id: number, where: string) => string} */
 export const breakpointAt = (id, where) => `Breakpoint ${id} at ${where}.`;
 /** @type {(word: string) => string} */
-export const noBreakpoint = (word) => `there is no breakpoint ${word}; info breakpoints has their numbers`;
+export const noBreakpoint = (word) => `there is no breakpoint ${word}; info breakpoints shows their numbers`;
 /** @type {(place: string) => string} */
 export const isWatched = (place) => `${place} is watched.`;
 /** @type {(watched: string) => string} */
 export const oneIsWatched = (watched) => (
-  `${watched} is watched, and only one place that is not a RAM character can be: delete ${watched} first`);
+  `${watched} is watched, and only one place other than RAM characters can be watched: delete ${watched} first`);
 /** @type {(place: string) => string} */
 export const watchedByContinue = (place) => `${place} is watched by continue.`;
 /** @type {(place: string) => string} */
@@ -24,17 +24,17 @@ export const NOTHING_WATCHED = "nothing is watched";
 export const ifCondition = (condition) => (condition && ` if ${condition}`);
 /** @type {(note: string) => string} */
 export const logNote = (note) => (note && ` log "${note}"`);
-export const CONDITION_FORM = "it is written as condition N CONDITION, as condition 1 r4 = 7";
-export const IGNORE_FORM = "it is written as ignore N COUNT, as ignore 1 5";
-export const COMMANDS_FORM = "it is written as commands N, and lines up to end";
-export const SAVE_FORM = "it is written as save breakpoints FILE";
+export const CONDITION_FORM = "write condition N CONDITION, as in condition 1 r4 = 7";
+export const IGNORE_FORM = "write ignore N COUNT, as in ignore 1 5";
+export const COMMANDS_FORM = "write commands N, and lines up to end";
+export const SAVE_FORM = "write save breakpoints FILE";
 /** The first line of a file of breakpoints. */
 export const SAVED_HEAD = "# Breakpoints of mcs4 debug";
 export const TEMPORARY = ", temporary";
 /** @type {(id: number) => string} */
 export const stopsAlways = (id) => `Breakpoint ${id} has no condition now.`;
 /** @type {(most: string, text: string) => string} */
-export const ignoredIs = (most, text) => `a count of hits is 0 to ${most}, not ${text}`;
+export const ignoredIs = (most, text) => `a hit count is 0 to ${most}, not ${text}`;
 /** @type {(id: number, count: number) => string} */
 export const willPass = (id, count) => {
   if (count === 0) return `Breakpoint ${id} stops at its next hit.`;
@@ -58,7 +58,7 @@ export const noFormat = (format, formats) => `${format || "nothing"} is not a fo
 export const noNumberOf = (what) => `${what} is not a number, so it has no format`;
 
 // --- prompt/change_commands.js ---
-export const BENCH_FORM = "it is written as bench LINE, as bench state";
+export const BENCH_FORM = "write bench LINE, as in bench state";
 export const NO_FILE = "there is no file of the source to read";
 export const SOURCE_IN_ROM = "The source is in ROM.";
 
@@ -66,7 +66,7 @@ export const SOURCE_IN_ROM = "The source is in ROM.";
 /** @type {(word: string) => string} */
 export const noCommand = (word) => `there is no command ${word}; help shows them all`;
 /** @type {(word: string, names: string) => string} */
-export const notClear = (word, names) => `${word} is not clear: ${names}`;
+export const notClear = (word, names) => `${word} is ambiguous: ${names}`;
 /** @type {(names: string) => string} */
 export const otherNames = (names) => ` Or: ${names}.`;
 
@@ -76,31 +76,31 @@ export const NONE_DOWN = "none is down";
 /** @type {(keys: string) => string} */
 export const down = (keys) => `down: ${keys}`;
 /** @type {(command: string) => string} */
-export const keyForm = (command) => `it is written as ${command} KEY; info keys has their names`;
+export const keyForm = (command) => `write ${command} KEY; info keys shows their names`;
 /** @type {(word: string, names: string) => string} */
 export const noKey = (word, names) => `the board has no key ${word}; it has: ${names}`;
 
 // --- prompt/look_commands.js ---
 export const NO_LAMPS = "the board has no lamps";
-export const PRINT_FORM = "it is written as print WHAT, as print r4";
-export const VIEW_FORM = "it is written as view, view on or view off";
+export const PRINT_FORM = "write print WHAT, as in print r4";
+export const VIEW_FORM = "write view, view on or view off";
 export const VIEW_NEEDS_TERMINAL = "the view needs a terminal: it is above the commands that are typed there";
-export const NO_DISPLAY = "there is no such display; info display has their numbers";
+export const NO_DISPLAY = "there is no such display; info display shows their numbers";
 /** @type {(place: string) => string} */
-export const noPlaceOfMemory = (place) => `${place} is no place: x/8 show, x/8 0x00F, x/16 ram.0.0x10`;
+export const noPlaceOfMemory = (place) => `${place} is not a place; examples: x/8 show, x/8 0x00F, x/16 ram.0.0x10`;
 export const NO_LINE_THERE = "the source has no line there; x shows what is in ROM";
 /** @type {(count: number) => string} */
 export const sourceHas = (count) => `the source has ${count} lines`;
 export const NOTHING_DISPLAYED = "nothing is displayed";
 /** @type {(program: string, count: number) => string} */
 export const linesOf = (program, count) => `${program}, ${count} lines`;
-export const SESSION_FILE = "a session file, which has at each stop what was done";
+export const SESSION_FILE = "a session file, which is updated at each stop";
 export const IN_MEMORY = "in memory: nothing is kept";
 /** @type {(kinds: string) => string} */
 export const infoShows = (kinds) => `info shows ${kinds}`;
 /** @type {(kind: string) => string} */
 export const infoTakesNoArgument = (kind) => `info ${kind} takes no argument`;
-export const SYMBOL_FORM = "it is written as info symbol PLACE, as info symbol 0x00F";
+export const SYMBOL_FORM = "write info symbol PLACE, as in info symbol 0x00F";
 export const NO_LOCALS = "a 4004 has no local variables; info registers shows the registers, info names the names of the program";
 /** @type {(line: number, first: string, name: string, last: string) => string} */
 export const lineIs = (line, first, name, last) => (
@@ -117,17 +117,17 @@ export const noPlaceOfRam = (place) => `${place} is not a place of RAM such as r
 export const noRamAt = (place) => `the board has no RAM at ${place}`;
 
 // --- prompt/move_commands.js ---
-export const UNTIL_FORM = "it is written as until PLACE or until CONDITION, as until show, until r5 > 8";
+export const UNTIL_FORM = "write until PLACE or until CONDITION, as in until show or until r5 > 8";
 export const REVERSE_FORM = "reverse-continue takes no argument; reverse-step N goes back N instructions";
 export const FINISH_FORM = "finish takes no argument";
 export const CONTINUE_FORM = "continue takes no argument; run TIME runs for a time";
-export const NOTHING_STOPS = "nothing would stop it: set a breakpoint, or let a time pass by run 100 ms";
+export const NOTHING_STOPS = "nothing would stop it: set a breakpoint, or run for a time, as in run 100 ms";
 /** @type {(words: string, left: string) => string} */
 export const notPressed = (words, left) => `${words} Not pressed: ${left}.`;
 
 // --- prompt/moves.js ---
 /** @type {(where: string) => string} */
-export const backInSubroutine = (where) => `Back in the subroutine, at ${where}: what is remembered begins in it.`;
+export const backInSubroutine = (where) => `Back in the subroutine, at ${where}: the remembered past begins in it.`;
 /** @type {(where: string) => string} */
 export const backAt = (where) => `Back at ${where}: this instruction has not run yet.`;
 
@@ -137,12 +137,12 @@ export const NOTHING_DONE = "Nothing was done";
 export const PAGE_REMEMBERS = "the page remembers";
 export const SESSION_REMEMBERS = "the session remembers";
 /** @type {(command: string) => string} */
-export const placeForm = (command) => `it is written as ${command} PLACE, as ${command} r4`;
+export const placeForm = (command) => `write ${command} PLACE, as in ${command} r4`;
 /** @type {(text: string, places: string) => string} */
 export const noPlace = (text, places) => `${text} is not a place; places are ${places}`;
 
 // --- prompt/words_of_line.js ---
-export const FORMS_IN_PROGRAM = "a line of the source as 12, a label as show or show + 2, an address as 0x00F";
+export const FORMS_IN_PROGRAM = "a line of the source such as 12, a label such as show or show + 2, an address such as 0x00F";
 /** @type {(line: string) => string} */
 export const noInstructionIn = (line) => `neither line ${line} of the source nor a line after it has an instruction`;
 /** @type {(text: string, forms: string) => string} */
@@ -150,5 +150,5 @@ export const notInProgram = (text, forms) => `${text} is not a place in the prog
 /** @type {(most: string, text: string) => string} */
 export const countIs = (most, text) => `a count is 1 to ${most}, not ${text}`;
 /** @type {(text: string) => string} */
-export const noTime = (text) => `${text} is not a time; write cycles as 538, or 54 us, 20 ms, 1.5 s`;
+export const noTime = (text) => `${text} is not a time; write a number of cycles such as 538, or 54 us, 20 ms, 1.5 s`;
 export const NOTHING = "nothing";

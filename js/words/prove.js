@@ -1,15 +1,15 @@
 // Texts that users read about proofs: that properties hold for all inputs, and why something is not decided.
 
 // --- prove/decided.js ---
-export const LOOKS_AT_TOO_MUCH = "its condition looks at too much at once";
+export const LOOKS_AT_TOO_MUCH = "its condition uses too many places at once";
 /** @type {(place: string) => string} */
-export const looksAtInput = (place) => `its condition looks at ${place}, an input`;
+export const looksAtInput = (place) => `its condition uses ${place}, an input`;
 
 // --- prove/question.js ---
 /** @type {(form: string) => string} */
 export const otherForm = (form) => `a property of the form "${form}" cannot be proved yet`;
 export const HAS_GUARDS = "a property with a guard cannot be proved yet";
-export const BEGINS_LATER = "a proof begins at power-on, and the text begins elsewhere (from)";
+export const BEGINS_LATER = "a proof begins at power-on, but the text begins elsewhere (from)";
 
 // --- prove/mistakes.js ---
 /** Each property of every program, by the word of its mistake in a question. */
@@ -25,14 +25,14 @@ export const MISTAKES = {
 
 // --- prove/judging.js ---
 /** @type {(steps: string) => string} */
-export const excluded = (steps) => `only inputs that the text excludes break it so far (${steps})`;
+export const excluded = (steps) => `so far, only inputs that the text excludes break it (${steps})`;
 export const NOT_CONFIRMED = "the bench does not confirm the counterexample that was found";
 
 // --- prove/bounded_proof.js ---
 /** @type {(states: string) => string} */
-export const moreThan = (states) => `more than ${states} states; a larger number beside Prove allows more`;
+export const moreThan = (states) => `more than ${states} states; enter a larger number beside Prove to allow more`;
 /** @type {(states: string) => string} */
-export const fullAfter = (states) => `there is no memory for more than ${states} states; mcs4 prove, in a terminal, has more`;
+export const fullAfter = (states) => `memory has room for only ${states} states; mcs4 prove in a terminal can use more`;
 
 // --- prove/verdicts.js ---
 export const STATE = "state";
@@ -54,9 +54,9 @@ export const foundBy = (steps, cycles, isGoal) => `${isGoal ? "reached" : "broke
 // --- node/proving.mjs ---
 /** @type {(most: string) => string} */
 export const moreStates = (most) => `more than ${most} states; --most allows more`;
-export const NO_MEMORY = "there is no memory for more states";
+export const NO_MEMORY = "memory is full";
 /** @type {(states: string) => string} */
-export const noRoom = (states) => `there is no memory for more than ${states} states`;
+export const noRoom = (states) => `memory has room for only ${states} states`;
 /** @type {(states: string, megabytes: number) => string} */
 export const noRoomIn = (states, megabytes) => `there is no room for more than ${states} states in ${megabytes} MB; --memory allows more`;
 export const GAVE_UP = "the prover gave up";
@@ -68,7 +68,7 @@ export const proverEnded = (words) => `the prover ended without an answer: ${wor
 // --- page/prove/proofs.js ---
 export const PROVE = "Prove";
 export const CANCEL = "Cancel";
-export const STATES_FORM = "The states are a number, 1 to 999,999,999.";
+export const STATES_FORM = "The number of states must be 1 to 999,999,999.";
 export const CANCELLED_EARLY = "It was cancelled before anything was proved.";
 /** @type {(property: string) => string} */
 export const nextStepBreaks = (property) => `The next step breaks: ${property}`;
@@ -76,13 +76,13 @@ export const nextStepBreaks = (property) => `The next step breaks: ${property}`;
 export const nextStepReaches = (property) => `The next step reaches: ${property}`;
 
 // --- page/prove/proofs_view.js ---
-export const CHANGED = "the program, the board or the text has changed since";
+export const CHANGED = "the program, the board or the text has changed since then";
 export const ITS_TEST = "Show as test";
 export const ITS_LINES = "Its lines";
 export const OPEN_FOUND = "Open counterexample";
 export const OPEN_WAY = "Open the way there";
-export const BEFORE_IT = "a new session, paused before the step that breaks it; time goes back from there";
-export const BEFORE_GOAL = "a new session, paused before the step that reaches it; time goes back from there";
+export const BEFORE_IT = "a new session, paused before the step that breaks it; you can step back from there";
+export const BEFORE_GOAL = "a new session, paused before the step that reaches it; you can step back from there";
 export const ADD_TO_TESTS = "Add to tests";
 export const AT_END = "at the end of Tests";
 

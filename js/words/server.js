@@ -35,7 +35,7 @@ export const idWaits = (id) => `a request with the id ${id} waits for its answer
 // --- server/diagnostics.js ---
 export const MAY_BE_MORE = "There may be more errors.";
 /** @type {(most: string, size: string) => string} */
-export const textTooLong = (most, size) => `a text has at most ${most} characters; this has ${size}, and the limit is passed here`;
+export const textTooLong = (most, size) => `a text has at most ${most} characters; this one has ${size} and passes the limit here`;
 /** @type {(text: string) => string} */
 export const write = (text) => `Write ${text}`;
 
@@ -116,7 +116,7 @@ export const testFailed = (name, line, words) => `The test ${name} failed in lin
 export const notRun = (file, line, words) => `Nothing was run: ${file}${line > 0 ? `:${line}` : ""}: ${words}.`;
 
 // --- project/project_folder.js ---
-export const EMPTY = "it is empty; it names the files of the project, as board = \"board.toml\"";
+export const EMPTY = "it is empty; it names the files of the project, as in board = \"board.toml\"";
 /** @type {(size: number, most: number) => string} */
 export const tooLong = (size, most) => `it has ${size} bytes, more than a project file can have (${most})`;
 export const ZERO_BYTES = "it has zero bytes; it is not a text";
@@ -130,13 +130,13 @@ export const PROGRAM_IS = "program is the path of a file: program = \"program.as
 export const TESTS_ARE = "tests is a list of paths: tests = [\"program.test\"]";
 export const PROPERTIES_ARE = "properties is a list of paths: properties = [\"program.props\"]";
 /** @type {(names: string, last: string) => string} */
-export const speedIs = (names, last) => `speed is one of ${names} and ${last}`;
+export const speedIs = (names, last) => `speed is one of ${names} or ${last}`;
 /** @type {(key: string, form: string | undefined) => string} */
 export const emptyPath = (key, form) => `${key} has an empty path; ${form}`;
 /** @type {(key: string) => string} */
 export const controlCharacter = (key) => `a path of ${key} has a control character`;
 /** @type {(key: string) => string} */
-export const backslash = (key) => `a path of ${key} has a \\; its folders are separated by /`;
+export const backslash = (key) => `a path of ${key} has a \\; separate folders by /`;
 /** @type {(path: string, key: string) => string} */
 export const noPath = (path, key) => `${path} is not a path from the project's folder; ${key} names files in it`;
 /** @type {(path: string, key: string) => string} */
@@ -144,7 +144,7 @@ export const outOfFolder = (path, key) => `${path} leads out of the project's fo
 /** @type {(name: string) => string} */
 export const noKey = (name) => `a project has no key ${name}; it has board, program, tests, properties and speed`;
 /** @type {(name: string, line: number) => string} */
-export const alreadyIn = (name, line) => `${name} is in line ${line} already`;
+export const alreadyIn = (name, line) => `${name} is already in line ${line}`;
 export const NO_TABLES = "a project has no tables; each of its keys begins a line";
 /** @type {(name: string, form: string | undefined) => string} */
 export const missing = (name, form) => `${name} is missing; ${form}`;

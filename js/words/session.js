@@ -8,7 +8,7 @@ export const openElsewhere = (name) => `The session "${name}" is open in another
 /** @type {(name: string, why: string) => string} */
 export const notDeleted = (name, why) => `The session "${name}" was not deleted: ${why}.`;
 /** @type {(name: string, why: string) => string} */
-export const notRestored = (name, why) => `The session "${name}" was not brought back: ${why}.`;
+export const notRestored = (name, why) => `The session "${name}" was not restored: ${why}.`;
 
 // --- session/current_session.js ---
 export const STOPPED = "Paused.";
@@ -28,8 +28,8 @@ export const EXPORT = "Export";
 export const FILES = "Files";
 export const SOURCE_FILE = "the source, with its comments";
 export const BOARD_FILE = "the board's text, with its comments";
-export const HEX_FILE = "what is in ROM, in Intel HEX, for an EPROM programmer";
-export const BIN_FILE = "what is in ROM, byte by byte from 000 on";
+export const HEX_FILE = "the contents of ROM in Intel HEX, for an EPROM programmer";
+export const BIN_FILE = "the contents of ROM, byte by byte from 000";
 /** @type {(ending: string) => string} */
 export const saveAs = (ending) => `Save ${ending}`;
 /** @type {(what: string) => string} */
@@ -45,9 +45,9 @@ export const NO_PROJECT_FILE = "there is no such file; it names the files of a p
 export const noFile = (path) => `there is no file ${path}`;
 
 // --- session/kept_list.js ---
-export const DELETE_CHOSEN = "Delete the chosen ones";
+export const DELETE_CHOSEN = "Delete the selected ones";
 /** @type {(count: number) => string} */
-export const deleteSome = (count) => `Delete ${count} chosen`;
+export const deleteSome = (count) => `Delete ${count} selected`;
 export const SHOWN = "Shown";
 export const OPEN = "Open";
 /** @type {(name: string) => string} */
@@ -59,18 +59,18 @@ export const DELETE = "Delete";
 /** @type {(name: string) => string} */
 export const deleteNamed = (name) => `delete ${name}`;
 /** @type {(name: string) => string} */
-export const chooseNamed = (name) => `choose ${name}`;
-export const BRING_BACK = "Bring back";
+export const chooseNamed = (name) => `select ${name}`;
+export const BRING_BACK = "Restore";
 /** @type {(name: string) => string} */
-export const bringBackNamed = (name) => `bring back ${name}`;
+export const bringBackNamed = (name) => `restore ${name}`;
 /** @type {(cycles: string) => string} */
 export const withCycles = (cycles) => `, ${cycles} cycles`;
 
 // --- session/kept_past.js ---
-export const NO_PAST = "it is no past";
+export const NO_PAST = "it is not a recorded past";
 
 // --- session/offered_lines.js ---
-export const OTHER_LINES = "Other lines are now where you had lines that were not sent.";
+export const OTHER_LINES = "Other lines have replaced the lines that you had not sent.";
 export const UNDO = "Undo";
 
 // --- session/opened_file.js ---
@@ -88,8 +88,8 @@ export const EMPTY = "it is empty";
 // --- session/project_file.js ---
 /** The second line of a project file. */
 export const ABOUT_PROJECT =
-  "# A board, its program and a session of the bench Fethsaim. Its page opens this file; mcs4 project takes it apart.";
-export const ONE_OF_HEAD = "one of the head: `name`, `unended`, `break`, `value`, `#`, or `wire`, which begins the board's text";
+  "# A board, its program and a session of the bench Fethsaim. Its page opens this file; mcs4 project splits it.";
+export const ONE_OF_HEAD = "a line of the head: `name`, `unended`, `break`, `value`, `#`, or `wire`, which starts the board's text";
 export const BOARD_TEXT = "the board's text";
 export const SOURCE_TEXT = "the source";
 export const TESTS_TEXT = "the tests' text";
@@ -102,11 +102,11 @@ export const hasToBe = (line, wanted) => `line ${line} of the project must be ${
 export const noEnd = (word) => `the text after \`${word}\` has no end, a line with only a dot`;
 export const NO_PROJECT = "not a project of Fethsaim";
 /** @type {(version: string) => string} */
-export const otherVersion = (version) => `a project of version ${version}, which is not known here`;
+export const otherVersion = (version) => `a project of version ${version}, which is unknown here`;
 /** @type {(line: string) => string} */
 export const cutOff = (line) => `the project is cut off: its last line, \`${line}\`, is missing`;
-export const OTHER_CHECKSUM = "the project is damaged, or was edited: its checksum is wrong. "
-  + "If you edit a project, delete its line `cksum`";
+export const OTHER_CHECKSUM = "the project is damaged or was edited: its checksum is wrong. "
+  + "After editing a project, delete its line `cksum`";
 /** @type {(line: number) => string} */
 export const notOfSession = (line) => `line ${line} of the project is not one of a session`;
 export const TOO_MANY_BYTES = "the file has more bytes than a project can have";
@@ -132,14 +132,14 @@ export const lacksRom = (chip, address) => (
   `the board has no ROM ${chip}, where the image has bytes (${address}): wire a [[rom]] with chip = ${chip}`);
 /** @type {(bytes: string, name: string, isOne: boolean, first: string) => string} */
 export const bytesInRom = (bytes, name, isOne, first) => (
-  `${bytes} of ${name} ${isOne ? "is" : "are"} in ROM, from ${first} on; nothing was reset.`);
+  `${bytes} of ${name} ${isOne ? "is" : "are"} in ROM, from ${first}; nothing was reset.`);
 
 // --- session/session_manager.js ---
 export const IN_ANOTHER_TAB = "This session is open in another tab. Continue there, close that tab, or open a copy of it.";
 export const OPEN_A_COPY = "Open a copy";
 /** @type {(why: string) => string} */
-export const cannotReadKept = (why) => `The sessions that are kept could not be read: ${why}.`;
-export const NO_LONGER_KEPT = "it is no longer kept here";
+export const cannotReadKept = (why) => `The saved sessions could not be read: ${why}.`;
+export const NO_LONGER_KEPT = "it is no longer saved here";
 /** @type {(why: string) => string} */
 export const notOpened = (why) => `Cannot open the session: ${why}.`;
 /** @type {(why: string) => string} */
@@ -147,14 +147,14 @@ export const notMade = (why) => `No session was made: ${why}.`;
 /** @type {(name: string) => string} */
 export const aCopy = (name) => `${name}, a copy`;
 /** @type {(name: string, why: string) => string} */
-export const fileNotOpened = (name, why) => `Cannot open ${name}: ${why}. The session that is shown is as it was.`;
+export const fileNotOpened = (name, why) => `Cannot open ${name}: ${why}. The session shown is unchanged.`;
 export const THE_FOLDER = "the folder";
 /** @type {(why: string) => string} */
 export const noProjectSaved = (why) => (
   `No project was saved: ${why}. Shorten it first; "Save session for mcs4" saves the session without its texts.`);
 
 // --- session/sessions_controller.js ---
-export const KEPT_HERE = "They are saved in this browser only. Download a copy to keep one safe. "
+export const KEPT_HERE = "They are saved in this browser only. Download a copy to be safe. "
   + "Examples are saved once you change something.";
 export const PROMISED = " The browser has promised to keep them even when space is short.";
 export const KEPT_NOWHERE = "This browser keeps nothing for this page: save a session to a file before you leave.";
@@ -182,10 +182,10 @@ export const newStory = (name) => `new session with its story: ${name}`;
 export const WITH_STORY = "with its story";
 
 // --- session/share_link.js ---
-export const DAMAGED = "it is cut off, or was changed";
+export const DAMAGED = "it is cut off or was changed";
 export const HOLDS_MORE = "it holds more than a board and a program";
-export const CANNOT_DECOMPRESS = "this browser cannot read compressed texts (it has no DecompressionStream); it needs Chrome from version "
-  + "103, Firefox from 113 or Safari from 16.4 on, or a project file instead of the link";
+export const CANNOT_DECOMPRESS = "this browser cannot read compressed texts (it has no DecompressionStream); it needs Chrome "
+  + "103, Firefox 113 or Safari 16.4 or later, or a project file instead of the link";
 export const NEWER_PAGE = "it was made by a newer page than this one";
 
 // --- session/sharing.js ---
@@ -194,8 +194,8 @@ export const THE_TESTS = "the tests";
 export const THE_PROPERTIES = "the properties";
 /** @type {(parts: string, last: string) => string} */
 export const itHolds = (parts, last) => `It holds ${parts} and ${last}, not the state of the machine.`;
-export const OF_A_FILE = " This page was opened from a file, so the link works only on this machine. Others append the part from # "
-  + "on to the address of their own page.";
+export const OF_A_FILE = " This page was opened from a file, so the link works only on this machine. Others append the part that "
+  + "begins with # to the address of their own page.";
 export const LONG = "Some messaging programs cut a link of more than 8,000 characters; a project file is safer.";
 /** @type {(why: string) => string} */
 export const noLink = (why) => `No link was made: ${why}. Shorten it first.`;
@@ -216,22 +216,22 @@ export const COPY_BY_HAND = "The browser does not let the page copy. Copy the li
 export const openFromLink = (name) => `Open "${name}" from a link?`;
 export const OPEN_AS_NEW = "Open it as a new session";
 /** @type {(why: string) => string} */
-export const linkNotOpened = (why) => `Cannot open the link: ${why}. What was here stays as it was.`;
+export const linkNotOpened = (why) => `Cannot open the link: ${why}. Nothing was changed.`;
 /** @type {(isBoard: boolean, why: string) => string} */
 export const benchRefusesText = (isBoard, why) => (
-  `The bench rejects its ${isBoard ? "board" : "source"} (${why}). The text is opened all the same.`);
+  `The bench rejects its ${isBoard ? "board" : "source"} (${why}). The text is opened anyway.`);
 /** @type {(board: string, source: string, tests: string, properties: string) => string} */
 export const sizesOfTexts = (board, source, tests, properties) => (
   `The board's text has ${board}, the source ${source}${tests && `, the text of tests ${tests}`}${
     properties && `, that of properties ${properties}`}.`);
 /** @type {(parts: string) => string} */
 export const onTheBoard = (parts) => `On the board: ${parts}.`;
-export const BECOMES_SESSION = "It becomes a session of its own, and the one that is here stays. Nothing is sent anywhere.";
+export const BECOMES_SESSION = "It becomes a separate session, and the current one stays. Nothing is sent anywhere.";
 
 // --- session/store.js ---
 export const CHANGED_ELSEWHERE = "another tab has changed or deleted this session";
 export const STORE_SILENT = "the browser's store does not answer";
-export const OLDER_STORE = "another tab holds an older form of the page's store";
+export const OLDER_STORE = "another tab uses an older form of the page's store";
 export const NO_WORD = "for an unknown reason";
 export const NO_SPACE = "the browser has no more space for this page";
 /** @type {(name: string) => string} */
@@ -244,8 +244,8 @@ export const WHICH_TEXT = {
 };
 /** The position of a text for the present board and program, and its use. */
 export const BESIDE = {
-  tests: "is in Tests. Run tests runs it on Board and Source as they are now.",
-  properties: "is in Properties. Search looks for what breaks it, on Board and Source as they are now.",
+  tests: "is in Tests. Run tests runs it on the current Board and Source.",
+  properties: "is in Properties. Search looks for counterexamples, on the current Board and Source.",
 };
 export const SOURCE = "Source";
 export const ASSEMBLES = "Assemble and run puts it into ROM";
@@ -255,19 +255,19 @@ export const BOARD_AND_SOURCE = "Board and Source";
 /** @type {(name: string, where: string, what: string, then: string) => string} */
 export const textIsIn = (name, where, what, then) => `${name} is in ${where}. ${what}${then}.`;
 export const THEN_ASSEMBLE = ", then Assemble and run";
-export const SAME_AS_ROM = "The source is the same as ROM already.";
+export const SAME_AS_ROM = "The source is already the same as ROM.";
 export const TAKEN_FROM_ROM = "The source was disassembled from ROM.";
 export const REPLACE_SOURCE = "Replace the source?";
 /** @type {(old: string, found: string) => string} */
-export const sizesOfSources = (old, found) => `The source has ${old}. What is in ROM gives ${found}, without comments and names.`;
+export const sizesOfSources = (old, found) => `The source has ${old}. The disassembly of ROM has ${found}, without comments and names.`;
 /** @type {(name: string) => string} */
 export const replaceByOdd = (name) => `Replace the source by ${name}?`;
 /** @type {(name: string) => string} */
 export const eachLineWrong = (name) => `Each line of ${name} has an error, so it is probably not a program.`;
 export const REPLACE_IT = "Replace it";
-export const LEAVE_AS_IS = "Leave it as it is";
+export const LEAVE_AS_IS = "Leave it unchanged";
 /** @type {(what: string) => string} */
-export const textRestored = (what) => `${what} is back as it was.`;
-export const TEXTS_RESTORED = "The board's text and the source are back as they were.";
+export const textRestored = (what) => `${what} is restored.`;
+export const TEXTS_RESTORED = "The board's text and the source are restored.";
 /** @type {(name: string) => string} */
-export const inOtherSession = (name) => `That was in the session "${name}". Open it first; then it can be undone.`;
+export const inOtherSession = (name) => `That was in the session "${name}". Open it first; then you can undo this.`;

@@ -23,7 +23,7 @@ export const inFile = (name, line, words) => `${name}: line ${line}: ${words}`;
 export const inText = (name, line, words) => `${name && `${name}: `}${line > 0 ? `line ${line}: ` : ""}${words}`;
 export const SOURCE_FORM = "source is written as: source FILE";
 /** @type {(most: number) => string} */
-export const tooDeep = (most) => `files serve the lines of others at most ${most} deep`;
+export const tooDeep = (most) => `source files can be nested at most ${most} deep`;
 /** @type {(name: string, dropped: string) => string} */
 export const endsTooSoon = (name, dropped) => `${name} ends too soon; ${dropped}`;
 /** @type {(key: string, row: number, column: number) => string} */

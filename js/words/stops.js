@@ -17,11 +17,11 @@ export const REASONS = {
   break: "at a breakpoint",
   watch: "after a watched nibble changed",
   usual: "before a mistake that is reported",
-  recorded: "because the waves after the trigger are recorded",
+  recorded: "because the waves after the trigger have been recorded",
 };
 
 /** Only a running subroutine can be stepped out of. */
-export const NO_CALL_WAITS = "no call waits for its return here";
+export const NO_CALL_WAITS = "no call is open here";
 
 /** @type {(line: number) => string} a line of a text, by its number */
 export const wordsOfLine = (line) => `line ${line}`;
@@ -58,7 +58,9 @@ export function wordsOfGone(goal, gone, where, breakpoint) {
     const when = wordsOfWhen(breakpoint && { ...breakpoint, from: 1, hits: 0 });
     return `Back at ${where}${before}, at a breakpoint${when}.`;
   }
-  if (end === "beginning") return `Back at ${where}${before}, at the beginning of what is remembered: no breakpoint was passed since.`;
+  if (end === "beginning") {
+    return `Back at ${where}${before}, at the beginning of the remembered past: no breakpoint was passed since then.`;
+  }
   const who = line ? `the line ${line}` : "this instruction";
   if (goal.kind === "when") return `Back at ${where}${before}: ${who} makes ${goal.condition} true.`;
   return `Back at ${where}${before}: ${who} changes ${gone.place} from ${from} to ${to}.`;
@@ -71,11 +73,11 @@ export function wordsOfGone(goal, gone, where, breakpoint) {
 function whyNot(goal, why) {
   if (goal.kind === "forward") return "forward returns to where going back started, until something else is done";
   if (goal.kind === "stop") return "no stop before this one is remembered";
-  if (goal.kind === "call") return "what is remembered does not reach back to the call";
-  if (goal.kind === "instruction" || why === "short" && goal.kind === "arrival") return "what is remembered reaches no further back";
-  if (goal.kind === "when") return `${goal.condition} has not become true as far back as is remembered`;
+  if (goal.kind === "call") return "the remembered past does not reach back to the call";
+  if (goal.kind === "instruction" || why === "short" && goal.kind === "arrival") return "the remembered past reaches no further back";
+  if (goal.kind === "when") return `${goal.condition} has not become true in the remembered past`;
   if (why === "lacks") return `this board has no ${goal.place}`;
-  return `${goal.place} has not changed as far back as is remembered`;
+  return `${goal.place} has not changed in the remembered past`;
 }
 
 /**
@@ -86,7 +88,7 @@ function whyNot(goal, why) {
  */
 export function wordsOfLastChange(name, { isFound, why, from, to, line, cycles, address }, map) {
   if (why === "lacks") return "";
-  if (!isFound) return `${name}: no change as far back as the page remembers.`;
+  if (!isFound) return `${name}: no change in the past that the page remembers.`;
   const who = line ? `the line ${line}` : wordsOfAddress(hex(address, 3), map);
   return `${name}: from ${from} to ${to} by ${who}${cycles === 0 ? "" : `, ${wordsOfCycles(cycles)} ago`}.`;
 }
@@ -142,7 +144,7 @@ export function wordsOfStop(goal, { why, cycles, returns, change }, where, when 
 /**
  * When a breakpoint stops: `, where r9 = 9`, `, at hit 5`.
  * @param {{ condition: string, from: number, hits: number } | undefined} breakpoint
- * @param {string} [fault] why it cannot be read: it stops at each arrival then
+ * @param {string} [fault] why it cannot be read: it stops every time then
  */
 export function wordsOfWhen(breakpoint, fault = "") {
   if (!breakpoint) return "";
@@ -171,6 +173,6 @@ export function wordsOfHalt(goal, cycles, where) {
  * @param {string} where
  */
 export function wordsOfBroken(goal, ran, where) {
-  const what = `${wordsOfGoal(goal)} was ${ran ? "not reached" : "looked for, and nothing was done"}`;
-  return `Paused at ${where}: ${what}, as the page was loaded again or another session was shown.`;
+  const what = `${wordsOfGoal(goal)} was ${ran ? "not reached" : "searched for, and nothing was done"}`;
+  return `Paused at ${where}: ${what}, because the page was reloaded or another session was shown.`;
 }

@@ -24,7 +24,7 @@ export const comesNext = (row) => `${row}comes next`;
 /** @type {(cycles: number) => string} */
 export const cyclesAgo = (cycles) => `${cycles} cycle${cycles === 1 ? "" : "s"} ago`;
 /** @type {(label: string, ago: string) => string} */
-export const lastLabel = (label, ago) => `; the label passed last is ${label}, ${ago}`;
+export const lastLabel = (label, ago) => `; the last label passed is ${label}, ${ago}`;
 /** @type {(last: string, what: string, when: string) => string} */
 export const wasPassed = (last, what, when) => `${last}; ${what} was ${when}`;
 /** @type {(ago: string) => string} */
@@ -83,28 +83,28 @@ export const didNotCome = (cycles, message, passed) => `it did not become true w
 // --- testing/test_text.js ---
 /** @type {(word: string) => string} */
 export const noRomAt = (word) => `the board has no ROM at ${word}`;
-export const RUN_FORM = "it is written as `run TIME`, as in: run 500, run 20 ms, run 1.5 s";
-export const REPEAT_FORM = "it is written as `repeat COUNT`, 1 to 100,000: the lines down to its `end` are done COUNT times";
+export const RUN_FORM = "write `run TIME`, as in: run 500, run 20 ms, run 1.5 s";
+export const REPEAT_FORM = "write `repeat COUNT`, 1 to 100,000: the lines down to its `end` are run COUNT times";
 export const CHOICE_FORM =
-  "a key by a value is written as `{PLACE}` or `{PLACE:KEY,KEY}`; places are acc, cy, dcl, r0 to r15, ram.B.S and st.B.H.K";
+  "to choose a key by a value, write `{PLACE}` or `{PLACE:KEY,KEY}`; places are acc, cy, dcl, r0 to r15, ram.B.S and st.B.H.K";
 export const FIRST_WORDS = "test, steps, from, save, press, release, keys, pace, run, until, expect, mark, set, reset, do, repeat or end";
 export const NO_TEST = "there is no line `test NAME`";
-export const NOT_ASCII = "a byte that is neither a tab nor a printing character of ASCII";
+export const NOT_ASCII = "a byte that is neither a tab nor a printable ASCII character";
 /** @type {(line: string) => string} */
 export const beginsWithTest = (line) => `a text of tests begins with \`test NAME\`, and this is: ${line}`;
 export const TEST_NAME = "a test has a name: test NAME";
-export const STEPS_NAME = "shared steps have a name, one word: steps NAME";
+export const STEPS_NAME = "shared steps have a name of one word: steps NAME";
 /** @type {(name: string, line: number, file: string) => string} */
-export const stepsDefinedTwice = (name, line, file) => `the steps ${name} are at ${placeOf(line, file)} already`;
+export const stepsDefinedTwice = (name, line, file) => `the steps ${name} are already at ${placeOf(line, file)}`;
 export const NO_END = "this `repeat` has no `end`";
 export const END_FORM = "`end` takes no argument";
 export const NO_REPEAT = "there is no `repeat` for this `end`";
 export const TOO_MANY_LINES = "this repeats more than 1,000,000 lines";
-export const DO_FORM = "it is written as `do STEPS`, the name of shared steps";
+export const DO_FORM = "write `do STEPS`, the name of shared steps";
 /** @type {(name: string) => string} */
-export const stepsUseThemselves = (name) => `the steps ${name} cannot do themselves`;
+export const stepsUseThemselves = (name) => `the steps ${name} cannot run themselves`;
 /** @type {(there: string, name: string) => string} */
-export const knownSteps = (there, name) => (there ? `; there are: ${there}` : `; \`steps ${name}\` begins them`);
+export const knownSteps = (there, name) => (there ? `; there are: ${there}` : `; \`steps ${name}\` starts them`);
 /** @type {(name: string, there: string) => string} */
 export const noSteps = (name, there) => `there are no steps ${name} before this line${there}`;
 /** @type {(word: string) => string} */
@@ -112,32 +112,32 @@ export const takesNoArgument = (word) => `\`${word}\` takes no argument`;
 /** @type {(word: string, forms: string) => string} */
 export const noForm = (word, forms) => `no line of a test begins with \`${word}\`; they begin with ${forms}`;
 /** @type {(word: string) => string} */
-export const stateForm = (word) => `it is written as \`${word} STATE\`, a word`;
+export const stateForm = (word) => `write \`${word} STATE\`, a word`;
 export const SAVED_ONCE = "a state is saved once: `save` cannot be in a `repeat`";
 /** @type {(word: string) => string} */
 export const noStates = (word) => `shared steps have no states: \`${word}\` belongs in a test`;
 /** @type {(state: string, test: string) => string} */
-export const savedBefore = (state, test) => `the state ${state} is saved by the test before, \`${test}\``;
+export const savedBefore = (state, test) => `the state ${state} is already saved by an earlier test, \`${test}\``;
 export const FROM_FORM = "`from` must be right below `test`";
 /** @type {(states: string) => string} */
 export const knownStates = (states) => `; there is: ${states}`;
 /** @type {(state: string, there: string) => string} */
-export const noSuchState = (state, there) => `no test before it saves a state ${state}${there}`;
-export const OWN_STATE = "a test cannot begin with a state of its own";
+export const noSuchState = (state, there) => `no earlier test saves a state ${state}${there}`;
+export const OWN_STATE = "a test cannot begin with a state that it saves itself";
 /** @type {(word: string, areMany: boolean) => string} */
-export const keysForm = (word, areMany) => `it is written as \`${word} ${areMany ? "KEYS" : "KEY .."}\``;
+export const keysForm = (word, areMany) => `write \`${word} ${areMany ? "KEYS" : "KEY .."}\``;
 /** @type {(name: string, word: string) => string} */
 export const nor = (name, word) => `${name}, nor ${word}`;
 /** @type {(what: string, there: string) => string} */
 export const noKey = (what, there) => (
   `the board has no key ${what}; ${there ? `it has: ${there}` : "its text names no keys (`# row 0: NAME ..`)"}`);
-export const UNTIL_FORM = "it is written as `until CONDITION within TIME`";
+export const UNTIL_FORM = "write `until CONDITION within TIME`";
 export const WITHIN_FORM = "it ends with `within TIME`, as in: within 500, within 20 ms, within 1.5 s";
 export const NO_CYCLES = "`until` cannot ask for cycles; use `run` or `expect`";
-export const PACE_FORM = "it is written as `pace TIME TIME`: how long a key is down, and how long it is up after it";
+export const PACE_FORM = "write `pace TIME TIME`: how long a key is down, and how long it is up after it";
 
 // --- testing/tests_tab.js ---
-export const WAS_CANCELLED = "It was cancelled; what is shown is from before.";
+export const WAS_CANCELLED = "It was cancelled; the results shown are from before.";
 
 // --- testing/tests_view.js ---
 export const NOT_OK = "not ok";

@@ -8,7 +8,7 @@ export const didYouMean = (words, end = "") => (
 
 // --- text/assembling.js ---
 /** @type {(bytes: string, isOne: boolean, first: string) => string} */
-export const stays = (bytes, isOne, first) => `${bytes} from before ${isOne ? "stays" : "stay"} in ROM, from ${first} on.`;
+export const stays = (bytes, isOne, first) => `${bytes} from before ${isOne ? "stays" : "stay"} in ROM, from ${first}.`;
 /** @type {(bytes: string, stay: string, counter: string) => string} */
 export const assembled = (bytes, stay, counter) => `${bytes} assembled.${stay} The counter stays at ${counter}; nothing was reset.`;
 
@@ -40,7 +40,7 @@ export const valueMissing = (key) => `the value of ${key} is missing`;
 /** @type {(text: string) => string} */
 export const noValue = (text) => `a value is needed here, not ${text}`;
 /** @type {(text: string) => string} */
-export const numberForm = (text) => `a number has no leading zero; a text is in quotes: "${text}"`;
+export const numberForm = (text) => `a number has no leading zero; write a text in quotes: "${text}"`;
 /** @type {(text: string) => string} */
 export const textForm = (text) => `${text} is a text: write it in quotes: "${text}"`;
 /** @type {(most: number) => string} */
@@ -52,19 +52,19 @@ export const COMMA_OF_KEYS = "write a comma between two keys, } after the last";
 
 // --- text/board_error.js ---
 /** @type {(name: string, before: number) => string} */
-export const alreadyThere = (name, before) => `${name} is there already, in line ${before}`;
+export const alreadyThere = (name, before) => `${name} is already in line ${before}`;
 /** @type {(line: string, chip: string) => string} */
 export const noSuchRom = (line, chip) => `the board has no line ${line}: no [[rom]] has chip = ${chip}`;
 /** @type {(line: string, bank: string) => string} */
 export const noSuchBank = (line, bank) => `the board has no line ${line}: no [[ram]] has bank = ${bank}`;
 /** @type {(line: string, bank: string, chips: number) => string} */
 export const bankHas = (line, bank, chips) => (
-  `the board has no line ${line}: bank ${bank} has ${chips === 1 ? "chip 0 alone" : `chips 0 to ${chips - 1}`}`);
+  `the board has no line ${line}: bank ${bank} has ${chips === 1 ? "only chip 0" : `chips 0 to ${chips - 1}`}`);
 /** @type {(line: string, chain: string, last: number) => string} */
 export const chainHas = (line, chain, last) => `the board has no line ${line}: chain ${chain} has bits 0 to ${last}`;
 /** @type {(chain: string, chains: number) => string} */
 export const noChain = (chain, chains) => (
-  `the board has no chain ${chain}: it has ${["no [[chain]]", "chain 0 alone"][chains] || `chains 0 to ${chains - 1}`}`);
+  `the board has no chain ${chain}: it has ${["no [[chain]]", "only chain 0"][chains] || `chains 0 to ${chains - 1}`}`);
 /** @type {(first: number, last: number, chain: number, end: number) => string} */
 export const rowsNeed = (first, last, chain, end) => `the rows need bits ${first} to ${last} of chain ${chain}, which has bits 0 to ${end}`;
 /** @type {(line: string) => string} */
@@ -74,7 +74,7 @@ export const needsOutput = (key, line, isBit) => (
   `${line} is ${isBit ? "a bit of a chain" : "an input line (i in its ROM's port)"}; ${
     key === "line" ? "a lamp needs an output line" : `${key} needs an output line of a ROM or a RAM chip`}`);
 /** @type {(name: string) => string} */
-export const noLineName = (name) => `${name} is not the name of a line; names are as "rom1.0", "ram0.0.3" and "chain0.5"`;
+export const noLineName = (name) => `${name} is not the name of a line; names are like "rom1.0", "ram0.0.3" and "chain0.5"`;
 /** @type {(key: string, number: string) => string} */
 export const withoutQuotes = (key, number) => `${key} is a number: write ${number} without quotes`;
 /** @type {(most: number, table: string) => string} */
@@ -93,7 +93,7 @@ export const whichHas = (keys) => `, which has ${keys}`;
 export const noPart = (kind, meant) => `${kind} is not a part of a board${meant}`;
 export const ONE_MATRIX = "a board has one key matrix: [keys]";
 /** @type {(kind: string) => string} */
-export const several = (kind) => `there may be several: [[${kind}]]`;
+export const several = (kind) => `there can be several: write [[${kind}]]`;
 /** @type {(kind: string, keys: string) => string} */
 export const lacks = (kind, keys) => `this ${kind} lacks ${keys}`;
 
@@ -104,7 +104,7 @@ export const NO_TEST_RUNS = "no test runs it";
 /** @type {(times: string) => string} */
 export const ran = (times) => `run ${times}`;
 /** @type {(taken: string, left: string) => string} */
-export const jumped = (taken, left) => `; it jumped ${taken}, and continued ${left}`;
+export const jumped = (taken, left) => `; it jumped ${taken} and continued ${left}`;
 
 // --- text/text_editor_view.js ---
 export const FAULTS = "Errors";
@@ -131,7 +131,7 @@ export const GO = "Go";
 export const CLOSE = "Close";
 
 // --- text/fold_view.js ---
-export const UNFOLDS = "a click unfolds them";
+export const UNFOLDS = "click to unfold them";
 
 // --- text/line_values.js ---
 export const LINE_CHANGED = "what this line has changed";
@@ -142,7 +142,7 @@ export const edits = (name) => `${name}: a double click or Enter edits it`;
 
 // --- text/name_view.js ---
 export const NO_NAME = "There is no name of this text at the caret.";
-export const PLACES_OF_NAME = "Places of a name";
+export const PLACES_OF_NAME = "Locations of a name";
 /** @type {(name: string, places: string) => string} */
 export const nameIsAt = (name, places) => `${name} is at ${places} `;
 /** @type {(line: number, isDefinition: boolean) => string} */
@@ -151,11 +151,11 @@ export const lineOfName = (line, isDefinition) => `line ${line}${isDefinition ? 
 export const otherName = (name) => `Another name for ${name}`;
 export const RENAME = "Rename";
 /** @type {(name: string, wanted: string, places: string) => string} */
-export const renamed = (name, wanted, places) => `${name} is ${wanted} now, at ${places}.`;
+export const renamed = (name, wanted, places) => `${name} is now ${wanted}, at ${places}.`;
 /** @type {(last: string) => string} */
 export const lineOfText = (last) => `Line, 1 to ${last}`;
 /** @type {(last: string) => string} */
-export const lineIs = (last) => `A line is a number from 1 to ${last}.`;
+export const lineIs = (last) => `The line must be a number from 1 to ${last}.`;
 
 // --- text/program_faults.js ---
 /** @type {(chip: number, address: string) => string} */
@@ -193,7 +193,7 @@ export const COMMA_OF_OPERANDS = "write a comma between two operands";
 export const NUMBER_FORM = "a number is decimal digits, or 0x and hexadecimal digits";
 /** @type {(most: number, length: number) => string} */
 export const nameTooLong = (most, length) => `a name has at most ${most} characters; this has ${length}`;
-export const NAME_FORM = "a name has letters, digits and _, and no digit first";
+export const NAME_FORM = "a name has letters, digits and _, and does not begin with a digit";
 /** @type {(name: string) => string} */
 export const isInstruction = (name) => `${name} is an instruction, so it cannot be a name`;
 /** @type {(name: string) => string} */
@@ -204,16 +204,16 @@ export const isRegister = (name) => `${name} is a register, so it cannot be a na
 export const takes = (head, what) => `${head} takes ${what}`;
 /** @type {(head: string, what: string) => string} */
 export const takesAfterComma = (head, what) => `${head} takes ${what}, after the comma`;
-export const NO_WPM = "WPM is not on this bench: its ROM cannot be written by a program";
+export const NO_WPM = "this bench has no WPM: a program cannot write its ROM";
 /** @type {(name: string, number: string) => string} */
-export const nameGetsNumber = (name, number) => `a name gets its number by =: ${name} = ${number}`;
+export const nameGetsNumber = (name, number) => `define a name with =: ${name} = ${number}`;
 /** @type {(name: string, question: string) => string} */
 export const noInstruction = (name, question) => `${name} is not an instruction${question}`;
 /** @type {(name: string) => string} */
 export const labelForm = (name) => `; a label has a colon: ${name}:`;
 /** @type {(reason: string) => string} */
 export const orgForm = (reason) => `ORG takes one number, 0 to 4095 (0xFFF)${reason}`;
-export const DB_FORM = "DB takes bytes, 0 to 255, with commas between them";
+export const DB_FORM = "DB takes bytes, 0 to 255, separated by commas";
 /** @type {(reason: string) => string} */
 export const equalsForm = (reason) => `write one number after =${reason}`;
 export const COLON_FORM = "a name is missing before the colon";
@@ -222,7 +222,7 @@ export const takesNothing = (name) => `${name} takes no operand`;
 export const AND_AFTER = ", and ";
 /** @type {(name: string, what: string, isMore: boolean) => string} */
 export const takesNoMore = (name, what, isMore) => `${name} takes ${what}${isMore ? ", no more" : ""}`;
-export const NUMBER_OF_NAME = "a number of a name is 0 to 4095";
+export const NUMBER_OF_NAME = "the number of a name is 0 to 4095";
 export const ORG_ADDRESS = "an address, 0 to 4095";
 /** @type {(name: string, what: string, more: string) => string} */
 export const takesBut = (name, what, more) => `${name} takes ${what}${more}`;
@@ -231,20 +231,20 @@ export const isMore = (word) => `; ${word} is more`;
 /** @type {(name: string, meant: string) => string} */
 export const notDefined = (name, meant) => `${name} is not defined${meant}`;
 /** @type {(name: string, line: number|undefined) => string} */
-export const definedBefore = (name, line) => `${name} is defined in line ${line} already`;
+export const definedBefore = (name, line) => `${name} is already defined in line ${line}`;
 /** @type {(name: string, head: string) => string} */
 export const otherPage = (name, head) => `${name} is on another page; ${head} reaches the page of the address after its two words`;
 export const IT = "it";
-export const BYTE_TWICE = "an earlier line has put a byte at this address; look at the ORG lines";
+export const BYTE_TWICE = "an earlier line has put a byte at this address; check the ORG lines";
 
 // --- text/property_words.js ---
 export const MAY_CHANGE = "Inputs";
 export const MUST_HOLD = "Properties";
-export const FIRST_PROPERTIES = "# Properties that hold whatever is pressed, and whenever. F1 has the words; "
-  + "Ctrl and Space completes them.\n\n";
+export const FIRST_PROPERTIES = "# Properties that hold whatever is pressed, at any time. F1 lists the words; "
+  + "Ctrl+Space completes them.\n\n";
 
 // --- text/references.js ---
-export const NAME_IS = "A name has letters of ASCII, digits and _, and begins with no digit.";
+export const NAME_IS = "A name has ASCII letters, digits and _, and does not begin with a digit.";
 /** @type {(most: number, length: number) => string} */
 export const nameHasMost = (most, length) => `A name has at most ${most} characters; this has ${length}.`;
 /** @type {(name: string) => string} */
@@ -252,17 +252,17 @@ export const isAnInstruction = (name) => `${name} is an instruction.`;
 /** @type {(name: string) => string} */
 export const isARegister = (name) => `${name} is a register.`;
 /** @type {(name: string, line: number) => string} */
-export const isDefined = (name, line) => `${name} is defined already, in line ${line}.`;
+export const isDefined = (name, line) => `${name} is already defined in line ${line}.`;
 
 // --- text/search_bar.js ---
 /** @type {(label: string) => string} */
 export const searchIn = (label) => `Search in ${label}`;
-export const SHIFT_ENTER = "Shift and Enter";
+export const SHIFT_ENTER = "Shift+Enter";
 export const PREVIOUS = "Previous";
 export const NEXT = "Next";
-export const REPLACE_BY = "Replace by";
-export const REPLACE_BY_HINT = "replace by";
-export const REPLACE_TITLE = "Enter: this one, and on to the next";
+export const REPLACE_BY = "Replace with";
+export const REPLACE_BY_HINT = "replace with";
+export const REPLACE_TITLE = "Enter: replaces this one and goes to the next";
 export const REPLACE = "Replace";
 export const REPLACE_ALL = "Replace all";
 export const NOT_FOUND = "not found";
@@ -272,7 +272,7 @@ export const replaced = (count) => `${count} replaced`;
 export const foundOf = (at, count) => `${at} of ${count}`;
 
 // --- testing/sample_test.js ---
-const ABOUT_TESTS = "# Tests, line by line. F1 has the words; Ctrl and Space completes them.\n\n";
+const ABOUT_TESTS = "# Tests, line by line. F1 lists the words; Ctrl+Space completes them.\n\n";
 /** Those that are tried after the display and the lamps by their names. */
 export const OTHER_CONDITIONS = ["lamps none", "not lamps none"];
 /** @type {(key: string, milliseconds: number, condition: string) => string} */
@@ -291,24 +291,24 @@ export const TAB_INDENTS = "Tab indents. Escape and then Tab leaves the text.";
 
 // --- text/text_fault.js ---
 /** @type {(character: string) => string} */
-export const otherQuote = (character) => `${character} is not the mark " of ASCII`;
-export const OTHER_BLANK = "a blank that does not break (U+00A0); write a plain one";
+export const otherQuote = (character) => `${character} is not the ASCII quotation mark "`;
+export const OTHER_BLANK = "a non-breaking space (U+00A0); write a plain space";
 /** @type {(code: string) => string} */
 export const unseen = (code) => `an invisible character (U+${code}); delete it`;
-export const CONTROL_CHARACTER = "a control character; only tabs and printing characters of ASCII can be sent";
+export const CONTROL_CHARACTER = "a control character; only tabs and printable ASCII characters can be sent";
 /** @type {(character: string) => string} */
-export const otherCharacter = (character) => `${character} is not a character of ASCII; it can be only in comments`;
+export const otherCharacter = (character) => `${character} is not an ASCII character; it can be only in comments`;
 export const DOT_ENDS = "a line with only a dot would end the text here";
 /** @type {(most: number, length: number) => string} */
 export const lineTooLong = (most, length) => `a line has at most ${most} characters without its comment; this has ${length}`;
 /** @type {(most: string, size: string) => string} */
 export const textTooLong = (most, size) => (
-  `a text has at most ${most} bytes without its comments; this has ${size}, and the limit is passed here`);
+  `a text has at most ${most} bytes without its comments; this one has ${size} and passes the limit here`);
 
 // --- text/text_help.js ---
 export const CARRY_STAYS = ". The carry stays";
 /** @type {(pair: number, upper: number, lower: number) => string} */
-export const pairIs = (pair, upper, lower) => `P${pair}: the pair of R${upper}, its upper four bits, and R${lower}, its lower ones.`;
+export const pairIs = (pair, upper, lower) => `P${pair}: the pair of R${upper} (upper four bits) and R${lower} (lower four bits).`;
 /** @type {(register: number, isUpper: boolean, pair: number) => string} */
 export const registerIs = (register, isUpper, pair) => `R${register}: the ${isUpper ? "upper" : "lower"} half of P${pair}.`;
 export const ORG_HELP = "ORG n: the next statement is at address n, 0 to 4095.";

@@ -22,7 +22,7 @@ export const WHY_STOPPED = {
 export const toPlace = (place) => `, to ${place}`;
 
 // --- time/cycles_view.js ---
-export const MARKS_CYCLE = "marks this cycle; a second press shows how many cycles are in between";
+export const MARKS_CYCLE = "marks this cycle; a second press shows how many cycles lie between the marks";
 export const MARK = "Set marker";
 export const OR_SINCE_BEGUN = "or since this session was begun or opened here";
 export const SINCE_RESET = "Since reset ";

@@ -4,12 +4,12 @@
 /** @type {Record<string, string>} why nothing more is recorded */
 export const ENDS = {
   hand: "Stopped by you.",
-  back: "It ended where the session went back or forward.",
-  board: "It ended where the board was wired again.",
-  program: "It ended where other bytes were put into ROM.",
+  back: "It ended when the session went back or forward.",
+  board: "It ended when the board was wired again.",
+  program: "It ended when other bytes were put into ROM.",
   lines: "It ended at lines that did more than it can follow.",
   long: "It ended after 4,000,000,000 cycles.",
-  lost: "It ended: the bench was started again.",
+  lost: "It ended because the bench was restarted.",
 };
 /** @type {(cycle: string) => string} */
 export const triggerCame = (cycle) => ` The trigger was at cycle ${cycle}.`;
@@ -19,7 +19,7 @@ export const recorded = (what, trigger) => `Recorded ${what}.${trigger}`;
 export const recordedUntil = (what, end, trigger) => `Recorded ${what}. ${end}${trigger}`;
 export const NOTHING = "nothing";
 /** @type {(trigger: string) => string} */
-export const recordsAfter = (trigger) => `Recording what comes after the trigger.${trigger}`;
+export const recordsAfter = (trigger) => `Recording the cycles after the trigger.${trigger}`;
 export const RECORDS_SOON = "Records as soon as the machine runs.";
 export const RECORDS = "Recording.";
 /** @type {(trigger: string) => string} */
@@ -28,9 +28,9 @@ export const waitsFor = (trigger) => ` Waiting for ${trigger}.`;
 // --- waves/scope.js ---
 export const RECORD = "Record";
 /** @type {(least: number, most: string) => string} */
-export const howManyCycles = (least, most) => `How many cycles? A number from ${least} to ${most}.`;
+export const howManyCycles = (least, most) => `Enter a number of cycles, from ${least} to ${most}.`;
 /** @type {(most: string) => string} */
-export const mostAfter = (most) => `${most} cycles are kept: no more of them can follow the trigger.`;
+export const mostAfter = (most) => `${most} cycles are kept: at most that many can follow the trigger.`;
 /** @type {(fault: string) => string} */
 export const triggerFault = (fault) => `The trigger is not understood: ${fault}.`;
 export const STOP_RECORDING = "Stop recording";
@@ -41,11 +41,11 @@ export const NO_LINE_CHOSEN = "No line is chosen: choose the lines for the file.
 // --- waves/trigger.js ---
 /** @type {(name: string) => string} */
 export const noSuchName = (name) => `nothing here is called ${name}; Rows lists the names`;
-export const LABEL_FORM = "a place of the program is written as @LABEL";
+export const LABEL_FORM = "write a place of the program as @LABEL";
 /** @type {(name: string) => string} */
-export const decodedForm = (name) => `${name} is decoded from other lines: name one of them, as in: rom0.0 rises`;
+export const decodedForm = (name) => `${name} is decoded from other lines: name one of those, as in: rom0.0 rises`;
 /** @type {(name: string) => string} */
-export const numberForm = (name) => `${name} is a number: it is written as ${name} changes, or as ${name} = 5`;
+export const numberForm = (name) => `${name} is a number: write ${name} changes, or as ${name} = 5`;
 
 // --- waves/wave_view.js ---
 export const ROW = "Row";
@@ -123,22 +123,22 @@ export const inBank = (bank, character) => `bank ${bank}, ${character}`;
 export const STATUS_CHARACTER = "a status character";
 
 // --- waves/wave_search.js ---
-export const SEARCH_FORMS = "a value of the marked line, as 9 or 0x1F; r5 = 9, rom0 != 0, lamp 3 rises, r5 changes, @LABEL";
+export const SEARCH_FORMS = "a value of the marked line, such as 9 or 0x1F; r5 = 9, rom0 != 0, lamp 3 rises, r5 changes, @LABEL";
 /** @type {(forms: string) => string} */
-export const searchQuestion = (forms) => `Enter something to find: ${forms}.`;
+export const searchQuestion = (forms) => `Enter a search: ${forms}.`;
 /** @type {(label: string) => string} */
 export const noLabel = (label) => `The program of this recording has no label ${label}.`;
 /** @type {(name: string) => string} */
-export const notRecorded = (name) => `Nothing that was recorded is called ${name}: choose it, and record again.`;
+export const notRecorded = (name) => `Nothing that was recorded is called ${name}: select it and record again.`;
 export const NO_LINE_MARKED = "No line is marked.";
 /** @type {(name: string) => string} */
-export const isDecoded = (name) => `${name} is decoded: find its next change, or for a key of the key scan.`;
+export const isDecoded = (name) => `${name} is decoded: search for its next change, or for a key of the key scan.`;
 /** @type {(name: string) => string} */
-export const isNumber = (name) => `${name} is a number: it changes, or it is = 5.`;
+export const isNumber = (name) => `${name} is a number: search for a change, or for a value such as = 5.`;
 /** @type {(value: string, forms: string) => string} */
-export const noNumber = (value, forms) => `${value} is no number: 10, 0x0A or 0b1010 is one. There are: ${forms}.`;
+export const noNumber = (value, forms) => `${value} is not a number such as 10, 0x0A or 0b1010. Forms: ${forms}.`;
 /** @type {(name: string, width: number, most: number) => string} */
-export const hasBits = (name, width, most) => `${name} has ${width === 1 ? "1 bit" : `${width} bits`}: it is ${most} at most.`;
+export const hasBits = (name, width, most) => `${name} has ${width === 1 ? "1 bit" : `${width} bits`}: its value is at most ${most}.`;
 
 // --- waves/wave_words.js ---
 /** @type {(span: string) => string} */
@@ -153,13 +153,13 @@ export const cursorAt = (name, cycle, time, instruction) => `${name}: cycle ${cy
 export const valueIs = (name, value) => `${name} is ${value}, `;
 /** @type {(value: string, cycle: string, instruction: string) => string} */
 export const cycleAt = (value, cycle, instruction) => `${value}cycle ${cycle}, ${instruction}`;
-export const NOTHING_BEFORE = "Nothing was recorded: since the session was opened or wired, no cycle was done before this one.";
+export const NOTHING_BEFORE = "Nothing was recorded: no cycle was done since the session was opened or wired.";
 /** @type {(cycles: string, time: string) => string} */
 export const recordedSpan = (cycles, time) => `${cycles} recorded, ${time}.`;
 /** @type {(text: string) => string} */
 export const thenNoInstruction = (text) => `${text} Then comes a code that is not an instruction.`;
 /** @type {(text: string) => string} */
-export const noFurtherBack = (text) => `${text} The past reaches no further back.`;
+export const noFurtherBack = (text) => `${text} The remembered past reaches no further back.`;
 
 // --- waves/line_choice.js ---
 /** @type {(name: string) => string} */

@@ -181,7 +181,7 @@ find_known() {
         find_installed "$shipped" program
         [ -n "$program" ]
     else
-        recall && { [ "$program" = "$built" ] || [ -e "$remembered/told" ]; }
+        recall && { [ "$program" = "$built" ] || [ -e "$remembered/reported" ]; }
     fi
 }
 
@@ -217,7 +217,7 @@ find_or_build() {
         echo "mcs4: the program in shipped/ is not started: $fault. It is proved and built here first" >&2 || :
         "$top/tools/build" >&2
         program=$built
-    elif [ "$program" != "$built" ] && ! is_installed && [ -n "$remembered" ] && [ ! -e "$remembered/told" ] && make_remembered && { : > "$remembered/told"; } 2> /dev/null; then
+    elif [ "$program" != "$built" ] && ! is_installed && [ -n "$remembered" ] && [ ! -e "$remembered/reported" ] && make_remembered && { : > "$remembered/reported"; } 2> /dev/null; then
         echo "mcs4: this is the program in shipped/. It was proved and built from these very sources, but not on this machine; tools/build" \
             "proves and builds it here. This message appears once" >&2 || :
     fi

@@ -69,15 +69,15 @@ ok 2 - the middle one is lit after the right one
 ok 3 - the left one comes next
 ok 4 - a state is begun with as it was
 not ok 5 - a sum
-  message: "r4 is 7, and has to be 8"
+  message: "r4 is 7, but must be 8"
 not ok 6 - one that needs its state
   message: "the state never is missing, because the test `a sum` did not reach its `save`"
 not ok 7 - a run into nothing
   message: "the run stopped after 19 cycles before a code that is not an instruction, at 018 (turn + 2)"
 not ok 8 - a limit
-  message: "it did not become true within 100 cycles: lamps are ..*, and have to be *..; lit: right; the label passed last is turn, 1 cycle ago"
+  message: "it did not become true within 100 cycles: lamps are ..*, but must be *..; lit: right; the last label passed is turn, 1 cycle ago"
 not ok 9 - a wait for a register
-  message: "pc is 00D (next + 8), and has to be @first"
+  message: "pc is 00D (next + 8), but must be @first"
 ok 10 - the number of \#
 status 1
 END
@@ -151,11 +151,11 @@ awk 'BEGIN {
 }' > "$folder/kinds.test"
 verdict "$(outcome ./mcs4 test "$folder/kinds.toml" "$folder/kinds.asm" "$folder/kinds.test" | sed -n '/^not ok/p; /^  message/p; /^status/p')" \
     "not ok 58 - never
-  message: \"it did not become true within 40 cycles: rom1 in is 8, and has to be 10; the label passed last is end, 1 cycle ago\"
+  message: \"it did not become true within 40 cycles: rom1 in is 8, but must be 10; the last label passed is end, 1 cycle ago\"
 not ok 59 - too late
-  message: \"it did not become true within 20 cycles: acc is 4, and has to be 7; the label passed last is part, 2 cycles ago\"
+  message: \"it did not become true within 20 cycles: acc is 4, but must be 7; the last label passed is part, 2 cycles ago\"
 not ok 63 - TEST
-  message: \"it did not become true within 10 cycles: test is 1, and has to be 0\"
+  message: \"it did not become true within 10 cycles: test is 1, but must be 0\"
 status 1" "each kind of condition"
 
 # The last instructions before a failure, with keys that were pressed.

@@ -29,7 +29,7 @@ end_of_tests
 refuses 1 "test: $folder/bad.test:2: the board has no key x; it has: 1 2 3 4 5 6 7 8 9 * 0 #
 test: $folder/bad.test:3: the board has no lamp blue; it has: locked open alarm (column 10)
 test: $folder/bad.test:4: the program has no label nowhere (column 9)
-test: $folder/bad.test:5: it is written as \`run TIME\`, as in: run 500, run 20 ms, run 1.5 s
+test: $folder/bad.test:5: write \`run TIME\`, as in: run 500, run 20 ms, run 1.5 s
 test: $folder/bad.test:6: a condition is missing (column 8)
 test: $folder/bad.test:7: a pattern of 4 lamps; the board has 3 (column 10)
 test: $folder/bad.test:8: the board has no RAM chip for ram.0.0x40 (column 10)
@@ -38,13 +38,13 @@ test: $folder/bad.test:10: r1 holds 0 to 15, not 16 (column 13)
 test: $folder/bad.test:11: no line of a test begins with \`foo\`; they begin with test, steps, from, save, press, release, keys, pace, run, until, expect, mark, set, reset, do, repeat or end
 test: $folder/bad.test:12: \`from\` must be right below \`test\`
 test: $folder/bad.test:13: the board has no key z, nor 12z; it has: 1 2 3 4 5 6 7 8 9 * 0 #
-test: $folder/bad.test:14: it is written as \`until CONDITION within TIME\`
-test: $folder/bad.test:17: no test before it saves a state b; there is: a
+test: $folder/bad.test:14: write \`until CONDITION within TIME\`
+test: $folder/bad.test:17: no earlier test saves a state b; there is: a
 test: $folder/bad.test:18: a test has a name: test NAME
 test: $folder/bad.test:19: chain 0 has 10 bits, each 0, 1, or ? for any (column 10)
 test: $folder/bad.test:20: the board has no ROM 2 (column 10)
-test: $folder/bad.test:21: it is written as \`cycles TIME\`, \`cycles at most TIME\` or \`cycles at least TIME\` (column 10)
-test: $folder/bad.test:22: it is written as \`pace TIME TIME\`: how long a key is down, and how long it is up after it" \
+test: $folder/bad.test:21: write \`cycles TIME\`, \`cycles at most TIME\` or \`cycles at least TIME\` (column 10)
+test: $folder/bad.test:22: write \`pace TIME TIME\`: how long a key is down, and how long it is up after it" \
     ./mcs4 test $lock/board.toml $lock/lock.asm "$folder/bad.test"
 cat > "$folder/bad_steps.test" <<'end_of_tests'
 steps
@@ -75,30 +75,30 @@ test a
     end
     save y
 end_of_tests
-refuses 1 "test: $folder/bad_steps.test:1: shared steps have a name, one word: steps NAME
+refuses 1 "test: $folder/bad_steps.test:1: shared steps have a name of one word: steps NAME
 test: $folder/bad_steps.test:4: the steps one cannot do themselves
 test: $folder/bad_steps.test:5: shared steps have no states: \`save\` belongs in a test
 test: $folder/bad_steps.test:6: there are no steps two before this line; \`steps two\` begins them
 test: $folder/bad_steps.test:7: shared steps have no states: \`from\` belongs in a test
 test: $folder/bad_steps.test:8: the steps one are at line 3 already
-test: $folder/bad_steps.test:10: it is written as \`repeat COUNT\`, 1 to 100,000: the lines down to its \`end\` are done COUNT times
-test: $folder/bad_steps.test:11: it is written as \`repeat COUNT\`, 1 to 100,000: the lines down to its \`end\` are done COUNT times
+test: $folder/bad_steps.test:10: write \`repeat COUNT\`, 1 to 100,000: the lines down to its \`end\` are run COUNT times
+test: $folder/bad_steps.test:11: write \`repeat COUNT\`, 1 to 100,000: the lines down to its \`end\` are run COUNT times
 test: $folder/bad_steps.test:14: there is no \`repeat\` for this \`end\`
-test: $folder/bad_steps.test:15: it is written as \`do STEPS\`, the name of shared steps
+test: $folder/bad_steps.test:15: write \`do STEPS\`, the name of shared steps
 test: $folder/bad_steps.test:16: there are no steps three before this line; there are: one
 test: $folder/bad_steps.test:17: r16: no such place; the registers are r0 to r15
 test: $folder/bad_steps.test:18: the board has no key x; it has: 1 2 3 4 5 6 7 8 9 * 0 #
-test: $folder/bad_steps.test:19: a key by a value is written as \`{PLACE}\` or \`{PLACE:KEY,KEY}\`; places are acc, cy, dcl, r0 to r15, ram.B.S and st.B.H.K
-test: $folder/bad_steps.test:20: a key by a value is written as \`{PLACE}\` or \`{PLACE:KEY,KEY}\`; places are acc, cy, dcl, r0 to r15, ram.B.S and st.B.H.K
+test: $folder/bad_steps.test:19: to choose a key by a value, write \`{PLACE}\` or \`{PLACE:KEY,KEY}\`; places are acc, cy, dcl, r0 to r15, ram.B.S and st.B.H.K
+test: $folder/bad_steps.test:20: to choose a key by a value, write \`{PLACE}\` or \`{PLACE:KEY,KEY}\`; places are acc, cy, dcl, r0 to r15, ram.B.S and st.B.H.K
 test: $folder/bad_steps.test:21: the board has no RAM chip for ram.0.0x40
 test: $folder/bad_steps.test:24: this repeats more than 1,000,000 lines
 test: $folder/bad_steps.test:27: a state is saved once: \`save\` cannot be in a \`repeat\`
 test: $folder/bad_steps.test:22: this \`repeat\` has no \`end\`" \
     ./mcs4 test $lock/board.toml $lock/lock.asm "$folder/bad_steps.test"
 printf 'test b\n do one more\n end 3\n repeat 100001\n from a\n repeat 9\ntest c\n press {r4:1,,2}\n keys {r1 4}\n keys {}\n' > "$folder/no.test"
-refuses 1 "test: $folder/no.test:2: it is written as \`do STEPS\`, the name of shared steps
+refuses 1 "test: $folder/no.test:2: write \`do STEPS\`, the name of shared steps
 test: $folder/no.test:3: \`end\` takes no argument
-test: $folder/no.test:4: it is written as \`repeat COUNT\`, 1 to 100,000: the lines down to its \`end\` are done COUNT times
+test: $folder/no.test:4: write \`repeat COUNT\`, 1 to 100,000: the lines down to its \`end\` are run COUNT times
 test: $folder/no.test:5: \`from\` must be right below \`test\`
 test: $folder/no.test:4: this \`repeat\` has no \`end\`
 test: $folder/no.test:6: this \`repeat\` has no \`end\`
@@ -119,11 +119,11 @@ refuses 1 "test: $folder/no.test:2: the board's text names no printer (\`# print
     ./mcs4 test $lock/board.toml $lock/lock.asm "$folder/no.test"
 printing=examples/printing_calculator
 printf 'test t\nexpect printed\ntest u\nuntil not printed within 9\n' > "$folder/no.test"
-refuses 1 "test: $folder/no.test:2: it is written as \`printed TEXT\`, the last lines of the printout, as in: printed 12+ 30= 42 (column 8)
-test: $folder/no.test:4: it is written as \`printed TEXT\`, the last lines of the printout, as in: printed 12+ 30= 42 (column 11)" \
+refuses 1 "test: $folder/no.test:2: write \`printed TEXT\`, the last lines of the printout, as in: printed 12+ 30= 42 (column 8)
+test: $folder/no.test:4: write \`printed TEXT\`, the last lines of the printout, as in: printed 12+ 30= 42 (column 11)" \
     ./mcs4 test $printing/board.toml $printing/printing_calculator.asm "$folder/no.test"
 printf 'test \303\244\n' > "$folder/no.test"
-refuses 1 "test: $folder/no.test:1: a byte that is neither a tab nor a printing character of ASCII" \
+refuses 1 "test: $folder/no.test:1: a byte that is neither a tab nor a printable ASCII character" \
     ./mcs4 test $lock/board.toml $lock/lock.asm "$folder/no.test"
 : > "$folder/empty"
 refuses 1 "test: $folder/empty is empty" ./mcs4 test $lock/board.toml $lock/lock.asm "$folder/empty"

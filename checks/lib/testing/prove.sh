@@ -50,7 +50,7 @@ status 0" "its test"
     # Keys that the text excludes.
     printf 'press THROW\nheld at most 1\nnever lamps ***.***\n' > "$folder/held.props"
     verdict "$(outcome ./mcs4 prove examples/die.txt examples/die.txt "$folder/held.props" | remarks)" \
-        "TODO not decided: only inputs that the text excludes break it so far (1 step)
+        "TODO not decided: so far, only inputs that the text excludes break it (1 step)
 status 3" "a key that is held for too long"
     # A program without a read, and a board without inputs.
     printf '[[rom]]\nchip = 0\nport = "0000"\n' > "$folder/board.toml"
@@ -126,7 +126,7 @@ status 1" "mistakes"
 status 3" "a way that is none"
     prover_that 'echo no 90; exit 3'
     verdict "$(outcome env MCS4_PROVE="$folder/prover" ./mcs4 prove examples/die.txt examples/die.txt "$folder/faces.props" | remarks)" \
-        "TODO not decided: there is no memory for more states
+        "TODO not decided: memory is full
 status 3" "no memory"
     prover_that 'echo no 25; exit 3'
     refuses 1 "prove: the prover ended without an answer: no 25" \

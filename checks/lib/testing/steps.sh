@@ -60,25 +60,25 @@ test not in this test
 end_of_tests
 verdict "$(outcome ./mcs4 test $three/board.toml $three/three_lamps.asm "$folder/shared.test" | results)" "ok 1 - it goes round
 not ok 2 - once more
-  message: \"it did not become true within 1609 cycles: pc is 003 (first), within an instruction, and has to be @first; the label passed last is turn, 13 cycles ago; @first was passed last 1613 cycles ago\"
+  message: \"it did not become true within 1609 cycles: pc is 003 (first), within an instruction, but must be @first; the last label passed is turn, 13 cycles ago; @first was passed last 1613 cycles ago\"
   at: \"$folder/shared.test:26\"
 not ok 3 - it fails in the second turn
-  message: \"lamps are *.., and have not to be *..; lit: left; in turn 2 of 5 of line 31, in turn 1 of 3 of line 29\"
+  message: \"lamps are *.., but must not be *..; lit: left; in turn 2 of 5 of line 31, in turn 1 of 3 of line 29\"
   at: \"$folder/shared.test:33\"
 not ok 4 - it fails in shared steps
-  message: \"it did not become true within 556 cycles: lamps are ..*, and have not to be ..*; lit: right; the label passed last is turn, 2 cycles ago; in turn 1 of 2 of line 5, in the steps turn of line 39\"
+  message: \"it did not become true within 556 cycles: lamps are ..*, but must not be ..*; lit: right; the last label passed is turn, 2 cycles ago; in turn 1 of 2 of line 5, in the steps turn of line 39\"
   at: \"$folder/shared.test:6\"
 not ok 5 - a label before
-  message: \"it did not become true within 4 cycles: pc is 016 (turn), and has to be @first; the label passed last is turn, 2 cycles ago; @first was passed last 10 cycles ago\"
+  message: \"it did not become true within 4 cycles: pc is 016 (turn), but must be @first; the last label passed is turn, 2 cycles ago; @first was passed last 10 cycles ago\"
   at: \"$folder/shared.test:42\"
 not ok 6 - a place before
-  message: \"it did not become true within 3 cycles: pc is 004 (first + 1), and has to be 0; the label passed last is first, 1 cycle ago; pc 0 was passed last 4 cycles ago\"
+  message: \"it did not become true within 3 cycles: pc is 004 (first + 1), but must be 0; the last label passed is first, 1 cycle ago; pc 0 was passed last 4 cycles ago\"
   at: \"$folder/shared.test:45\"
 not ok 7 - long ago
-  message: \"it did not become true within 10 cycles: pc is 018 (turn + 2), within an instruction, and has to be @next; the label passed last is turn, 249993 cycles ago; @next was passed last 250005 cycles ago\"
+  message: \"it did not become true within 10 cycles: pc is 018 (turn + 2), within an instruction, but must be @next; the last label passed is turn, 249993 cycles ago; @next was passed last 250005 cycles ago\"
   at: \"$folder/shared.test:50\"
 not ok 8 - not in this test
-  message: \"it did not become true within 1 cycles: pc is 002, and has to be @first; @first was not passed in this test\"
+  message: \"it did not become true within 1 cycles: pc is 002, but must be @first; @first was not passed in this test\"
   at: \"$folder/shared.test:53\"
 status 1" "what is done more than once"
 

@@ -12,12 +12,12 @@ ok 3 - c
 ok 4 - d
 status 0" "two texts that save a state of one name"
 printf 'test e\n from begun\n' > "$folder/third.test"
-refuses 1 "test: $folder/third.test:2: no test before it saves a state begun" ./mcs4 test $lock/board.toml $lock/lock.asm "$folder/first.test" "$folder/third.test"
+refuses 1 "test: $folder/third.test:2: no earlier test saves a state begun" ./mcs4 test $lock/board.toml $lock/lock.asm "$folder/first.test" "$folder/third.test"
 
 # A test whose state was not saved fails, also where it is the last one.
 printf 'test a\n expect acc 1\n save begun\ntest b\n from begun\n' > "$folder/unsaved.test"
 verdict "$(outcome ./mcs4 test $lock/board.toml $lock/lock.asm "$folder/unsaved.test" | results)" "not ok 1 - a
-  message: \"acc is 0, and has to be 1\"
+  message: \"acc is 0, but must be 1\"
   at: \"$folder/unsaved.test:2\"
 not ok 2 - b
   message: \"the state begun is missing, because the test \`a\` did not reach its \`save\`\"
@@ -33,7 +33,7 @@ printf 'steps opened\n expect lamps open\nsteps enter # the code\n keys 4711#\n 
 printf 'test it opens\n run 100 ms\n do enter\ntest it does not\n run 100 ms\n keys 3\n do enter\n' > "$folder/opens.test"
 verdict "$(outcome ./mcs4 test $lock/board.toml $lock/lock.asm "$folder/steps.test" "$folder/opens.test" | results)" "ok 1 - it opens
 not ok 2 - it does not
-  message: \"lamps are *.., and have to be .*.; lit: locked; in the steps opened of line 5, in the steps enter of $folder/opens.test:7\"
+  message: \"lamps are *.., but must be .*.; lit: locked; in the steps opened of line 5, in the steps enter of $folder/opens.test:7\"
   at: \"$folder/steps.test:2\"
 status 1" "shared steps of another text"
 refuses 1 "test: $folder/steps.test:1: there is no line \`test NAME\`" ./mcs4 test $lock/board.toml $lock/lock.asm "$folder/steps.test"
@@ -45,7 +45,7 @@ verdict "$(outcome ./mcs4 cover $lock/board.toml $lock/lock.asm "$folder/steps.t
     outcome ./mcs4 cover $lock/board.toml $lock/lock.asm "$folder/joined.test" | sed -n '/^status/p; /instructions were run/s/ (.*//p')" "what two texts cover"
 cp "$folder/steps.test" "$folder/again.test"
 refuses 1 "test: $folder/again.test:1: the steps opened are at $folder/steps.test:1 already
-test: $folder/again.test:3: the steps enter are at $folder/steps.test:3 already" \
+test: $folder/again.test:3: the steps enter are already at $folder/steps.test:3" \
     ./mcs4 test $lock/board.toml $lock/lock.asm "$folder/steps.test" "$folder/again.test" "$folder/opens.test"
 
 # Pipes, and standard input, where a text is read.
@@ -82,6 +82,6 @@ printf ' FIM P0, 0\n SRC P0\n LDM 7\n WRR\n LDM 2\n WMP\nhere: JUN here\n' > "$f
 printf 'test a\n run 9\n expect lamps go\n expect display 7 go\n expect not lamps none\ntest b\n run 9\n expect lamps none\ntest c\n set acc 8\n run 9\n expect not lamps first go\n' > "$folder/display.test"
 verdict "$(outcome ./mcs4 test "$folder/display.toml" "$folder/display.asm" "$folder/display.test" | grep '^ok\|^not\|message\|^status')" "ok 1 - a
 not ok 2 - b
-  message: \"lamps are .***.*, and have to be .???..; lit: go\"
+  message: \"lamps are .***.*, but must be .???..; lit: go\"
 ok 3 - c
 status 1" "lamps beside a display"

@@ -22,7 +22,7 @@ verdict "$(outcome ./mcs4 cycles --source "$folder/source.asm" "$folder/ran.mcs"
 3 cycles, 32.4 microseconds
 status 0" "where some runs stopped"
 refuses_sources "cycles --source PROGRAM $folder/ran.mcs"
-refuses 1 "cycles: the session $folder/source.txt was rejected: no 50: not a session file: its size or the name inside it is another" \
+refuses 1 "cycles: the session $folder/source.txt was rejected: no 50: not a session file: its size or the name inside it is wrong" \
     ./mcs4 cycles --source "$folder/source.asm" "$folder/source.txt" < "$folder/answers"
 refuses 2 "cycles: SESSION is missing
 usage: mcs4 cycles [--source PROGRAM SESSION] [FIRST LAST] < ANSWERS" ./mcs4 cycles --source "$folder/source.asm"

@@ -41,7 +41,7 @@ verdict "$(outcome ./mcs4 display examples/clock/board.toml < "$folder/answers")
 12.00
 status 0" "a display that is scanned"
 printf 'session 0\nlamps .**.....*...\n' > "$folder/answers"
-verdict "$(outcome ./mcs4 display examples/clock/board.toml < "$folder/answers")" "display: line 2 of the answers has the lamps at an instant, and the digits of examples/clock/board.toml are lit by turns; \`trace 2778 lamps\` asks what is seen in 30 ms
+verdict "$(outcome ./mcs4 display examples/clock/board.toml < "$folder/answers")" "display: line 2 of the answers has the lamps at an instant, and the digits of examples/clock/board.toml are multiplexed; \`trace 2778 lamps\` reports what is perceived in 30 ms
 status 1" "an instant of a display that is scanned"
 printf 'trace ran 2778 end lines 2 .**.....*...\n5 000 .**.........\n' > "$folder/answers"
 verdict "$(outcome ./mcs4 display examples/clock/board.toml < "$folder/answers")" "display: the answers end within one to \`trace\`
@@ -73,7 +73,7 @@ printf 'lamps ..........\nno 44\n' > "$folder/answers"
 refuses 1 "display: line 2 of the answers is a refusal: no 44; mcs4 explain says why" ./mcs4 display "$folder/board.toml" < "$folder/answers"
 refuses 1 "display: $lock/board.toml has no display: a comment \`# display 0: 4 digits\` makes one" ./mcs4 display $lock/board.toml < "$folder/answers"
 printf '# display 0: four digits\n' > "$folder/board.toml"
-refuses 1 "display: $folder/board.toml: line 1: no display: it is written as \`# display 3: 8 digits\`, and then \`of 7 segments\`, \`with points\`, \`scanned by 7\`" \
+refuses 1 "display: $folder/board.toml: line 1: no display: write \`# display 3: 8 digits\`, and then \`of 7 segments\`, \`with points\`, \`scanned by 7\`" \
     ./mcs4 display "$folder/board.toml" < "$folder/answers"
 # What a board lacks that its comments name is refused, as `test` refuses it.
 board_of 8 '# display 0: 2 digits\n# printer rom0.1: ram0.0 0 1 feed\n' > "$folder/board.toml"
@@ -84,7 +84,7 @@ lacks="$folder/board.toml: line 2: the board has no output line ram0.0.0"
 refuses 1 "display: $lacks" ./mcs4 display "$folder/board.toml" < "$folder/answers"
 refuses 1 "test: $lacks" ./mcs4 test "$folder/board.toml" "$folder/idle.asm" "$folder/idle.test"
 board_of 7 '# display 0: 2 digits\n' > "$folder/board.toml"
-lacks="$folder/board.toml: line 1: the display needs lamps up to number 7, and the board has 7"
+lacks="$folder/board.toml: line 1: the display needs lamps up to number 7, but the board has 7"
 refuses 1 "display: $lacks" ./mcs4 display "$folder/board.toml" < "$folder/answers"
 refuses 1 "test: $lacks" ./mcs4 test "$folder/board.toml" "$folder/idle.asm" "$folder/idle.test"
 printf '# display 0: 2 digits\n[[rom]]\nchip = 16\nport = "0000"\n' > "$folder/board.toml"

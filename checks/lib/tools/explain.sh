@@ -102,7 +102,7 @@ line 1: no 21, line 10 of the text: lamp is not a key of chain, which has clock,
     lamp = 3
 line 13: no 25, line 3 of the text: the board has no line ram3.0.0: no [[ram]] has bank = 3
         { line = "rom0.3" }, { line = "ram3.0.0" },
-line 34: no 24, line 10 of the text: chip 1 is there already, in line 1
+line 34: no 24, line 10 of the text: chip 1 is already in line 1
     chip = 1
 line 49: no 20, line 3 of the text: a value is needed here, not =
     chips = = 4
@@ -123,7 +123,7 @@ printf '\nreset\n\nregs\n' > "$folder/two.txt"
 verdict "$(outcome ./mcs4 explain "$folder/two.txt" < "$folder/answers")" "status 0" "nothing to explain"
 printf 'reset\nseq\n' > "$folder/two.txt"
 printf 'session 0\nok 1\nok 2\n' > "$folder/answers"
-refuses 1 "explain: these are not the answers to this script: line 3 of the answers, \`ok 2\`, is no answer to line 2 of the script, \`seq\`" \
+refuses 1 "explain: these are not the answers to this script: line 3 of the answers, \`ok 2\`, does not answer line 2 of the script, \`seq\`" \
     ./mcs4 explain "$folder/two.txt" < "$folder/answers"
 printf 'session 0\nok 1\nseq 1\nok 2\n' > "$folder/answers"
 refuses 1 "explain: these are not the answers to this script: line 4 of the answers, \`ok 2\`, comes after the answer to the last line of the script" \
@@ -144,20 +144,20 @@ explains 'poke r1 1\nwatch 0 0\n' 'session 0\nok 1\nok' "line 2 was not answered
     watch 0 0
 status 1"
 not_fitting="explain: these are not the answers to this script: line"
-explains 'press 0 0\n' 'session 0\nok 1 ran 10 end\n' "$not_fitting 2 of the answers, \`ok 1 ran 10 end\`, is no answer to line 1 of the script, \`press 0 0\`
+explains 'press 0 0\n' 'session 0\nok 1 ran 10 end\n' "$not_fitting 2 of the answers, \`ok 1 ran 10 end\`, does not answer line 1 of the script, \`press 0 0\`
 status 1"
-explains 'run 5\n' 'session 0\nok 1\n' "$not_fitting 2 of the answers, \`ok 1\`, is no answer to line 1 of the script, \`run 5\`
+explains 'run 5\n' 'session 0\nok 1\n' "$not_fitting 2 of the answers, \`ok 1\`, does not answer line 1 of the script, \`run 5\`
 status 1"
-explains 'reset\nreset\n' 'session 0\nok 9\nok 3\n' "$not_fitting 2 of the answers, \`ok 9\`, is no answer to line 1 of the script, \`reset\`: 0 commands were accepted before it
+explains 'reset\nreset\n' 'session 0\nok 9\nok 3\n' "$not_fitting 2 of the answers, \`ok 9\`, does not answer line 1 of the script, \`reset\`: 0 commands were accepted before it
 status 1"
-explains 'watches\nreset\n' 'session 0\nwatches -\njunk\n' "$not_fitting 3 of the answers, \`junk\`, is no answer to line 2 of the script, \`reset\`
+explains 'watches\nreset\n' 'session 0\nwatches -\njunk\n' "$not_fitting 3 of the answers, \`junk\`, does not answer line 2 of the script, \`reset\`
 status 1"
 {
     printf 'wire\nrom = [{ chip = 0, port = "0000" }]\n.\nasm\n NOP\n NOP ; \303\244\n.\nasm\n NOP\n ORG 0x3FF\n FIM P0, 0\n.\nasm\n; '
     awk 'BEGIN { for (i = 0; i < 300; i++) printf "x"; print "\n." }'
 } > "$folder/script"
 begins explain < "$folder/script"
-verdict "$(outcome ./mcs4 explain "$folder/script" < "$folder/answers" | sed 's/xxx*/x/')" "line 4: no 14, line 2 of the text: a byte that is neither a tab nor a printing character of ASCII: \`$(printf '\303\244')\`
+verdict "$(outcome ./mcs4 explain "$folder/script" < "$folder/answers" | sed 's/xxx*/x/')" "line 4: no 14, line 2 of the text: a byte that is neither a tab nor a printable ASCII character: \`$(printf '\303\244')\`
      NOP ; $(printf '\303\244')
 line 8: no 42, line 3 of the text: this line is at 3FF, and the board has no ROM 3: wire a [[rom]] with chip = 3
      FIM P0, 0
@@ -165,7 +165,7 @@ line 13: no 12, line 1 of the text: a line of more than 255 bytes
     ; x
 status 1" "lines of texts that no refusal names"
 printf ' NOP\n NO\303\244P ; \303\244\n' > "$folder/faulty.asm"
-refuses 1 "script: $folder/faulty.asm: line 2: no 14: $(printf '\303\244') is not a character of ASCII; it can be only in comments
+refuses 1 "script: $folder/faulty.asm: line 2: no 14: $(printf '\303\244') is not an ASCII character; it can be only in comments
 script:      NO$(printf '\303\244')P ; $(printf '\303\244')" ./mcs4 script $three/board.toml "$folder/faulty.asm"
 printf ' NOP\n ORG 0x100\n NOP\n' > "$folder/faulty.asm"
 refuses 1 "script: $folder/faulty.asm: line 3: no 42: this line is at 100, and the board has no ROM 1: wire a [[rom]] with chip = 1

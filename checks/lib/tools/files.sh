@@ -73,7 +73,7 @@ printf '#!/bin/sh\necho "no 53"\necho "mcs4: s.mcs: in use by another program" >
 chmod +x "$folder/refusing"
 for words in "resume $folder/two.txt $folder/session.mcs" "trace $folder/session.mcs 1"; do
     # It opens a copy, and does not print what the program says of that.
-    verdict "$(MCS4=$folder/refusing outcome ./mcs4 $words)" "${words%% *}: the session $folder/session.mcs was rejected: no 53: the device failed, or the host refused the file: is it there, may it be written, is it in use?
+    verdict "$(MCS4=$folder/refusing outcome ./mcs4 $words)" "${words%% *}: the session $folder/session.mcs was rejected: no 53: the device failed, or the host rejected the file: does it exist, is it writable, is it in use?
 status 1" "a session in use: $words"
 done
 
@@ -82,7 +82,7 @@ echo reset | begins held
 if command -v flock > /dev/null; then
     verdict "$(outcome flock "$folder/held.mcs" ./mcs4 resume "$folder/two.txt" "$folder/held.mcs")" \
         "mcs4: $folder/held.mcs: in use by another program; wait until that has ended
-resume: the session $folder/held.mcs was rejected: no 53: the device failed, or the host refused the file: is it there, may it be written, is it in use?
+resume: the session $folder/held.mcs was rejected: no 53: the device failed, or the host rejected the file: does it exist, is it writable, is it in use?
 status 1" "a session in use"
 fi
 verdict "$(outcome ./mcs4 resume "$folder/two.txt" "$folder/held.mcs")" "session 1

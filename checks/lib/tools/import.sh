@@ -132,7 +132,7 @@ while IFS='|' read -r line words; do
     refuses 1 "listing: $folder/spelled.asm: line 1: no 30: $words
 listing:     $line" ./mcs4 listing "$folder/spelled.asm" < /dev/null
 done <<'lines'
-zero EQU 4 ; none|a name gets its number by =: zero = 4
+zero EQU 4 ; none|define a name with =: zero = 4
  FIM 0P, 0|FIM takes a pair, P0 to P7; mcs4 import takes programs in Intel's and AS's spelling
  LDM 0AH|LDM takes a value, 0 to 15; hexadecimal is 0x0A; mcs4 import takes programs in Intel's and AS's spelling
  LDM $A|LDM takes a value, 0 to 15; hexadecimal is 0xA; mcs4 import takes programs in Intel's and AS's spelling
@@ -171,7 +171,7 @@ import: $folder/bad2.src:4: \`16\` is 16; it must be 0 to 15
 import: $folder/bad2.src:5: a pair begins at an even register, 0 to 14, and \`3<\` does not; if it is the number of a pair, write 3P
 import: $folder/bad2.src:6: \`2\` is not a pair; pairs are 0P to 7P, or 0<, 2< to 14< by their first register
 import: $folder/bad2.src:7: NC means no condition (0) for Intel, and no carry (10) for AS: write 0 or 10
-import: $folder/bad2.src:8: INCLUDE is not supported; write out what it stands for
+import: $folder/bad2.src:8: INCLUDE is not supported; write the lines that it stands for
 import: $folder/bad2.src:9: HLT is an instruction of the 4040
 import: $folder/bad2.src:10: WPM writes program RAM, which a board here does not have
 import: $folder/bad2.src:13: no line defines the name nowhere
@@ -204,7 +204,7 @@ verdict "$(cat "$folder/printed")" "import: $folder/long.src:1: the line has mor
 status 1
         LDM 1           ; +1+1
 status 0
-import: $folder/deep.src:1: more than 50 brackets or signs inside each other
+import: $folder/deep.src:1: more than 50 nested brackets or signs
 status 1
         LDM 1
 status 0
@@ -220,6 +220,6 @@ for many in names lines; do
 done
 # A character that is not of ASCII is no byte of the program; in comments bytes stay as they are.
 printf " DB 'a\\344b' ; a\\344b\n" > "$folder/byte.src"
-refuses 1 "import: $folder/byte.src:1: 'a$(printf '\303\244')b' has a character that is not of ASCII" ./mcs4 import "$folder/byte.src"
+refuses 1 "import: $folder/byte.src:1: 'a$(printf '\303\244')b' has a character that is not ASCII" ./mcs4 import "$folder/byte.src"
 printf " NOP ; a\\344b\n" > "$folder/byte.src"
 verdict "$(./mcs4 import "$folder/byte.src" | od -An -tx1 | tr -d ' \n')" "$(printf '        NOP             ; a\344b\n' | od -An -tx1 | tr -d ' \n')" "bytes of a comment"

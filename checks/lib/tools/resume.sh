@@ -40,7 +40,7 @@ while [ "$lines" -lt 22 ]; do
 done
 verdict "$(./mcs4 resume "$folder/resume.txt" "$folder/cut.mcs" | sed 1q)" "session 6" "a script of which only questions are left"
 echo 'reset' | goes_on cut
-refuses 1 "resume: $folder/cut.mcs did not begin with $folder/resume.txt: it has accepted 7 commands, and the whole script makes 6" \
+refuses 1 "resume: $folder/cut.mcs did not begin with $folder/resume.txt: it has accepted 7 commands, but the whole script makes 6" \
     ./mcs4 resume "$folder/resume.txt" "$folder/cut.mcs"
 printf 'poke r9 8\n' | begins cut
 cp "$folder/cut.mcs" "$folder/copy.mcs"

@@ -107,7 +107,7 @@ refuses 2 "trace: there is no option --first
 $usage" ./mcs4 trace --first 3 "$folder/trace.mcs" 40
 refuses 2 "trace: '50' is one argument too many
 $usage" ./mcs4 trace "$folder/trace.mcs" 40 50
-refuses 1 "trace: the session $folder/trace.txt was rejected: no 50: not a session file: its size or the name inside it is another" ./mcs4 trace "$folder/trace.txt" 1
+refuses 1 "trace: the session $folder/trace.txt was rejected: no 50: not a session file: its size or the name inside it is wrong" ./mcs4 trace "$folder/trace.txt" 1
 
 cat > "$folder/trace.txt" <<'script'
 wire

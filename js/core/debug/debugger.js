@@ -129,7 +129,7 @@ export class Debugger {
 
   /**
    * Sets the breakpoints, each at an address of its own. Returns the lines that set those that always stop in the bench, which are not sent
-   * here; and for each that cannot be read, and so stops at each arrival, the reason, by its id.
+   * here; and for each that cannot be read, and so stops every time, the reason, by its id.
    * @param {Placed[]} placed the enabled ones
    * @param {Names} names
    * @returns {{ lines: string, faults: [number, string][] }}

@@ -68,7 +68,7 @@ export function noteOf(text, names) {
 /**
  * @param {Placed} placed
  * @param {Names} names
- * @returns {{ soft: SoftBreakpoint, fault: string }} a breakpoint with an error, in words, stops at each arrival, because nobody knows when
+ * @returns {{ soft: SoftBreakpoint, fault: string }} a breakpoint with an error, in words, stops every time, because nobody knows when
  * it should not
  */
 export function softBreakpointOf(placed, names) {

@@ -3,7 +3,7 @@
 //
 //     run, stop, back, forward                time runs, is paused, goes back a stop or forward again
 //     go to LABEL, run to LABEL               shows a line of the program; time passes up to it
-//     back to PLACE                           goes back to before the last change of a place: r11, ram.0.0x12, rom0.2
+//     back to PLACE                           goes back to the point before the last change of a place: r11, ram.0.0x12, rom0.2
 //     press KEY, release KEY                  a click on it: while time is paused it stays down; a key that is down goes up
 //     show VIEW                               brings a text or a panel into view
 

@@ -14,7 +14,7 @@ const LOGS = "\u25B8";
 const NEVER = "\u25CB";
 
 /**
- * Returns the condition and the log text of a breakpoint; "" if it stops at each arrival.
+ * Returns the condition and the log text of a breakpoint; "" if it stops every time.
  * @param {Pick<Breakpoint, "condition" | "from" | "note">} breakpoint
  */
 export function detailsOfBreakpoint({ condition, from, note }) {
@@ -33,7 +33,7 @@ export function wordsOfBreakpoint(breakpoint) {
 
 /**
  * @param {Breakpoint} breakpoint
- * @param {string} fault why it cannot be read, and so stops at each arrival; "" if it can
+ * @param {string} fault why it cannot be read, and so stops every time; "" if it can
  * @returns {BreakpointMark}
  */
 export function markOf(breakpoint, fault) {
