@@ -128,7 +128,8 @@ export class TerminalPrompt {
     terminal.on("SIGINT", () => this.dropLine());
     terminal.on("SIGTSTP", () => this.suspend());
     if (this.isDumb) process.on("SIGINT", () => (this.isBusy ? this.prompt.interrupt() : this.dropLine()));
-    for (const signal of ["SIGTERM", "SIGHUP"]) {
+    // Ctrl-C is a key where the terminal moves its cursor: SIGINT comes from another program then.
+    for (const signal of ["SIGTERM", "SIGHUP", ...(this.isDumb ? [] : ["SIGINT"])]) {
       process.on(signal, () => {
         this.status = 128 + constants.signals[signal];
         this.end();

@@ -67,7 +67,7 @@ export const bnpfForm = (word) => `a word of BNPF is B, eight of P and N, and F,
 export const bnpfWithoutEnd = (word) => `a word without its end, \`F\`: ${word}`;
 
 // --- bench/words.js ---
-export const UNKNOWN_REFUSAL = "a refusal that this page does not know; the manual has it";
+export const UNKNOWN_REFUSAL = "no refusal has this number; the manual lists them";
 /** @type {(fault: string) => string} */
 export const moduleStopped = (fault) => `the module stopped inside a call (${fault}) and was started again`;
 /** @type {(fault: string) => string} */
