@@ -144,10 +144,11 @@ export class PanelTerminal {
   }
 
   /**
-   * Writes the rows that have changed, at once.
+   * Writes the rows that have changed, at once; nothing if the terminal is restored already.
    * @param {ScreenRow[]} rows
    */
   draw(rows) {
+    if (!this.isOn) return;
     const begin = this.shown.length === rows.length ? "" : CLEAR;
     const texts = rows.map((row) => this.textOf(row));
     const changed = texts.map((text, at) => (begin === "" && text === this.shown[at] ? "" : `\x1b[${at + 1};1H${text}`)).join("");
@@ -155,8 +156,9 @@ export class PanelTerminal {
     if (changed !== "") this.output.write(begin + changed);
   }
 
-  /** Reports that there is no room. */
+  /** Reports that there is no room, unless the terminal is restored already. */
   drawLack() {
+    if (!this.isOn) return;
     const { columns, rows } = this.size;
     this.shown = [];
     this.output.write(`\x1b[H${CLEAR}${say.needsRoom(`${LEAST_SIZE.columns} by ${LEAST_SIZE.rows}`, columns, rows)}`);

@@ -14,6 +14,7 @@ import { Panel } from "../core/panel/terminal_panel.js";
 import { Screen, hasRoom, middleRows } from "../core/panel/screen.js";
 import { keysIn } from "../core/panel/terminal_keys.js";
 import { sentText } from "../core/text/text_fault.js";
+import { PanelTerminal } from "../node/panel_terminal.mjs";
 import { moduleOfPage } from "./page_session.js";
 
 const engine = new Engine(new globalThis.WebAssembly.Module(moduleOfPage));
@@ -222,4 +223,18 @@ test("rows fit the terminal, and no text of others controls it", async () => {
   // eslint-disable-next-line no-control-regex
   assert.doesNotMatch(text(), /[\u0000-\u0009\u000b-\u001f\u007f-\u009f]/);
   assert.deepEqual([hasRoom(SIZE), hasRoom({ rows: 23, columns: 80 }), hasRoom({ rows: 24, columns: 79 })], [true, false, false]);
+});
+
+test("a terminal that is restored gets no more pictures: a signal can come while one is made", () => {
+  const written = [];
+  const output = { ...SIZE, write: (text) => written.push(text) };
+  const terminal = Object.assign(Object.create(PanelTerminal.prototype), { output, paint: null, shown: [], isOn: true });
+  const rows = [{ pieces: [{ text: "a row", colour: "", level: 0 }], isInverse: false }];
+  terminal.draw(rows);
+  assert.deepEqual(written, ["\x1b[2J\x1b[1;1Ha row"]);
+  terminal.isOn = false;
+  terminal.shown = [];
+  terminal.draw(rows);
+  terminal.drawLack();
+  assert.equal(written.length, 1);
 });
