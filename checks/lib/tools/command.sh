@@ -86,8 +86,54 @@ verdict "$(without_node help listing)" "$(cat shipped/commands/help/listing.txt)
 status 0" "mcs4 help listing without Node"
 verdict "$(without_node listing $lock/lock.asm)" "mcs4: listing needs node, 18 or later, which is not found; on Debian: apt-get install nodejs
 status 1" "mcs4 listing without Node"
-for words in "frob" "help frob"; do
+for word in --help -h; do verdict "$(without_node listing $word)" "$(without_node help listing)" "mcs4 listing $word without Node"; done
+for words in "frob" "help frob" "frob x"; do
     # shellcheck disable=SC2086
     verdict "$(without_node $words)" "mcs4: there is no command frob; mcs4 help lists the commands
 status 2" "mcs4 $words without Node"
 done
+for words in "help listing x" "version x"; do
+    # shellcheck disable=SC2086
+    verdict "$(without_node $words)" "mcs4: 'x' is one argument too many
+status 2" "mcs4 $words without Node"
+done
+verdict "$(without_node open -x.mcs)" "mcs4: there is no option -x.mcs; a file of this name is ./-x.mcs
+status 2" "mcs4 open -x.mcs without Node"
+
+# A Node of 2019: it has no modules whose names begin with `node:`.
+mkdir "$folder/old_node"
+cat > "$folder/older.cjs" << 'end'
+const modules = require("module");
+const load = modules._load;
+modules._load = (name, ...others) => {
+  if (name.startsWith("node:")) throw new Error(`Cannot find module '${name}'`);
+  return load(name, ...others);
+};
+Object.defineProperty(process, "version", { value: "v12.22.12" });
+Object.defineProperty(process, "versions", { value: { ...process.versions, node: "12.22.12" } });
+end
+printf '#!/bin/sh\nexec "%s" --require "%s" "$@"\n' "$(command -v node)" "$folder/older.cjs" > "$folder/old_node/node"
+chmod +x "$folder/old_node/node"
+for words in "listing $lock/lock.asm" help "help listing" "frob"; do
+    # shellcheck disable=SC2086
+    verdict "$(PATH=$folder/old_node:$PATH outcome ./mcs4 $words)" "mcs4: it needs node 18 or later, and this is v12.22.12
+status 1" "mcs4 $words with Node 12"
+done
+
+# Names of sessions that look as options, and an empty one.
+(
+    cd "$folder"
+    verdict "$(outcome "$top/mcs4" new -x.mcs)" "new: there is no option -x
+usage: mcs4 new FILE
+status 2" "mcs4 new -x.mcs"
+    verdict "$(echo seq | outcome "$top/mcs4" new -- -x.mcs; ls -- -x.mcs)" "session 0
+seq 0
+status 0
+-x.mcs" "mcs4 new -- -x.mcs"
+    verdict "$(outcome "$top/mcs4" open -- -x.mcs)" "session 0
+status 0" "mcs4 open -- -x.mcs"
+    verdict "$(outcome "$top/mcs4" new '')" "mcs4: the name of the session's file is empty
+status 2" "mcs4 new with an empty name"
+    echo "$passed $failed" > counts
+)
+read -r passed failed < "$folder/counts"
