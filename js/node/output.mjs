@@ -29,18 +29,38 @@ function writeAll(stream, bytes) {
   }
 }
 
+const NOT_WRITTEN = "not all was written; is there room where it goes to?";
+
+/** Rejects a standard output that is closed: the starter gives `is_closed` to a tool, since Node opens another file in its place. */
+export function needOutput() {
+  if (process.env.is_closed) throw new CommandError("standard output is closed");
+}
+
 /**
- * Writes bytes to standard output. A tool whose standard output is closed gets `is_closed` from its starter.
+ * Writes bytes to standard output.
  * @param {Uint8Array} bytes
  */
 export function printBytes(bytes) {
-  if (process.env.is_closed) throw new CommandError("standard output is closed");
+  needOutput();
   try {
     writeAll(OUTPUT, bytes);
   } catch (thrown) {
     if (thrown.code === "EPIPE") process.exit(PIPE_STATUS);
-    throw new CommandError("not all was written; is there room where it goes to?");
+    throw new CommandError(NOT_WRITTEN);
   }
+}
+
+/**
+ * Ends the process with its status if a stream to standard output takes no more.
+ * @param {string} name of the command
+ */
+export function endWithoutOutput(name) {
+  needOutput();
+  process.stdout.on("error", ({ code }) => {
+    if (code === "EPIPE") process.exit(PIPE_STATUS);
+    printError(`${name}: ${NOT_WRITTEN}\n`);
+    process.exit(1);
+  });
 }
 
 /**

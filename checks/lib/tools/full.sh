@@ -23,6 +23,10 @@ display $calculator/board.toml < lamps
 cycles < lamps
 explain $folder/wrong < wrong
 names $lock/lock.asm < lamps
+debug -C $lock
+explore --seconds 1 -C $lock
+back $folder/session.mcs
+keys --until-stop $folder/session.mcs $calculator/board.toml 1
 commands
 printf 'bogus\n' > "$folder/wrong"
 run_tool() {

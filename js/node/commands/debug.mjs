@@ -9,7 +9,7 @@ import { needWords, projectFor } from "../arguments.mjs";
 import { host } from "../debug_host.mjs";
 import { fileNames, withoutTilde } from "../file_names.mjs";
 import { MOST_GIVEN, decodedFile } from "../given_texts.mjs";
-import { CommandError } from "../output.mjs";
+import { CommandError, endWithoutOutput } from "../output.mjs";
 import { dataOfPage, moduleOfPage } from "../page_parts.mjs";
 import { TerminalPrompt } from "../terminal_prompt.mjs";
 import { needOwnFile, writeUserFile } from "../user_files.mjs";
@@ -100,7 +100,7 @@ async function namesOf(folder, words) {
 export async function run({ folder }, positionals) {
   needWords(positionals, [], 3);
   const given = await namesOf(folder, positionals);
-  process.stdout.on("error", () => process.exit(1));
+  endWithoutOutput("debug");
   try {
     return await serve(given);
   } catch (fault) {

@@ -19,14 +19,17 @@ const MOST_CYCLES = 100000;
 async function pressOn(session, lines) {
   const { openProgram } = await import("../program_on_file.mjs");
   const program = await openProgram("open", session);
-  print(`${program.opened}\n`);
   let answer = "";
-  for (const line of lines) {
-    [answer] = await program.ask(`${line}\n`, 1);
-    print(`${answer}\n`);
-    if (isStop(answer)) break;
+  try {
+    print(`${program.opened}\n`);
+    for (const line of lines) {
+      [answer] = await program.ask(`${line}\n`, 1);
+      print(`${answer}\n`);
+      if (isStop(answer)) break;
+    }
+  } finally {
+    await program.end();
   }
-  await program.end();
   const refusal = refusalOf(answer);
   if (!refusal) return 0;
   const { wordsOfRefusal } = await import("../refused_texts.mjs");
