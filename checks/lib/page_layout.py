@@ -368,6 +368,13 @@ const boxes = shown.map((each) => [each.id, each.getBoundingClientRect()]);
 return boxes.flatMap(([id, a], k) => boxes.slice(k + 1)
   .filter(([, b]) => Math.min(a.right, b.right) - Math.max(a.left, b.left) > 1 && Math.min(a.bottom, b.bottom) - Math.max(a.top, b.top) > 1)
   .map(([other]) => `${id} ${other}`))"""
+# Controls of toolbar and status bar that are not whole in the window, while there is a notice to show.
+OUTSIDE = """
+document.getElementById("notices-button").hidden = false;
+return [...document.querySelectorAll("#toolbar :is(button, input, select):not([role=menu] *), #statusbar button")].filter(isShown).filter((each) => {
+  const [{ left, right }, room] = [each, each.closest("#cycles, #toolbar, #statusbar")].map((node) => node.getBoundingClientRect());
+  return left < Math.max(0, room.left) || right > Math.min(innerWidth, room.right);
+}).map(({ id }) => id)"""
 SIDEWAYS = "return document.documentElement.scrollWidth - document.documentElement.clientWidth"
 # The distances by which the page itself can be scrolled, down and sideways.
 SCROLLS = """
@@ -387,6 +394,7 @@ def check_sizes(browser):
         verdict(f"the page does not scroll at {width}", browser.script(SCROLLS), [0, 0, 0, 0])
         verdict(f"the toolbar is one row at {width}", boxes["toolbar"]["bottom"] - boxes["toolbar"]["top"], 44)
         verdict(f"no control of the toolbar covers another one at {width}", browser.script(COVERED), [])
+        verdict(f"and each one is whole at {width}", browser.script(OUTSIDE), [])
         verdict(f"three columns are side by side at {width}",
                 boxes["front"]["right"] <= boxes["texts"]["left"] and boxes["texts"]["right"] <= boxes["side"]["left"], True)
         verdict(f"the dock is below the texts at {width}", boxes["texts"]["bottom"] <= boxes["dock"]["top"], True)
@@ -410,6 +418,7 @@ def check_not_covered(browser, *widths):
         at_size(browser, width, 800)
         verdict(f"the page does not scroll at {width}", browser.script(SCROLLS), [0, 0, 0, 0])
         verdict(f"no control of the toolbar covers another one at {width}", browser.script(COVERED), [])
+        verdict(f"and each one is whole at {width}", browser.script(OUTSIDE), [])
 
 
 # What is wrong with the controls of the rows that are shown: one is cut off by its row, or lies over another one.

@@ -165,7 +165,10 @@ export class Commands {
     listenToKeys((command) => this.do(command), isDialogOpen);
     toolbar.act = (command) => this.do(command);
     fillEmptyPanels(toolbar.act);
-    page.running.showRunning = (isRunning) => toolbar.showRunning(isRunning);
+    page.running.showRunning = (isRunning) => {
+      toolbar.showRunning(isRunning);
+      page.layout.status.showRunning(isRunning);
+    };
   }
 
   /**

@@ -97,7 +97,8 @@ export class Running {
 
   /** @param {string} words of the status */
   showMessage(words) {
-    this.status.set(words);
+    // A narrow bar cuts them off.
+    if (this.status.set(words)) this.status.node.title = words;
   }
 
   /** The rate is measured from now on. */

@@ -1,12 +1,14 @@
-// The status bar's words about the session: whether the source is what is in ROM, and whether the session is saved.
+// The status bar: whether time is paused, whether the source is what is in ROM, and whether the session is saved.
 
-import { Cell, block } from "./dom.js";
+import { Cell, Switch, block } from "./dom.js";
 import * as say from "../../words/page.js";
 
 export class StatusView {
   constructor() {
     this.rom = new Cell(block("rom-status"));
     this.saved = new Cell(block("saved"));
+    const bar = block("statusbar");
+    this.paused = new Switch((isOn) => bar.classList.toggle("paused", isOn));
   }
 
   /**
@@ -16,6 +18,11 @@ export class StatusView {
   showRom(isMatching, words) {
     this.rom.set(isMatching ? say.ROM_MATCHES : words === "" ? "" : say.ROM_DIFFERS);
     this.rom.node.title = words;
+  }
+
+  /** @param {boolean} isRunning whether time runs */
+  showRunning(isRunning) {
+    this.paused.set(!isRunning);
   }
 
   /** @param {"example" | "saved" | "failed"} state */
