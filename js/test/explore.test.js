@@ -459,6 +459,7 @@ test("what came of it is described in words", () => {
   assert.match(wordsOfProperty(skipped, report()), /^a page cannot run a command; mcs4 explore --allow-model can$/);
   const marks = [markOf(goal, true), markOf(goal, false), markOf(property, true), markOf(skipped, true)];
   assert.deepEqual(marks, ["open", "not ok", "ok", "not run"]);
+  assert.equal(markOf({ ...property, applied: false }, true), "open");
 });
 
 test("a search ends with its time, where it is stopped, and where its worker dies; texts with faults are reported", async () => {

@@ -70,6 +70,7 @@ export const ADD_TO_TESTS = "Add to tests";
 export const AT_END = "at the end of Tests";
 /** @type {(line: number) => string} */
 export const lineOfSource = (line) => `Line ${line} of the source`;
+export const NO_STEPS = "No steps were run.";
 export const NEVER_RUN = "Never run: lines";
 
 // --- explore/exploring.js ---

@@ -63,13 +63,13 @@ export function markOfReport(report) {
 }
 
 /**
- * The words before a property: a goal is open as long as it may be reached.
+ * The words before a property: it is open as long as a goal may be reached, or nothing was checked yet.
  * @param {PropertyResult} property
  * @param {boolean} goesOn
  */
 export function markOf(property, goesOn) {
   if (property.isSkipped) return "not run";
-  if (goesOn && property.isGoal && !property.found) return "open";
+  if (goesOn && !property.found && (property.isGoal || !property.applied)) return "open";
   return isRight(property) ? "ok" : "not ok";
 }
 

@@ -75,7 +75,7 @@ export class ExploreView {
     this.figures = new Cell(block("explore-figures"));
     this.bars = (/** @type {const} */ (["instructions", "ways"])).map((name) => {
       const root = block(`explored-${name}`);
-      return { name, bar: below(root, "progress", HTMLProgressElement), words: new Cell(below(root, "span", HTMLElement)) };
+      return { name, root, bar: below(root, "progress", HTMLProgressElement), words: new Cell(below(root, "span", HTMLElement)) };
     });
     this.left = block("never-run");
     /** The lines that are shown as never run. */
@@ -102,25 +102,29 @@ export class ExploreView {
       this.list.replaceChildren(...this.rows.map(({ node }) => node));
     }
     this.rows.forEach((row, at) => row.show(report.properties[at], report, goesOn));
-    this.figures.set(wordsOfFigures(report));
-    this.showCoverage(report, goesOn);
+    // Where proofs settle all properties there is nothing to search.
+    const isSearched = goesOn || report.steps > 0;
+    this.figures.set(isSearched ? wordsOfFigures(report) : say.NO_STEPS);
+    this.showCoverage(report, goesOn, isSearched);
     this.block.hidden = false;
   }
 
   /**
    * @param {Report} report
    * @param {boolean} goesOn
+   * @param {boolean} isSearched whether any step was run
    */
-  showCoverage(report, goesOn) {
+  showCoverage(report, goesOn, isSearched) {
     const covered = coverageOf(report);
-    for (const { name, bar, words } of this.bars) {
+    for (const { name, root, bar, words } of this.bars) {
+      root.hidden = !isSearched;
       const { part, whole, words: label } = covered[name];
       bar.max = Math.max(1, whole);
       bar.value = part;
       words.set(label);
     }
     // During a search they change all the time.
-    this.showLeft(goesOn ? [] : covered.left);
+    this.showLeft(goesOn || !isSearched ? [] : covered.left);
   }
 
   /** @param {number[]} lines that were never run */
