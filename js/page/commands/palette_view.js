@@ -80,7 +80,9 @@ export class PaletteView {
   option({ words, hint, why, keys, icon: name }, at) {
     const made = element("li", { "id": `palette-${at}`, "role": "option", "aria-selected": "false" });
     if (why) made.setAttribute("aria-disabled", "true");
-    made.append(...(name ? [icon(name)] : []), element("span", { className: "grow" }, words), element("small", {}, why || hint),
+    // The words of all commands begin in one column.
+    const place = this.isCommands ? [element("span", { className: "icon" })] : [];
+    made.append(...(name ? [icon(name)] : place), element("span", { className: "grow" }, words), element("small", {}, why || hint),
       ...keys.slice(0, 1).map((key) => element("kbd", {}, key)));
     return made;
   }

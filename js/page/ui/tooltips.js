@@ -32,6 +32,8 @@ export class Tooltips {
     addEventListener("focusin", (event) => this.focused(event.target));
     addEventListener("focusout", () => this.hide());
     addEventListener("keydown", (event) => event.key === "Escape" && this.hide(), true);
+    // Whoever types has read it, and wants to see what is below.
+    addEventListener("input", () => this.hide(), true);
     // Scrolling elsewhere, as of the listing while time runs, moves nothing here.
     addEventListener("scroll", ({ target }) => target instanceof Node && target.contains(this.shown) && this.shown && this.hide(), true);
   }
