@@ -1,5 +1,7 @@
 // Texts that users read about time: cycles, speeds, steps, back and forward.
 
+import { PLACES_ARE } from "./conditions.js";
+
 // --- time/cycles.js ---
 /** @type {(time: string) => string} */
 export const inMilliseconds = (time) => `${time} ms`;
@@ -35,8 +37,9 @@ export const BETWEEN_MARKS = "Between the marks ";
 /** @type {(most: string) => string} */
 export const giveCount = (most) => `Nothing was done: give a number of instructions, 1 to ${most}.`;
 export const GIVE_CHANGE = "Nothing was done: enter a place such as r5, lamp 3 or rom0.2, or a condition such as r5 > 8.";
-/** @type {(fault: string) => string} */
-export const cannotBeSought = (fault) => `Nothing was done: ${fault}.`;
+/** @type {(fault: string) => string} in a line of the status bar: some examples instead of all places */
+export const cannotBeSought = (fault) => `Nothing was done: ${fault.replace(PLACES_ARE, SUCH_PLACES)}.`;
+const SUCH_PLACES = "enter something such as r5, lamp 3 or rom0.2";
 
 // --- time/running.js ---
 /** @type {(rate: string) => string} */
