@@ -1,6 +1,7 @@
 // Draws the picture of an example.
 
 import { galleryPicture } from "../../core/session/gallery_picture.js";
+import { icon } from "../ui/icons.js";
 import { drawn } from "../ui/svg.js";
 
 /** @typedef {import("../../core/session/gallery_picture.js").Shape} Shape */
@@ -22,11 +23,19 @@ function nodesOf(shape) {
     drawn("text", { class: `digits ${shape.colour}`, x: x + width - 5, y: base + 6 }, shape.digits)];
 }
 
+/** The picture of a board with an empty front panel: a chip. */
+function emptyPicture() {
+  const made = icon("chip");
+  made.classList.add("picture", "empty-picture");
+  return made;
+}
+
 /**
  * A picture of a board's front panel; for screen readers the example's words are next to it.
  * @param {string} boardText
  */
 export function pictureOf(boardText) {
   const { width, height, shapes } = galleryPicture(boardText);
+  if (shapes.length === 0) return emptyPicture();
   return drawn("svg", { class: "picture", viewBox: `0 0 ${width} ${height}`, "aria-hidden": "true" }, ...shapes.flatMap(nodesOf));
 }
