@@ -183,7 +183,7 @@ export class DrawingView {
     const ends = buttons.map(({ word, act }) => this.buttonNode(word, () => this.calls.act(act), disabled));
     if (part === "keys") ends.push(this.buttonNode(say.INSERT_SCAN, () => this.calls.scanKeys(), disabled));
     if (part) ends.push(this.buttonNode(say.SHOW_IN_BOARD, () => this.calls.find(part), false));
-    root.replaceChildren(head, ...ends, element("hr"), ...rows);
+    root.replaceChildren(head, ...ends, ...(ends.length > 0 ? [element("hr")] : []), ...rows);
     const nodes = [...root.querySelectorAll("input, select, button")];
     const again = focused && nodes.find((each) => each.getAttribute("aria-label") === focused);
     if (again instanceof HTMLElement) again.focus();
