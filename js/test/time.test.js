@@ -4,6 +4,8 @@ import { Rate } from "../core/time/rate.js";
 import { CYCLES_PER_SECOND, CYCLE_US, EYE_CYCLES, FRAME_CYCLES, FRAME_MS, cyclesOfMs } from "../core/time/mcs4_time.js";
 import { MOST_AHEAD, MOST_DUE, RealTime } from "../core/time/real_time.js";
 import { wordsOfTime } from "../core/bench/words.js";
+import { PLACES_ARE } from "../words/conditions.js";
+import { cannotBeSought } from "../words/time.js";
 
 test("cycles of the 4004: eight periods of a clock of 740,740.7 Hz", () => {
   const cycles = (seconds) => (seconds * (5185185.185 / 7)) / 8;
@@ -108,4 +110,9 @@ test("the rate is reported every half second", () => {
 test("times in words", () => {
   assert.deepEqual([1000, 2400, 62000, 3600000, 3723000, 7200000].map(wordsOfTime),
     ["1 second", "2 seconds", "1 minute 2 seconds", "1 hour", "1 hour 2 minutes", "2 hours"]);
+});
+
+test("a place that is unknown is answered in the status bar with some examples", () => {
+  assert.equal(cannotBeSought(`nonsense: no such place; ${PLACES_ARE} (column 1)`),
+    "Nothing was done: nonsense: no such place; enter something such as r5, lamp 3 or rom0.2 (column 1).");
 });
