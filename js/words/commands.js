@@ -19,11 +19,11 @@ const PROGRAM_ALONE = `
       PROGRAM is a text, or a script of lines that contains one (\`asm\`): the first one is used. Without it, the command uses the program
       that mcs4.toml names in this folder.`;
 const OF_FOLDER = "Uses the project in FOLDER: the files that its mcs4.toml names.";
-const OF_SESSION = "Counts the next cycles of the session in the file SESSION.";
+const OF_SESSION = "Counts the next cycles of the session in SESSION.";
 const WHAT_IS_COUNTED = `
-      It counts in a run of tests, as \`mcs4 test\` runs them, or in the next CYCLES cycles of a session, on a copy of it. CYCLES is 1 to
+      It counts a run of tests, as \`mcs4 test\` runs them, or the next CYCLES cycles of a copy of a session. CYCLES is 1 to
       100,000,000.`;
-const REPORT_OR_ERROR = "1: a test failed, but the report is printed; or an error, which standard error names.";
+const REPORT_OR_ERROR = "1: a test failed (the report is printed), or an error, which standard error names.";
 const WRONG_ARGUMENTS = "2: wrong arguments.";
 const SERVES_LINES = `
       Each line of standard input is a command or a question, and has an answer on standard output. An accepted command is on the disk
@@ -31,38 +31,38 @@ const SERVES_LINES = `
 
       If all three standard streams are a terminal, there is a prompt: \`help\` shows the lines, Tab completes them, Up recalls earlier
       ones, also of other sessions, \`wire FILE\` and \`asm FILE\` read texts from files, \`source FILE\` serves the lines of a file, and
-      errors are explained. The prompt and its words are on standard error. It needs Node, 18 or later; without Node the program reads the
-      lines itself.`;
+      errors are explained. The prompt and its messages are on standard error. It needs Node, 18 or later; without Node the program reads
+      the lines itself.`;
 const STATUS_OF_PROGRAM = [
-  "0: input ended, and all of it was served, also if lines were answered `no`.",
+  "0: input ended, and all of it was served, even if lines were answered `no`.",
   "1: a read, a write or the device failed, or 16,777,216 bytes were read.", WRONG_ARGUMENTS,
-  "3: the session was rejected, or there was no memory.",
+  "3: the session was rejected, or there was not enough memory.",
 ];
 
 /** @satisfies {Record<string, CommandWords>} */
 export const COMMAND_WORDS = {
   back: {
-    summary: "makes a session as it was some commands ago",
+    summary: "takes a session back by some commands",
     text: `
-      Makes SESSION as it was N accepted commands ago, if its log still has them, and prints \`session M\` as \`mcs4 open\` does. Without
+      Takes SESSION back by N accepted commands, if its log still has them, and prints \`session M\` as \`mcs4 open\` does. Without
       N, it only prints how far back it can go, and changes nothing. N is 1 to 99,999.
 
       What the N commands did is then gone from the session: copy the file first if you want to keep it.
 
-      The log of a session begins again after a snapshot: when the log is full, or after 4,000,000 cycles. A session file that the page
+      The log starts again after a snapshot, which is made when the log is full, or after 4,000,000 cycles. A session file that the page
       has saved, or one of version 1, has no commands before that.
 
-      One byte of SESSION is written, so a stop in the middle leaves one session or the other. The result is tried on a copy first.
-      Meanwhile SESSION is locked, as mcs4 locks it.`,
+      One byte of SESSION is written, so a stop in the middle leaves one session or the other. The result is first tried on a copy.
+      During that time SESSION is locked, as mcs4 locks it.`,
     options: {},
     examples: [["mcs4 back s.mcs", "prints how far back it can go"], ["mcs4 back s.mcs 3", "goes back by three commands"]],
     status: [
-      "0: the session has gone back, or it was printed how far it can.",
+      "0: the session has gone back, or the command has printed how far it can go back.",
       "1: an error, which standard error names: nothing was changed.", WRONG_ARGUMENTS,
     ],
   },
   cover: {
-    summary: "which lines of a program were run, and how often",
+    summary: "shows which lines of a program were run, and how often",
     text: `
       Prints each line of the source with the number of times it was run. A conditional jump has two numbers: how often it was taken,
       and how often it was not. Below the source are a summary and the lines that were never run.
@@ -84,10 +84,10 @@ export const COMMAND_WORDS = {
     status: ["0: the report is printed.", REPORT_OR_ERROR, WRONG_ARGUMENTS],
   },
   cycles: {
-    summary: "how long the runs of a session took",
+    summary: "prints how long the runs of a session took",
     text: `
-      Reads the answers of mcs4, and prints the sum of the cycles in \`ok N ran K ..\` with the microseconds that a 4004 takes for them,
-      10.8 each. FIRST and LAST are numbers of lines of the answers: only these lines and those between them count.
+      Reads the answers of mcs4, and adds up the cycles in \`ok N ran K ..\` with the microseconds that a 4004 takes for them,
+      10.8 each. FIRST and LAST are numbers of lines of the answers: only these lines and those between them are added up.
 
       With --source, each run has a line of its own. It shows where the run stopped, with the name and the line of the source, if the answer
       to \`regs\` or \`state\` follows it. PROGRAM must be what is in the ROM of SESSION, byte for byte.`,
@@ -102,14 +102,14 @@ export const COMMAND_WORDS = {
   dap: {
     summary: "a debug adapter: breakpoints, steps, back, registers in your editor",
     text: `
-      An editor starts the debug adapter, and talks with it over standard input and output. It has breakpoints at lines, addresses and
-      labels with conditions, hit counts and log messages; steps over, into, out and back; registers, RAM, ports, lamps and keys, which
-      can be set; the disassembly; and in the console the bench's lines and keys by their names. The manual's chapter "In your editor"
-      has the settings of editors, and what \`launch\` and \`attach\` accept.
+      An editor starts the debug adapter, and communicates with it over standard input and output. It has breakpoints at lines, addresses
+      and labels with conditions, hit counts and log messages; steps over, into, out and back; registers, RAM, ports, lamps and keys,
+      which can be set; the disassembly; and in the console the bench's lines and keys by their names. The manual's chapter "In your
+      editor" has the settings of editors, and what \`launch\` and \`attach\` accept.
 
-      A session file that is launched is in use meanwhile, and has at each stop what was done up to there. Nothing else is written: one that
-      is attached to stays as it is.`,
-    options: { stdio: "Does nothing: editors may say how they talk." },
+      A session file that is launched is in use during that time, and is updated at each stop. Nothing else is written: a file that is
+      attached to stays as it is.`,
+    options: { stdio: "Does nothing: some editors pass this option." },
     examples: [["mcs4 dap", "is what an editor starts"]],
     status: [
       "0: the editor ended it by `disconnect`.",
@@ -122,8 +122,8 @@ export const COMMAND_WORDS = {
       Debugs a program at a prompt, with the commands of gdb: breakpoints with conditions, over, into, out, back; registers, RAM, ROM, lamps
       and keys; what is written where, and since when. \`help\` shows the commands.
 
-      Without BOARD and PROGRAM it debugs the project of this folder. Without SESSION it works in memory. A session file has at each stop
-      what was done up to there. If the source of a session is not known, it is made of what is in ROM.
+      Without BOARD and PROGRAM it debugs the project of this folder. Without SESSION it works in memory. A session file is updated at each
+      stop. If the source of a session is not known, it is disassembled from ROM.
 
       If standard input is not a terminal, its lines are commands.`,
     options: { folder: OF_FOLDER },
@@ -135,19 +135,19 @@ export const COMMAND_WORDS = {
     status: ["0: all commands were done.", "1: a command was rejected, or another error.", WRONG_ARGUMENTS],
   },
   display: {
-    summary: "what a board's display shows, by answers about its lamps",
+    summary: "prints what a board's display shows, from answers about its lamps",
     text: `
       Reads the answers of mcs4, and prints for each answer \`lamps ..\` the number on the board's display. For each answer to
-      \`trace n lamps\`, it prints the number that is perceived in that time: for each digit what it shows longest.
+      \`trace n lamps\`, it prints the number that is perceived in that time: for each digit, what it shows longest.
 
-      Comments of BOARD say which lamps are a display, and which lamps have names. The manual's chapter "The front panel of a board" has
-      them all.
+      Comments of BOARD say which lamps are a display, and which lamps have names. The manual's chapter "The front panel of a board" lists
+      them.
 
-      \`# display 3: 8 digits with points\` makes a display of lamp 3 and those behind it: five lamps for each digit, the leftmost digit
-      first: those for 8, 4, 2 and 1, and the point. \`# display 0: 2 digits of 7 segments\` has seven lamps for each digit, segments a to
-      g. \`# display 0: 4 digits of 7 segments scanned by 7\` has one set of segments, and from lamp 7 on a lamp for each digit: no instant
-      shows the number, but \`trace ${EYE_CYCLES} lamps\` does, which is ${EYE_MS} ms. \`# lamp 0: minus overflow\` names lamps: a
-      \`minus\` that is on is printed before the number, other names after it.
+      \`# display 3: 8 digits with points\` makes a display that starts at lamp 3: five lamps for each digit (8, 4, 2, 1 and the point),
+      the leftmost digit first. \`# display 0: 2 digits of 7 segments\` has seven lamps for each digit, segments a to g. \`# display 0: 4
+      digits of 7 segments scanned by 7\` has one set of segments and, from lamp 7, one lamp for each digit: no instant shows the number,
+      but \`trace ${EYE_CYCLES} lamps\` does, which is ${EYE_MS} ms. \`# lamp 0: minus overflow\` names lamps: a \`minus\` that is on is
+      printed before the number, other names after it.
 
       Leading zeros are dark, and so is a point after the last digit. Lamps that are not a digit are shown as \`?\`. Nothing is printed if
       there is an error.`,
@@ -156,7 +156,7 @@ export const COMMAND_WORDS = {
     status: ["0: the numbers are printed.", "1: an error, which standard error names.", WRONG_ARGUMENTS],
   },
   explain: {
-    summary: "what was rejected in a script, where, and why",
+    summary: "shows what was rejected in a script, where, and why",
     text: `
       Reads the answers to SCRIPT, and prints each refusal among them: the line of SCRIPT, the line inside a program or the part of a board
       that is wrong, and what the refusal means. It finds the part of a board by trying the text without one part after the other.
@@ -173,28 +173,29 @@ export const COMMAND_WORDS = {
   explore: {
     summary: "searches for keys that break a property of a program",
     text: `
-      Searches for key presses, and times for them, that break a property or reach a goal. PROPERTIES has what may be pressed and
-      what must hold: the manual's chapter "Looking for what breaks it" has its lines. A counterexample is minimised, and printed as a test
-      that \`mcs4 test\` has seen fail. The output is TAP, a line for each property, and then what was run of the program and what was not.
+      Searches for key presses, and times for them, that break a property or reach a goal. PROPERTIES says what may be pressed and what
+      must hold: the manual's chapter "Looking for what breaks it" lists its lines. A counterexample is minimised, and printed as a test
+      that \`mcs4 test\` has seen fail. The output is TAP, a line for each property, and then which parts of the program were run and
+      which were not.
 
-      A tenth of the time goes to a proof first: "# proved for all inputs" says that a property needs no search.
+      A proof first gets a tenth of the time: "# proved for all inputs" says that a property needs no search.
 
-      Ctrl-C ends the search early, and reports what was found so far. Each job is a search of its own, with the seeds SEED, SEED + 1 and so
-      on. The same seed makes the same walks.
+      Ctrl-C ends the search early, and reports what was found so far. Each job is a separate search, with the seeds SEED, SEED + 1 and so
+      on. The same seed gives the same walks.
 
       \`model COMMAND\` in the properties is a command of your shell. It runs only with --allow-model, which prints it first. Without that
-      option it is reported as not run, and the exit status is 1. Look at properties of others before you allow it.
+      option it is reported as not run, and the exit status is 1. Read properties that others wrote before you allow it.
 
-      ${BOARD_AND_PROGRAM} So for PROPERTIES, if the project names one text of them.`,
+      ${BOARD_AND_PROGRAM} The same holds for PROPERTIES, if the project names one text of them.`,
     options: {
       folder: OF_FOLDER,
-      seconds: "Searches for SECONDS, 1 to 86,400; 10 if nothing is given.",
-      jobs: "Runs JOBS searches at once, 1 to 64; 1 if nothing is given.",
-      seed: "Begins with the seed SEED, 1 to 99,999,999; 1 if nothing is given.",
+      seconds: "Searches for SECONDS, 1 to 86,400; by default 10.",
+      jobs: "Runs JOBS searches at once, 1 to 64; by default 1.",
+      seed: "Begins with the seed SEED, 1 to 99,999,999; by default 1.",
       out: "Also writes the counterexamples to FINDS.test.",
       report: "Also writes a report to REPORT, which --merge joins with others.",
       "allow-model": "Allows the command of a model in the properties to run.",
-      merge: "Joins reports of searches, also of other machines: the shortest counterexamples, and all that was run.",
+      merge: "Joins reports of searches, also from other machines: the shortest counterexamples, and everything that was run.",
     },
     examples: [
       ["mcs4 explore board.toml program.asm program.props", "searches for ten seconds"],
@@ -211,17 +212,17 @@ export const COMMAND_WORDS = {
     summary: "converts a program in Intel's or AS's spelling to the bench's",
     text: `
       Prints a program for the 4004 in Intel's spelling, or in that of the macro assembler AS, in the spelling of the bench: a line for
-      each line, with its comments. A name is written as the line that defines it has it, and changed if the bench does not accept it. An
+      each line, with its comments. A name is written as in the line that defines it, and changed if the bench does not accept it. An
       expression becomes its number, and is noted in the comment. CPU, TITLE, PAGE, LISTING and the like become comments.
 
       It accepts labels with a comma, with a colon, or at the first column; comments from \`;\`, from \`*\` at the first column, and from
-      \`/\` at the first column or behind a blank; EQU, SET, =, ORG, DB, DATA, BYTE, DS, ALIGN, END; numbers as 20H, $20, 0x20, 101B,
+      \`/\` at the first column or after a blank; EQU, SET, =, ORG, DB, DATA, BYTE, DS, ALIGN, END; numbers as 20H, $20, 0x20, 101B,
       17Q, 'A'; registers as R5, 5 or a name; pairs as 0P, P0, R0R1, RP0, or as 0< and 2<, by their first register; conditions as TZ,
       TN, CZ, CN, AZ, AN, or Z, NZ, C, NC, T, NT; and expressions with + - * & / and brackets, $ or * for the address of the line, < and
       > for the lower and the upper byte.
 
-      It does not accept macros, INCLUDE, IF and instructions of the 4040. The result is tried on the bench: an error of the bench names
-      the line of the source, too. Nothing is printed if anything is wrong. PROGRAM can be -, standard input.`,
+      It does not accept macros, INCLUDE, IF and instructions of the 4040. The result is tried on the bench: an error of the bench also
+      names the line of the source. Nothing is printed if anything is wrong. PROGRAM can be -, standard input.`,
     options: {},
     examples: [
       ["mcs4 import busy.src > busy.asm", "writes the program in the bench's spelling"],
@@ -230,17 +231,17 @@ export const COMMAND_WORDS = {
     status: ["0: the program is printed.", "1: a line that is not accepted, or a file that cannot be read.", WRONG_ARGUMENTS],
   },
   keys: {
-    summary: "lines that press keys by their names",
+    summary: "makes lines that press keys by their names",
     text: `
-      Prints lines for mcs4 that press KEYS one after the other, and then ask for the lamps. KEYS is one argument: names of keys with blanks
-      between them, or written together if each is one character. A comment \`# row R: NAME NAME ..\` of the board names the keys of a row
-      by rising column, \`_\` for none. Nothing is printed before all keys are known.
+      Prints lines for mcs4 that press KEYS one after the other, and then ask for the lamps. KEYS is one argument: names of keys separated
+      by spaces, or written together if each is one character. A comment \`# row R: NAME NAME ..\` of the board names the keys of a row
+      from column 0 up, \`_\` for none. Nothing is printed before all keys are known.
 
       ${BOARD_AND_PROGRAM}`,
     options: {
       folder: OF_FOLDER,
-      down: "Keeps each key down for CYCLES cycles, 1 to 100,000; 4,000 (43 ms) if nothing is given.",
-      up: "Waits for CYCLES cycles after each key, 1 to 100,000; 16,000 if nothing is given.",
+      down: "Keeps each key down for CYCLES cycles, 1 to 100,000; by default 4,000 (43 ms).",
+      up: "Waits for CYCLES cycles after each key, 1 to 100,000; by default 16,000.",
       "until-stop": "Presses the keys on SESSION itself, prints the answers, and stops at a breakpoint, a watch, or a code that is not an "
         + "instruction: the key is still down then.",
     },
@@ -252,16 +253,16 @@ export const COMMAND_WORDS = {
     status: ["0: the lines are printed, or the keys were pressed.", "1: an error, which standard error names.", WRONG_ARGUMENTS],
   },
   listing: {
-    summary: "a program with addresses and bytes, as assemblers print it",
+    summary: "prints a program with addresses and bytes, as assemblers do",
     text: `
-      Prints each line of the source with its address and its bytes, and below them the names with their values, all in hexadecimal. They
-      are those of the bench: the program is assembled on a board with all ROMs.
+      Prints each line of the source with its address and its bytes, and below them the names with their values, all in hexadecimal. The
+      bench computes them: it assembles the program on a board with all ROMs.
 
       ${PROGRAM_ALONE}`,
     options: {
       folder: OF_FOLDER,
-      names: "Prints the names alone, a line `NAME VALUE` for each.",
-      labels: "Prints those names alone that are labels.",
+      names: "Prints only the names, a line `NAME VALUE` for each.",
+      labels: "Prints only the names that are labels.",
     },
     examples: [
       ["mcs4 listing program.asm", "prints a listing"],
@@ -272,21 +273,21 @@ export const COMMAND_WORDS = {
   lsp: {
     summary: "a language server: errors, help and names in your editor",
     text: `
-      An editor starts the language server, and talks with it over standard input and output. As you type, it shows all errors of
+      An editor starts the language server, and communicates with it over standard input and output. As you type, it shows all errors of
       programs and boards with their places, what words mean, the values of names, and the bytes and cycles of lines. It goes to
       definitions and references, renames, completes, lists names, offers quick fixes and colours. The manual's chapter "In your editor"
       has the settings of editors.
 
-      A program is tried on the board that mcs4.toml names, in its folder or one above it; else on the \`board.toml\` beside it; else on a
-      board with all ROMs. Nothing is written.`,
-    options: { stdio: "Does nothing: editors may say how they talk." },
+      A program is checked with the board that mcs4.toml names, in its folder or one above it; otherwise with the \`board.toml\` beside
+      it, or with a board with all ROMs. Nothing is written.`,
+    options: { stdio: "Does nothing: some editors pass this option." },
     examples: [["mcs4 lsp", "is what an editor starts"]],
     status: ["0: the editor ended it by `shutdown` and `exit`.", "1: the editor ended without them, or another error.", WRONG_ARGUMENTS],
   },
   names: {
-    summary: "puts addresses in the place of @NAME into lines",
+    summary: "replaces @NAME by addresses in lines",
     text: `
-      Reads lines for mcs4, and prints them with numbers in the place of names: \`@NAME\` becomes the number that the assembler gives NAME,
+      Reads lines for mcs4, and prints them with numbers instead of names: \`@NAME\` becomes the number that the assembler gives NAME,
       and \`set PLACE = VALUE\` becomes the lines that set the place. Texts after \`wire\`, \`asm\` and \`map\` stay as they are.
       Nothing is printed if there is an error.
 
@@ -298,7 +299,7 @@ export const COMMAND_WORDS = {
   new: {
     summary: "begins a session in a file, and serves lines",
     text: `
-      Makes FILE, or uses one that is empty or blank, and begins a session in it. Any other file stays as it is.
+      Creates FILE, or uses one that is empty or blank, and begins a session in it. Any other file stays as it is.
 ${SERVES_LINES}`,
     options: {},
     examples: [["mcs4 new s.mcs", "begins a session"], ["mcs4 new s.mcs < script.txt", "serves the lines of a file"]],
@@ -314,29 +315,29 @@ ${SERVES_LINES}`,
     status: STATUS_OF_PROGRAM,
   },
   panel: {
-    summary: "the front panel of a board, live in the terminal",
+    summary: "shows the front panel of a board, live in the terminal",
     text: `
       Shows the front panel of a board in a terminal of 80 by 24 or more: keys and lamps with their names, colours and places, and the
       number on the display in large digits. Comments of BOARD name them: the manual's chapter "The front panel of a board". Beside it are
       the registers, RAM, and the instructions round the counter. Below the lamps are the last lines of the printout.
 
-      It runs as fast as the real chip, 92,593 cycles a second. It is paused at first if the session is at a breakpoint. What is
-      done goes into SESSION; to look at a paused session changes nothing.
+      It runs as fast as the real chip, 92,593 cycles a second. It starts paused if the session is at a breakpoint. Everything that you do
+      is stored in SESSION; watching a paused session changes nothing.
 
-      While it is running, lamps and displays are shown as perceived, over 30 ms: \`(*)\` is on, \`(+)\` is on for a part of the time,
+      While it is running, lamps and displays are shown as perceived, over 30 ms: \`(*)\` is on, \`(+)\` is on for part of the time,
       \`(:)\` for a small part, \`( )\` is off. Colours are brighter and darker, unless NO_COLOR is set. While it is paused, lamps are
       shown at that instant.
 
-      The keys of the board are typed by their names. A key with a longer name has a character of its own, which is shown behind the
-      name. While it is running, a key goes up by itself after 43 ms, and the next one goes down 22 ms later. While it is paused, a key
-      stays down until it is typed again. Other keys:
+      Type the names of the board's keys to press them. A key with a longer name has its own character, which is shown after the name.
+      While it is running, a key goes up by itself after 43 ms, and the next one goes down 22 ms later. While it is paused, a key stays
+      down until it is typed again. Other keys:
 
       \`space\` pauses and continues. \`Enter\` runs one instruction. \`Tab\` sets a breakpoint at the counter, or clears it.
       \`Ctrl-T\` turns the TEST pin. \`Ctrl-R\` is a power cycle (\`reset\`). \`Left\` and \`Right\` show other RAM chips. \`Ctrl-D\` or
       \`Ctrl-C\` ends the panel: keys that went down here go up, and the terminal is as it was.
 
-      With --source, or if mcs4.toml names the program, the listing has the lines of the program's source, and the line that comes next
-      is above it with its name, its number and its comment. PROGRAM must be what is in the ROM of SESSION, byte for byte.`,
+      With --source, or if mcs4.toml names the program, the listing has the lines of the program's source, and the next line is above
+      it with its name, its number and its comment. PROGRAM must be what is in the ROM of SESSION, byte for byte.`,
     options: {
       folder: OF_FOLDER,
       stopped: "Begins paused.",
@@ -354,10 +355,10 @@ ${SERVES_LINES}`,
     ],
   },
   profile: {
-    summary: "where the cycles of a program go",
+    summary: "shows where the cycles of a program go",
     text: `
-      Prints for each label the cycles of its own instructions, the number of its calls, and the cycles of its calls with all they
-      call. For tests that press keys, it also prints how long the lamps took to answer.
+      Prints for each label the cycles of its own instructions, the number of its calls, and the cycles of its calls, including everything
+      that they call. For tests that press keys, it also prints how long the lamps took to answer.
 
       ${WHAT_IS_COUNTED}
 
@@ -370,21 +371,21 @@ ${SERVES_LINES}`,
     status: ["0: the report is printed.", REPORT_OR_ERROR, WRONG_ARGUMENTS],
   },
   project: {
-    summary: "a project of the page, taken apart or put together",
+    summary: "splits a project of the page into files, or joins them",
     text: `
-      \`split\` takes a project of the page apart into files of FOLDER: board.toml, program.asm, session.mcs and name; program.test,
-      program.props, breakpoints and values if the project has them; and mcs4.toml, which names the texts. FOLDER is new, or has none of
-      these files.
+      \`split\` splits a project of the page into files in FOLDER: board.toml, program.asm, session.mcs and name; program.test,
+      program.props, breakpoints and values if the project has them; and mcs4.toml, which names the texts. FOLDER must be new, or have none
+      of these files.
 
-      \`join\` puts the files of FOLDER together into the project FILE, to the byte as the page saves it. FILE is new, or a project. The
-      texts are those that mcs4.toml names; without it, those of the names above. Without session.mcs, the project gets a new session
+      \`join\` joins the files in FOLDER into the project FILE, byte for byte as the page saves it. FILE must be new, or a project. The
+      texts are those that mcs4.toml names; without it, the files named above. Without session.mcs, the project gets a new session
       with the board and the program; without name, the name of the folder. A link that leads out of FOLDER is rejected.
 
       Nothing is written if anything is wrong. The manual's chapter "A project file" describes the file.`,
     options: {},
     examples: [
       ["mcs4 project split lock.mcsp lock", "writes the parts of a project into the folder `lock`"],
-      ["mcs4 project join lock lock.mcsp", "puts them together again"],
+      ["mcs4 project join lock lock.mcsp", "joins them again"],
     ],
     status: [
       "0: the files are written.",
@@ -395,18 +396,18 @@ ${SERVES_LINES}`,
   prove: {
     summary: "proves that properties of a program hold for all inputs",
     text: `
-      Searches all states that the program can reach from power-on, whatever its keys and its TEST pin do, and at whatever moments. If
-      no state breaks a property, the property is proved: for all inputs, at every moment. A counterexample is minimised, and printed as
-      a test that \`mcs4 test\` has seen fail. The output is TAP, a line for each property. PROPERTIES is a text as \`mcs4 explore\` has
-      it; the manual's chapter "Proving it for all inputs" says which of its lines can be proved.
+      Searches all states that the program can reach from power-on, whatever its keys and its TEST pin do, at any moments. If no state
+      breaks a property, the property is proved: for all inputs, at every moment. A counterexample is minimised, and printed as a test
+      that \`mcs4 test\` has seen fail. The output is TAP, a line for each property. PROPERTIES is a text like that of \`mcs4 explore\`;
+      the manual's chapter "Proving it for all inputs" says which of its lines can be proved.
 
       The search stops at N states. It needs some 150 bytes for each, and more for boards with more chips. Ctrl-C ends it.
 
-      ${BOARD_AND_PROGRAM} So for PROPERTIES, if the project names one text of them.`,
+      ${BOARD_AND_PROGRAM} The same holds for PROPERTIES, if the project names one text of them.`,
     options: {
       folder: OF_FOLDER,
-      most: "Searches N states at most, 1 to 999,999,999; 1,000,000 if nothing is given.",
-      memory: "Uses MB megabytes of memory for them at most, 1 to 1,000,000; all that there is if nothing is given.",
+      most: "Searches at most N states, 1 to 999,999,999; by default 1,000,000.",
+      memory: "Uses at most MB megabytes of memory for them, 1 to 1,000,000; by default all that there is.",
     },
     examples: [
       ["mcs4 prove board.toml program.asm program.props", "proves what it can"],
@@ -415,7 +416,7 @@ ${SERVES_LINES}`,
     status: [
       "0: all properties are proved, and each goal was reached.",
       "1: a property is broken, or a goal is never reached; or an error, which standard error names.", WRONG_ARGUMENTS,
-      "3: nothing of that, but some property is not decided.",
+      "3: none of these, but some property is not decided.",
     ],
   },
   resume: {
@@ -432,16 +433,16 @@ ${SERVES_LINES}`,
     status: ["0: all was sent.", "1: SESSION did not begin with SCRIPT, or another error.", WRONG_ARGUMENTS],
   },
   rom: {
-    summary: "images of ROMs, in and out: binary, Intel HEX, BNPF, S-records",
+    summary: "imports and exports ROM images: binary, Intel HEX, BNPF, S-records",
     text: `
       \`load\` prints lines \`asm\` .. that put an image into ROM. ADDRESS is added to the addresses in the file; a binary file and
-      words of BNPF begin there. \`ask\` prints questions for the COUNT bytes from FIRST on, and \`save\` prints the bytes in the
+      words of BNPF begin there. \`ask\` prints questions for COUNT bytes, starting at FIRST, and \`save\` prints the bytes in the
       answers as an image: a binary file, Intel HEX, or BNPF, in which Intel took the masks of 4001s (BNNNPNPNNF for each byte). Numbers
       are decimal, or hexadecimal with 0x.
 
-      A file that begins with \`:\`, or whose name ends in .hex, is read as Intel HEX, one that begins with S and a digit as S-records,
-      a text with a word of BNPF as BNPF, and one with bytes that are in no text as binary. Any other text is rejected. What is between
-      words of BNPF is ignored. Of Intel HEX, records of type 00 and 01 are used; types 02 and 04 must be zero, and types 03 and 05,
+      A file that begins with \`:\`, or whose name ends in .hex, is read as Intel HEX; one that begins with S and a digit as S-records; a
+      text with a word of BNPF as BNPF; and a file with bytes that no text has as binary. Any other text is rejected. Characters between
+      words of BNPF are ignored. Of Intel HEX, records of type 00 and 01 are used; types 02 and 04 must be zero, and types 03 and 05,
       where a program begins, are ignored.
 
       An image that needs several texts is loaded whole or not at all: each text has a byte of each of its ROMs, so each one is rejected
@@ -454,7 +455,7 @@ ${SERVES_LINES}`,
     },
     examples: [
       ["mcs4 rom load multiply.hex | mcs4 open s.mcs", "puts an image into the ROM of a session"],
-      ["mcs4 rom load multiply.bin 0x100 | mcs4 open s.mcs", "puts a binary file there, from address 100 on"],
+      ["mcs4 rom load multiply.bin 0x100 | mcs4 open s.mcs", "puts a binary file there, starting at address 100"],
       ["mcs4 rom ask 0 512 | mcs4 open s.mcs > answers.txt", "asks for the first 512 bytes"],
       ["mcs4 rom save --hex 0 512 < answers.txt > multiply.hex", "saves them as Intel HEX"],
     ],
@@ -465,10 +466,10 @@ ${SERVES_LINES}`,
     ],
   },
   script: {
-    summary: "lines that wire a board, load a program, press keys",
+    summary: "makes lines that wire a board, load a program, press keys",
     text: `
       Prints lines for mcs4 that wire BOARD, assemble PROGRAM, run for 2,000 cycles, press KEYS one after the other, and ask for the lamps.
-      \`mcs4 help keys\` has how keys are written. Board and program are tried first: nothing is printed if one of them is rejected.
+      \`mcs4 help keys\` says how to write keys. Board and program are tried first: nothing is printed if one of them is rejected.
 
       Comments of the texts stay in the script, unless a text is too long with them for the bench.
 
@@ -480,7 +481,7 @@ ${SERVES_LINES}`,
   test: {
     summary: "runs tests of a program, and prints the results as TAP",
     text: `
-      Runs the tests in the texts TEST on a board with a program, each test on a session of its own in memory. It prints the results as TAP,
+      Runs the tests in the texts TEST on a board with a program, each test on a separate session in memory. It prints the results as TAP,
       which \`prove\` reads. The manual's chapter "Testing a program" has the language of tests.
 
       ${BOARD_AND_PROGRAM} Without any TEST, it also runs the tests of the project.
@@ -496,10 +497,10 @@ ${SERVES_LINES}`,
     status: ["0: all tests passed.", "1: a test failed, or an error, which standard error names with its place.", WRONG_ARGUMENTS],
   },
   trace: {
-    summary: "what it does next, an instruction a line",
+    summary: "prints what a session does next, one instruction per line",
     text: `
       Prints what a session does next, a line for each instruction: the cycles before it, its address, bytes and text, and the
-      accumulator and the carry after it. Behind them are its changes of registers, the command register, return addresses, RAM, ports,
+      accumulator and the carry after it. After them come its changes of registers, the command register, return addresses, RAM, ports,
       chains and lamps, as in \`r0 6\`, \`ram.1.0x65 9\`, \`out 1.1 9\` or \`lamps *..\`.
 
       The session stays as it is: a copy is run, without its breakpoints and watches. CYCLES is 1 to 100,000.
@@ -509,7 +510,7 @@ ${SERVES_LINES}`,
     options: {
       folder: "Uses the program of the project in FOLDER, as --source does.",
       names: "Prints labels, and names of targets. PROGRAM is the text of the program in ROM.",
-      source: "Prints the lines of PROGRAM, with their numbers, in place of the disassembly. PROGRAM is the text of the program in ROM.",
+      source: "Prints the lines of PROGRAM, with their numbers, instead of the disassembly. PROGRAM is the text of the program in ROM.",
       last: "Prints the last N instructions before the stop.",
     },
     examples: [
@@ -524,7 +525,7 @@ ${SERVES_LINES}`,
     ],
   },
   wave: {
-    summary: "lines over time, as a VCD file",
+    summary: "records lines over time, as a VCD file",
     text: `
       Prints what the lines of a board do in the next CYCLES cycles, as a VCD file for programs that show waveforms: GTKWave, PulseView,
       Surfer. Each change is exact to the cycle; 108 units of time are a cycle, 10.8 microseconds. CYCLES is 1 to 10,000,000.
@@ -591,10 +592,10 @@ export const MCS4_ENVIRONMENT = [
 export const MCS4_STATUS = [
   "0: all was done.",
   "1: an error, or a test that failed.",
-  "2: wrong arguments, also a value that is not a number or out of range.",
+  "2: wrong arguments, including a value that is not a number or is out of range.",
 ];
 export const MCS4_COMPLETED = {
-  help: "the commands, or the use of one",
+  help: "the commands, or the usage of one",
   version: "which program is started",
 };
 export const ENVIRONMENT_HEAD = "Environment:";
@@ -646,7 +647,7 @@ export const notInRange = (name, word, most) => `${name}: '${word}' is not a dec
 /** @type {(file: string, what: string) => string} */
 export const projectLacks = (file, what) => `${file} names no ${what}; name some there, or after the command`;
 /** @type {(version: string) => string} */
-export const oldNode = (version) => `it needs node 18 or later, and this is ${version}`;
+export const oldNode = (version) => `it needs node 18 or later; this is ${version}`;
 /** @type {(one: string, other: string) => string} */
 export const excludeEachOther = (one, other) => `${one} and ${other} exclude each other`;
 
@@ -658,7 +659,7 @@ export const inUse = (session) => `${session} is in use: it changed while it was
 export const noNamedProver = (name) => `MCS4_PROVE names ${name}, which is not there; unset it, or name another program`;
 /** @type {(fault: string) => string} */
 export const noProver = (fault) => (
-  `the program that searches, shipped/mcs4-prove, is not started: ${fault}; tools/build mcs4_prove proves and builds it`);
+  `the program that searches, shipped/mcs4-prove, could not be started: ${fault}; tools/build mcs4_prove proves and builds it`);
 export const NO_PROGRAM_IN_COPY = "this copy of the bench has no native program";
 /** @type {(platform: string, machine: string) => string} */
 export const notForSystem = (platform, machine) => `it is for Linux on x86-64, and this is ${platform} on ${machine}`;
@@ -678,15 +679,15 @@ export const sessionStopped = (cycles, why) => `the session stopped after ${cycl
 
 // --- the files of commands ---
 
-export const NO_LCOV = "does not begin as a file of LCOV's format does (TN:)";
+export const NO_LCOV = "does not begin like an LCOV file (TN:)";
 /** @type {(name: string) => string} */
 export const isFolder = (name) => `${name} is a folder, not a file`;
 /** @type {(name: string) => string} */
-export const isRead = (name) => `${name} is read here, so it is not written; name another file`;
+export const isRead = (name) => `${name} is an input of this command, so it is not written; name another file`;
 /** @type {(name: string, why: string) => string} */
 export const isForeign = (name, why) => `${name} exists, and ${why}; name another file, or move it away`;
 /** @type {(name: string) => string} */
-export const noFolderToWrite = (name) => `cannot write ${name}: its folder is not there, or cannot be written`;
+export const noFolderToWrite = (name) => `cannot write ${name}: its folder does not exist or cannot be written`;
 
 // --- wave ---
 
@@ -699,7 +700,7 @@ export const NO_BUZZER_GIVEN = `no line of a buzzer is given; name it, or give -
 /** @type {(board: string) => string} */
 export const noBuzzer = (board) => `${board} has no buzzer: ${BUZZER_COMMENT} makes one`;
 /** @type {(line: string) => string} */
-export const noOutputLine = (line) => `the board has no output line ${line}; a buzzer is at one, as rom0.3, ram0.1.3 or chain0.5`;
+export const noOutputLine = (line) => `the board has no output line ${line}; a buzzer is at one, such as rom0.3, ram0.1.3 or chain0.5`;
 /** @type {(board: string, line: number, place: string) => string} */
 export const noOutputAt = (board, line, place) => `${board}: line ${line}: the board has no output line ${place}`;
 /** @type {(cycles: number) => string} */
@@ -721,14 +722,14 @@ export const tooManyTexts = (file, count, kind) => `${file} names ${count} texts
 /** @type {(name: string) => string} */
 export const noSessionFile = (name) => `${name} is not a session file`;
 /** @type {(name: string) => string} */
-export const emptyName = (name) => `${name} is empty; it is the name of the session`;
+export const emptyName = (name) => `${name} is empty; it must have the name of the session`;
 /** @type {(folder: string) => string} */
 export const noFolder = (folder) => `there is no folder ${folder}`;
-export const NO_PROJECT = "is no project";
+export const NO_PROJECT = "is not a project";
 /** @type {(folder: string) => string} */
 export const isNoFolder = (folder) => `${folder} exists and is not a folder`;
 /** @type {(name: string) => string} */
-export const isThere = (name) => `${name} is there already; name another folder, or move it away`;
+export const isThere = (name) => `${name} already exists; name another folder, or move it away`;
 
 // --- rom ---
 
@@ -739,10 +740,10 @@ export const noRomAction = (word) => `'${word}' is none of load, ask and save`;
 export const noFormOf = (action, form) => `rom ${action} takes no --${form}`;
 export const ADDRESS_RANGE = "ADDRESS is 0 to 4095, decimal or with 0x";
 export const NUMBERS_OF_RANGE = "FIRST and COUNT are numbers, decimal or with 0x";
-export const RANGE = "FIRST is 0 to 4095, COUNT is from 1 on, and 4096 is the address after the last one";
+export const RANGE = "FIRST is 0 to 4095, COUNT is at least 1, and 4096 is the address after the last one";
 /** @type {(name: string) => string} */
 export const textNoImage = (name) => (
-  `${name} is a text, and no Intel HEX, S-records or BNPF; if its characters are the bytes of an image: rom load --binary`);
+  `${name} is a text, but not Intel HEX, S-records or BNPF; if its characters are the bytes of an image: rom load --binary`);
 export const IS_IT_BINARY = " (is it a binary file? --binary)";
 export const NO_TERMINAL = "an image cannot be shown at a terminal; write it to a file (> IMAGE), or as --hex";
 export const NO_ANSWERS = "no answers on standard input; it reads what mcs4 has answered, as in: mcs4 rom save FIRST COUNT < ANSWERS";
@@ -777,7 +778,7 @@ export const noAnswers = (command) => (
 // --- cycles ---
 /** @type {(word: string) => string} */
 export const notALine = (word) => `FIRST and LAST are numbers of lines, and '${word}' is not a number`;
-export const FIRST_AND_LAST = "FIRST is from 1 on, and LAST is not before it";
+export const FIRST_AND_LAST = "FIRST is at least 1, and LAST is not before it";
 
 // --- explain ---
 /** @type {(words: string) => string} */
@@ -817,7 +818,8 @@ export const howFarBack = (commands, records) => {
 /** @type {(session: string, records: number, commands: number, count: number) => string} */
 export const logIsShorter = (session, records, commands, count) => (records === commands
   ? `the log of ${session} has ${commands} commands, so it cannot go back by ${count}`
-  : `the log of ${session} has ${records} of its ${commands} commands, so it cannot go back by ${count}; those before are one snapshot`);
+  : `the log of ${session} has ${records} of its ${commands} commands, so it cannot go back by ${count}; `
+    + "the earlier ones are in a snapshot");
 /** @type {(session: string, wanted: number, opened: string) => string} */
 export const wouldBeOther = (session, wanted, opened) => `${session} would not be session ${wanted} but ${opened}; nothing was changed`;
 
@@ -826,10 +828,10 @@ export const wouldBeOther = (session, wanted, opened) => `${session} would not b
 export const noFolderIn = (place) => `cannot make a folder in ${place}; TMPDIR names another place for temporary files`;
 
 // --- debug ---
-export const NO_BREAKPOINTS_FILE = "does not begin as a file of breakpoints does (# Breakpoints of mcs4 debug)";
+export const NO_BREAKPOINTS_FILE = "does not begin like a file of breakpoints (# Breakpoints of mcs4 debug)";
 
 // --- explore ---
-export const NO_FINDS = "does not begin as a file of its counterexamples does (# Found by mcs4 explore)";
+export const NO_FINDS = "does not begin like a file of counterexamples (# Found by mcs4 explore)";
 export const NO_REPORT = "is not a report of mcs4 explore";
 /** @type {(file: string, names: string[]) => string} */
 export const oneText = (file, names) => `${file} names ${names.length} texts of properties; name one of them: ${names.join(" ")}`;
@@ -847,8 +849,8 @@ export const notSeenToFail = (test) => `mcs4 test does not see this fail, so it 
 /** @type {(place: string, text: string, isGoal: boolean, steps: string) => string} */
 export const wasFound = (place, text, isGoal, steps) => `${place}: ${text}: ${isGoal ? "reached" : "broken"} by ${steps}`;
 /** @type {(status: number | null) => string} */
-export const jobEnded = (status) => `a job has ended with status ${status}`;
+export const jobEnded = (status) => `a job ended with status ${status}`;
 /** @type {(name: string) => string} */
 export const noReport = (name) => `${name} is not a report of mcs4 explore (--report)`;
 /** @type {(name: string, first: string) => string} */
-export const ofOtherTexts = (name, first) => `${name} is of another board, program or properties than ${first}`;
+export const ofOtherTexts = (name, first) => `${name} has another board, program or properties than ${first}`;

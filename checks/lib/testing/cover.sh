@@ -94,7 +94,7 @@ verdict "$(sed -n 's/^DA://p' "$folder/calc.info")" "$(awk '
 ' "$folder/answers" "$folder/listing" $calculator/calculator.asm)" "counts by \`count\` and by steps"
 refuses 1 "cover: the session has another program than $lock/lock.asm: 001 has 24, and line 16 makes 2C" \
     ./mcs4 cover --session "$folder/calc.mcs" 100 $lock/lock.asm
-refuses 1 "cover: cannot write $folder/none/x.info: its folder is not there, or cannot be written" ./mcs4 cover --lcov "$folder/none/x.info" --session "$folder/calc.mcs" 10 $calculator/calculator.asm
+refuses 1 "cover: cannot write $folder/none/x.info: its folder does not exist or cannot be written" ./mcs4 cover --lcov "$folder/none/x.info" --session "$folder/calc.mcs" 10 $calculator/calculator.asm
 misuses "CYCLES: '0' is not a decimal number from 1 to 100000000" ./mcs4 cover --session "$folder/calc.mcs" 0 $calculator/calculator.asm
 refuses 2 "cover: PROGRAM is missing
 usage: mcs4 cover [-C FOLDER] [--lcov FILE] [BOARD PROGRAM] [TEST ..]
@@ -125,7 +125,7 @@ cover_usage="usage: mcs4 cover [-C FOLDER] [--lcov FILE] [BOARD PROGRAM] [TEST .
        mcs4 cover [--lcov FILE] --session SESSION CYCLES PROGRAM"
 stays "$folder/mine.toml" 2 "cover: TEST is missing
 $cover_usage" ./mcs4 cover --lcov "$folder/mine.toml" "$folder/count.asm" "$folder/count.test"
-stays "$folder/mine.toml" 1 "cover: $folder/mine.toml exists, and does not begin as a file of LCOV's format does (TN:); name another file, or move it away" \
+stays "$folder/mine.toml" 1 "cover: $folder/mine.toml exists, and does not begin like an LCOV file (TN:); name another file, or move it away" \
     ./mcs4 cover --lcov "$folder/mine.toml" $three/board.toml "$folder/count.asm" "$folder/count.test"
 stays "$folder/mine.asm" 1 "cover: $folder/mine.asm is read here, so it is not written; name another file" \
     ./mcs4 cover --lcov "$folder/mine.asm" $three/board.toml "$folder/mine.asm" "$folder/count.test"

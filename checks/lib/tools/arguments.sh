@@ -41,9 +41,9 @@ for wrong in "x 1" "0 1x"; do
 done
 for wrong in "0 0" "4096 1" "4000 97"; do
     # shellcheck disable=SC2086
-    misuses "FIRST is 0 to 4095, COUNT is from 1 on, and 4096 is the address after the last one" ./mcs4 rom save $wrong
+    misuses "FIRST is 0 to 4095, COUNT is at least 1, and 4096 is the address after the last one" ./mcs4 rom save $wrong
 done
-misuses "FIRST is from 1 on, and LAST is not before it" ./mcs4 cycles 3 2
+misuses "FIRST is at least 1, and LAST is not before it" ./mcs4 cycles 3 2
 for words in "trace::10" "wave::10" "back:" "import:" "listing:" "explain:" "resume::$session" "test::$program:$lock/lock.test"; do
     tool=${words%%:*}
     (

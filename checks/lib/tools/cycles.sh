@@ -35,7 +35,7 @@ verdict "$(outcome ./mcs4 cycles 2 5 < "$folder/answers")" "4001 cycles, 43210.8
 status 0" "cycles of some lines"
 refuses 1 "cycles: there are only 6 lines of answers" ./mcs4 cycles 2 7 < "$folder/answers"
 refuses 1 "cycles: none of these lines shows a run, as \`ok 5 ran 100 end\` does" ./mcs4 cycles 3 3 < "$folder/answers"
-misuses "FIRST is from 1 on, and LAST is not before it" ./mcs4 cycles 3 2 < "$folder/answers"
+misuses "FIRST is at least 1, and LAST is not before it" ./mcs4 cycles 3 2 < "$folder/answers"
 refuses 2 "cycles: LAST is missing
 usage: mcs4 cycles [--source PROGRAM SESSION] [FIRST LAST] < ANSWERS" ./mcs4 cycles 3
 printf 'session 0\nno 44\n' > "$folder/answers"

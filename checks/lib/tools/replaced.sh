@@ -60,7 +60,7 @@ done
 ln -s nothing "$folder/taken_apart.link"
 mkdir "$folder/has_link"
 ln -s "$folder/victim" "$folder/has_link/board.toml"
-refuses 1 "project: $folder/has_link/board.toml is there already; name another folder, or move it away" ./mcs4 project split examples/a_fault_to_find.mcsp "$folder/has_link"
+refuses 1 "project: $folder/has_link/board.toml already exists; name another folder, or move it away" ./mcs4 project split examples/a_fault_to_find.mcsp "$folder/has_link"
 
 # A file that belongs to another, which a new one cannot have, stays as it is.
 if [ "$(id -u)" -eq 0 ] && command -v setpriv > /dev/null; then

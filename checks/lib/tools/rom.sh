@@ -40,7 +40,7 @@ hex_fault ':00000001FF\n:00000001FF\n' "line 2: a record after the last one (typ
 hex_fault ':00000001FF\n' "it has no byte"
 refuses 1 "rom: $folder/image: it has 4,096 bytes, and only 4,095 fit from the address 001 on" ./mcs4 rom load --binary "$folder/image" 1
 misuses "ADDRESS is 0 to 4095, decimal or with 0x" ./mcs4 rom load "$folder/image" 12H
-misuses "FIRST is 0 to 4095, COUNT is from 1 on, and 4096 is the address after the last one" ./mcs4 rom ask 4000 97
+misuses "FIRST is 0 to 4095, COUNT is at least 1, and 4096 is the address after the last one" ./mcs4 rom ask 4000 97
 echo "no 11" > "$folder/input"
 refuses 1 "rom: line 1 of the answers is a refusal: no 11; mcs4 explain says why" ./mcs4 rom save 0 1 < "$folder/input"
 echo "000 D0    LDM 0" > "$folder/input"

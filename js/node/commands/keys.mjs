@@ -1,4 +1,4 @@
-// `mcs4 keys`: prints lines that press keys by their names, or presses them on a session up to a stop.
+// `mcs4 keys`: prints makes lines that press keys by their names, or presses them on a session up to a stop.
 import { isStop, refusalOf } from "../../core/bench/answers.js";
 import { linesOf } from "../../core/bench/inputs.js";
 import { USUAL_PACE } from "../../core/testing/press_lines.js";

@@ -1,4 +1,4 @@
-// `mcs4 script`: prints lines that wire a board, load a program, press keys, and ask for the lamps.
+// `mcs4 script`: prints makes lines that wire a board, load a program, press keys, and ask for the lamps.
 import { LONGEST_LINE, linesOf } from "../../core/bench/inputs.js";
 import { USUAL_PACE } from "../../core/testing/press_lines.js";
 import { prepare } from "../../core/testing/prepared.js";
