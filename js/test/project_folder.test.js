@@ -31,7 +31,7 @@ test("what is wrong in a project file is reported with its line", () => {
   assert.match(firstFault(`${GOOD}tests = "a.test"\n`), /^3: tests is a list of paths/);
   assert.match(firstFault(`${GOOD}tests = [1]\n`), /^3: tests is a list of paths/);
   assert.match(firstFault("board = []\n"), /^1: board is the path of a file/);
-  assert.match(firstFault(`${GOOD}speed = "quick"\n`), /^3: speed is one of "real", .* and "full"$/);
+  assert.match(firstFault(`${GOOD}speed = "quick"\n`), /^3: speed is one of "real", .* or "full"$/);
   assert.match(firstFault(`${GOOD}[[rom]]\nchip = 0\n`), /^3: a project has no tables/);
   assert.match(firstFault("board = b.toml\n"), /^1: b.toml is a text: write it in quotes/);
   for (const path of ["/etc/passwd", "../b.toml", "a/../../b.toml", "a\\\\b", ""]) {

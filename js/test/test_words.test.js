@@ -73,7 +73,7 @@ test("counts of lines", () => {
   const line = (count, isJump = false, taken = 0) => ({ line: 1, count, isJump, taken });
   assert.deepEqual([line(0), line(4), line(976, true, 912)].map(textOfCount), ["never", "4", "976 912/64"]);
   assert.deepEqual([line(0), line(1), line(976, true, 912), line(1200, true, 1200)].map(wordsOfCount), ["no test runs it", "run once",
-    "run 976 times; it jumped 912 times, and continued 64 times", "run 1,200 times; it jumped 1,200 times, and continued never"]);
+    "run 976 times; it jumped 912 times and continued 64 times", "run 1,200 times; it jumped 1,200 times and continued never"]);
 });
 
 test("the words of properties: what they become, and what the manual says of them", () => {

@@ -127,12 +127,12 @@ stays "$folder/mine.toml" 2 "cover: TEST is missing
 $cover_usage" ./mcs4 cover --lcov "$folder/mine.toml" "$folder/count.asm" "$folder/count.test"
 stays "$folder/mine.toml" 1 "cover: $folder/mine.toml exists, and does not begin like an LCOV file (TN:); name another file, or move it away" \
     ./mcs4 cover --lcov "$folder/mine.toml" $three/board.toml "$folder/count.asm" "$folder/count.test"
-stays "$folder/mine.asm" 1 "cover: $folder/mine.asm is read here, so it is not written; name another file" \
+stays "$folder/mine.asm" 1 "cover: $folder/mine.asm is an input of this command, so it is not written; name another file" \
     ./mcs4 cover --lcov "$folder/mine.asm" $three/board.toml "$folder/mine.asm" "$folder/count.test"
 printf ' LDX 5\n' > "$folder/wrong.asm"
 stays "$folder/count.info" 1 "cover: $folder/wrong.asm: line 1: no 30: LDX is not an instruction; LD or LDM?
 cover:      LDX 5" ./mcs4 cover --lcov "$folder/count.info" $three/board.toml "$folder/wrong.asm" "$folder/count.test"
-stays "$folder/calc.mcs" 1 "cover: $folder/calc.mcs is read here, so it is not written; name another file" \
+stays "$folder/calc.mcs" 1 "cover: $folder/calc.mcs is an input of this command, so it is not written; name another file" \
     ./mcs4 cover --lcov "$folder/calc.mcs" --session "$folder/calc.mcs" 10 $calculator/calculator.asm
 verdict "$(outcome ./mcs4 cover --lcov /dev/stdout $three/board.toml "$folder/count.asm" "$folder/count.test" | sed -n '/^TN:/,$p' | tail -n 2)" "end_of_record
 status 0" "LCOV's format to a pipe"

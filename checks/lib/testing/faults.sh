@@ -76,11 +76,11 @@ test a
     save y
 end_of_tests
 refuses 1 "test: $folder/bad_steps.test:1: shared steps have a name of one word: steps NAME
-test: $folder/bad_steps.test:4: the steps one cannot do themselves
+test: $folder/bad_steps.test:4: the steps one cannot run themselves
 test: $folder/bad_steps.test:5: shared steps have no states: \`save\` belongs in a test
-test: $folder/bad_steps.test:6: there are no steps two before this line; \`steps two\` begins them
+test: $folder/bad_steps.test:6: there are no steps two before this line; \`steps two\` starts them
 test: $folder/bad_steps.test:7: shared steps have no states: \`from\` belongs in a test
-test: $folder/bad_steps.test:8: the steps one are at line 3 already
+test: $folder/bad_steps.test:8: the steps one are already at line 3
 test: $folder/bad_steps.test:10: write \`repeat COUNT\`, 1 to 100,000: the lines down to its \`end\` are run COUNT times
 test: $folder/bad_steps.test:11: write \`repeat COUNT\`, 1 to 100,000: the lines down to its \`end\` are run COUNT times
 test: $folder/bad_steps.test:14: there is no \`repeat\` for this \`end\`

@@ -37,14 +37,14 @@ not ok 2 - it does not
   at: \"$folder/steps.test:2\"
 status 1" "shared steps of another text"
 refuses 1 "test: $folder/steps.test:1: there is no line \`test NAME\`" ./mcs4 test $lock/board.toml $lock/lock.asm "$folder/steps.test"
-refuses 1 "test: $folder/opens.test:3: there are no steps enter before this line; \`steps enter\` begins them
-test: $folder/opens.test:7: there are no steps enter before this line; \`steps enter\` begins them" \
+refuses 1 "test: $folder/opens.test:3: there are no steps enter before this line; \`steps enter\` starts them
+test: $folder/opens.test:7: there are no steps enter before this line; \`steps enter\` starts them" \
     ./mcs4 test $lock/board.toml $lock/lock.asm "$folder/opens.test" "$folder/steps.test"
 verdict "$(outcome ./mcs4 cover $lock/board.toml $lock/lock.asm "$folder/steps.test" "$folder/opens.test" | sed -n '/^status/p; /instructions were run/s/ (.*//p')" \
     "$(cat "$folder/steps.test" "$folder/opens.test" > "$folder/joined.test"
     outcome ./mcs4 cover $lock/board.toml $lock/lock.asm "$folder/joined.test" | sed -n '/^status/p; /instructions were run/s/ (.*//p')" "what two texts cover"
 cp "$folder/steps.test" "$folder/again.test"
-refuses 1 "test: $folder/again.test:1: the steps opened are at $folder/steps.test:1 already
+refuses 1 "test: $folder/again.test:1: the steps opened are already at $folder/steps.test:1
 test: $folder/again.test:3: the steps enter are already at $folder/steps.test:3" \
     ./mcs4 test $lock/board.toml $lock/lock.asm "$folder/steps.test" "$folder/again.test" "$folder/opens.test"
 

@@ -38,7 +38,7 @@ hex_fault '\n:0400000600000000F6\n' "line 2: type 06, which has no meaning for a
 hex_fault '\n:03000005000000F8\n' "line 2: a record of type 05 has four bytes"
 hex_fault ':00000001FF\n:00000001FF\n' "line 2: a record after the last one (type 01)"
 hex_fault ':00000001FF\n' "it has no byte"
-refuses 1 "rom: $folder/image: it has 4,096 bytes, and only 4,095 fit from the address 001 on" ./mcs4 rom load --binary "$folder/image" 1
+refuses 1 "rom: $folder/image: it has 4,096 bytes, and only 4,095 fit from the address 001" ./mcs4 rom load --binary "$folder/image" 1
 misuses "ADDRESS is 0 to 4095, decimal or with 0x" ./mcs4 rom load "$folder/image" 12H
 misuses "FIRST is 0 to 4095, COUNT is at least 1, and 4096 is the address after the last one" ./mcs4 rom ask 4000 97
 echo "no 11" > "$folder/input"
@@ -101,7 +101,7 @@ refuses 1 "rom: $folder/few.bnpf: line 2: past the last address, FFF" ./mcs4 rom
 # Texts are no binary images, unless that is said.
 for text in $calculator/calculator.asm "$folder/z.asm"; do
     printf ' NOP ; z\303\244hler\n' > "$folder/z.asm"
-    refuses 1 "rom: $text is a text, and no Intel HEX, S-records or BNPF; if its characters are the bytes of an image: rom load --binary" ./mcs4 rom load "$text"
+    refuses 1 "rom: $text is a text, but not Intel HEX, S-records or BNPF; if its characters are the bytes of an image: rom load --binary" ./mcs4 rom load "$text"
 done
 printf 'S0' > "$folder/letters.bin"
 verdict "$(outcome ./mcs4 rom load --binary "$folder/letters.bin")" "asm
