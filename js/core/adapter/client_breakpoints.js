@@ -296,7 +296,7 @@ export class ClientBreakpoints {
       if (condition) usual.conditions.set(own, condition);
       return fault ? { verified: false, message: stopsEachTime(inColumn(fault, column)) } : { verified: true };
     });
-    // All instructions are checked only if so many cycles are done at once.
+    // All instructions are checked only if that number of cycles is done at once.
     if (session.largestPiece >= CYCLES_OF_CALL) session.largestPiece = usual.stops.size > 0 ? CYCLES_OF_CALL : LARGEST_PIECE;
     return answers;
   }

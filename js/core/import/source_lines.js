@@ -129,8 +129,8 @@ export function readSource(texts) {
     if (isEnded) return { ...none, comment: text };
     const { rest, comment } = withoutComment(text);
     if (rest.length > LONGEST_SOURCE_LINE) return { ...none, comment, isLong: true };
-    const { label, rest: behind } = withoutLabel(rest);
-    const statement = statementIn(label, behind);
+    const { label, rest: afterLabel } = withoutLabel(rest);
+    const statement = statementIn(label, afterLabel);
     isEnded = statement.word === "END";
     return { text, comment, isLong: false, ...statement };
   });

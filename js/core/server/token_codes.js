@@ -49,9 +49,9 @@ export function tokenCodes(words) {
  */
 export function codeEdits(before, after) {
   const least = Math.min(before.length, after.length);
-  let [start, behind] = [0, 0];
+  let [start, suffix] = [0, 0];
   while (start < least && before[start] === after[start]) start += 1;
-  while (behind < least - start && before[before.length - 1 - behind] === after[after.length - 1 - behind]) behind += 1;
+  while (suffix < least - start && before[before.length - 1 - suffix] === after[after.length - 1 - suffix]) suffix += 1;
   if (start === before.length && start === after.length) return [];
-  return [{ start, deleteCount: before.length - start - behind, data: after.slice(start, after.length - behind) }];
+  return [{ start, deleteCount: before.length - start - suffix, data: after.slice(start, after.length - suffix) }];
 }

@@ -156,9 +156,9 @@ export function changesOf(before, after) {
     const text = after[line];
     if (old === text) return [];
     const least = Math.min(old.length, text.length);
-    let [from, behind] = [0, 0];
+    let [from, suffix] = [0, 0];
     while (from < least && old[from] === text[from]) from += 1;
-    while (behind < least - from && old[old.length - 1 - behind] === text[text.length - 1 - behind]) behind += 1;
-    return [{ line, from, to: old.length - behind, text: text.slice(from, text.length - behind) }];
+    while (suffix < least - from && old[old.length - 1 - suffix] === text[text.length - 1 - suffix]) suffix += 1;
+    return [{ line, from, to: old.length - suffix, text: text.slice(from, text.length - suffix) }];
   });
 }

@@ -52,8 +52,8 @@ export class FaultView {
     // A missing word has no position of its own: the character before it is marked.
     const start = to > from ? from : Math.max(0, Math.min(from, length) - 1);
     const end = Math.max(to, start + 1);
-    const [begin, behind] = [start, end].map((ch) => this.editor.offset({ line: line - 1, ch }));
-    return begin < behind ? [underlined("fault", words).range(begin, behind)] : [];
+    const [begin, stop] = [start, end].map((ch) => this.editor.offset({ line: line - 1, ch }));
+    return begin < stop ? [underlined("fault", words).range(begin, stop)] : [];
   }
 
   /** @param {Fault} fault */

@@ -183,9 +183,9 @@ export class LineEditor {
     const { from, to } = this.state.selection.main;
     const before = this.doc.lineAt(from);
     const blanks = /^[ \t]*/.exec(before.text.slice(0, from - before.from)) || [""];
-    const behind = /^[ \t]*/.exec(this.doc.sliceString(to, this.doc.lineAt(to).to)) || [""];
+    const trailing = /^[ \t]*/.exec(this.doc.sliceString(to, this.doc.lineAt(to).to)) || [""];
     const insert = `\n${indent === undefined ? blanks[0] : indent}`;
-    this.view.dispatch({ changes: { from, to: to + behind[0].length, insert }, selection: { anchor: from + insert.length },
+    this.view.dispatch({ changes: { from, to: to + trailing[0].length, insert }, selection: { anchor: from + insert.length },
       scrollIntoView: true, userEvent: "input" });
     return true;
   }
