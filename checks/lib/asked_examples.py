@@ -1,4 +1,4 @@
-"""Questions to mcs4-prove about the examples: the nevers of their properties as comparisons, what has to be answered, and mutants: an example
+"""Questions to mcs4-prove about the examples: the nevers of their properties as comparisons, what must be answered, and mutants: an example
 with one instruction that is another one.
 """
 

@@ -33,7 +33,7 @@ def is_line(value):
     return numbers_of(value) is not None
 
 
-# What each key of a table has to be, in the order of the manual.
+# What each key of a table must be, in the order of the manual.
 KEYS = {
     "rom": {"chip": is_within(0, 15), "port": lambda value: isinstance(value, str) and re.fullmatch("[i01]{4}", value, re.ASCII) is not None},
     "ram": {"bank": is_within(0, 7), "chips": is_within(1, 4)},

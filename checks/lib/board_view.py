@@ -31,7 +31,7 @@ WAIT = 60
 
 
 def verdict(found, wanted, what):
-    print(f"ok {what}" if found == wanted else f"fault: {what}: is {found!r}, has to be {wanted!r}")
+    print(f"ok {what}" if found == wanted else f"fault: {what}: is {found!r}, must be {wanted!r}")
 
 
 class Bridge:

@@ -1,5 +1,5 @@
 /* Says what rattle_arg and its kin answer, with these arguments: linked once with the kit's archives and once with tools/lib/aarch64.c, whose
- * answers have to be the same. */
+ * answers must be the same. */
 #include <stdint.h>
 #include <stdio.h>
 #include <string.h>

@@ -1,8 +1,8 @@
 # What the manual shows is what the tools print. A check reads this by `.`; it has `verdict`, and `top`, `mcs4` and `folder`.
 # shellcheck shell=sh
 
-# Runs each command of a chapter, in a folder with the tools, the examples and the program; what is printed has to be what stands below
-# the commands. There have to be so many at least.
+# Runs each command of a chapter, in a folder with the tools, the examples and the program; what is printed must be what stands below
+# the commands. There must be so many at least.
 as_shown() {
     mkdir -p "$folder/manual"
     ln -s "$top/tools" "$top/examples" "$folder/manual"

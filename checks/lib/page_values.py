@@ -1,5 +1,5 @@
 """What checks/page looks at of values where one looks: at the pointer and at the caret the words of the source say what they stand for while
-time stands still, and are edited there; which characters of RAM change, as time runs and where it stands. What they have to be was counted
+time stands still, and are edited there; which characters of RAM change, as time runs and where it stands. What they must be was counted
 by hand, or is the bench's own answer."""
 
 import re

@@ -22,7 +22,7 @@ def judge(is_right, what):
 
 def verdict(what, found, wanted):
     """Counts a check; an expected pattern must be found in the value."""
-    judge(matches(found, wanted), f"{what}: is {repr(found)[-LONGEST_SHOWN:]}, has to be {repr(wanted)[-LONGEST_SHOWN:]}")
+    judge(matches(found, wanted), f"{what}: is {repr(found)[-LONGEST_SHOWN:]}, must be {repr(wanted)[-LONGEST_SHOWN:]}")
 
 
 def eventually(browser, what, code, wanted, seconds=30):

@@ -25,12 +25,12 @@ fault() {
     echo "$check: $1" >&2
 }
 
-# What is, what has to be, and of what.
+# What is, what must be, and of what.
 verdict() {
     if [ "$1" = "$2" ]; then
         passed=$((passed + 1))
     else
-        fault "$3: < as it is, > as it has to be"
+        fault "$3: < as it is, > as it must be"
         is=$(mktemp)
         printf '%s\n' "$1" > "$is"
         printf '%s\n' "$2" | diff "$is" - | sed 30q >&2
@@ -43,7 +43,7 @@ verdict_of_files() {
     if cmp -s -- "$1" "$2"; then
         passed=$((passed + 1))
     else
-        fault "$3: < as it is, > as it has to be"
+        fault "$3: < as it is, > as it must be"
         diff -- "$1" "$2" | sed 30q >&2
     fi
 }

@@ -39,7 +39,7 @@ test("what is wrong in a project file is reported with its line", () => {
   }
 });
 
-test("a project's files have to be in its folder", () => {
+test("a project's files must be in its folder", () => {
   const paths = readProject(bytesOf(GOOD), () => "");
   assert.deepEqual(paths, { board: "board.toml", program: "main.asm", tests: [], properties: [], speed: "" });
   assert.throws(() => readProject(bytesOf(GOOD), (path) => (path === "main.asm" ? "there is no file main.asm" : "")),

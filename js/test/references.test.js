@@ -24,7 +24,7 @@ test("the name at a place", () => {
   assert.equal(nameAt([], 0, 0), "");
 });
 
-test("another name has to be one", () => {
+test("another name must be one", () => {
   const fault = (/** @type {string} */ wanted) => faultOfRenaming(LINES, "loop", wanted, isInstruction);
   assert.equal(fault("again"), "");
   assert.equal(fault("loop"), "");

@@ -8,7 +8,7 @@ const watchAt = (at) => {
   return watch;
 };
 
-test("the lamp: the first one has to be lit", () => {
+test("the lamp: the first one must be lit", () => {
   const watch = watchAt(0);
   watch.seeLamps("....");
   watch.seeLamps(".*..");

@@ -173,7 +173,7 @@ find_program() {
     fi
 }
 
-# Finds the program if no sources have to be compared for it, and nothing is to be said: it is installed, or an earlier start found it.
+# Finds the program if no sources must be compared for it, and nothing is to be said: it is installed, or an earlier start found it.
 find_known() {
     program=
     fault=

@@ -72,7 +72,7 @@ def writes_at_one_place() -> bool:
 
 
 def bounds() -> bool:
-    """What has to be found is bound by what was acknowledged before the cut, and sent before it; before a first answer by nothing."""
+    """What must be found is bound by what was acknowledged before the cut, and sent before it; before a first answer by nothing."""
     events = history([write(1, 0, A), done("answered", 0), done("sent", 1), write(2, 0, B), done("wrote", 2), done("flush", 3),
                     done("flushed", 3), done("answered", 1)])
     found = {(image.durable, len(image.kept)): (image.least, image.most) for image in events.all_images() if image.how != "some"}

@@ -11,7 +11,7 @@ from typing import NamedTuple
 
 class Kind(NamedTuple):
     """A file system: MiB of its disk, what makes it and Debian's package of that, its type, options of the mount beside noatime, those
-    with which it commits each second, modules. `whole_blocks`: its blocks of 4 KiB have to be written whole. `shows_stale`: what a file
+    with which it commits each second, modules. `whole_blocks`: its blocks of 4 KiB must be written whole. `shows_stale`: what a file
     holds where nothing was written to it yet may be what the disk held before."""
     name: str
     size: int
@@ -115,7 +115,7 @@ ALL_COMMANDS, MORE_COMMANDS, FEW_COMMANDS = 110, 24, 12
 class Trial(NamedTuple):
     """A case on a kind of file system: how many images of the first cut are looked at, and how many times one of them is taken for the disk
     and the power is cut again. `is_busy`: something else happens in the file system meanwhile, and it commits each second. `wrong`: what
-    the program leaves out, or the mount; this has to be found out, and it is what is lost then."""
+    the program leaves out, or the mount; this must be found out, and it is what is lost then."""
     kind: str
     case: str
     images: int

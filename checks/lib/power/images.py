@@ -2,7 +2,7 @@
 
 A write is durable once a flush has been answered that came after the write was answered. Of all other writes an image holds nothing
 (`none`), everything (`all`), or of each write all, nothing or random sectors (`some`). The acknowledgements of the program stand in the
-same list, so at each place it is known what has to be found: at least the commands that were acknowledged, at most the one that was sent
+same list, so at each place it is known what must be found: at least the commands that were acknowledged, at most the one that was sent
 after them.
 """
 

@@ -266,7 +266,7 @@ class Runner:
         print(f"    look at it again: {self.show} --show {name}", flush=True)
 
     def show_again(self, name: pathlib.Path) -> bool:
-        """Reports what is found on an image that was kept; whether that is as it has to be."""
+        """Reports what is found on an image that was kept; whether that is as it must be."""
         about = json.loads(name.with_suffix(".json").read_text())
         kind, image = KINDS[about["kind"]], name.read_bytes()
         self.disk.bytes[:len(image)] = image
