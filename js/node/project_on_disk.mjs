@@ -4,7 +4,7 @@ import { join } from "node:path";
 import { ProjectFault, readProject } from "../core/project/project_folder.js";
 import { PROJECT_FILE } from "../core/project/project_toml.js";
 import { leadsOut } from "../words/server.js";
-import { MOST_TEXT, isInside, readUserFile } from "./user_files.mjs";
+import { MOST_TEXT, isInside, readUserFile, statOfInput } from "./user_files.mjs";
 
 /** Returns why a path names no file of a folder, in words; "" if it does. */
 export function lookInFolder(folder, path) {
@@ -14,11 +14,6 @@ export function lookInFolder(folder, path) {
   return isInside(place, folder) ? "" : leadsOut(path);
 }
 
-/** Returns whether a folder has a project file. */
-export function hasProject(folder) {
-  return existsSync(join(folder, PROJECT_FILE));
-}
-
 /** @typedef {ReturnType<typeof projectIn>} DiskProject */
 
 /**
@@ -26,8 +21,9 @@ export function hasProject(folder) {
  */
 export function projectIn(folder) {
   const file = join(folder, PROJECT_FILE);
-  if (!hasProject(folder)) throw new ProjectFault(file, "there is no such file; it names the files of a project");
-  if (!statSync(file).isFile()) throw new ProjectFault(file, "it is no file");
+  const stat = statOfInput(file);
+  if (!stat) throw new ProjectFault(file, "there is no such file; it names the files of a project");
+  if (!stat.isFile()) throw new ProjectFault(file, "it is no file");
   const project = readProject(readUserFile(file, MOST_TEXT), (path) => lookInFolder(folder, path), file);
   const place = (path) => join(folder, path);
   return {

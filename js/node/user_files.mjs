@@ -396,5 +396,6 @@ export function writeNewFiles(folder, files, names) {
  */
 export function needWritableFile(name) {
   const stat = tried(`cannot read ${name}`, () => statSync(name));
+  if (!stat.isFile() && !stat.isDirectory()) throw new UserFileError(`cannot read ${name}: ${REASONS.ENXIO}`);
   tried(`cannot write ${name}`, () => needWritable(name, stat));
 }

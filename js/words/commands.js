@@ -723,6 +723,8 @@ export const tooManyTexts = (file, count, kind) => `${file} names ${count} texts
 export const noSessionFile = (name) => `${name} is not a session file`;
 /** @type {(name: string) => string} */
 export const emptyName = (name) => `${name} is empty; it must have the name of the session`;
+/** @type {(name: string) => string} */
+export const noSessionToDebug = (name) => `there is no file ${name}; mcs4 debug BOARD PROGRAM ${name} begins a session in it`;
 /** @type {(folder: string) => string} */
 export const noFolder = (folder) => `there is no folder ${folder}`;
 export const NO_PROJECT = "is not a project";

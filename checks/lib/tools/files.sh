@@ -59,6 +59,10 @@ refuses 1 "cover: cannot read $folder/loop: too many symbolic links" ./mcs4 cove
 refuses 1 "project: cannot read $folder/loop: too many symbolic links" ./mcs4 project join "$folder/loop" "$folder/joined.mcsp"
 refuses 1 "project: there is no folder $folder/none" ./mcs4 project join "$folder/none" "$folder/joined.mcsp"
 refuses 1 "project: cannot write in $folder/loop: too many symbolic links" ./mcs4 project split examples/a_fault_to_find.mcsp "$folder/loop"
+refuses 1 "debug: there is no file $folder/none; mcs4 debug BOARD PROGRAM $folder/none begins a session in it" ./mcs4 debug "$folder/none"
+refuses 1 "test: cannot read $folder/loop/mcs4.toml: too many symbolic links" ./mcs4 test -C "$folder/loop"
+mkfifo "$folder/pipe"
+refuses 1 "back: cannot read $folder/pipe: it is not a regular file" timeout 20 ./mcs4 back "$folder/pipe"
 ln -s none "$folder/dangling"
 refuses 1 "project: cannot make $folder/dangling: something else has its name" ./mcs4 project split examples/a_fault_to_find.mcsp "$folder/dangling"
 refuses 1 "rom: no answers on standard input; it reads what mcs4 has answered, as in: mcs4 rom save FIRST COUNT < ANSWERS" ./mcs4 rom save 0 1

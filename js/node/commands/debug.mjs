@@ -12,10 +12,10 @@ import { MOST_GIVEN, decodedFile } from "../given_texts.mjs";
 import { CommandError, endWithoutOutput } from "../output.mjs";
 import { dataOfPage, moduleOfPage } from "../page_parts.mjs";
 import { TerminalPrompt } from "../terminal_prompt.mjs";
-import { needOwnFile, writeUserFile } from "../user_files.mjs";
+import { needOwnFile, statOfInput, writeUserFile } from "../user_files.mjs";
 import { ViewOnTerminal } from "../view_on_terminal.mjs";
 import { SAVED_HEAD } from "../../words/prompt.js";
-import { NO_BREAKPOINTS_FILE } from "../../words/commands.js";
+import { NO_BREAKPOINTS_FILE, noSessionToDebug } from "../../words/commands.js";
 
 const isByHand = process.stdin.isTTY === true && process.stdout.isTTY === true;
 
@@ -93,6 +93,7 @@ async function namesOf(folder, words) {
   if (words.length === 0) needWords(words, ["BOARD", "PROGRAM"], 3, true);
   needWords(words, [], 3);
   const [session, board, program] = words.length === 1 ? words : [words[2], words[0], words[1]];
+  if (words.length === 1 && !statOfInput(session)) throw new CommandError(noSessionToDebug(session));
   return { board, program, session };
 }
 
