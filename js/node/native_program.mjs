@@ -5,6 +5,7 @@ import { type } from "node:os";
 import { join } from "node:path";
 import { BenchRefusal } from "../core/bench/faults.js";
 import { MOST_GIVEN } from "./given_texts.mjs";
+import { statOfInput } from "./user_files.mjs";
 import { CommandError } from "./output.mjs";
 import { processes } from "./processes.mjs";
 import { TOP } from "./top.mjs";
@@ -130,6 +131,8 @@ export function lackOfRoom() {
  * @param {string} session its file
  */
 export async function openSession(engine, texts, session) {
+  // A pipe without a writer would block the process for good, with its signals; and a session is read twice.
+  if (statOfInput(session)?.isFIFO()) throw new CommandError(`cannot read ${session}: it is not a regular file`);
   const bytes = texts.read(session, MOST_GIVEN);
   if (!bytes.equals(texts.read(session, MOST_GIVEN))) throw new CommandError(inUse(session));
   const state = engine.stateOf(bytes);

@@ -63,6 +63,7 @@ refuses 1 "debug: there is no file $folder/none; mcs4 debug BOARD PROGRAM $folde
 refuses 1 "test: cannot read $folder/loop/mcs4.toml: too many symbolic links" ./mcs4 test -C "$folder/loop"
 mkfifo "$folder/pipe"
 refuses 1 "back: cannot read $folder/pipe: it is not a regular file" timeout 20 ./mcs4 back "$folder/pipe"
+refuses 1 "trace: cannot read $folder/pipe: it is not a regular file" timeout -s KILL 20 ./mcs4 trace "$folder/pipe" 10
 ln -s none "$folder/dangling"
 refuses 1 "project: cannot make $folder/dangling: something else has its name" ./mcs4 project split examples/a_fault_to_find.mcsp "$folder/dangling"
 refuses 1 "rom: no answers on standard input; it reads what mcs4 has answered, as in: mcs4 rom save FIRST COUNT < ANSWERS" ./mcs4 rom save 0 1
