@@ -10,6 +10,7 @@ HOME, UP, RIGHT, LEFT, F1 = "\ue011", "\ue013", "\ue014", "\ue012", "\ue031"
 END, BACKSPACE, CONTROL = "\ue010", "\ue003", "\ue009"
 DRAWN = "return document.getElementById('drawing-status').textContent"
 SOURCE = "return document.querySelector('#program-editor .cm-editor').lineEditor.getValue()"
+TESTS = "return document.querySelector('#tests-editor .cm-editor').lineEditor.getValue()"
 SIZE = """
 const { width, height } = document.getElementById(arguments[0]).getBoundingClientRect();
 return Math.round(arguments[1] === "vertical" ? width : height)"""
@@ -330,6 +331,8 @@ def mend_bug(browser):
 def run_test(browser):
     browser.click("#tests-tab")
     browser.click("#first-test")
+    # It is made by running the board, which takes a while on a busy machine.
+    eventually(browser, "there is a test", TESTS, re.compile("^ *expect", re.M))
     browser.click("#tests-editor .send")
     eventually(browser, "the test was run", "return document.querySelectorAll('#test-list li').length", 1)
 
