@@ -139,7 +139,7 @@ landing op at ret calls m c =
       second_value = value_written op c.first t low;
     }
 
--- ---- of which machines it tells
+-- ---- for which machines it is right
 
 -- the operands of an instruction are registers and pairs that there are
 abbrev pub IsValidOp : Op → Type 0

@@ -15,7 +15,7 @@ use Rattle.mcs_sets.specs.Landing.{op_at, first_set, second_set, put, landing, F
 abbrev pub TakesPlace : Entry → Entry → Landing → ℕ → Type 0
 TakesPlace source target o k = (v : ℕ) → has (slice_index source.sets k) v ≡ true → has (slice_index target.sets k) (put o k v) ≡ true
 
--- the return addresses of so many calls are the same
+-- the return addresses of the open calls are the same
 abbrev pub AgreeInCalls : List ℕ → List ℕ → ℕ → Type 0
 AgreeInCalls a b calls = (k : ℕ) → k < 3 → k < calls → slice_index a k ≡ slice_index b k
 

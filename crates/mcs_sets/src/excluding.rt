@@ -235,7 +235,7 @@ fn excludes_mistakes(rig: &BenchRig, entry: &Entry, asked: &Mistakes) -> bool
     }
 }
 
-/// Returns whether no machine of an entry meets a condition. Of comparisons it tells nothing.
+/// Returns whether it is known that no machine of an entry meets a condition. No comparison is evaluated.
 fn excludes(rig: &BenchRig, entry: &Entry, condition: &Condition) -> bool
     ensures { IsTrue result → Excludes rig.now.board rig.now.rom condition.now entry.now }
 {
@@ -269,18 +269,18 @@ pub(crate) fn keeps(rig: &BenchRig, entry: &Entry, nevers: &[Vec<Condition>]) ->
     true
 }
 
-/// Returns whether an entry may exclude a condition.
-fn is_told(condition: &Condition) -> bool {
+/// Returns whether sets of values can decide a condition.
+fn is_decidable(condition: &Condition) -> bool {
     match condition {
         Condition::Compare(_) => false,
         Condition::Mistaken(_) => true,
     }
 }
 
-/// Returns whether entries may tell that a machine keeps to these.
+/// Returns whether a certificate can show that a machine keeps to these.
 pub(crate) fn can_keep(nevers: &[Vec<Condition>]) -> bool {
     for i in 0..nevers.len() {
-        if !nevers[i].iter().any(|condition| is_told(condition)) {
+        if !nevers[i].iter().any(|condition| is_decidable(condition)) {
             return false;
         }
     }

@@ -39,7 +39,7 @@ fn takes_places(source: &Entry, target: &Entry, landing: &Landing) -> bool
     true
 }
 
-/// Returns whether the return addresses of so many calls are the same.
+/// Returns whether the return addresses of the open calls are the same.
 fn agree_in_calls(a: &[Addr; 3], b: &[Addr; 3], calls: u8) -> bool
     ensures { IsTrue result → AgreeInCalls a.now b.now calls }
 {

@@ -91,7 +91,7 @@ pub(crate) fn first_written(op: &Op) -> u8
     }
 }
 
-/// Returns the second place that an instruction changes, where the bank has so many chips.
+/// Returns the second place that an instruction changes, if the bank has `chips` chips.
 pub(crate) fn second_written(op: &Op, chips: u8, bank: u8) -> u8
     requires { bank < 8 }
     ensures { result ≡ second_written op.now chips bank }
@@ -119,7 +119,7 @@ pub(crate) fn value_written(op: &Op, first: Nibble, after: &Regs, place: u8) -> 
     }
 }
 
-/// Returns how many calls are open after an instruction, if so many are before.
+/// Returns the number of open calls after an instruction, from the number before it.
 pub(crate) fn calls_after(op: &Op, calls: u8) -> u8
     ensures { result ≡ calls_after (Some op.now) calls }
 {

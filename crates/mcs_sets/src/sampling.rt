@@ -1,4 +1,4 @@
-//! Sets of values: the choices that tell all of an entry, and where they lead.
+//! Samples: the choices that are representative of an entry, and where they lead.
 use crate::entries::Entry;
 use crate::landing::Landing;
 use mcs_model::op::Op;
@@ -73,7 +73,7 @@ pub(crate) fn sample(source: &Entry, op: &Op) -> Entry {
     entry
 }
 
-/// Returns the return addresses of so many calls, and 0 for the others.
+/// Returns the return addresses of the open calls, and 0 for the others.
 fn open_returns(ret: &[Addr; 3], calls: u8) -> [Addr; 3] {
     [
         if calls > 0 { ret[0] } else { Addr::ZERO },
