@@ -1,17 +1,18 @@
 //! Finds a certificate. Of what is found nothing is proved: `has_all` checks it.
 //!
 //! A search begins with the entry of the machine as it is. It follows each entry, and adds what lands to the entry that has the
-//! same address, return addresses and exact registers, until no entry grows.
+//! same address, return addresses and exact registers, until no entry grows. It ends at an entry that may meet a condition.
 ghost use Rattle.std.specs.Prelude.{◌≡◌};
 
 use crate::entries::{Entry, has};
+use crate::excluding::keeps;
 use crate::landing::{Choice, Landing, first_set, land, second_set};
-use crate::precision::{Level, needed};
 use crate::sampling::{arrival, join, sample};
 use mcs_board::BenchRig;
+use mcs_check::Condition;
 use mcs_cpu4004::Cpu;
 use mcs_model::op::Op;
-use mcs_nibble::{Bit, Nibble};
+use mcs_nibble::{Addr, Bit, Nibble};
 use std::alloc::{AllocError, Global};
 use std::collections::HashMap;
 
@@ -58,8 +59,8 @@ pub(crate) enum Stop {
     TooMany,
     /// Memory was refused. It had room for this many entries.
     NoMemory(usize),
-    /// Further registers need to be exact, register r as bit r.
-    Needs(u16),
+    /// Some machine of an entry may meet a condition.
+    Unkept,
 }
 
 impl From<AllocError> for Stop {
@@ -93,21 +94,30 @@ struct Finder {
     index: HashMap<Key, usize>,
     /// The entries that follow the one that was followed last.
     followers: Vec<usize>,
-    level: Level,
-    exact: u16,
+    /// Which registers are exact at each address, register r as bit r.
+    exact: Vec<u16>,
     most: usize,
 }
 
 impl Finder {
-    fn new(alloc: Global, level: Level, exact: u16, most: usize) -> Finder {
+    fn new(alloc: Global, exact: Vec<u16>, most: usize) -> Finder {
         Finder {
             entries: Vec::new(alloc),
             waits: Vec::new(alloc),
             index: HashMap::new(alloc),
             followers: Vec::new(alloc),
-            level,
             exact,
             most,
+        }
+    }
+
+    /// Returns which registers are exact at an address, register r as bit r.
+    fn exact_at(&self, at: Addr) -> u16 {
+        let i = usize::from(at.get());
+        if i < self.exact.len() {
+            self.exact[i]
+        } else {
+            0
         }
     }
 
@@ -130,7 +140,7 @@ impl Finder {
 
     /// Adds what an entry stands for to the entry that has the same key. Returns its index.
     fn visit(&mut self, arrived: &Entry) -> Result<usize, Stop> {
-        let key = key_of(arrived, self.exact);
+        let key = key_of(arrived, self.exact_at(arrived.at));
         let Some(i) = self.index.get(&key).copied() else {
             return self.add(key, arrived);
         };
@@ -204,6 +214,11 @@ impl Finder {
         Ok(())
     }
 
+    /// Returns whether the machines of entry `i` keep to these.
+    fn keeps_at(&self, rig: &BenchRig, nevers: &[Vec<Condition>], i: usize) -> bool {
+        i >= self.entries.len() || keeps(rig, &self.entries[i], nevers)
+    }
+
     /// Follows entry `i`.
     fn follow(&mut self, rig: &mut BenchRig, i: usize) -> Result<(), Stop> {
         self.followers.clear();
@@ -214,21 +229,20 @@ impl Finder {
         let Some(op) = mcs_board::instruction(&Cpu::new(), rig, source.at) else {
             return Ok(());
         };
-        let needed = needed(rig, self.level, &op, source.at);
-        if needed & !self.exact != 0 {
-            return Err(Stop::Needs(needed));
-        }
         self.follow_all(rig, &source, &op)
     }
 
     /// Follows each entry that grew, one after the other. Returns whether there was one.
-    fn sweep(&mut self, rig: &mut BenchRig) -> Result<bool, Stop> {
+    fn sweep(&mut self, rig: &mut BenchRig, nevers: &[Vec<Condition>]) -> Result<bool, Stop> {
         let mut found = false;
         for i in 0..self.most {
             if i >= self.waits.len() {
                 break;
             }
             if self.waits[i] {
+                if !self.keeps_at(rig, nevers, i) {
+                    return Err(Stop::Unkept);
+                }
                 self.waits[i] = false;
                 self.follow(rig, i)?;
                 found = true;
@@ -238,9 +252,9 @@ impl Finder {
     }
 
     /// Follows entries until none grows.
-    fn settle(&mut self, rig: &mut BenchRig) -> Result<(), Stop> {
+    fn settle(&mut self, rig: &mut BenchRig, nevers: &[Vec<Condition>]) -> Result<(), Stop> {
         for _ in 0..self.most.saturating_mul(MOST_VISITS) {
-            if !self.sweep(rig)? {
+            if !self.sweep(rig, nevers)? {
                 return Ok(());
             }
         }
@@ -268,24 +282,26 @@ impl Finder {
         alloc: Global,
         rig: &mut BenchRig,
         begin: &Entry,
+        nevers: &[Vec<Condition>],
     ) -> Result<Vec<usize>, Stop> {
         self.visit(begin)?;
-        self.settle(rig)?;
+        self.settle(rig, nevers)?;
         self.link(alloc, rig)
     }
 }
 
-/// Searches with these exact registers.
-fn find_with(
+/// Finds a certificate of at most `most` entries that has the machines of an entry in which each exact register has one value,
+/// and whose machines keep to these. `exact` is which registers are exact at each address, register r as bit r.
+pub(crate) fn find(
     alloc: Global,
     rig: &mut BenchRig,
     begin: &Entry,
-    level: Level,
-    exact: u16,
+    nevers: &[Vec<Condition>],
+    exact: Vec<u16>,
     most: usize,
 ) -> Result<Certificate, Stop> {
-    let mut finder = Finder::new(alloc, level, exact, most);
-    match finder.run(alloc, rig, begin) {
+    let mut finder = Finder::new(alloc, exact, most);
+    match finder.run(alloc, rig, begin, nevers) {
         Ok(links) => Ok(Certificate {
             entries: finder.entries,
             links,
@@ -293,23 +309,4 @@ fn find_with(
         Err(Stop::NoMemory(_)) => Err(Stop::NoMemory(finder.entries.len())),
         Err(stop) => Err(stop),
     }
-}
-
-/// Finds a certificate of at most `most` entries that has the machines of an entry in which each exact register has one value.
-/// `exact` is which registers are exact, register r as bit r: those that the level needs are added to it.
-pub(crate) fn find(
-    alloc: Global,
-    rig: &mut BenchRig,
-    begin: &Entry,
-    level: Level,
-    exact: &mut u16,
-    most: usize,
-) -> Result<Certificate, Stop> {
-    for _ in 0..16 {
-        match find_with(alloc, rig, begin, level, *exact, most) {
-            Err(Stop::Needs(more)) => *exact |= more,
-            found => return found,
-        }
-    }
-    find_with(alloc, rig, begin, level, *exact, most)
 }

@@ -15,6 +15,7 @@ mod precision;
 mod proving;
 mod sampling;
 mod settling;
+mod slicing;
 
 pub use entries::Entry;
 pub use laws::{choices_land, entries_stay, entries_suffice, steps_suffice};

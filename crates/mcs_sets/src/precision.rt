@@ -1,59 +1,57 @@
-//! Which registers are exact: an entry has one value of such a register, and other values have other entries.
-use crate::entries::Entry;
-use mcs_board::BenchRig;
-use mcs_cpu4004::Cpu;
+//! Levels of precision: which instructions need registers that are exact.
 use mcs_model::op::Op;
-use mcs_nibble::{Addr, PairNo, RegNo};
+use mcs_nibble::{PairNo, RegNo};
 
-/// How many registers are exact. Each level has those of the levels before it.
+/// Which instructions need exact registers. Each level has those of the levels before it.
 #[derive(Clone, Copy, Debug, PartialEq, Eq)]
 pub(crate) enum Level {
     /// None.
     None,
-    /// Those that FIN and JIN take as an address.
+    /// FIN and JIN, which take a pair as an address.
     Jumps,
-    /// Those that DCL takes by LD or XCH before it.
+    /// DCL, which takes the accumulator as a bank.
     Banks,
-    /// Those that SRC sends.
+    /// SRC, which takes the first register of a pair as a chip.
     Sends,
+    /// SRC, of which the whole pair is exact. A register that is exact at one address is exact at all.
+    Everywhere,
 }
 
 /// The levels, in the order in which they are tried.
-pub(crate) const LEVELS: [Level; 4] = [Level::None, Level::Jumps, Level::Banks, Level::Sends];
+pub(crate) const LEVELS: [Level; 5] = [
+    Level::None,
+    Level::Jumps,
+    Level::Banks,
+    Level::Sends,
+    Level::Everywhere,
+];
 
-/// Returns the registers of a pair, register r as bit r.
-fn pair_mask(pair: PairNo) -> u16 {
-    3 << (2 * pair.get())
+/// The accumulator in a set of registers, in which register r is bit r.
+pub(crate) const ACC: u32 = 1 << 16;
+
+/// The carry in a set of registers.
+pub(crate) const CARRY: u32 = 1 << 17;
+
+/// Returns the set of one register.
+pub(crate) fn register(r: RegNo) -> u32 {
+    1 << r.get()
 }
 
-/// Returns a register as a bit, if the instruction at an address is DCL.
-fn before_dcl(rig: &BenchRig, at: Addr, r: RegNo) -> u16 {
-    match mcs_board::instruction(&Cpu::new(), rig, at) {
-        Some(Op::Dcl) => 1 << r.get(),
+/// Returns the set of the registers of a pair.
+pub(crate) fn pair(k: PairNo) -> u32 {
+    3 << (2 * k.get())
+}
+
+/// Returns the registers that an instruction needs to be exact.
+pub(crate) fn needed(level: Level, op: &Op) -> u32 {
+    match (op, level) {
+        (_, Level::None) => 0,
+        (Op::Fin(_), _) => pair(PairNo::ZERO),
+        (Op::Jin(k), _) => pair(*k),
+        (_, Level::Jumps) => 0,
+        (Op::Dcl, _) => ACC,
+        (Op::Src(k), Level::Sends) => 1 << (2 * k.get()),
+        (Op::Src(k), Level::Everywhere) => pair(*k),
         _ => 0,
     }
-}
-
-/// Returns the registers that an instruction at an address needs to be exact, register r as bit r.
-pub(crate) fn needed(rig: &BenchRig, level: Level, op: &Op, at: Addr) -> u16 {
-    let banks = level == Level::Banks || level == Level::Sends;
-    match op {
-        Op::Fin(_) if level != Level::None => pair_mask(PairNo::ZERO),
-        Op::Jin(k) if level != Level::None => pair_mask(*k),
-        Op::Src(k) if level == Level::Sends => pair_mask(*k),
-        Op::Ld(r) | Op::Xch(r) if banks => before_dcl(rig, at.plus(1), *r),
-        _ => 0,
-    }
-}
-
-/// Returns the registers that the instructions at these entries need to be exact, register r as bit r.
-pub(crate) fn all_needed(rig: &BenchRig, level: Level, entries: &[Entry]) -> u16 {
-    let mut all = 0;
-    for i in 0..entries.len() {
-        let at = entries[i].at;
-        if let Some(op) = mcs_board::instruction(&Cpu::new(), rig, at) {
-            all |= needed(rig, level, &op, at);
-        }
-    }
-    all
 }

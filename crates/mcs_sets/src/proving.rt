@@ -8,8 +8,9 @@ ghost use Rattle.mcs_sets.specs.Excluding.{HoldsIn};
 use crate::entries::Entry;
 use crate::excluding::{can_keep, keeps};
 use crate::finding::{Certificate, Stop, find};
-use crate::precision::{LEVELS, all_needed};
+use crate::precision::{LEVELS, Level};
 use crate::settling::{entry_of, has_all, rig_is_known};
+use crate::slicing::exact_registers;
 use mcs_board::BenchRig;
 use mcs_check::{Condition, Outcome};
 use mcs_cpu4004::Cpu;
@@ -60,62 +61,50 @@ fn outcome_of(
     Outcome::Holds(entries.len())
 }
 
-/// Returns the next level of a try after level `i` that needs further exact registers, and adds them. If there is none, it
-/// returns the number of levels.
-fn next_level(rig: &BenchRig, entries: &[Entry], i: usize, exact: &mut u16) -> usize {
-    for k in 0..LEVELS.len() {
-        if k > i {
-            let more = all_needed(rig, LEVELS[k], entries);
-            if more & !*exact != 0 {
-                *exact |= more;
-                return k;
-            }
-        }
-    }
-    LEVELS.len()
-}
-
-/// Why no certificate was found that shows what is asked.
-#[derive(Clone, Copy, Debug)]
-enum Missed {
-    /// No try found a certificate: there are too many entries.
-    TooMany,
-    /// Memory has room for this many entries.
-    NoMemory(usize),
-    /// Some try found a certificate, which does not show it.
-    Unshown,
-}
-
-/// Looks for a certificate whose machines keep to these, level by level, on a rig `own` with the board and the program of `rig`.
-fn find_shown(
+/// Searches at one level for a certificate whose machines keep to these, on a rig `own` with the board and the program of
+/// `rig`. `tried` is which registers were exact at the level before. If they are the same here, nothing is searched.
+fn find_at(
     alloc: Global,
     cpu: &Cpu,
     rig: &BenchRig,
     own: &mut BenchRig,
     nevers: &[Vec<Condition>],
     most: usize,
-) -> Result<Certificate, Missed> {
+    level: Level,
+    tried: &mut Vec<u16>,
+) -> Result<Option<Certificate>, Stop> {
     let begin = entry_of(cpu, rig);
-    let mut missed = Missed::TooMany;
-    let mut exact = 0;
-    let mut next = 0;
+    let exact = exact_registers(alloc, rig, begin.at, level)?;
+    if exact.as_slice() == tried.as_slice() {
+        return Ok(None);
+    }
+    tried.clear();
+    tried.extend_from_slice(exact.as_slice())?;
+    let found = find(alloc, own, &begin, nevers, exact, most)?;
+    Ok(Some(found))
+}
+
+/// Searches for a certificate whose machines keep to these, level by level.
+fn find_kept(
+    alloc: Global,
+    cpu: &Cpu,
+    rig: &BenchRig,
+    own: &mut BenchRig,
+    nevers: &[Vec<Condition>],
+    most: usize,
+) -> Result<Certificate, Stop> {
+    let mut last = Stop::TooMany;
+    let mut tried = Vec::new(alloc);
     for i in 0..LEVELS.len() {
-        if i < next {
-            continue;
-        }
-        match find(alloc, own, &begin, LEVELS[i], &mut exact, most) {
-            Ok(found) => {
-                if all_keep(rig, found.entries.as_slice(), nevers) {
-                    return Ok(found);
-                }
-                missed = Missed::Unshown;
-                next = next_level(rig, found.entries.as_slice(), i, &mut exact);
-            }
-            Err(Stop::NoMemory(entries)) => return Err(Missed::NoMemory(entries)),
-            Err(_) => {}
+        match find_at(alloc, cpu, rig, own, nevers, most, LEVELS[i], &mut tried) {
+            Ok(Some(found)) => return Ok(found),
+            Ok(None) => {}
+            Err(Stop::NoMemory(entries)) => return Err(Stop::NoMemory(entries)),
+            Err(Stop::Unkept) => last = Stop::Unkept,
+            Err(Stop::TooMany) => {}
         }
     }
-    Err(missed)
+    Err(last)
 }
 
 /// Looks for a certificate that shows that a machine in which no call is open keeps to these, whatever its inputs do: it never
@@ -136,7 +125,7 @@ pub fn check_by_sets(
         return Outcome::GaveUp;
     }
     let limit = most.min(memory / ENTRY_BYTES);
-    match find_shown(alloc, cpu, rig, own, nevers, limit) {
+    match find_kept(alloc, cpu, rig, own, nevers, limit) {
         Ok(found) => outcome_of(
             cpu,
             rig,
@@ -144,9 +133,9 @@ pub fn check_by_sets(
             found.links.as_slice(),
             nevers,
         ),
-        Err(Missed::NoMemory(entries)) => Outcome::NoMemory(entries),
-        Err(Missed::TooMany) if limit < most => Outcome::NoMemory(limit),
-        Err(Missed::TooMany) => Outcome::TooMany,
-        Err(Missed::Unshown) => Outcome::GaveUp,
+        Err(Stop::NoMemory(entries)) => Outcome::NoMemory(entries),
+        Err(Stop::TooMany) if limit < most => Outcome::NoMemory(limit),
+        Err(Stop::TooMany) => Outcome::TooMany,
+        Err(Stop::Unkept) => Outcome::GaveUp,
     }
 }

@@ -1,0 +1,437 @@
+//! Which registers are exact at which address: an entry has one value of such a register, and other values have other entries.
+//!
+//! They are those that are relevant there: their values may reach an instruction that needs them to be exact. That is a
+//! backward slice of the program. The counter of a loop is relevant too, if the loop changes a register that is relevant where
+//! it begins. Nothing is proved of a slice, and nothing depends on it but which certificate is found.
+use crate::precision::{ACC, CARRY, Level, needed, pair, register};
+use mcs_board::BenchRig;
+use mcs_cpu4004::Cpu;
+use mcs_model::op::Op;
+use mcs_nibble::{Addr, PairNo};
+use std::alloc::{AllocError, Global};
+
+/// The number of addresses.
+const ADDRESSES: u16 = 4096;
+
+/// The most passes over all addresses.
+const MOST_PASSES: u16 = 1000;
+
+/// The most passes over a loop.
+const MOST_LOOP_PASSES: u16 = 8;
+
+/// The members of a set that are registers, and not accumulator or carry.
+const REGISTERS: u32 = 65535;
+
+/// Returns whether an instruction has two words.
+fn is_long(op: &Op) -> bool {
+    match op {
+        Op::Jcn(_, _) | Op::Fim(_, _) | Op::Jun(_, _) | Op::Jms(_, _) | Op::Isz(_, _) => true,
+        _ => false,
+    }
+}
+
+/// Returns the address after an instruction.
+fn next(op: &Op, at: Addr) -> Addr {
+    at.plus(if is_long(op) { 2 } else { 1 })
+}
+
+/// Returns whether the next instruction may follow in the same routine.
+fn falls_through(op: &Op) -> bool {
+    match op {
+        Op::Jun(_, _) | Op::Jin(_) | Op::Bbl(_) => false,
+        _ => true,
+    }
+}
+
+/// Returns where an instruction may jump in the same routine, if its words give the address.
+fn jump_target(op: &Op, at: Addr) -> Option<Addr> {
+    match op {
+        Op::Jcn(_, word) | Op::Isz(_, word) => Some(Addr::on_page(at.plus(2).page(), *word)),
+        Op::Jun(page, word) => Some(Addr::on_page(*page, *word)),
+        _ => None,
+    }
+}
+
+/// Returns the routine that an instruction calls.
+fn callee(op: &Op) -> Option<Addr> {
+    match op {
+        Op::Jms(page, word) => Some(Addr::on_page(*page, *word)),
+        _ => None,
+    }
+}
+
+/// Returns the page on which an instruction may jump to any address.
+fn jump_page(op: &Op, at: Addr) -> Option<Addr> {
+    match op {
+        Op::Jin(_) => Some(Addr::on_page(at.plus(1).page(), 0)),
+        _ => None,
+    }
+}
+
+/// Returns the instruction at an address.
+fn op_at(rig: &BenchRig, at: Addr) -> Option<Op> {
+    mcs_board::instruction(&Cpu::new(), rig, at)
+}
+
+/// A set for each address.
+#[derive(Drop)]
+struct Table {
+    sets: Vec<u32>,
+}
+
+impl Table {
+    /// Returns the empty set for each address.
+    fn new(alloc: Global) -> Result<Table, AllocError> {
+        let mut sets = Vec::new(alloc);
+        for _ in 0..ADDRESSES {
+            sets.push(0u32)?;
+        }
+        Ok(Table { sets })
+    }
+
+    /// Makes all sets empty.
+    fn clear(&mut self) {
+        for i in 0..self.sets.len() {
+            self.sets[i] = 0;
+        }
+    }
+
+    /// Returns the set of an address.
+    fn get(&self, at: Addr) -> u32 {
+        let i = usize::from(at.get());
+        if i < self.sets.len() { self.sets[i] } else { 0 }
+    }
+
+    /// Adds members to the set of an address. Returns whether it is larger than before.
+    fn add(&mut self, at: Addr, more: u32) -> bool {
+        let i = usize::from(at.get());
+        if i >= self.sets.len() {
+            return false;
+        }
+        let before = self.sets[i];
+        self.sets[i] = before | more;
+        more & !before != 0
+    }
+
+    /// Returns the union of the sets of the addresses that may follow in the same routine.
+    fn successors(&self, op: &Op, at: Addr) -> u32 {
+        let mut all = 0;
+        if falls_through(op) {
+            all |= self.get(next(op, at));
+        }
+        if let Some(target) = jump_target(op, at) {
+            all |= self.get(target);
+        }
+        if let Some(page) = jump_page(op, at) {
+            for word in 0..256u16 {
+                all |= self.get(page.plus(word));
+            }
+        }
+        all
+    }
+
+    /// Adds members to the sets of the addresses that may follow in the same routine. Returns whether one is larger than before.
+    fn add_to_successors(&mut self, op: &Op, at: Addr, more: u32) -> bool {
+        let mut grew = false;
+        if falls_through(op) {
+            grew |= self.add(next(op, at), more);
+        }
+        if let Some(target) = jump_target(op, at) {
+            grew |= self.add(target, more);
+        }
+        if let Some(page) = jump_page(op, at) {
+            for word in 0..256u16 {
+                grew |= self.add(page.plus(word), more);
+            }
+        }
+        grew
+    }
+}
+
+/// Returns the registers that an instruction writes, except accumulator and carry.
+fn written_by(op: &Op) -> u32 {
+    match op {
+        Op::Fim(k, _) | Op::Fin(k) => pair(*k),
+        Op::Inc(r) | Op::Isz(r, _) | Op::Xch(r) => register(*r),
+        _ => 0,
+    }
+}
+
+/// Returns a set with members replaced by others, if it has one of them.
+fn replaced(set: u32, old: u32, new: u32) -> u32 {
+    if set & old != 0 {
+        (set & !old) | new
+    } else {
+        set
+    }
+}
+
+/// Returns the registers that are relevant before an instruction, if these are after it.
+fn before(op: &Op, after: u32) -> u32 {
+    let flags = ACC | CARRY;
+    match op {
+        Op::Fim(k, _) => after & !pair(*k),
+        Op::Fin(k) => replaced(after, pair(*k), pair(PairNo::ZERO)),
+        Op::Add(r) | Op::Sub(r) => replaced(after, flags, flags | register(*r)),
+        Op::Ld(r) => replaced(after, ACC, register(*r)),
+        Op::Xch(r) => replaced(after & !register(*r), ACC, register(*r))
+            | replaced(after & register(*r), register(*r), ACC),
+        Op::Rdm | Op::Rdr | Op::Rd0 | Op::Rd1 | Op::Rd2 | Op::Rd3 => after & !ACC,
+        Op::Ldm(_) | Op::Bbl(_) => after & !ACC,
+        Op::Clb => after & !flags,
+        Op::Clc | Op::Stc | Op::Iac | Op::Dac => after & !CARRY,
+        Op::Ral | Op::Rar | Op::Daa => replaced(after, flags, flags),
+        Op::Tcc | Op::Tcs => replaced(after & !CARRY, ACC, CARRY),
+        _ => after,
+    }
+}
+
+/// What is known of each address of a program.
+#[derive(Drop)]
+struct Slice {
+    /// Whether it may be reached: 1 if it may.
+    reached: Table,
+    /// Which registers may be written from there until its routine returns.
+    written: Table,
+    /// Which registers are written in the loop that an ISZ there closes.
+    looped: Table,
+    /// Which registers are relevant when its routine returns.
+    returned: Table,
+    /// Which registers are relevant there.
+    relevant: Table,
+}
+
+impl Slice {
+    fn new(alloc: Global) -> Result<Slice, AllocError> {
+        Ok(Slice {
+            reached: Table::new(alloc)?,
+            written: Table::new(alloc)?,
+            looped: Table::new(alloc)?,
+            returned: Table::new(alloc)?,
+            relevant: Table::new(alloc)?,
+        })
+    }
+
+    /// Returns the instruction at an address that may be reached.
+    fn op_reached(&self, rig: &BenchRig, at: Addr) -> Option<Op> {
+        if self.reached.get(at) == 0 {
+            return None;
+        }
+        op_at(rig, at)
+    }
+
+    /// Notes for each address that follows one that may be reached that it may be, too. Returns whether there is a new one.
+    fn reach_once(&mut self, rig: &BenchRig) -> bool {
+        let mut grew = false;
+        for n in 0..ADDRESSES {
+            let at = Addr::ZERO.plus(n);
+            if let Some(op) = self.op_reached(rig, at) {
+                grew |= self.reached.add_to_successors(&op, at, 1);
+                if let Some(routine) = callee(&op) {
+                    grew |= self.reached.add(routine, 1);
+                }
+            }
+        }
+        grew
+    }
+
+    /// Notes which addresses may be reached.
+    fn reach(&mut self, rig: &BenchRig, begin: Addr) {
+        self.reached.add(begin, 1);
+        for _ in 0..MOST_PASSES {
+            if !self.reach_once(rig) {
+                break;
+            }
+        }
+    }
+
+    /// Returns the registers that an instruction writes, and the routine that it calls.
+    fn written_at(&self, op: &Op) -> u32 {
+        match callee(op) {
+            Some(routine) => self.written.get(routine),
+            None => written_by(op),
+        }
+    }
+
+    /// Adds to each address what may be written from there on. Returns whether that is more than before.
+    fn note_written_once(&mut self, rig: &BenchRig) -> bool {
+        let mut grew = false;
+        for n in 0..ADDRESSES {
+            let at = Addr::MAX.plus(ADDRESSES - n);
+            if let Some(op) = self.op_reached(rig, at) {
+                let later = self.written.successors(&op, at);
+                let set = later | self.written_at(&op);
+                grew |= self.written.add(at, set);
+            }
+        }
+        grew
+    }
+
+    /// Notes which registers may be written from each address on.
+    fn note_written(&mut self, rig: &BenchRig) {
+        for _ in 0..MOST_PASSES {
+            if !self.note_written_once(rig) {
+                break;
+            }
+        }
+    }
+
+    /// Adds to the body of a loop each address that leads into it. Returns whether there is a new one.
+    fn add_to_body(&self, rig: &BenchRig, body: &mut Table, head: Addr, last: Addr) -> bool {
+        let mut grew = false;
+        for n in 0..ADDRESSES {
+            let at = Addr::MAX.plus(ADDRESSES - n);
+            if head < at && at < last {
+                if let Some(op) = self.op_reached(rig, at) {
+                    let leads = body.successors(&op, at);
+                    grew |= body.add(at, leads);
+                }
+            }
+        }
+        grew
+    }
+
+    /// Returns the registers that are written in the body of a loop, except by its last instruction.
+    fn written_in(&self, rig: &BenchRig, body: &Table, head: Addr, last: Addr) -> u32 {
+        let mut all = 0;
+        for n in head.get()..last.get() {
+            let at = Addr::ZERO.plus(n);
+            if at == head || body.get(at) != 0 {
+                if let Some(op) = self.op_reached(rig, at) {
+                    all |= self.written_at(&op);
+                }
+            }
+        }
+        all
+    }
+
+    /// Returns the registers that are written in the loop from `head` to an instruction that jumps back to it.
+    fn written_in_loop(&self, rig: &BenchRig, body: &mut Table, head: Addr, last: Addr) -> u32 {
+        body.clear();
+        body.add(last, 1);
+        for _ in 0..MOST_LOOP_PASSES {
+            if !self.add_to_body(rig, body, head, last) {
+                break;
+            }
+        }
+        self.written_in(rig, body, head, last)
+    }
+
+    /// Notes of each ISZ that jumps back which registers its loop writes. `body` is room for the addresses of one loop.
+    fn note_loops(&mut self, rig: &BenchRig, body: &mut Table) {
+        for n in 0..ADDRESSES {
+            let at = Addr::ZERO.plus(n);
+            if let Some(Op::Isz(_, word)) = self.op_reached(rig, at) {
+                let head = Addr::on_page(at.plus(2).page(), word);
+                if head < at {
+                    let set = self.written_in_loop(rig, body, head, at);
+                    self.looped.add(at, set);
+                }
+            }
+        }
+    }
+
+    /// Returns the counter of a loop as a set, if the loop writes a register that is relevant where it begins.
+    fn counter(&self, op: &Op, at: Addr) -> u32 {
+        match op {
+            Op::Isz(r, word) => {
+                let head = Addr::on_page(at.plus(2).page(), *word);
+                if self.relevant.get(head) & self.looped.get(at) & REGISTERS != 0 {
+                    register(*r)
+                } else {
+                    0
+                }
+            }
+            _ => 0,
+        }
+    }
+
+    /// Returns the registers that are relevant after an instruction.
+    fn after(&self, op: &Op, at: Addr) -> u32 {
+        match op {
+            Op::Bbl(_) => self.returned.get(at),
+            _ => match callee(op) {
+                Some(routine) => self.relevant.get(routine),
+                None => self.relevant.successors(op, at),
+            },
+        }
+    }
+
+    /// Adds to each address what is relevant there. Returns whether that is more than before.
+    fn note_relevant_once(&mut self, rig: &BenchRig, level: Level) -> bool {
+        let mut grew = false;
+        for n in 0..ADDRESSES {
+            let at = Addr::MAX.plus(ADDRESSES - n);
+            if let Some(op) = self.op_reached(rig, at) {
+                let after = self.after(&op, at);
+                let set = before(&op, after) | needed(level, &op) | self.counter(&op, at);
+                grew |= self.relevant.add(at, set);
+            }
+        }
+        grew
+    }
+
+    /// Adds to each address what is relevant when its routine returns. Returns whether that is more than before.
+    fn note_returned_once(&mut self, rig: &BenchRig) -> bool {
+        let mut grew = false;
+        for n in 0..ADDRESSES {
+            let at = Addr::ZERO.plus(n);
+            if let Some(op) = self.op_reached(rig, at) {
+                let set = self.returned.get(at);
+                grew |= self.returned.add_to_successors(&op, at, set);
+                if let Some(routine) = callee(&op) {
+                    let wanted = self.relevant.get(next(&op, at));
+                    grew |= self.returned.add(routine, wanted);
+                }
+            }
+        }
+        grew
+    }
+
+    /// Notes which registers are relevant.
+    fn note_relevant(&mut self, rig: &BenchRig, level: Level) {
+        for _ in 0..MOST_PASSES {
+            let grew = self.note_relevant_once(rig, level);
+            if !self.note_returned_once(rig) && !grew {
+                break;
+            }
+        }
+    }
+}
+
+/// Returns the registers that are relevant at some address.
+fn relevant_somewhere(slice: &Slice) -> u32 {
+    let mut all = 0;
+    for n in 0..ADDRESSES {
+        all |= slice.relevant.get(Addr::ZERO.plus(n));
+    }
+    all
+}
+
+/// Returns which registers are exact at each address, register r as bit r, of a program that begins at an address.
+pub(crate) fn exact_registers(
+    alloc: Global,
+    rig: &BenchRig,
+    begin: Addr,
+    level: Level,
+) -> Result<Vec<u16>, AllocError> {
+    let mut slice = Slice::new(alloc)?;
+    if level != Level::None {
+        let mut body = Table::new(alloc)?;
+        slice.reach(rig, begin);
+        slice.note_written(rig);
+        slice.note_loops(rig, &mut body);
+        slice.note_relevant(rig, level);
+    }
+    let everywhere = if level == Level::Everywhere {
+        relevant_somewhere(&slice)
+    } else {
+        0
+    };
+    let mut exact = Vec::new(alloc);
+    for n in 0..ADDRESSES {
+        let set = slice.relevant.get(Addr::ZERO.plus(n)) | everywhere;
+        exact.push((set & REGISTERS) as u16)?;
+    }
+    Ok(exact)
+}
