@@ -165,7 +165,8 @@ test("what holds for all inputs is proved first, and is not searched for", async
 
 test("a program that runs for long without a read does not hold up the search", async () => {
   const board = 'rom = [{ chip = 0, port = "0000" }]\n';
-  const slow = subjectOf(engine, board, "all: INC R0\nmore: NOP\n ISZ R1, more\n ISZ R2, more\n ISZ R3, more\n ISZ R4, more\n ISZ R5, more\n JUN all\n");
+  const loops = ["R1", "R2", "R3", "R4", "R5"].map((register) => ` ISZ ${register}, more\n`).join("");
+  const slow = subjectOf(engine, board, `all: INC R0\nmore: NOP\n${loops} JUN all\n`);
   const { campaign } = readCampaign("test\nnever r6 = 1\n", slow);
   const run = new CampaignRun(slow, campaign, 1, () => true, PATIENCE, null, undefined, 100);
   const before = process.cpuUsage();
