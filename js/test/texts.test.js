@@ -27,7 +27,7 @@ test("faults in words", () => {
   assert.match(words.ofFailure(new WorkerDied()), /The session is as it was before/);
   assert.equal(words.ofFailure(new Cancelled()), "It was cancelled. The session is as it was before.");
   assert.equal(words.ofFailure(new Error("odd")), "The page failed: odd. What was answered ok is kept.");
-  assert.match(words.ofRefusal(99), /the manual has it/);
+  assert.match(words.ofRefusal(99), /the manual lists them/);
 });
 
 test("what time has done: runs together, keys one by one", () => {

@@ -184,7 +184,7 @@ test("watched expressions have names of the user's own, and what cannot be read 
   assert.deepEqual(readWatched("a = P2").watched.pieces(standing, names).map(({ place }) => place), ["r4", "r5"]);
   for (const [text, fault] of [
     ["", "An expression is missing, as in: "], ["a =", "An expression is missing, as in: "],
-    ["loop", "in loop: in loop: in loop: loop names others"],
+    ["loop", "in loop: in loop: in loop: loop uses names that use other names"],
     ["r16", "r16: no such place; the registers are r0 to r15 (column 1)"],
     ["a = accu + 1", "accu: no such place; the accumulator is acc (column 5)"],
     ["ram 8 0", "ram 8 0: no such place; a place of RAM is ram.BANK.SRC or st.BANK.REGISTER.NUMBER (column 1)"],
