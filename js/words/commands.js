@@ -159,7 +159,7 @@ export const COMMAND_WORDS = {
     summary: "shows what was rejected in a script, where, and why",
     text: `
       Reads the answers to SCRIPT, and prints each refusal among them: the line of SCRIPT, the line inside a program or the part of a board
-      that is wrong, and what the refusal means. It finds the part of a board by trying the text without one part after the other.
+      that is wrong, and what the refusal means.
 
       With --source, an address in a rejected line is also shown with its name and its line of the source. PROGRAM must be what is in the
       ROM of SESSION, byte for byte.`,

@@ -63,7 +63,7 @@ export const GAVE_UP = "the prover gave up";
 /** @type {(number: number, count: number, property: string, seconds: number) => string} */
 export const provingSoFar = (number, count, property, seconds) => `proving ${number} of ${count}, ${seconds} s: ${property}`;
 /** @type {(words: string) => string} */
-export const proverEnded = (words) => `the prover ended without an answer: ${words}`;
+export const proverEnded = (words) => `the prover ended without an answer: ${words || "it printed nothing"}`;
 
 // --- page/prove/proofs.js ---
 export const PROVE = "Prove";
