@@ -14,10 +14,10 @@ import { askedOf, boundsUpTo, questionOf, readAnswer } from "../prove/question.j
  */
 
 /** The bound of the first question, and the most states. */
-const FIRST = 1000;
+const FIRST = 100;
 const MOST = 999999999;
 /** Keeps the first question short, also of a program that runs for long without a read. */
-const PAUSE = 1000;
+const PAUSE = 100;
 
 export class ProofFirst {
   /**
