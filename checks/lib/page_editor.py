@@ -158,7 +158,7 @@ def check_names(browser):
     browser.script(SET_CARET, PROGRAM, 0, 0)
     browser.chord(CONTROL, "h")
     browser.keys([*"again"], 5, 5)
-    browser.script(f"document.querySelector('{PROGRAM} [aria-label=\"Replace by\"]').value = 'loop'")
+    browser.script(f"document.querySelector('{PROGRAM} [aria-label=\"Replace with\"]').value = 'loop'")
     browser.script(f"[...document.querySelectorAll('{PROGRAM} .search button')].find((each) => each.textContent === 'Replace all').click()")
     eventually(browser, "all are replaced", text, "loop:\tNOP ; loop\n\tFIM P0, loop\n\tJUN loop")
     browser.keys([ESCAPE], 5, 5)

@@ -147,7 +147,7 @@ def check_file(browser, folder, mcs4):
         browser.script("document.querySelector('#wave-boxes input').click()")
     look_for(browser, "")
     eventually(browser, "values are recorded from the next recording on", "return document.getElementById('signals-status').textContent",
-               "acc, cy, r5 .. are recorded from the next recording.")
+               "acc, cy, r5 .. are recorded from the next recording on.")
     verdict("they are recorded", record(browser, 3000), re.compile("^3,000 cycles recorded"))
     browser.script("document.getElementById('waves-all').click()")
     names = browser.script(NAMES).split(" ")

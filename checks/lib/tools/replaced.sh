@@ -100,6 +100,12 @@ outcome_of_stop() {
     status=0
     wait "$child" 2> /dev/null || status=$?
     if [ "$status" -eq 137 ]; then wrong="$wrong hangs:$signal:$whom:$wait"; fi
+    # A signal between timeout's fork and its note of the child ends timeout alone; the tool then runs to its end.
+    tenths=600
+    while [ "$tenths" -gt 0 ] && kill -s 0 -- "-$child" 2> /dev/null; do
+        sleep 0.1
+        tenths=$((tenths - 1))
+    done
 }
 head -c 100 "$folder/project/whole" > "$folder/old"
 stops=0

@@ -29,7 +29,7 @@ printf ' LDM 1\r FOO\r' > "$folder/returns.asm"
 refuses 1 "listing: $folder/returns.asm: line 2: no 30: FOO is not an instruction; a label has a colon: FOO:
 listing:      FOO" ./mcs4 listing "$folder/returns.asm"
 printf ' LDM 1\r LDM 2\r\001' > "$folder/returns.asm"
-refuses 1 "listing: $folder/returns.asm: line 3: no 14: a control character; only tabs and printing characters of ASCII can be sent
+refuses 1 "listing: $folder/returns.asm: line 3: no 14: a control character; only tabs and printable ASCII characters can be sent
 listing:     \x01" ./mcs4 listing "$folder/returns.asm"
 printf '# one\rtest t\r run 5\r' > "$folder/returns.test"
 verdict "$(outcome ./mcs4 test "$folder/marked.toml" "$folder/marked.asm" "$folder/returns.test" | sed -n 3p)" "ok 1 - t" "tests whose lines end with carriage returns alone"
