@@ -184,7 +184,7 @@ def check_bad_faces(browser):
         (3, "the lamp nobody is number 16, but the board has 16"),
         (5, "the display needs lamps up to number 18, but the board has 16"),
         (6, "no lamp is named ghost"))))
-    eventually(browser, "what is not understood stands at its lines in the editor, too", AT_LINES, "line 2: pink is no colour")
+    eventually(browser, "what is not understood stands at its lines in the editor, too", AT_LINES, "line 2: pink is not a colour")
     verdict("the rest of it is shown, as letters", [browser.script(TITLE), browser.script("return document.querySelector('#front i, #front h2 b')")],
             ["Odd <b>one</b>", None])
     verdict("the lamp has its name", browser.script(NAMES).split("; ")[0], re.compile("^here, (lit|dark)$"))
