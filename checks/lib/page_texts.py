@@ -82,7 +82,7 @@ def check_damaged(browser, folder, whole):
     newer.write_bytes(whole.replace(b"project 1", b"project 2"))
     foreign = folder / "foreign.png"
     foreign.write_bytes(b"\x89PNG\r\n\x1a\n" + bytes(100))
-    for path, words in ((cut, "cut off: its last line"), (changed, "damaged, or was edited"), (newer, "of version 2"),
+    for path, words in ((cut, "cut off: its last line"), (changed, "damaged or was edited"), (newer, "of version 2"),
                         (foreign, "not a text, a session or a project; supported are projects")):
         browser.type_into("#file", str(path))
         eventually(browser, f"{path.name} is refused in words", NOTICE,

@@ -272,7 +272,7 @@ def check_never(browser):
     browser.until(STATUS, re.compile("^Running to"))
     browser.reload()
     until_ready(browser)
-    eventually(browser, "a reload ends it, which is reported", STATUS, re.compile("^Paused at 002: the return from the subroutine was not reached, as "
+    eventually(browser, "a reload ends it, which is reported", STATUS, re.compile("^Paused at 002: the return from the subroutine was not reached, because "
                                                                               "the page was reloaded"))
     browser.click("#back-stop")
     # How many cycles passed before the session was kept for the last time depends on the browser.
