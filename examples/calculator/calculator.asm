@@ -1,37 +1,37 @@
-; A desk calculator of eight digits with a decimal point, for the 4004: plus,
-; minus, times, divided by, in the order keyed. board.toml is its board.
+; A desk calculator for the 4004: eight digits, a decimal point and + - * /.
+; It calculates in the order keyed: 2 + 3 * 4 = is 20. Its board: board.toml.
 ;
-; Two numbers stand in the RAM chip, each in a register of 16 characters:
+; Two numbers are in the RAM chip. Each has a register: 16 nibbles (Intel calls
+; a nibble of RAM a character) and four status nibbles.
 ;   register 0, `shown`    the number on the display
-;   register 1, `before`   the other one: the left number while an operator
-;                          waits for the right one; after =, the right number,
-;                          with which a further = goes on
-; Characters 0 to 7 are its digits, the lowest in character 0; characters 8 to
-; 15 are 0 but while it is worked with. Its status characters:
-;   0 sign (1: minus)      1 decimals: so many digits stand after the point
-;   of `shown`   2 mode    0 digits go on, 1 digits after the point go on,
+;   register 1, `before`   the left operand while an operator is pending; after
+;                          =, the right operand, which a repeated = uses again
+; Nibbles 0 to 7 hold the digits, the lowest digit in nibble 0. Nibbles 8 to 15
+; are 0, except during a calculation. The status nibbles:
+;   0  sign: 1 is minus    1  decimals: the number of digits after the point
+;   2  of `shown`: mode    0 a number is being keyed, 1 its decimals are,
 ;                          2 after an operator, 3 complete (after = ~ S)
-;                3 error   0 none, 1 overflow, 2 division by zero
-;   of `before`  2 operator (0 none, and those below)     3 1 while it waits
+;   3  of `shown`: error   0 none, 1 overflow, 2 division by zero
+;   2  of `before`: the operator, 0 for none     3  1 while it is pending
 ;
-; Index registers that are kept:
-;   R8 R9    the key of the last scan       R10 R11  the key taken last
-;   R12      counts scans that are alike
-; All others are for use as it comes. At the head of a part stands what it uses,
-; and its longest time in instruction cycles of 10.8 microseconds; for a key from
-; `act` on, without `show`.
+; The pair P0 is R0 and R1, P1 is R2 and R3, and so on. Registers with one use:
+;   R8 R9    the key of the last scan       R10 R11  the last accepted key
+;   R12      counts equal scans
+; The other registers are scratch. "Uses" lists the registers that a routine
+; reads or changes, and its RAM. Times are the longest ones, in cycles of 10.8
+; microseconds. The time of a key starts at `act` and excludes `show`.
 ;
-; A key is the address of its byte in the table `keys`; 0 is no key at all.
+; A key is the address of its byte in the table `keys`. 0 means no key.
 
-shown	= 0x00		; characters of register 0; also the port of ROM 0
-before	= 0x10		; characters of register 1; also the port of ROM 1
-upper	= 0x08		; the upper eight characters of register 0
-eight	= 8		; from 8, ISZ comes to 16 after eight turns
-scans	= 12		; from 12, it comes to 16 after four turns
-after_several = 11	; from 11, after five
+shown	= 0x00		; SRC address of register 0, and of the port of ROM 0
+before	= 0x10		; SRC address of register 1, and of the port of ROM 1
+upper	= 0x08		; SRC address of nibble 8 of register 0: its upper half
+eight	= 8		; start of a loop counter: ISZ makes it 0 in eight passes
+scans	= 12		; start of R12: four passes
+after_several = 11	; start of R12 after several keys: five passes
 
-op_plus	  = 2		; operators: bit 0 turns the sign of the right number,
-op_minus  = 3		; bits 2 and 3 are looked at in `compute`
+op_plus	  = 2		; operators: bit 0 inverts the sign of the right operand,
+op_minus  = 3		; `compute` tests bits 2 and 3
 op_times  = 4
 op_over	  = 8
 
@@ -40,10 +40,10 @@ nonzero = 12
 carry	= 2
 no_carry = 10
 
-	JUN start	; the processor begins at 000
+	JUN start	; execution starts at address 000
 
-; Key table: what each key does, four keys a row. 0 to 9 is a digit, all else
-; is an address on this page. FIN and JIN work in the page they stand in.
+; Key table, four keys a row: 0 to 9 is a digit, any other byte the address of
+; the key's routine. FIN and JIN reach only the page of 256 bytes they are on.
 
 	ORG 0x010
 keys:	DB 7, 8, 9, over
@@ -52,30 +52,30 @@ keys:	DB 7, 8, 9, over
 	DB 0, point, sign, plus
 	DB clear, entry, swap, equals
 
-start:	FIM P4, 0	; no key is down, none was taken
-	FIM P5, 0
+start:	FIM P4, 0	; no key in the last scan,
+	FIM P5, 0	; and no accepted key
 
-; C: both numbers and all that belongs to them become 0. CE: the one that is
-; shown. Uses P0, all of registers 0 and 1. C 158 cycles, CE 84.
+; C key: clears both numbers with their status nibbles. CE key: clears the number
+; shown. Uses P0; all of registers 0 and 1. C takes 158 cycles, CE 84.
 
 clear:	FIM P0, before
 	JMS wipe
 entry:	FIM P0, shown
 	JMS wipe
 
-; Each key comes back to here: the display is written, then keys are awaited.
+; The routines of all keys return here: writes the display, then awaits a key.
 
 ready:	JMS show
 
-; Debounce. A key that goes down or up bounces for some milliseconds, so a
-; reading counts only when four further scans have found the same one; behind
-; a scan that found several keys, five.
-; Uses R0 to R12, no RAM. 935 cycles from the moment a key goes down alone until
-; it is taken.
+; Debounce. Contacts bounce for some milliseconds when a key goes down or up. A
+; reading is accepted only when four more scans have found the same; after a
+; scan that found several keys, five.
+; Uses R0 to R12, no RAM. If no other key changes, a key is accepted at most 935
+; cycles after it goes down.
 
-await:	JMS scan	; P1: the key that is down, or 0
+await:	JMS scan	; P1: the key that is down, 0 if none is
 	LD R7
-	JCN nonzero, several	; wait
+	JCN nonzero, several	; several keys are down
 	LD R2
 	CLC
 	SUB R8
@@ -84,7 +84,7 @@ await:	JMS scan	; P1: the key that is down, or 0
 	CLC
 	SUB R9
 	JCN zero, alike
-other:	LD R2		; another key than in the scan before
+other:	LD R2		; not the key of the last scan: counts anew
 	XCH R8
 	LD R3
 	XCH R9
@@ -96,9 +96,9 @@ several: LDM after_several
 	JUN await
 alike:	ISZ R12, await
 
-; The reading is steady. It is news unless it is the key that was taken last.
-; So a key that is held counts once; where a second key goes down before the
-; first is up, the second is taken once the first is up (two-key rollover).
+; The reading is stable. It is ignored if it equals the last accepted key, so a
+; key that is held counts once. If a second key goes down before the first is up,
+; the second is accepted once the first is up (two-key rollover).
 
 	LD R8
 	CLC
@@ -115,20 +115,20 @@ news:	LD R8
 	LD R8
 	JCN zero, await ; all keys are up
 
-; Behind an error all keys but C are dead.
+; After an error, all keys except C are ignored.
 
 	FIM P0, shown
 	SRC P0
-	RD3		; the error
+	RD3		; the error, 0 for none
 	JCN zero, act
-	LD R9		; the address of C is 020: no other key ends in 0
+	LD R9		; 0 for C (020) and for 7 (010)
 	JCN nonzero, await
-	LD R8		; but 7, whose address is 010
+	LD R8		; 2 for C, 1 for 7
 	RAR
 	JCN carry, await
 
-; FIN fetches the key's byte from the table, JIN goes to the address in it.
-; Each key finds register 0 selected. Uses P0, P1, no RAM. 10 cycles.
+; Executes the accepted key: FIN reads its byte from the table, JIN jumps there.
+; The routines start with register 0 selected. Uses P0, P1, no RAM. 10 cycles.
 
 act:	LD R8
 	XCH R0
@@ -139,8 +139,8 @@ act:	LD R8
 	JCN zero, digit
 	JIN P1
 
-; Number entry. A digit: all digits move one place up and it becomes the
-; lowest, unless eight digits are there, or seven after the point.
+; Digit key: shifts the number up one place and makes R3 its lowest digit.
+; Ignores the key if there are eight digits, or seven after the point.
 ; Uses P0, R3, R6; digits, decimals and mode of register 0. 205 cycles.
 
 digit:	JMS begin
@@ -150,12 +150,12 @@ digit:	JMS begin
 	JCN nonzero, await
 	RD2		; the mode
 	JCN zero, enter
-	RD1		; after the point: one decimal more
+	RD1		; mode 1: one more decimal
 	IAC
 	XCH R6
 	LD R6
 	RAL
-	JCN carry, await	; the eighth
+	JCN carry, await	; it would be the eighth
 	LD R6
 	WR1
 enter:	LD R3
@@ -163,52 +163,52 @@ enter:	LD R3
 	JMS left
 	JUN ready
 
-; The point: from now on digits stand after it. Uses P0; the mode. 96 cycles.
+; Point key: the next digits are decimals. Uses P0; the mode. 96 cycles.
 
 point:	JMS begin
 	LDM 1
 	WR2
 	JUN ready
 
-; Change of sign, of the number that is shown, keyed or not: -0 is seen only
-; while a number is keyed. Uses P0, R4, R5, R6. 194 cycles.
+; ~ key: changes the sign of the number shown, even while it is being keyed. -0
+; appears only during keying. Uses P0, R4, R5, R6. 194 cycles.
 
 sign:	RD0
-	RAR		; the sign into carry
+	RAR		; the sign goes into the carry
 	CMC
-	TCC		; and back, turned
+	TCC		; and back, inverted
 	WR0
 	RD2		; the mode
 	RAR
 	RAR
-	JCN no_carry, ready	; 0 or 1: digits go on
+	JCN no_carry, ready	; 0 or 1: it is being keyed
 	JMS tidy
 complete: LDM 3
 	WR2
 	JUN ready
 
-; S: the two numbers change places. Uses R0 to R7. 1,929 cycles.
+; S key: swaps the two numbers. Uses R0 to R7. 1,929 cycles.
 
 swap:	JMS exchange
-	JMS tidy	; it may stand there as it was keyed: -0 or 1.50
+	JMS tidy	; it can still be as keyed: -0 or 1.50
 	JUN complete
 
-; Equals: the operator that waits is done with the number before on its left.
-; Where none waits, the last one is done once more with its right number.
-; Uses R0 to R7, R13, R14. 14,620 cycles, of which most are a quotient's.
+; = key: executes the pending operator; `before` is its left operand. If none is
+; pending, repeats the last operator with the same right operand.
+; Uses R0 to R7, R13, R14. 14,620 cycles, most of them for a quotient.
 
 equals: FIM P1, before
 	SRC P1
 	RD3
-	JCN zero, again ; none waits
+	JCN zero, again ; none is pending
 	LDM 0
 	WR3
-	JMS exchange	; the left number to register 0, the right one to 1
+	JMS exchange	; left operand to register 0, right operand to 1
 again:	JMS compute
 	JUN complete
 
-; An operator: the one that waited is done, and this one waits. Where it was
-; keyed just before, this one only takes its place. Uses R0 to R7, R13 to R15.
+; + - * / keys: execute the pending operator, then make this one pending. If the
+; last key was an operator, this one only replaces it. Use R0 to R7, R13 to R15.
 ; 14,764 cycles.
 
 plus:	LDM op_plus
@@ -229,32 +229,32 @@ wait:	FIM P1, before
 	LD R15
 	WR2
 	LDM 1
-	WR3		; the operator waits
+	WR3		; the operator is pending
 	FIM P0, shown
 	SRC P0
 	LDM 2
-	WR2		; and the next digit begins a new number
+	WR2		; mode 2: the next digit starts a new number
 	JUN ready
 
 	ORG 0x100
 
-; Scan. A single 1 walks down chain 0, from row to row, and the columns of its
-; row are read at the port of ROM 1. KBP makes of the four lines 1 to 4 for one
-; key, 0 for none, and 15 for several. The key goes to P1, 0 where none is
-; down; R7 is 1 where several are. Uses R0 to R7, no RAM. 142 cycles, with
-; several keys down up to 182.
+; Scans the keys. Shifts a single 1 through chain 0, from row to row, and reads
+; the columns of each row at the port of ROM 1. KBP turns the four lines into a
+; number: 1 to 4 for one key, 0 for none, 15 for several. Returns the key in P1,
+; 0 for none, and 1 in R7 if several keys are down. Uses R0 to R7, no RAM. 142
+; cycles; up to 182 with several keys down.
 
 scan:	FIM P1, 0	; no key
 	FIM P2, keys	; the first key of row 0
-	FIM P3, 0xB0	; R6: five rows. R7: not several
+	FIM P3, 0xB0	; R6: from 11, five rows. R7: not several keys
 	LDM 2		; data is 1 for row 0
 row:	FIM P0, shown
-	SRC P0		; the port of ROM 0
-	WRR		; data, and the clock is low
+	SRC P0		; selects the port of ROM 0
+	WRR		; writes the data; the clock is low
 	IAC
-	WRR		; the clock goes up: all bits move on
+	WRR		; the clock rises: the chain shifts
 	FIM P0, before
-	SRC P0		; the port of ROM 1
+	SRC P0		; selects the port of ROM 1
 	RDR
 	KBP
 	JCN zero, next
@@ -263,9 +263,9 @@ row:	FIM P0, shown
 	IAC
 	JCN carry, many ; 15: several keys in this row
 	LD R2
-	JCN nonzero, many	; one in a row above
+	JCN nonzero, many	; an earlier row has a key, too
 	LD R0
-	DAC		; 0 to 3
+	DAC		; the column, 0 to 3
 	CLC
 	ADD R5
 	XCH R3
@@ -274,7 +274,7 @@ row:	FIM P0, shown
 	JUN next
 many:	LDM 1
 	XCH R7
-next:	LDM 4		; the next row is four bytes further
+next:	LDM 4		; the next row is four bytes further on
 	CLC
 	ADD R5
 	XCH R5
@@ -285,15 +285,15 @@ next:	LDM 4		; the next row is four bytes further
 	ISZ R6, row
 	BBL 0
 
-; Show. Lines 0 to 2 of the RAM port are the lamps for minus, overflow and
-; division by zero. The digits go into chain 1, five bits each, the highest
-; digit first: the bits for 8, 4, 2 and 1, and the lamp of the point after it.
-; RAL takes the highest bit out of R3 and the carry in, so that the carry is the
-; fifth bit; RAR brings a bit to line 3 of the port. Uses R0 to R7;
-; looks at characters 0 to 7 and status 0, 1, 3 of register 0. 539 cycles.
+; Writes the display. Lines 0 to 2 of the RAM port are the lamps for minus,
+; overflow and division by zero. Chain 1 gets five bits for each digit, the
+; highest digit first: bits 8, 4, 2 and 1 of the digit, then its point. RAL moves
+; the top bit of R3 into the carry and the carry into bit 0: so the carry, which
+; is the point, comes out fifth. RAR puts a bit on line 3 of the port. Uses R0 to
+; R7; reads nibbles 0 to 7 and status 0, 1, 3 of register 0. 539 cycles.
 
 show:	FIM P0, shown
-	SRC P0		; RAM register 0, and the port of ROM 0
+	SRC P0		; selects RAM register 0 and the port of ROM 0
 	CLC
 	RD3
 	RAL		; error 1 to line 1, error 2 to line 2
@@ -302,47 +302,47 @@ show:	FIM P0, shown
 	ADD R6
 	WMP
 	RD1
-	XCH R4		; the point stands after digit R4
+	XCH R4		; R4: the digit before the point, 0 is the lowest
 	FIM P0, 0x07	; the highest digit
-	FIM P3, 0x84	; R6: eight digits. R7: 4 is the clock, line 2
+	FIM P3, 0x84	; R6: from 8, eight digits. R7: 4, line 2, the clock
 place:	SRC P0
 	RDM
 	XCH R3
-	LDM 11		; five bits
+	LDM 11		; R2: from 11, five bits
 	XCH R2
 	LD R1
 	CLC
 	SUB R4
 	CMA
-	IAC		; the carry is 1 where R1 is R4
+	IAC		; carry 1 if R1 = R4: the point is on
 bit:	LD R3
-	RAL		; the highest bit into carry
+	RAL		; the top bit goes into the carry
 	XCH R3
 	LDM 0
-	RAR		; and into line 3
-	WRR		; data, and the clock is low
+	RAR		; and from there to line 3
+	WRR		; writes the data; the clock is low
 	ADD R7
-	WRR		; the clock goes up: all bits move on
+	WRR		; the clock rises: the chain shifts
 	ISZ R2, bit
-	LD R1		; the next digit
+	LD R1		; the next lower digit
 	DAC
 	XCH R1
 	ISZ R6, place
 	BBL 0
 
-; Begins a new number where none is being keyed. Uses P0; register 0 is selected
-; before and after. 82 cycles.
+; Clears the number shown, unless it is being keyed. Register 0 is selected on
+; entry and on return. Uses P0. 82 cycles.
 
 begin:	RD2		; the mode
 	RAR
 	RAR
-	JCN no_carry, going	; 0 or 1: digits go on
+	JCN no_carry, going	; 0 or 1: it is being keyed
 	FIM P0, shown
 	JMS wipe
 going:	BBL 0
 
-; Makes a register 0, with its status characters. P0 is its first character,
-; before and after, and it is selected. 72 cycles.
+; Clears a RAM register and its status nibbles, and selects it. P0 is the SRC
+; address of its nibble 0, on entry and on return. 72 cycles.
 
 wipe:	LDM 0
 dark:	SRC P0
@@ -354,19 +354,19 @@ dark:	SRC P0
 	WR3
 	BBL 0
 
-; Moves all characters of register 0 one place up. R6 goes in at character 0,
-; what was in character 15 comes out in R6. Uses P0. 101 cycles.
+; Shifts register 0 up one place: R6 goes into nibble 0, and each nibble into the
+; next one. Returns the old nibble 15 in R6. Uses P0. 101 cycles.
 
 left:	FIM P0, shown
 up:	SRC P0
 	RDM
-	XCH R6		; the digit from below goes in, this one goes on
+	XCH R6		; R6: the old digit, for the next place
 	WRM
 	ISZ R1, up
 	BBL 0
 
-; Moves all characters of register 0 one place down. R6 goes in at character 15,
-; what was in character 0 comes out in R6. Uses P0. 149 cycles.
+; Shifts register 0 down one place: R6 goes into nibble 15, and each nibble into
+; the one below. Returns the old nibble 0 in R6. Uses P0. 149 cycles.
 
 right:	FIM P0, 0x0F
 down:	SRC P0
@@ -374,13 +374,13 @@ down:	SRC P0
 	XCH R6
 	WRM
 	LD R1
-	DAC		; the carry is 0 where R1 was 0
+	DAC		; carry 0 if R1 was 0
 	XCH R1
 	JCN carry, down
 	BBL 0
 
-; Exchanges the two numbers: digits, signs, decimals. Uses P0, P1, R6, R7.
-; 231 cycles.
+; Swaps the two numbers: their digits, signs and decimals. Selects register 0.
+; Uses P0, P1, R6, R7. 231 cycles.
 
 exchange: FIM P0, shown
 	FIM P1, before
@@ -416,13 +416,13 @@ trade:	SRC P0
 
 	ORG 0x200
 
-; The operator that waited, if any, is done, and the outcome is the number
-; before from now on. Copies all of register 0. 14,731 cycles.
+; Executes the pending operator, if any, and copies the number shown to `before`,
+; with sign and decimals. Uses R0 to R7, R13, R14. 14,731 cycles.
 
 chain:	FIM P1, before
 	SRC P1
 	RD3
-	JCN zero, lone	; none waits
+	JCN zero, lone	; none is pending
 	JMS exchange
 	JMS compute
 	JUN copy
@@ -445,16 +445,16 @@ each:	SRC P0
 	WR0
 	BBL 0
 
-; Compute: number shown = number shown, operator, number before. The number
-; before stays as it is. In what follows, up to `put`:
-;   R4   the decimals of the outcome       R5   its sign
-;   R13  1 where the signs differ (minus turns the one on the right)
-; All 16 characters of register 0 are used. 36 cycles up to the operator.
+; Computes `shown` = `shown` operator `before`. `before` does not change. From
+; here to `put`, these registers hold:
+;   R4   the decimals of the result        R5   its sign
+;   R13  1 if the signs differ; minus inverts the sign of the right operand
+; Uses all 16 nibbles of register 0. 36 cycles up to the code of the operator.
 
 compute: FIM P1, before
 	SRC P1
 	RD1
-	XCH R7		; the decimals of the number before
+	XCH R7		; the decimals of `before`
 	RD2
 	XCH R14		; the operator
 	RD0
@@ -473,7 +473,7 @@ compute: FIM P1, before
 	TCC
 	XCH R13
 	LDM 0
-	XCH R6		; 0 goes in where digits move
+	XCH R6		; R6: 0, for shifts of register 0
 	LD R14
 	JCN zero, trim	; no operator
 	RAL
@@ -481,10 +481,10 @@ compute: FIM P1, before
 	RAL
 	JCN carry, multiply
 
-; Add and subtract. First the points are brought below one another: where the
-; number shown has fewer decimals, it moves up. Where it has more, by k, its
-; characters from k on are those that belong to the number before.
-; Uses R0 to R7, R13; characters 0 to 15 of both registers. 926 cycles to add,
+; Adds or subtracts. First aligns the points. If `shown` has fewer decimals than
+; `before`, it is shifted up. If it has k more, nibble k of `shown` aligns with
+; nibble 0 of `before`, and so on.
+; Uses R0 to R7, R13; nibbles 0 to 15 of both registers. 926 cycles to add,
 ; 1,096 to subtract.
 
 align:	LD R4
@@ -496,19 +496,19 @@ align:	LD R4
 	JUN align
 aligned: XCH R1		; k
 	LDM 0
-	XCH R0
+	XCH R0		; P0: nibble k of register 0
 	LD R13
 	JCN nonzero, differ
 	JMS add_up
 trim:	JUN fits
 
-; Signs that differ. Where the number before is the greater, the outcome is
-; 10 to the 16th too much, so it is taken from 0, and the sign turns.
+; The signs differ. If `before` is larger, the result of `subtract` is 10^16 too
+; high. It is then subtracted from 0, and its sign changes.
 
 differ: JMS subtract
-	JCN carry, trim
+	JCN carry, trim	; no borrow
 	FIM P0, shown
-	STC		; the lowest digit lends nothing
+	STC		; carry 1: no borrow at the lowest digit
 negate: TCS
 	SRC P0
 	SBM
@@ -523,18 +523,18 @@ negate: TCS
 	XCH R5
 	JUN fits
 
-; Multiply. Eight times: the number before is added to the upper half of
-; register 0, as often as the lowest digit in it says, and all moves one place
-; down; so the digits of the number shown leave below, and the product grows
-; from above. R6 is the ninth digit of the upper half. Uses R0 to R7, R13, R14;
-; characters 0 to 15 of register 0, 0 to 7 of register 1. 7,428 cycles, where the
-; number shown is 99999999.
+; Multiplies. Eight times: adds `before` to the upper half of register 0 as many
+; times as the lowest digit of `shown` says, then shifts register 0 down. So the
+; digits of `shown` leave at the bottom while the product grows from the top. R6
+; is the ninth digit of the upper half. Uses R0 to R7, R13, R14; nibbles 0 to 15
+; of register 0, 0 to 7 of register 1. 7,428 cycles if the number shown is
+; 99999999.
 
 multiply: LD R13
 	XCH R5
 	LD R4
 	CLC
-	ADD R7		; the decimals of both
+	ADD R7		; the sum of the decimals
 	XCH R4
 	LDM eight
 	XCH R7
@@ -542,7 +542,7 @@ multiply: LD R13
 factor: SRC P0
 	RDM
 	CMA
-	IAC		; 16 less the digit, or 0
+	IAC		; 16 - digit, the start of R14; 0 for 0
 	JCN zero, shift
 	XCH R14
 more:	FIM P0, upper
@@ -558,13 +558,13 @@ shift:	JMS right
 	ISZ R7, factor
 	JUN fits
 
-; Divide. All moves one place up; the number before is taken from the upper
-; half as often as it goes, and the count becomes the lowest digit: so the
-; quotient grows from below. R6 is the ninth digit of the upper half. That is
-; done eight times, and on while the quotient has neither eight digits nor
-; seven decimals. R4 is the decimals and 8, since they may be below 0.
-; Uses R0 to R7, R13, R14; characters 0 to 15 of register 0, 0 to 7 of
-; register 1. 14,258 cycles, for 99 / 9.9099100.
+; Divides. Each pass shifts register 0 up, then subtracts `before` from its upper
+; half as often as possible; the count becomes the lowest digit. So the quotient
+; grows from the bottom. R6 is the ninth digit of the upper half. There are eight
+; passes, and more until the quotient has eight digits or seven decimals. R4 is
+; the number of decimals + 8, because that number can be below 0.
+; Uses R0 to R7, R13, R14; nibbles 0 to 15 of register 0, 0 to 7 of register 1.
+; 14,258 cycles for 99 / 9.9099100.
 
 divide: FIM P1, before
 divisor: SRC P1
@@ -584,21 +584,21 @@ divides: LD R13
 	LDM eight
 	XCH R7
 further: LDM 0
-	XCH R13		; the digit of the quotient
+	XCH R13		; R13: the digit of the quotient, from 0
 	LDM 0
 	XCH R6
 	JMS left
 goes:	FIM P0, upper
 	JMS subtract
 	JCN carry, went
-	LD R6		; it lends from the ninth digit
+	LD R6		; borrows from the ninth digit, if it is not 0
 	JCN zero, too_much
 	DAC
 	XCH R6
 went:	INC R13
 	JUN goes
 too_much: FIM P0, upper
-	JMS add_up	   ; once too often
+	JMS add_up	   ; one subtraction too many
 	FIM P0, shown
 	SRC P0
 	LD R13
@@ -606,22 +606,22 @@ too_much: FIM P0, upper
 	ISZ R7, further
 	LD R4
 	CMA
-	JCN zero, enough	; 15: seven decimals
+	JCN zero, enough	; R4 is 15: seven decimals
 	FIM P0, 0x07
 	SRC P0
 	RDM
 	JCN nonzero, enough	; eight digits
 	INC R4
-	LDM 15		; one turn more
+	LDM 15		; one more pass
 	XCH R7
 	JUN further
 enough: LD R4
 	RAL
-	JCN no_carry, beyond	; decimals below 0
+	JCN no_carry, beyond	; fewer than 0 decimals
 	CLC
 	RAR
 	XCH R4
-	FIM P0, upper	; the remainder goes
+	FIM P0, upper	; clears the remainder
 	LDM 0
 rest:	SRC P0
 	WRM
@@ -631,7 +631,7 @@ beyond: JUN overflow
 
 	ORG 0x300
 
-; Tidy: as normalize, of the number that is shown. 1,682 cycles.
+; Normalizes the number shown, as `fits` does. 1,682 cycles.
 
 tidy:	FIM P0, shown
 	SRC P0
@@ -640,21 +640,21 @@ tidy:	FIM P0, shown
 	RD0
 	XCH R5
 
-; Normalize. Digits are cut off from below while there are more than eight or
-; more than seven decimals, and zeros after the point, too. Where there are
-; more than eight digits and no decimals, that is an overflow.
+; Normalizes register 0, a number with R4 decimals and sign R5. Drops the lowest
+; digit while there are more than eight digits or seven decimals, or while it is
+; a zero after the point. More than eight digits without decimals: an overflow.
 ; Uses R0, R1, R4, R5, R6; all of register 0. 3,157 cycles after a product,
-; 1,673 else.
+; otherwise 1,673.
 
 fits:	FIM P0, upper
 high:	SRC P0
 	RDM
 	JCN nonzero, cut
-	ISZ R1, high	; P0 is `shown` after it
+	ISZ R1, high	; after the loop P0 is `shown`
 	LD R4
 	JCN zero, put	; no decimals
 	RAL
-	JCN carry, drop ; more than seven
+	JCN carry, drop ; more than seven decimals
 	SRC P0
 	RDM
 	JCN nonzero, put	; the lowest digit is not 0
@@ -668,14 +668,14 @@ drop:	LDM 0
 cut:	LD R4
 	JCN nonzero, drop
 overflow: LDM 1
-error:	XCH R6		; the number becomes 0, the error 1 or 2
+error:	XCH R6		; clears the number; the error is ACC, 1 or 2
 	FIM P0, shown
 	JMS wipe
 	LD R6
 	WR3
 	BBL 0
 
-; The sign, unless all digits are 0.
+; Stores R4 as decimals and R5 as sign; the sign of 0 is plus.
 
 put:	FIM P0, shown
 look:	SRC P0
@@ -692,10 +692,10 @@ signed: FIM P0, shown
 	WR0
 	BBL 0
 
-; Adds the digits of the number before to register 0, from the character P0
-; to its last one, from the lowest up. DAA makes of a sum above 9 a digit and a
-; carry, which is 1 after the last digit where one is left. Uses P0, P1; P0 is
-; `shown` after it. 150 cycles for 16 digits, 78 for 8.
+; Adds `before` to register 0: its lowest digit to the nibble at P0, the others
+; to the nibbles above, up to nibble 15. DAA turns a sum above 9 into a digit and
+; a carry. Returns the last carry, and `shown` in P0. Uses P0, P1. 150 cycles for
+; 16 digits, 78 for 8.
 
 add_up: FIM P1, before
 	CLC
@@ -709,13 +709,13 @@ sum:	SRC P1
 	ISZ R1, sum
 	BBL 0
 
-; Takes them from register 0. TCS gives 10, or 9 where the digit below has
-; borrowed; the digit is taken from it (SBM) and the other one added. DAA then
-; makes a carry where nothing was borrowed. Uses P0, P1; P0 is `shown` after
-; it. 182 cycles for 16 digits, 94 for 8.
+; Subtracts `before` in the same way. TCS gives 10, or 9 if the digit below has
+; borrowed. SBM subtracts the digit of `before`, and ADM adds that of register 0;
+; DAA then sets the carry if there is no borrow. Returns the last carry, and
+; `shown` in P0. Uses P0, P1. 182 cycles for 16 digits, 94 for 8.
 
 subtract: FIM P1, before
-	STC		; the lowest digit lends nothing
+	STC		; carry 1: no borrow at the lowest digit
 lend:	TCS
 	SRC P1
 	SBM

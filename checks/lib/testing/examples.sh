@@ -42,7 +42,7 @@ plant $calculator/calculator.asm 1 "LDM 2		; division by zero" "LDM 1		; divisio
 finds $calculator/board.toml $calculator/calculator.test "division by zero"
 # Behind several keys four scans are enough.
 plant $calculator/calculator.asm 1 "after_several = 11" "after_several = 12"
-finds $calculator/board.toml $calculator/calculator.test "nor is it around a press of two others"
+finds $calculator/board.toml $calculator/calculator.test "a press of 520 cycles after a press of two other keys is not accepted"
 # The count of wrong codes is not made anew by a right one.
 plant $lock/lock.asm 2 "LDM 13" "LD R12"
 finds $lock/board.toml $lock/lock.test "a right code between wrong ones counts them anew"
