@@ -1,20 +1,20 @@
-; A clock that begins at 12.00. Its four digits are lit by turns, each for
-; 2.5 milliseconds: a turn takes 926 cycles of 10.8 microseconds, so each of
-; them is lit a hundred times a second. The point blinks. While SET is down, a
-; minute passes in half a second.
+; A clock that starts at 12.00. The four digits share their segments: they are
+; lit one after the other, each for 2.5 milliseconds. Such a turn takes 926
+; cycles of 10.8 microseconds, a hundredth of a second. The point blinks.
+; While SET is down, a minute passes in half a second.
 test_is_1 = 9           ; conditions of JCN
 no_carry = 10
 not_zero = 12
         FIM P4, 0x12    ; R8 and R9: the hours
         FIM P5, 0x00    ; R10 and R11: the minutes
-        FIM P7, 0x88    ; a minute: 8 half seconds, and 7 times 16
-        FIM P0, 0xF0    ; where the segments stand
-again:  FIM P6, 0xCE    ; half a second: 2 turns, and 3 times 16
+        FIM P7, 0x88    ; a minute, 120 half seconds: 8, then 7 times 16
+        FIM P0, 0xF0    ; the table of segments
+again:  FIM P6, 0xCE    ; half a second, 50 turns: 2, then 3 times 16
 turn:   LD R8
         XCH R1
         LDM 1
         JMS show
-        LD R15          ; the point is lit in each second half second
+        LD R15          ; the point is lit every other half second
         RAR
         LDM 0
         RAR
@@ -23,7 +23,7 @@ turn:   LD R8
         XCH R1
         LDM 2
         JMS show
-        XCH R6          ; no point: a BBL 0 came last
+        XCH R6          ; no point: BBL 0 has made ACC 0
         LD R10
         XCH R1
         LDM 4
@@ -32,7 +32,7 @@ turn:   LD R8
         XCH R1
         LDM 8
         JMS show
-        NOP             ; the last two of the 926
+        NOP             ; the last two of the 926 cycles
         NOP
         ISZ R13, turn
         ISZ R12, turn
@@ -44,7 +44,7 @@ up:     ISZ R15, again
         JMS minute
         JUN again
 
-; Shows the digit in R1, with the point in R6, at the line in the accumulator.
+; Shows the digit R1 on the line in ACC; R6: 8 for a point, 0 for none.
 show:   XCH R7
         FIM P1, 0x00
         SRC P1
@@ -64,13 +64,13 @@ show:   XCH R7
         FIM P1, 0x00
         SRC P1
         LD R7
-        WMP             ; now this one is lit
+        WMP             ; now this digit is lit
         FIM P1, 0xA4
 wait:   ISZ R3, wait
         ISZ R2, wait
         BBL 0
 
-; A minute more; after 23.59 comes 00.00.
+; Adds a minute to the time; 23.59 becomes 00.00. Uses R8 to R11.
 minute: LD R11
         IAC
         DAA             ; 10 becomes 0 and a carry
@@ -81,7 +81,7 @@ minute: LD R11
         CLC
         SUB R10
         JCN not_zero, done
-        XCH R10         ; 60 minutes are an hour
+        XCH R10         ; 60 minutes: 0 minutes, and an hour more
         LD R9
         IAC
         DAA
@@ -97,7 +97,7 @@ minute: LD R11
         CLC
         SUB R9
         JCN not_zero, done
-        XCH R8          ; 24 hours are none
+        XCH R8          ; 24 hours: 0 hours
         LDM 0
         XCH R9
 done:   BBL 0

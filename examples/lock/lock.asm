@@ -1,22 +1,22 @@
-; A lock. Four digits and # open it for a second; * begins anew. The third wrong
-; code in a row raises the alarm for two seconds; meanwhile no key is looked at.
+; A lock. Four digits and # open it for a second; * clears the digits. The third
+; wrong code in a row raises the alarm for two seconds. No key is read meanwhile.
 ;
-; Index registers that are kept:
-;   R10  digits keyed, 5 where they are more than four
-;   R11  1 where one of them was wrong
-;   R12  13 and the wrong codes in a row
+; Index registers with one use:
+;   R10  the number of digits keyed; 5 if there are more than four
+;   R11  1 if one of these digits is wrong
+;   R12  13 + the number of wrong codes in a row
 zero    = 4             ; conditions of JCN
 nonzero = 12
 locked  = 1             ; lines of the RAM port: the lamps
 open    = 2
-alarm   = 5             ; alarm and locked
-star    = 10            ; keys that are no digit
+alarm   = 5             ; the lamps alarm and locked
+star    = 10            ; keys that are not digits
 hash    = 11
 
         JUN start
 
-        ORG 0x010       ; tables at multiples of 16: R1 or R5 counts through them
-code:   DB 4, 7, 1, 1, 15, 15   ; no fifth digit is right
+        ORG 0x010       ; tables start at multiples of 16: R1 or R5 is the index
+code:   DB 4, 7, 1, 1, 15, 15   ; 15 is not a key: a fifth digit is wrong
         ORG 0x020
 keys:   DB 1, 2, 3
         DB 4, 5, 6
@@ -27,7 +27,7 @@ start:  LDM 13
         XCH R12
 ready:  LDM locked
         JMS show
-anew:   FIM P5, 0       ; no digit yet, and none is wrong
+anew:   FIM P5, 0       ; no digits yet, none of them wrong
 digit:  JMS key
         LDM star
         CLC
@@ -40,7 +40,7 @@ digit:  JMS key
         FIM P0, code
         LD R10
         XCH R1
-        FIN P1          ; R3: the digit that is right here
+        FIN P1          ; R3: the right digit
         LD R3
         CLC
         SUB R8
@@ -76,16 +76,16 @@ wrong:  ISZ R12, ready
         JMS wait
         JUN ready
 
-; The lamps: ACC to the RAM port.
+; Writes ACC to the RAM port, the lamps. Uses P0.
 show:   FIM P0, 0
         SRC P0
         WMP
         BBL 0
 
-; Waits for 16 less ACC seconds, each of about 96,000 cycles of 10.8 microseconds.
+; Waits 16 - ACC seconds, each about 96,000 cycles of 10.8 microseconds.
 wait:   XCH R4
 second: FIM P0, 0
-        FIM P1, 0x05    ; R3: 11 turns of 8,738 cycles
+        FIM P1, 0x05    ; R3: from 5, 11 passes of 8,738 cycles
 turn:   ISZ R0, turn
         ISZ R1, turn
         ISZ R2, turn
@@ -93,8 +93,8 @@ turn:   ISZ R0, turn
         ISZ R4, second
         BBL 0
 
-; Waits for the next key: first all keys are up in five scans, then one is down
-; in five scans. It stands in R8 then. Several keys in a row are neither.
+; Waits until five scans in a row find no key, then until five find the same key.
+; Returns that key in R8. Ignores several keys in one row. Uses R0 to R9.
 key:    LDM 11
         XCH R9
 up:     JMS scan
@@ -120,19 +120,19 @@ same:   JMS scan
         ISZ R9, same
         BBL 0
 
-; Scan: a single 1 walks from row to row. R6: the key that is down, 15 where none
-; is, 14 where several in a row are.
+; Scans the keys: shifts a single 1 from row to row. Returns the key in R6: 15 for
+; none, 14 for several keys in one row. Uses R0 to R7.
 scan:   LDM 15
         XCH R6
-        FIM P2, keys    ; P2: the first key of the row
+        FIM P2, keys    ; P2: the table entry of the row's first key
         LDM 12
-        XCH R7          ; four rows
+        XCH R7          ; R7: from 12, four rows
         LDM 2           ; data is 1 for row 0
 row:    FIM P0, 0x00
         SRC P0          ; the port of ROM 0
-        WRR             ; data, and the clock is low
+        WRR             ; writes the data; the clock is low
         IAC
-        WRR             ; the clock goes up: all bits move on
+        WRR             ; the clock rises: the chain shifts
         FIM P0, 0x10
         SRC P0          ; the port of ROM 1
         RDR
@@ -152,7 +152,7 @@ row:    FIM P0, 0x00
         JUN found
 several: LDM 14
 found:  XCH R6
-next:   INC R5          ; the next row is three keys further
+next:   INC R5          ; the next row is three keys further on
         INC R5
         INC R5
         LDM 0           ; data is 0 for all other rows

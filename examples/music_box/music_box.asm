@@ -1,28 +1,28 @@
-; A melody for a buzzer at line 0 of ROM 0's port: once at the beginning, and
-; each time PLAY is pressed. A half of a wave takes 34 * (16 - R10) +
-; 2 * (16 - R11) - 17 cycles of 10.8 microseconds, so 0xD6 is 105 cycles: a' at
-; 441 Hz. All notes are right to 1 %.
+; Plays a melody on a buzzer at line 0 of ROM 0's port: once at the start, then
+; each time PLAY is pressed. Half a period of a note takes 34 * (16 - R10) +
+; 2 * (16 - R11) - 17 cycles of 10.8 microseconds. So 0xD6 is 105 cycles: a' at
+; 441 Hz. All notes are accurate to 1 %.
 test_is_1 = 9           ; conditions of JCN
 zero = 4
         FIM P7, 0x00
         SRC P7          ; the port of ROM 0
-start:  FIM P0, 0x60    ; where the melody stands
-note:   FIN P5          ; R10 and R11: how long a half of a wave is
+start:  FIM P0, 0x60    ; the address of the melody
+note:   FIN P5          ; R10 and R11: the length of half a period
         ISZ R1, ahead
         INC R0
-ahead:  FIN P3          ; R6 and R7: how many of them, up to 256
+ahead:  FIN P3          ; R6 and R7: 256 - the number of half periods
         ISZ R1, begin
         INC R0
 begin:  LD R10
         IAC
-        JCN zero, end   ; 0xF0 is the end
+        JCN zero, end   ; 0xF0 ends the melody
 half:   LD R10
-        JCN zero, rest  ; 0x00 is a rest, in which it is down
+        JCN zero, rest  ; 0x00 is a rest: the line stays 0
         LD R8
         CMA
 rest:   XCH R8
         LD R8
-        WRR             ; the buzzer goes up, or down
+        WRR             ; the line goes to 1, or to 0
         LD R10
         XCH R2
         LD R11
@@ -39,8 +39,8 @@ end:    LDM 0
 up:     JCN test_is_1, up
         JUN start
 
-; The melody: of each note its half wave, then 256 less the count of them. An
-; eighth lasts 0.2 seconds; a rest of 0x00, 0xFD parts two notes that are alike.
+; The melody. A note is two bytes: half its period, 256 - the number of half
+; periods. An eighth lasts 0.2 s. The rest 0x00, 0xFD separates equal notes.
         ORG 0x60
         DB 0xB4, 0x97, 0xC5, 0x7D, 0xD0, 0x62, 0xC5, 0x7D       ; c e g e
         DB 0xD6, 0x50, 0xD0, 0x62, 0xD0, 0x62, 0x00, 0xFD       ; a g

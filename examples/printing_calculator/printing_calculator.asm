@@ -1,66 +1,66 @@
-; A calculator that prints what is keyed and what comes. It adds, subtracts and
+; A calculator that prints the operands and the results. It adds, subtracts and
 ; multiplies whole numbers of eight digits, in the order keyed: 2 + 3 * 4 = is
-; 20. 00 is two zeros, C clears all; after a result that is too long the display
-; shows nine dashes, and all keys but C are dead.
+; 20. 00 is two zeros, C clears all. After a result that is too long the display
+; shows nine dashes, and all keys except C are ignored.
 ;
-; While no key has to be worked on, `turn` lights the nine digits, each for
-; 0.4 milliseconds, and looks at the keys meanwhile. In between it uses:
-;   R10, R11  what the turn before has found: no key (0), one (1) and its
-;             number, or several
-;   R12       so many turns more that find the same, up to 0
-;   R13, R14  1 where a key is taken that is still down, and its number
-; All other registers are free while a key is worked on; R15 is its code then.
+; Until a key is accepted, the loop `turn` lights the nine digits, each for 0.4
+; milliseconds, and reads the keys. From one turn to the next it keeps:
+;   R10, R11  what the last turn has found: R10 is 0 for no key, 1 for one key
+;             (R11 is its number), more for several
+;   R12       counts the turns that find the same, up to 0
+;   R13, R14  R13 is 1 while the accepted key is still down, R14 its number
+; All other registers are scratch. While a key is executed, R15 is its code.
 ;
-; Numbers are sixteen digits in a RAM register, the lowest one first; -1 is
-; 9999999999999999, so that sums need no sign.
+; A number is sixteen digits in the nibbles of a RAM register, the lowest first.
+; -1 is 9999999999999999, so additions need no sign.
 shown = 0x00            ; register 0: the number that is shown
-before = 0x10           ; register 1: the one before the operator
-picture = 0x27          ; register 2 from character 7 on: what the digits show
-product = 0x30          ; register 3: a product as it grows
-; Status of register 0: 0 is the operator that waits, or 0; 1 is 1 where the
-; next digit begins a number; 2 is 1 where a result was too long.
+before = 0x10           ; register 1: the left operand
+picture = 0x27          ; register 2 from nibble 7 on: the codes on the display
+product = 0x30          ; register 3: the product
+; Status nibbles of register 0. 0: the pending operator, 0 for none. 1: 1 if the
+; next digit starts a new number. 2: 1 after a result that is too long.
 
 zero = 4                ; conditions of JCN
 carry = 2
 no_carry = 10
 not_zero = 12
 
-; Codes of the printer. Those of digits are the digits; what is on the display
-; has the same codes, and `feed` where it is dark.
+; Codes of the printer; digits are their own codes. The display uses the same
+; codes, and `feed` for a dark digit.
 plus = 10
 minus = 11
 equals_sign = 13
 clear_sign = 14
 feed = 15
 
-        JMS show        ; 0
+        JMS show        ; shows 0
 
-; A turn of the display. The accumulator shifts a 1 into the chain for the first
-; digit, and 0 for the others. 379 cycles, while no key is down.
+; A turn lights each digit once and reads the keys. At `digit`, ACC has the data
+; of the chain: a 1 for the first digit, then 0. 379 cycles if no key is down.
 turn:   FIM P4, 0x00    ; R8, R9: no key found so far
         LDM 7
-        XCH R7          ; the first digit has its code in character 7
-        FIM P0, 0xF0    ; where the segments stand
+        XCH R7          ; R7: the nibble of the digit's code, 7 to 15
+        FIM P0, 0xF0    ; the table of segments
         LDM 2           ; data is 1
 digit:  XCH R6
         FIM P1, 0x20
         LD R7
         XCH R3
         SRC P1
-        RDM             ; what is to be seen here
+        RDM             ; the code of this digit
         XCH R1
         FIN P2          ; its segments
         FIM P1, 0x40
         SRC P1
         LDM 0
-        WMP             ; the digit before gets dark: segments e to g,
+        WMP             ; the previous digit goes dark: segments e to g,
         FIM P1, 0x00
         SRC P1
         WMP             ; and a to d
         LD R6
-        WRR             ; data, and the clock is low
+        WRR             ; writes the data; the clock is low
         IAC
-        WRR             ; the clock goes up: all lines move on
+        WRR             ; the clock rises: the chain shifts
         LD R5
         WMP             ; segments a to d,
         FIM P1, 0x40
@@ -69,10 +69,10 @@ digit:  XCH R6
         WMP             ; and e to g: this digit is lit
         FIM P1, 0x10
         SRC P1
-look:   RDR             ; the columns, where this line drives a row of keys
+look:   RDR             ; the columns, if this line drives a row of keys
         KBP
         JCN zero, next
-        INC R8          ; a row with a key
+        INC R8          ; counts the rows with a key
         XCH R15
         LD R15
         IAC
@@ -88,13 +88,13 @@ look:   RDR             ; the columns, where this line drives a row of keys
         DAC
         XCH R9
         JUN next
-several: INC R8         ; 15: more than one in this row
+several: INC R8         ; 15 from KBP: several keys in this row
 next:   LDM 0           ; data is 0 for all other digits
         ISZ R7, digit
 
-; A key counts once three turns have found it, so that none counts twice that
-; bounces. The one that was taken is not taken again before it was up, or
-; another one was; of two keys none is taken while both are down.
+; Debounce: a key is accepted when three turns in a row have found it alone. It
+; is not accepted again until all keys have been up or another key has been
+; accepted.
         LD R8
         CLC
         SUB R10
@@ -107,21 +107,21 @@ next:   LDM 0           ; data is 0 for all other digits
         LD R10
         JCN zero, up
         DAC
-        JCN not_zero, turn      ; several
+        JCN not_zero, turn      ; several keys are down
         LD R13
         JCN zero, taken
         LD R14
         CLC
         SUB R11
         JCN not_zero, taken
-        JUN turn        ; it is still down
+        JUN turn        ; the accepted key is still down
 up:     XCH R13
         JUN turn
 other:  LD R8
         XCH R10
         LD R9
         XCH R11
-        LDM 14          ; two turns more
+        LDM 14          ; from 14: two more turns
         XCH R12
         JUN turn
 
@@ -129,14 +129,14 @@ taken:  LDM 1
         XCH R13
         LD R11
         XCH R14
-        LDM 14          ; where the codes of keys stand
+        LDM 14          ; P0: 0xE0 + R11, in the table of key codes
         XCH R0
         LD R11
         XCH R1
         FIN P2
         LD R5
         XCH R15
-        FIM P1, 0x40    ; the display is dark meanwhile
+        FIM P1, 0x40    ; the display is dark until the next turn
         SRC P1
         LDM 0
         WMP
@@ -145,15 +145,15 @@ taken:  LDM 1
         WMP
         JUN act
 
-        ORG 0x0E0       ; the codes of keys, row by row; 15 is 00
+        ORG 0x0E0       ; the codes of the keys, row by row; 15 is key 00
         DB 7, 8, 9, 14, 4, 5, 6, 12, 1, 2, 3, 11, 0, 15, 13, 10
-        ORG 0x0F0       ; the segments of 0 to 9, and of the minus
+        ORG 0x0F0       ; the segments of codes 0 to 15: digits, minus (11)
         DB 0x3F, 0x06, 0x5B, 0x4F, 0x66, 0x6D, 0x7D, 0x07, 0x7F, 0x6F
         DB 0x00, 0x40, 0x00, 0x00, 0x00, 0x00
 
         ORG 0x100
 
-; What a key does. Register 0 is selected.
+; Executes the key with the code R15. Register 0 is selected.
 act:    RD2
         JCN zero, alive
         LDM clear_sign
@@ -171,7 +171,7 @@ alive:  LDM 6
         JCN carry, operator     ; 10 to 12
         IAC
         JCN zero, clear
-        XCH R15         ; 00: this and the next line make R15 0
+        XCH R15         ; 00: enters the digit 0 twice
         LDM 0
         XCH R15
         JMS enter
@@ -179,7 +179,7 @@ number: JMS enter
         JMS show
 dead:   JUN turn
 
-; An operator: the one that waits is done, unless it was keyed just before.
+; Operator key: first executes the pending operator, unless it was the last key.
 operator: JMS print
         FIM P0, shown
         SRC P0
@@ -202,10 +202,10 @@ waits:  LD R15
         JCN zero, dead
         LDM feed
         XCH R15
-        JMS print       ; nine dashes
+        JMS print       ; prints nine dashes
         JUN turn
 
-; The result has a line of its own.
+; = key: prints the right operand, then the result on a line of its own.
 equals: JMS print
         JMS compute
         JMS show
@@ -234,7 +234,7 @@ clear:  FIM P0, shown
         JMS send
         JUN turn
 
-; One more digit, R15, unless there are eight.
+; Appends the digit R15 to the number shown, unless that has eight. Uses P0, R6.
 enter:  FIM P0, shown
         SRC P0
         RD1
@@ -252,7 +252,7 @@ going:  FIM P0, 0x07
         JMS left
 full:   BBL 0
 
-; Prints what is on the display, the code in R15 behind it, and ends the line.
+; Prints the display, then the code R15, and ends the line. Uses P0, P1.
 print:  FIM P0, picture
 column: SRC P0
         RDM
@@ -265,25 +265,25 @@ dark:   ISZ R1, column
         JMS send
         LD R15
         IAC
-        JCN zero, full  ; that was the end of the line
+        JCN zero, full  ; R15 was `feed`: the line has ended
         LDM feed
 
-; Sends the accumulator to the printer.
+; Sends the code in ACC to the printer. Uses P1.
 send:   FIM P1, 0x80
         SRC P1
         WMP             ; the code first,
         FIM P1, 0x00
         SRC P1
         LDM 4
-        WRR             ; then the strobe goes up,
+        WRR             ; then the strobe rises,
         LDM 0
-        WRR             ; and down
+        WRR             ; and falls
         BBL 0
 
         ORG 0x200
 
-; The picture of the number that is shown: blanks, a minus or a blank, digits.
-; Where there are more than eight digits, it is nine dashes.
+; Writes the number shown into `picture`: dark digits, a minus if it is below 0,
+; its digits. If it has more than eight digits, writes nine dashes.
 show:   FIM P0, shown
         FIM P1, product
         JMS copy
@@ -306,7 +306,7 @@ high:   SRC P0
         FIM P1, 0x37    ; the highest digit
 lead:   SRC P0
         LDM feed
-        WRM             ; dark
+        WRM             ; a dark digit
         SRC P1
         RDM
         JCN not_zero, digits
@@ -315,10 +315,10 @@ lead:   SRC P0
         DAC
         XCH R3
         LD R3
-        JCN not_zero, lead      ; the lowest digit is shown where it is 0, too
+        JCN not_zero, lead      ; the lowest digit is shown even if it is 0
 digits: SRC P0
         LD R4
-        WRM             ; the minus
+        WRM             ; the minus, or dark
 each:   INC R1
         SRC P1
         RDM
@@ -340,28 +340,28 @@ dash:   SRC P0
         WR2
         BBL 0
 
-; The number shown becomes: number before, operator, number shown.
+; Computes `shown` = `before` operator `shown`, if an operator is pending.
 compute: FIM P0, shown
         FIM P1, before
         SRC P0
         RD0
-        JCN zero, done  ; none waits
+        JCN zero, done  ; none is pending
         XCH R4
         LDM 5
         CLC
         ADD R4
-        JCN no_carry, add_up       ; 10
-        JCN not_zero, times     ; 12
-        JMS negate      ; 11; P0 is as it was after it
+        JCN no_carry, add_up       ; 10: plus
+        JCN not_zero, times     ; 12: times
+        JMS negate      ; 11: minus; P0 does not change
         JUN add_up
 
-; Multiply: digit by digit from the highest one on, the product is moved up and
-; the number before is added as often as the digit says. 12,253 cycles at most.
+; Multiplies. For each digit of `shown`, the highest first: shifts the product
+; up, then adds `before` as often as the digit says. At most 12,253 cycles.
 times:  FIM P0, 0x0F
         SRC P0
         RDM
         JCN zero, factor
-        FIM P0, shown   ; where the right number is negative, both change sign
+        FIM P0, shown   ; if the right operand is negative, negates both
         JMS negate
         FIM P0, before
         JMS negate
@@ -379,7 +379,7 @@ place:  FIM P0, product
         SRC P1
         RDM
         CMA
-        IAC             ; 16 less the digit, or 0
+        IAC             ; 16 - digit, the start of R5; 0 for 0
         JCN zero, none
         XCH R5
 again:  FIM P0, product
@@ -393,8 +393,8 @@ none:   LD R7
         FIM P0, product
         FIM P1, shown
 
-; Copies the register P0 to the register P1. P0 and P1 are as they were, here
-; and below.
+; Copies the RAM register P0 to the RAM register P1. P0 and P1 keep their value,
+; in this routine and in those below.
 copy:   SRC P0
         RDM
         SRC P1
@@ -403,8 +403,8 @@ copy:   SRC P0
         ISZ R1, copy
 done:   BBL 0
 
-; Adds the register P1 to the register P0. DAA makes of a sum above 9 a digit
-; and a carry.
+; Adds the RAM register P1 to the RAM register P0. DAA turns a sum above 9 into
+; a digit and a carry.
 add_up: CLC
 sum:    SRC P1
         RDM
@@ -416,8 +416,8 @@ sum:    SRC P1
         ISZ R1, sum
         BBL 0
 
-; Takes the register P0 from 0. TCS gives 10, or 9 where the digit below has
-; borrowed; the carry is 1 where nothing was borrowed.
+; Negates the RAM register P0: 0 - P0. TCS gives 10, or 9 if the digit below has
+; borrowed. The carry is 1 if there is no borrow.
 negate: STC
 borrow: TCS
         SRC P0
@@ -428,7 +428,7 @@ borrow: TCS
         ISZ R1, borrow
         BBL 0
 
-; Moves the register P0 one digit up; R6 goes in as the lowest one.
+; Shifts the RAM register P0 up one digit. R6 becomes its lowest digit.
 left:   SRC P0
         RDM
         XCH R6
@@ -436,7 +436,7 @@ left:   SRC P0
         ISZ R1, left
         BBL 0
 
-; Makes the register P0 0. It is selected after it.
+; Clears the RAM register P0 and selects it.
 wipe:   LDM 0
 nought: SRC P0
         WRM

@@ -45,10 +45,10 @@ plant $calculator/calculator.asm 1 "after_several = 11" "after_several = 12"
 finds $calculator/board.toml $calculator/calculator.test "a press of 520 cycles after a press of two other keys is not accepted"
 # The count of wrong codes is not made anew by a right one.
 plant $lock/lock.asm 2 "LDM 13" "LD R12"
-finds $lock/board.toml $lock/lock.test "a right code between wrong ones counts them anew"
+finds $lock/board.toml $lock/lock.test "a right code resets the count of wrong codes"
 # Several keys in a row are no key, so a key that is held counts again.
 plant $lock/lock.asm 1 "several: LDM 14" "several: LDM 15"
-finds $lock/board.toml $lock/lock.test "it does, whatever its neighbour does"
+finds $lock/board.toml $lock/lock.test "a key that is held counts once even if its neighbour is pressed"
 # Pedestrians have two seconds.
 plant examples/traffic_light.txt 1 "FIM P7, 0xD0" "FIM P7, 0xE0"
 finds "$folder/planted" examples/traffic_light.test "the phases after amber"
