@@ -1,12 +1,12 @@
-; Four pictures on a matrix of lamps whose rows are lit by turns, each for
-; 1.1 milliseconds; NEXT brings the next one. All rows are dark while the
-; columns change, so that no row shows what another one has.
+; Shows one of four pictures on a matrix of lamps. Its rows are lit one by
+; one, each for 1.1 milliseconds. All rows are dark while the columns
+; change, so no row shows those of another. NEXT changes the picture.
 test_is_1 = 9           ; conditions of JCN
 no_carry = 10
 not_zero = 12
         FIM P0, 0xC0    ; the first picture
 frame:  LDM 0
-        XCH R1          ; from the highest row on
+        XCH R1          ; R1: the row, 0 at the top
         LDM 8
         XCH R14         ; rows 0 to 3 are at chip 2
 half:   LDM 1
@@ -36,14 +36,14 @@ wait:   ISZ R3, wait
         INC R1
         LD R6
         CLC
-        RAL             ; the next row; after four of them 0
+        RAL             ; the line of the next row; 0 after four rows
         XCH R6
         LD R6
         JCN not_zero, row
         LDM 12
         XCH R14         ; rows 4 to 7 are at chip 3
         LD R1
-        RAL             ; after eight rows a carry
+        RAL             ; carry 1 after eight rows
         JCN no_carry, half
         JCN test_is_1, up
         LD R8
@@ -53,14 +53,14 @@ wait:   ISZ R3, wait
         INC R0
         LD R0
         JCN not_zero, frame
-        LDM 12          ; after the last picture the first one
+        LDM 12          ; the last picture is followed by the first
         XCH R0
         JUN frame
 up:     LDM 0
         XCH R8
         JUN frame
 
-; The pictures, row by row, the highest bit at the left.
+; The pictures: a byte for each row, the highest bit at the left.
         ORG 0xC0        ; a heart
         DB 0x00, 0x66, 0xFF, 0xFF, 0x7E, 0x3C, 0x18, 0x00
         ORG 0xD0        ; a face

@@ -1,19 +1,19 @@
-; A row is two nibbles, the left half in R2 and the right half in R3; R4 and R5
-; are the row below it. P6 and P7 select the ports of both halves, in the bank of
-; R11. R6 is 0 while the lamps run to the left. R7 counts the rows: a place
-; lasts for 16 - R7 turns of 1,058 cycles of 10.8 microseconds, so 160 ms in the
-; lowest row and 80 ms in the highest one.
+; The game is described in board.toml. R2 is the left half of the current row, R3
+; its right half; R4 and R5 are the row below it. P6 and P7 select the ports of
+; the two halves, in bank R11. R6 is 0 while the lamps move left. R7 counts the
+; rows: a step of the lamps takes (16 - R7) * 1,058 cycles of 10.8 microseconds,
+; 160 ms in the lowest row and 80 ms in the highest.
 zero     = 4            ; conditions of JCN
 nonzero  = 12
 carry    = 2
 no_carry = 10
-is_down  = 1            ; TEST is 0, so DROP is down
+is_down  = 1            ; TEST is 0: DROP is down
 
 start:  LDM 0           ; all lamps dark
         JMS fill
         FIM P1, 0x07    ; three lamps at the right
-        FIM P2, 0xFF    ; the ground carries all
-        FIM P3, 0x02    ; to the left, 14 turns
+        FIM P2, 0xFF    ; the row below: the ground, so no lamp falls
+        FIM P3, 0x02    ; R6: to the left. R7: 2, the lowest row
         FIM P6, 0x80    ; the lowest row: chips 2 and 3 of bank 3
         FIM P7, 0xC0
         LDM 3
@@ -52,7 +52,7 @@ forth:  LDM 0
         XCH R6
         JUN left
 
-; What stands on a lamp of the row below stays.
+; DROP: a lamp stays on if the lamp below it is on.
 drop:   LD R2
         XCH R0
         LD R4
@@ -89,7 +89,7 @@ above:  LD R11                  ; in the bank above
         FIM P7, 0xC0
         JUN run
 
-; The row in which nothing stands blinks until DROP begins another game.
+; Lost: no lamp of the row stays on. The row blinks until DROP starts a new game.
 lost:   FIM P1, 0xFF
         JMS show
         JMS pause
@@ -101,14 +101,14 @@ lost:   FIM P1, 0xFF
 again:  JMS let_go
         JUN start
 
-; All lamps are lit until DROP begins another game.
+; Won: all lamps are on until DROP starts a new game.
 won:    LDM 15
         JMS fill
 glow:   JMS pause
         JCN zero, glow
         JUN again
 
-; Puts the row to its ports.
+; Writes the row, R2 and R3, to its ports.
 show:   LD R11
         DCL
         SRC P6
@@ -119,7 +119,7 @@ show:   LD R11
         WMP
         BBL 0
 
-; Waits for a place's time; 1 in the accumulator if DROP went down meanwhile.
+; Waits for one step; returns 0 in ACC, or 1 once DROP is down. Uses R8 to R10.
 pause:  LD R7
         XCH R10
         FIM P4, 0x00
@@ -130,17 +130,17 @@ look:   JCN is_down, pressed
         BBL 0
 pressed: BBL 1
 
-; Waits until DROP has been up for 11 ms without a break: it bounces.
+; Waits until DROP has been up for 11 ms without a bounce. Uses R8, R9.
 let_go: FIM P4, 0x00
 up:     JCN is_down, let_go
         ISZ R9, up
         ISZ R8, up
         BBL 0
 
-; In R8 the bits that R0 and the accumulator have both, from the left one on.
+; Returns R8 = ACC AND R0: four passes, the left bit first. Uses R0, R1, R8, R9.
 both:   XCH R1
         LDM 12
-        XCH R9                  ; four turns
+        XCH R9                  ; R9: from 12, four passes
 bit:    LD R0
         RAL
         XCH R0
@@ -159,7 +159,7 @@ known:  LD R8
         ISZ R9, bit
         BBL 0
 
-; Puts the accumulator to all ports.
+; Writes ACC to all RAM ports. Uses R0, R8 to R11.
 fill:   XCH R0
         FIM P4, 0x00            ; R8: chip 0
         FIM P5, 0x0C            ; R10: bank 0. R11: from 12, four banks
@@ -168,7 +168,7 @@ bank:   LD R10
 chip:   SRC P4
         LD R0
         WMP
-        LDM 4                   ; the next chip is four further
+        LDM 4                   ; R8: the next chip is four further on
         CLC
         ADD R8
         XCH R8

@@ -1,5 +1,5 @@
 ; A light runs over three lamps, from the right to the left.
-time  = 0x0C            ; how long each one is lit
+time  = 0x0C            ; counters: how long a lamp is lit
 zero  = 4               ; a condition of JCN
         FIM P0, 0
         SRC P0          ; the RAM chip
@@ -12,7 +12,7 @@ next:   LD R4
         CLC
         RAL             ; the next lamp
         XCH R4
-        LDM 8           ; past the last one?
+        LDM 8           ; past the last lamp?
         CLC
         SUB R4
         JCN zero, first
