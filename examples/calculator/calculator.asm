@@ -1,20 +1,20 @@
 ; A desk calculator for the 4004: eight digits, a decimal point and + - * /.
 ; It calculates in the order keyed: 2 + 3 * 4 = is 20. Its board: board.toml.
 ;
-; Two numbers are in the RAM chip. Each has a register: 16 nibbles (Intel calls
-; a nibble of RAM a character) and four status nibbles.
+; The RAM chip holds two numbers. Each has a register: 16 nibbles (Intel calls a
+; nibble of RAM a character) and four status nibbles.
 ;   register 0, `shown`    the number on the display
 ;   register 1, `before`   the left operand while an operator is pending; after
 ;                          =, the right operand, which a repeated = uses again
 ; Nibbles 0 to 7 hold the digits, the lowest digit in nibble 0. Nibbles 8 to 15
 ; are 0, except during a calculation. The status nibbles:
 ;   0  sign: 1 is minus    1  decimals: the number of digits after the point
-;   2  of `shown`: mode    0 a number is being keyed, 1 its decimals are,
+;   2  of `shown`: mode    0 keying a number, 1 keying its decimals,
 ;                          2 after an operator, 3 complete (after = ~ S)
 ;   3  of `shown`: error   0 none, 1 overflow, 2 division by zero
-;   2  of `before`: the operator, 0 for none     3  1 while it is pending
+;   2  of `before`: operator, 0 for none   3  of `before`: 1 while it is pending
 ;
-; The pair P0 is R0 and R1, P1 is R2 and R3, and so on. Registers with one use:
+; The pair P0 is R0 and R1, P1 is R2 and R3, and so on. Reserved registers:
 ;   R8 R9    the key of the last scan       R10 R11  the last accepted key
 ;   R12      counts equal scans
 ; The other registers are scratch. "Uses" lists the registers that a routine
@@ -63,13 +63,13 @@ clear:	FIM P0, before
 entry:	FIM P0, shown
 	JMS wipe
 
-; The routines of all keys return here: writes the display, then awaits a key.
+; All key routines end here. Writes the display, then waits for a key.
 
 ready:	JMS show
 
 ; Debounce. Contacts bounce for some milliseconds when a key goes down or up. A
-; reading is accepted only when four more scans have found the same; after a
-; scan that found several keys, five.
+; reading counts only if the next four scans find the same; after a scan that
+; found several keys, the next five.
 ; Uses R0 to R12, no RAM. If no other key changes, a key is accepted at most 935
 ; cycles after it goes down.
 
@@ -84,7 +84,7 @@ await:	JMS scan	; P1: the key that is down, 0 if none is
 	CLC
 	SUB R9
 	JCN zero, alike
-other:	LD R2		; not the key of the last scan: counts anew
+other:	LD R2		; not the key of the last scan: restarts the count
 	XCH R8
 	LD R3
 	XCH R9
@@ -190,7 +190,7 @@ complete: LDM 3
 ; S key: swaps the two numbers. Uses R0 to R7. 1,929 cycles.
 
 swap:	JMS exchange
-	JMS tidy	; it can still be as keyed: -0 or 1.50
+	JMS tidy	; that number can be as keyed: -0 or 1.50
 	JUN complete
 
 ; = key: executes the pending operator; `before` is its left operand. If none is
@@ -208,8 +208,8 @@ again:	JMS compute
 	JUN complete
 
 ; + - * / keys: execute the pending operator, then make this one pending. If the
-; last key was an operator, this one only replaces it. Use R0 to R7, R13 to R15.
-; 14,764 cycles.
+; last key was an operator, this one only replaces it.
+; Uses R0 to R7, R13 to R15. 14,764 cycles.
 
 plus:	LDM op_plus
 	JUN keyed
@@ -481,9 +481,9 @@ compute: FIM P1, before
 	RAL
 	JCN carry, multiply
 
-; Adds or subtracts. First aligns the points. If `shown` has fewer decimals than
-; `before`, it is shifted up. If it has k more, nibble k of `shown` aligns with
-; nibble 0 of `before`, and so on.
+; Adds or subtracts. First aligns the points. If `shown` has fewer decimals, it is
+; shifted up. If it has k more, nibble k of `shown` aligns with nibble 0 of
+; `before`, and so on.
 ; Uses R0 to R7, R13; nibbles 0 to 15 of both registers. 926 cycles to add,
 ; 1,096 to subtract.
 
@@ -494,7 +494,7 @@ align:	LD R4
 	JMS left
 	INC R4
 	JUN align
-aligned: XCH R1		; k
+aligned: XCH R1		; R1: k
 	LDM 0
 	XCH R0		; P0: nibble k of register 0
 	LD R13
@@ -642,7 +642,7 @@ tidy:	FIM P0, shown
 
 ; Normalizes register 0, a number with R4 decimals and sign R5. Drops the lowest
 ; digit while there are more than eight digits or seven decimals, or while it is
-; a zero after the point. More than eight digits without decimals: an overflow.
+; a zero after the point. More than eight digits without decimals overflow.
 ; Uses R0, R1, R4, R5, R6; all of register 0. 3,157 cycles after a product,
 ; otherwise 1,673.
 
@@ -709,10 +709,10 @@ sum:	SRC P1
 	ISZ R1, sum
 	BBL 0
 
-; Subtracts `before` in the same way. TCS gives 10, or 9 if the digit below has
-; borrowed. SBM subtracts the digit of `before`, and ADM adds that of register 0;
-; DAA then sets the carry if there is no borrow. Returns the last carry, and
-; `shown` in P0. Uses P0, P1. 182 cycles for 16 digits, 94 for 8.
+; Subtracts `before` from register 0 in the same way. TCS gives 10, or 9 if the
+; digit below has borrowed. SBM subtracts the digit of `before`, ADM adds that of
+; register 0; DAA then sets the carry if there is no borrow. Returns the last
+; carry, and `shown` in P0. Uses P0, P1. 182 cycles for 16 digits, 94 for 8.
 
 subtract: FIM P1, before
 	STC		; carry 1: no borrow at the lowest digit

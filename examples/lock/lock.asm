@@ -1,7 +1,7 @@
 ; A lock. Four digits and # open it for a second; * clears the digits. The third
 ; wrong code in a row raises the alarm for two seconds. No key is read meanwhile.
 ;
-; Index registers with one use:
+; Reserved index registers:
 ;   R10  the number of digits keyed; 5 if there are more than four
 ;   R11  1 if one of these digits is wrong
 ;   R12  13 + the number of wrong codes in a row
