@@ -481,8 +481,8 @@ compute: FIM P1, before
 	RAL
 	JCN carry, multiply
 
-; Adds or subtracts. First aligns the points. If `shown` has fewer decimals, it is
-; shifted up. If it has k more, nibble k of `shown` aligns with nibble 0 of
+; Adds or subtracts. First aligns the points. If `shown` has fewer decimals, it
+; is shifted up. If it has k more, nibble k of `shown` aligns with nibble 0 of
 ; `before`, and so on.
 ; Uses R0 to R7, R13; nibbles 0 to 15 of both registers. 926 cycles to add,
 ; 1,096 to subtract.
