@@ -1,19 +1,22 @@
-// The lines that begin texts, and the line that each answer belongs to: the table tools/lib/answers.txt, which describes its columns.
+// The form of the answer to each input line, and the lines that open a text. Both are read from the table tools/lib/answers.txt, whose head
+// explains the columns.
 
 import table from "#answer-table";
 
 /**
- * The meaning of the first word of a line: whether it begins a text, and whether it only asks; the form of the first line of its answer,
- * and of each further one (null if there is none); and how many those are, as the table writes it.
+ * An input line and its answer, by the first word of the line. `opensText`: a text follows the line. `isQuestion`: the line changes
+ * nothing. `first`: the form of the answer's first line. `further`: the form of its further lines, null if it has one line only. `count`:
+ * the number of further lines, in the spelling of the table.
  * @typedef {{ opensText: boolean, isQuestion: boolean, first: RegExp, further: RegExp | null, count: string }} Form
  */
 
 const COLUMNS = 5;
-/** Commands are answered so. */
+/** The beginning of the expression for the answer to a command. */
 const DONE = "^ok ";
 
 /**
- * @param {string} text a table
+ * Parses the table of answers; returns its rows by their first words.
+ * @param {string} text the table
  * @returns {Map<string, Form>}
  */
 export function readForms(text) {
@@ -24,11 +27,11 @@ export function readForms(text) {
   }]));
 }
 
-/** By the first word of a line. */
+/** The table of answers, by the first word of the input line. */
 export const FORMS = readForms(table);
 
 /**
- * Returns whether a word begins a line that only asks.
+ * Returns whether a word begins a query: a line that changes nothing.
  * @param {string} word
  */
 export function isQuestion(word) {
@@ -36,7 +39,7 @@ export function isQuestion(word) {
   return form !== undefined && form.isQuestion;
 }
 
-/** Each line of a listing. */
+/** The form of a line of a listing. */
 const LISTED = /** @type {RegExp} */ (/** @type {Form} */ (FORMS.get("list")).further);
 
 /**

@@ -1,4 +1,4 @@
-// A script of lines with its answers: which answer belongs to which input, and whether they are answers to this script at all.
+// Matches the answers of a session to the inputs of a script, and rejects answers that cannot belong to the script.
 
 import { FORMS } from "./answer_table.js";
 import { refusalOf } from "./answers.js";
@@ -8,10 +8,10 @@ import * as say from "../../words/bench.js";
 /**
  * @typedef {import("./inputs.js").Input} Input
  *
- * An input, its line number, and the first line of its answer, "" if it was not answered.
+ * An input, its line number from 1, and the first line of its answer ("" if it was not answered).
  * @typedef {{ input: Input, at: number, answer: string }} AnsweredInput
  *
- * The inputs of a script; or why these are not its answers, in words.
+ * The inputs of a script with their answers. `words` is a message if the answers do not belong to the script, otherwise "".
  * @typedef {{ inputs: AnsweredInput[], words: string }} AnsweredScript
  */
 
@@ -30,7 +30,8 @@ function canBegin({ kind, line }, answer) {
 }
 
 /**
- * Returns the number of lines in the answer to an input, including those that are missing if its first line counts them.
+ * Returns the number of lines in the complete answer to an input. If the first line states a count, lines that are missing at the end of
+ * `answers` are included.
  * @param {Input} input
  * @param {string[]} answers
  * @param {number} from
@@ -42,7 +43,7 @@ function wholeLength(input, answers, from) {
 }
 
 /**
- * Returns the first line of an answer that does not belong to it; -1 if all do.
+ * Returns the index of the first line of an answer that does not have the required form; -1 if all lines have it.
  * @param {Input} input
  * @param {string[]} answers
  * @param {number} from
@@ -55,15 +56,16 @@ function strangerIn(input, answers, from, end) {
   return -1;
 }
 
+/** Matches answers to inputs, one input after the other. */
 class Matching {
   /** @param {string[]} answers */
   constructor(answers) {
     this.answers = answers;
     this.commands = Number((OPENED.exec(answers[0]) || ["", "0"])[1]);
     this.at = 1;
-    /** Says why these are not the answers, in words. */
+    /** A message if the answers do not belong to the inputs, otherwise "". */
     this.words = "";
-    /** True if the answers end within one. */
+    /** True if the last answer is incomplete. */
     this.isCut = false;
   }
 
@@ -72,9 +74,9 @@ class Matching {
   }
 
   /**
-   * Returns the first line of the answer to an input, "" if it was not answered.
+   * Takes the answer to the next input. Returns its first line; "" if the input was not answered.
    * @param {Input} input
-   * @param {number} line
+   * @param {number} line the input's line number
    */
   take(input, line) {
     if (this.isOver) return "";
@@ -96,7 +98,7 @@ class Matching {
 }
 
 /**
- * Finds the answers to the inputs of a script. The counts in `ok N` rise by one from that in `session N` on.
+ * Finds the answers to the inputs of a script. The first answer is `session N`; each following `ok` must carry the next count.
  * @param {string} script
  * @param {string[]} answers
  * @returns {AnsweredScript}

@@ -1,4 +1,4 @@
-// Readers of answers.
+// Parsers for the answers of the bench.
 
 import { isListed } from "./answer_table.js";
 
@@ -12,7 +12,8 @@ import { isListed } from "./answer_table.js";
  * @typedef {{ chip: string, out: string, in: string }} RomPort
  * @typedef {{ sources: string[], roms: RomPort[], chains: string[], keys: string[] }} Ports
  * @typedef {{ address: number, line: string }} Listed
- * @typedef {{ line: number, address: number, size: number }} MappedLine a line of a program, its address, and its number of bytes
+ * @typedef {{ line: number, address: number, size: number }} MappedLine a line of a program: its number from 1, its address, and its
+ *   size in bytes
  * @typedef {{ lines: MappedLine[], names: { name: string, value: number }[] }} ProgramMap
  * @typedef {{ clock: string, data: string, chips: number }} Chain
  * @typedef {{ chain: number, first: number, rows: number, columns: string[] }} Matrix row r is driven by bit `first + r` of the chain
@@ -21,8 +22,8 @@ import { isListed } from "./answer_table.js";
  */
 
 /**
- * Returns the number of a refusal and the line that it names, 0 for none; null if an answer is not a refusal. After the line, `wiring`
- * names a part.
+ * Parses a refusal; returns its number and the line that it names (0 if it names none), or null for any other answer. A refusal of a
+ * board also names a part, which is ignored.
  * @param {string} answer
  * @returns {Refusal | null}
  */
@@ -32,7 +33,7 @@ export function refusalOf(answer) {
 }
 
 /**
- * Reads `ok 7 ran 100 end`: the cycles of a run and why it stopped; null if it is not the answer to a run.
+ * Parses the answer to a run, such as `ok 7 ran 100 end`. Returns its cycles and the word for why it ended; null for any other answer.
  * @param {string} answer
  * @returns {Run | null}
  */
@@ -42,7 +43,7 @@ export function readRun(answer) {
 }
 
 /**
- * Returns whether a command was not completed: it was rejected, or its run stopped early.
+ * Returns whether a command was rejected or its run stopped early.
  * @param {string} answer
  */
 export function isStop(answer) {
@@ -89,7 +90,7 @@ export function readRam(answers) {
 }
 
 /**
- * Returns the values of `breaks 000 003`, `watches 0.00`, `lamps **.`: all after the first word.
+ * Returns the words after the first word of an answer, such as `breaks 000 003`, `watches 0.00` or `lamps **.`; none for `-`.
  * @param {string} answer
  */
 export function readMarks(answer) {
@@ -98,7 +99,7 @@ export function readMarks(answer) {
 }
 
 /**
- * The characters of RAM that are watched, as places, `ram.0.0x3F`.
+ * Returns the watched RAM characters as places, such as `ram.0.0x3F`.
  * @param {string} answer to `watches`
  */
 export function watchedPlaces(answer) {
@@ -131,7 +132,7 @@ export function readListing(answers) {
 }
 
 /**
- * Returns the tables of a board as the bench writes its text: each value is written as JSON.
+ * Returns the tables of a board in the bench's spelling, in which each value is valid JSON.
  * @param {string[]} answers
  * @returns {Record<string, any>[]}
  */

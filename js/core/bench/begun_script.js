@@ -1,4 +1,4 @@
-// Finds out whether a session has begun with a script, and the part of the script that it lacks.
+// Checks whether a session started with a script, and counts the lines of the script that the session has already received.
 
 import { answeredScript } from "./answered_script.js";
 import { endOfInputs, opensText } from "./inputs.js";
@@ -10,21 +10,21 @@ import * as say from "../../words/bench.js";
  * @typedef {import("../engine/engine_host.js").EngineHost} EngineHost
  * @typedef {import("../engine/engine_host.js").State} State
  *
- * How many lines of a script a session has received; or why it did not begin with the script, in words, with the answers that differ: `<`
- * the session's, `>` those of the script.
+ * The number of lines of a script that a session has received. If the session did not start with the script, `words` is a message and
+ * `differing` lists answers that differ: `<` marks the session's, `>` the script's.
  * @typedef {{ lines: number, words: string, differing: string[] }} BegunScript
  */
 
 const BANKS = 8;
-/** Lines are served in pieces of this many characters, so that the user can interrupt. */
+/** Characters of lines that are served at once: between two pieces the user can interrupt. */
 const PIECE = 4096;
-/** The most differing lines that are shown. */
+/** The maximum number of differing lines that are shown. */
 const MOST_SHOWN = 4;
 /** The queries by which sessions are compared. */
 const QUESTIONS = `seq\nboard\nstate\n${upTo(BANKS).map((bank) => `ram ${bank}\n`).join("")}${listsOf(PAGES)}`;
 
 /**
- * Returns answers, with a line for each part of the state.
+ * Splits the answer to `state` into a line for each key and value; returns all answers.
  * @param {string[]} answers
  */
 function partsOf(answers) {
@@ -35,7 +35,8 @@ function partsOf(answers) {
 }
 
 /**
- * Returns the first answers that differ; if one session has more of them, those between the common beginning and the common end.
+ * Returns the first lines that differ, each after `<` or `>`. If one list is longer, returns the lines between the common prefix and the
+ * common suffix.
  * @param {string[]} own
  * @param {string[]} wanted
  */
@@ -53,7 +54,7 @@ export function differences(own, wanted) {
 }
 
 /**
- * Returns the number of lines up to the N-th accepted input; -1 if fewer are accepted.
+ * Returns the number of script lines up to and including the accepted input with this count; -1 if fewer inputs are accepted.
  * @param {import("./answered_script.js").AnsweredInput[]} inputs
  * @param {number} commands
  */
@@ -69,10 +70,10 @@ function linesUpTo(inputs, commands) {
 }
 
 /**
- * Serves lines on a new session, piece by piece; returns the state and the answers.
+ * Serves lines in a new session, piece by piece; returns the state and the answers.
  * @param {EngineHost} engine
  * @param {string} lines
- * @param {() => Promise<any>} yieldToMessages is called between the pieces
+ * @param {() => Promise<any>} yieldToMessages called after each piece
  */
 async function served(engine, lines, yieldToMessages) {
   const state = engine.begin();
@@ -88,11 +89,11 @@ async function served(engine, lines, yieldToMessages) {
 }
 
 /**
- * Compares a session with the script's result after the same number of commands.
+ * Compares a session with a new session that serves the script up to the same number of commands.
  * @param {EngineHost} engine
  * @param {State} state of the session
  * @param {string} script
- * @param {() => Promise<any>} yieldToMessages is called between pieces of long work
+ * @param {() => Promise<any>} yieldToMessages called after each piece of long work
  * @returns {Promise<BegunScript>}
  */
 export async function begunScript(engine, state, script, yieldToMessages) {

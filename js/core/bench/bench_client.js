@@ -11,29 +11,30 @@ import { WorkerDied, unpackFault } from "./faults.js";
  * @typedef {keyof Requests} CallName
  * @typedef {{ done: (result: any) => void, fail: (fault: Error) => void, progress: (done: number, total: number) => void }} Waiting
  *
- * The ways to cancel long work, and to receive its progress.
+ * Options of a request: a signal that cancels it, and a callback for its progress.
  * @typedef {{ signal?: AbortSignal, progress?: (done: number, total: number) => void }} Ways
  *
- * The calls of a worker that the page uses.
+ * The methods of a worker that the page uses.
  * @typedef {{ postMessage: (message: ToWorker, transfer: Transferable[]) => void, terminate: () => void,
  *   addEventListener: (kind: string, listen: (event: any) => void) => void }} WorkerLike
  *
- * The receiver of unsolicited messages: time at full speed, its end by an error, and a worker that died.
+ * The callbacks for messages without a request: a frame at full speed, an error that stopped full speed, and a dead worker.
  * @typedef {{ frame: (frame: Frame) => void, failed: (fault: Error) => void, died: () => void }} Listener
  */
 
 /**
- * The type of an object that makes the requests of some parts: each user declares the parts that it needs.
+ * The type of an object that makes the requests named in `Part`: a caller declares only the requests that it needs.
  * @template Part
  * @typedef {{ call<Name extends CallName & keyof Part>(call: Name, words: Parameters<Requests[Name]>, ways?: Ways):
  *   Promise<Awaited<ReturnType<Requests[Name]>>> }} Caller
  */
 
-/** The milliseconds between pings of a worker that still has to answer. */
+/** The milliseconds between pings of a worker with unanswered requests. */
 const WATCH_TIME = 1000;
-/** After this many checks without an answer the worker counts as dead. */
+/** The number of pings without an answer after which the worker counts as dead. */
 const SILENT_TIMES = 10;
 
+/** The page's end of the connection to the worker. */
 export class Bench {
   /**
    * @param {() => WorkerLike} makeWorker
@@ -52,18 +53,18 @@ export class Bench {
     this.worker = null;
     this.number = 0;
     this.silent = 0;
-    /** True if frames arrive without a request. */
+    /** True while the worker sends frames without a request, at full speed. */
     this.isRunning = false;
-    /** True if its worker may be silent for as long as it likes: a question to the prover is one piece. */
+    /** True if a silent worker never counts as dead: a request to the prover is one long piece of work. */
     this.isPatient = false;
     /** The size of a session file in bytes. */
     this.size = 0;
-    /** @type {ArrayBuffer[]} arrays that files arrived in, which go back with the next request */
+    /** @type {ArrayBuffer[]} buffers of received files, which return to the worker with the next request */
     this.spare = [];
     setInterval(() => this.watch(), WATCH_TIME);
   }
 
-  /** Starts a worker; it has the module when the promise resolves. */
+  /** Starts a worker. The promise resolves when the worker has loaded the module. */
   async start() {
     const worker = this.makeWorker();
     this.worker = worker;
@@ -77,10 +78,11 @@ export class Bench {
   }
 
   /**
+   * Sends a request; the promise resolves to its result.
    * @template {CallName} Name
    * @param {Name} call
    * @param {Parameters<Requests[Name]>} words
-   * @param {Ways} [ways] a call that serves lines reports its progress, and can be cancelled by a signal: then nothing of it is done
+   * @param {Ways} [ways] for a call that serves lines: a callback for its progress, and a signal that cancels it without any effect
    * @returns {Promise<Awaited<ReturnType<Requests[Name]>>>}
    */
   call(call, words, ways = {}) {
@@ -99,7 +101,7 @@ export class Bench {
     });
   }
 
-  /** The request that has waited longest, by its number. */
+  /** The number of the oldest request without a reply. */
   get oldest() {
     return this.waiting.keys().next().value;
   }
@@ -124,7 +126,7 @@ export class Bench {
       waiting.progress(message.done, message.total);
       return;
     }
-    // An early report may overtake the replies before it: then it waits for its own.
+    // An early result can overtake replies to older requests. It is then ignored, and the request waits for its own reply.
     if (message.kind === "early" && message.number !== this.oldest) return;
     this.waiting.delete(message.number);
     if (message.kind === "reply" && message.fault) waiting.fail(unpackFault(message.fault));
@@ -132,7 +134,7 @@ export class Bench {
   }
 
   /**
-   * Returns to the worker the array that a file arrived in: at once if frames arrive by themselves, otherwise with the next request.
+   * Returns the buffer of a received file to the worker: at once at full speed, otherwise with the next request.
    * @param {ArrayBuffer} buffer
    */
   giveBack(buffer) {
@@ -142,7 +144,7 @@ export class Bench {
   }
 
   /**
-   * A worker that does not react to the request to stop is terminated.
+   * Asks the worker to cancel a request. Ends the worker if it does not react.
    * @param {number} number
    */
   cancel(number) {
@@ -153,7 +155,7 @@ export class Bench {
     }, 2 * WATCH_TIME);
   }
 
-  /** Checks whether a worker that has requests is alive. The limit is counted in checks, not in time: a machine may sleep. */
+  /** Pings a worker that has unanswered requests. The limit counts pings, not time, because the machine can sleep. */
   watch() {
     if (this.isPatient || (this.waiting.size === 0 && !this.isRunning)) {
       this.silent = 0;
@@ -164,14 +166,14 @@ export class Bench {
     else this.send({ kind: "ping" });
   }
 
-  /** Handles a dead worker: its requests were not done. */
+  /** Ends a dead worker, rejects its requests, and reports the death to the listener. */
   die() {
     if (!this.worker) return;
     this.end();
     this.listener.died();
   }
 
-  /** The worker is ended, whatever it does. */
+  /** Terminates the worker and rejects its requests. */
   end() {
     if (!this.worker) return;
     this.worker.terminate();

@@ -1,5 +1,5 @@
-// The form of a board's text, defined once for the page: the keys of each part, their ranges, how many parts there can be, and the lines
-// that parts have. Only the bench decides whether a board is right; the unit test asks it at each limit.
+// The format of a board's text, defined once for the page: the keys of each part, their ranges, the maximum number of parts, and the lines
+// of each part. Only the bench decides whether a board is valid; a unit test compares each limit with the bench.
 
 import { upTo } from "./numbers.js";
 
@@ -7,38 +7,38 @@ import { upTo } from "./numbers.js";
  * @typedef {import("./answers.js").Board} Board
  * @typedef {"rom" | "ram" | "chain" | "keys" | "lamp"} Kind
  *
- * A line by its name: of a ROM's or a RAM chip's port, or a bit of a chain.
+ * A line of the board: of a ROM's port, of a RAM chip's port, or a bit of a chain.
  * @typedef {{ name: string, kind: "rom" | "ram" | "bit", isInput: boolean }} BoardLine
  */
 
 /**
- * The keys of each kind of part, in the bench's order.
+ * The TOML keys of each kind of part, in the bench's order.
  * @type {Record<string, string[]>}
  */
 export const KEYS = {
   rom: ["chip", "port"], ram: ["bank", "chips"], chain: ["clock", "data", "chips"], keys: ["chain", "first", "rows", "columns"],
   lamp: ["line"],
 };
-/** The kinds, in the bench's order. */
+/** The kinds of parts, in the bench's order. */
 export const KINDS = /** @type {Kind[]} */ (Object.keys(KEYS));
 
-/** @type {Record<string, { from: number, to: number }>} whole numbers, by part and key */
+/** @type {Record<string, { from: number, to: number }>} the first and the last value of each numeric key, by part and key */
 export const RANGES = {
   "rom.chip": { from: 0, to: 15 }, "ram.bank": { from: 0, to: 7 }, "ram.chips": { from: 1, to: 4 }, "chain.chips": { from: 1, to: 8 },
   "keys.chain": { from: 0, to: 3 }, "keys.first": { from: 0, to: 79 }, "keys.rows": { from: 1, to: 10 },
 };
 /**
- * The most parts of each kind on a board.
+ * The maximum number of parts of each kind on a board.
  * @type {Record<string, number>}
  */
 export const MOST = { rom: 16, ram: 8, chain: 4, lamp: 64 };
 export const MOST_COLUMNS = 8;
-/** The bits of a chain for each chip. */
+/** The number of bits in each chip of a chain (a 4003). */
 export const BITS = 10;
 const LINES_OF_PORT = upTo(4);
 
 /**
- * All lines of a board, ROMs first, then RAM, then chains.
+ * Returns all lines of a board: ROMs first, then RAM, then chains.
  * @param {Pick<Board, "roms" | "banks"> & { chains: { chips: number }[] }} board
  * @returns {BoardLine[]}
  */
@@ -59,7 +59,7 @@ export function linesOf({ roms, banks, chains }) {
   return lines;
 }
 
-/** The names of lines, of whatever board. */
+/** The names of all lines that a board can have. */
 export const LINE_NAMES = new Set(linesOf({
   roms: upTo(MOST.rom).map((chip) => ({ chip, port: "0000" })),
   banks: upTo(MOST.ram).map((bank) => ({ bank, chips: RANGES["ram.chips"].to })),

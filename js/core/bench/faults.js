@@ -1,8 +1,8 @@
-// The errors of a call of the bench, on both sides of the worker.
+// The errors that a call to the bench can throw, in the page and in the worker, and their form in messages between the two.
 
 import * as say from "../../words/bench.js";
 
-/** A call was answered by a refusal (`no NN`). */
+/** The bench answered a call with a refusal (`no NN`). */
 export class BenchRefusal extends Error {
   /** @param {number} number */
   constructor(number) {
@@ -11,10 +11,10 @@ export class BenchRefusal extends Error {
   }
 }
 
-/** The module stopped inside a call. It is restarted before this is thrown. */
+/** The WebAssembly module trapped during a call. It is restarted before this error is thrown. */
 export class BenchTrap extends Error {}
 
-/** A call was cancelled before it was done. */
+/** The user cancelled a call; it had no effect. */
 export class Cancelled extends Error {
   constructor() {
     super(say.IT_WAS_CANCELLED);
@@ -28,15 +28,16 @@ export class WorkerDied extends Error {
   }
 }
 
-/** There was no memory. */
+/** The number of the refusal for a failed allocation. */
 export const NO_MEMORY = 90;
 
 /**
- * An error as a message carries it.
+ * The form of an error in a message.
  * @typedef {{ kind: "refusal" | "trap" | "cancelled" | "other", words: string, number: number }} PackedFault
  */
 
 /**
+ * Converts an error to its form in a message.
  * @param {unknown} fault
  * @returns {PackedFault}
  */
@@ -48,6 +49,7 @@ export function packFault(fault) {
 }
 
 /**
+ * Returns the error that a message carries.
  * @param {PackedFault} packed
  * @returns {Error}
  */

@@ -1,33 +1,34 @@
-// Lines: the inputs among them, the places where they can be cut, and the input of each answer.
+// Splits lines into inputs, finds offsets at which lines can be cut, and matches answers to inputs.
 
 import { FORMS } from "./answer_table.js";
 import { LAST_ADDRESS, numberOf } from "./numbers.js";
 
-/** Longer lines are rejected whole. */
+/** The maximum length of a line; the bench rejects a longer line whole. */
 export const LONGEST_LINE = 255;
-/** The refusals of a line: it is too long, or a character of it is not accepted. */
+/** The numbers of refusals: a line is too long, or has a character outside ASCII. */
 export const LINE_TOO_LONG = 12;
 export const NOT_ASCII = 14;
-/** A character that no line of the bench has. */
+/** A character that the bench accepts in no line. */
 export const FOREIGN = /[^\t -~]/u;
-/** A question about a run (`trace`) names this many places at most. */
+/** The maximum number of places in a `trace` line. */
 export const MOST_PLACES = 16;
 const ONE_WORD = /^[ \t]*([a-z]+)[ \t]*$/;
 
 /**
- * A command or a question, with its first word, and the lines of its text.
+ * A command or a query: its line, the words of that line, the first word (`kind`), and the lines of the text that follows.
  * @typedef {{ line: string, words: string[], kind: string, text: string[] }} Input
  */
 
 /**
- * @param {string} whole a line, perhaps with a carriage return at its end
+ * Removes a carriage return at the end of a line.
+ * @param {string} whole
  */
 export function withoutReturn(whole) {
   return whole.endsWith("\r") ? whole.slice(0, -1) : whole;
 }
 
 /**
- * Returns whether a text up to a dot follows on a line.
+ * Returns whether a text follows a line, up to a line with a dot.
  * @param {string} line
  */
 export function opensText(line) {
@@ -37,18 +38,18 @@ export function opensText(line) {
 }
 
 /**
- * Returns whether a line is `seq` alone, whose answer is a count. After other lines its answer marks where theirs end.
+ * Returns whether a line is `seq`. Sent after other lines, its answer marks the end of their answers.
  * @param {string} line
  */
 export function isSeq(line) {
   return /^[ \t]*seq[ \t]*$/.test(line);
 }
 
-/** The answer to `seq`. */
+/** The form of the answer to `seq`. */
 export const COUNTED = /^seq \d+$/;
 
 /**
- * Returns the inputs among lines, each with the number of its line, from 1.
+ * Splits lines into inputs; returns each with its line number from 1.
  * @param {string} lines
  */
 export function readPlacedInputs(lines) {
@@ -74,7 +75,7 @@ export function readPlacedInputs(lines) {
 }
 
 /**
- * The inputs among lines.
+ * Splits lines into inputs.
  * @param {string} lines
  * @returns {Input[]}
  */
@@ -83,10 +84,10 @@ export function readInputs(lines) {
 }
 
 /**
- * Returns the place to cut lines: the end of the first input, from a place on, that makes at least the wanted number of characters.
+ * Returns the first offset at which an input ends and the piece from `from` has at least the wanted number of characters.
  * @param {string} lines
- * @param {number} from the index where an input begins
- * @param {number} least
+ * @param {number} from the offset at which an input begins
+ * @param {number} least the wanted number of characters
  */
 export function endOfInputs(lines, from, least) {
   let at = from;
@@ -102,7 +103,7 @@ export function endOfInputs(lines, from, least) {
 }
 
 /**
- * Returns the address after the bytes of a line of a listing.
+ * Returns the address after the bytes in a line of a listing.
  * @param {string} answer
  */
 function endOfListed(answer) {
@@ -110,7 +111,7 @@ function endOfListed(answer) {
 }
 
 /**
- * Returns whether a line continues the listing of the line before it. Addresses rise within one listing, up to the last one.
+ * Returns whether a line belongs to the same listing as the line before it. Addresses rise within a listing.
  * @param {string} before
  * @param {string} answer
  */
@@ -119,10 +120,10 @@ function goesOn(before, answer) {
 }
 
 /**
- * Returns how many lines the answer to an input has at most, by its first line and the column COUNT of the table.
+ * Returns the maximum number of lines in the answer to an input.
  * @param {Input} input
- * @param {string} first
- * @param {string} count
+ * @param {string} first the first line of the answer
+ * @param {string} count the column COUNT of the table of answers
  */
 export function mostLines(input, first, count) {
   if (count === "all") return Infinity;
@@ -132,9 +133,10 @@ export function mostLines(input, first, count) {
 }
 
 /**
+ * Returns the number of lines in the answer to an input.
  * @param {Input} input
  * @param {string[]} answers
- * @param {number} from
+ * @param {number} from the index of the answer's first line
  */
 export function answerLength(input, answers, from) {
   const form = FORMS.get(input.kind);
@@ -149,7 +151,7 @@ export function answerLength(input, answers, from) {
 }
 
 /**
- * Returns the answers that belong to each input, in the order of the inputs. Inputs that were not served have none.
+ * Returns the lines of the answer to each input, in the order of the inputs; none for an input that was not served.
  * @param {Input[]} inputs
  * @param {string[]} answers
  */
@@ -164,7 +166,7 @@ export function matchAnswers(inputs, answers) {
 }
 
 /**
- * Returns lines as a text, each with its end.
+ * Joins lines to a text; each ends with a line feed.
  * @param {string[]} lines
  */
 export function linesOf(lines) {

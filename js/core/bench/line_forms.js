@@ -1,5 +1,5 @@
-// The forms of lines that the bench reads: their words, and the numbers among them with their ranges. A line that matches no form is
-// rejected for one of its words, which `faultOfLine` names.
+// The grammar of the bench's lines: their words, and the ranges of their numbers. For a line that the bench rejects, `faultOfLine` names
+// the wrong word.
 
 import { FORMS } from "./answer_table.js";
 import { FOREIGN, LINE_TOO_LONG, LONGEST_LINE, MOST_PLACES, NOT_ASCII } from "./inputs.js";
@@ -8,10 +8,10 @@ import { mostAlike } from "../text/alike.js";
 import * as say from "../../words/lines.js";
 
 /**
- * The error of a line: the number of the refusal, and words that name the wrong word.
+ * The error in a line: the number of the refusal, and a message that names the wrong word.
  * @typedef {{ number: number, words: string }} LineFault
  *
- * The form of a place: the ranges of the numbers in its name begin with 0, and end with these; `value` is its largest value.
+ * A kind of place: the form of its name, the maximum of each number in the name (`most`), and the maximum of its value (`value`).
  * @typedef {{ form: RegExp, most: number[], value: number }} PlaceForm
  * @typedef {[number, number]} Range the first and the last number
  */
@@ -29,7 +29,7 @@ const MOST_LISTED = 256;
 
 /** @type {(most: number) => Range} */
 const upToMost = (most) => [0, most];
-/** @type {Record<string, Range[]>} the numbers after the first word */
+/** @type {Record<string, Range[]>} the ranges of the numbers after the first word */
 const NUMBERS = {
   press: [upToMost(BYTE), upToMost(BYTE)],
   release: [upToMost(BYTE), upToMost(BYTE)],
@@ -45,26 +45,27 @@ const NUMBERS = {
 };
 const NUMERAL = "(0x[0-9a-fA-F]+|[0-9]+)";
 
-/** @type {(form: string, most: number[], value?: number) => PlaceForm} `N` in a form is a number */
+/** @type {(form: string, most: number[], value?: number) => PlaceForm} `N` in the form is a number */
 const place = (form, most, value = 0) => ({ form: new RegExp(`^${form.replace(/\./g, "\\.").replace(/N/g, NUMERAL)}$`), most, value });
-/** Places of `poke`, and of `trace`. */
+/** The places that `poke` and `trace` accept. */
 const PLACES = [
   place("acc", [], NIBBLE), place("cy", [], BIT), place("pc", [], ADDRESS), place("dcl", [], BANK), place("rN", [NIBBLE], NIBBLE),
   place("rom.N", [ADDRESS], BYTE), place("ram.N.N", [BANK, BYTE], NIBBLE), place("st.N.N.N", [BANK, NIBBLE, 3], NIBBLE),
 ];
-/** Places that only `trace` has. */
+/** The places that only `trace` accepts. */
 const SEEN_PLACES = [
   place("lamps", []), place("ret", []), place("src", []), place("romN", [NIBBLE]), place("ramN.N", [BANK, 3]), place("chainN", [3]),
   place("romN.N", [NIBBLE, 3]), place("ramN.N.N", [BANK, 3, 3]), place("chainN.N", [3, 79]),
 ];
-/** The names of places that complete a line; those that end in a dot continue. */
+/** The names of places for completion and for suggestions. A name that ends in a dot is incomplete. */
 export const POKED = ["acc", "cy", "pc", "dcl", ...upTo(16).map((at) => `r${at}`), "rom.", "ram.", "st."];
 export const TRACED = [...POKED, "lamps", "ret", "src"];
 
-/** @type {(word: string) => number} a numeral of the bench; NaN for another word */
+/** @type {(word: string) => number} returns the value of a numeral; NaN for any other word */
 const numeral = (word) => (new RegExp(`^${NUMERAL}$`).test(word) ? Number(word) : NaN);
 
 /**
+ * Returns the error if a word is not a number in the range, otherwise null.
  * @param {string} word
  * @param {Range} range
  * @returns {LineFault | null}
@@ -75,7 +76,7 @@ function faultOfNumber(word, [first, last]) {
 }
 
 /**
- * Returns the form of a place; null if there is none.
+ * Returns the kind of the place that a word names; null if it names none.
  * @param {string} word
  * @param {PlaceForm[]} places
  */
@@ -84,7 +85,7 @@ function formOf(word, places) {
 }
 
 /**
- * Returns whether the numbers in the name of a place are in their ranges.
+ * Returns whether the numbers in a place's name are in their ranges.
  * @param {string} word
  * @param {PlaceForm} found
  */
@@ -99,7 +100,8 @@ const noPlace = (word, names) => ({ number: NOT_A_COMMAND, words: say.noPlace(wo
 const noSuchPlace = (word) => ({ number: BAD_NUMBER, words: say.noSuchPlace(word) });
 
 /**
- * @param {string} word
+ * Returns the error in the words after `poke`; null if there is none.
+ * @param {string} word the place
  * @param {string} value
  */
 function faultOfPoke(word, value) {
@@ -109,7 +111,8 @@ function faultOfPoke(word, value) {
 }
 
 /**
- * @param {string} count
+ * Returns the error in the words after `trace`; null if there is none.
+ * @param {string} count the cycles
  * @param {string[]} places
  */
 function faultOfTrace(count, places) {
@@ -122,6 +125,7 @@ function faultOfTrace(count, places) {
 }
 
 /**
+ * Returns the error in the words of a line; null if there is none.
  * @param {string[]} words
  * @returns {LineFault | null}
  */
@@ -138,7 +142,7 @@ function faultOfWords([first, ...words]) {
 }
 
 /**
- * The first character that no line can have; "" for none.
+ * Returns the first character of a line that the bench accepts in no line; "" if there is none.
  * @param {string} line
  */
 export function foreignIn(line) {
@@ -146,8 +150,8 @@ export function foreignIn(line) {
 }
 
 /**
- * Returns why the bench cannot read a line; null if it can. Whether the line can be carried out is another question.
- * @param {string} line without its end
+ * Returns the error in a line's syntax; null if it is correct. The bench can still reject the line, for example on another board.
+ * @param {string} line without a line feed
  * @returns {LineFault | null}
  */
 export function faultOfLine(line) {

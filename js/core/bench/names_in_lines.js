@@ -1,4 +1,5 @@
-// `@NAME` in lines is replaced by the value of a name of the program, and `set PLACE = VALUE` by the lines that set it; not inside texts.
+// Replaces names in lines: `@NAME` by the value of that name in the program, and `set PLACE = VALUE` by the lines that set the place.
+// Leaves the texts inside the lines unchanged.
 
 import { readSetting } from "../conditions/setting.js";
 import { opensText, withoutReturn } from "./inputs.js";
@@ -9,7 +10,7 @@ import { inColumn } from "../../words/conditions.js";
 /**
  * @typedef {import("../machine/source_map.js").SourceMap} SourceMap
  *
- * The lines with numbers in place of names; or an error message, and its line, 0 for none.
+ * The lines after the replacement. If a name is wrong, `words` is the first error message and `line` its line number; otherwise "" and 0.
  * @typedef {{ lines: string, words: string, line: number }} Put
  */
 
@@ -17,8 +18,9 @@ const NAME = /(^|[ \t])@([^ \t]*)/g;
 const SET = /^\s*set(?!\S)(.*)$/;
 
 /**
+ * Replaces the names in lines.
  * @param {string} lines
- * @param {SourceMap | null} map the program in ROM
+ * @param {SourceMap | null} map of the program in ROM; null if its names are unknown
  * @returns {Put}
  */
 export function putNames(lines, map) {

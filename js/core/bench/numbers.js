@@ -1,18 +1,18 @@
-// Numbers in the spelling of lines and answers.
+// Conversion of numbers to and from text.
 
 export const LAST_ADDRESS = 4095;
 
 /**
- * Returns a number in upper-case hexadecimal digits, at least this many.
+ * Returns a number in upper-case hexadecimal, padded with zeros.
  * @param {number} number
- * @param {number} digits
+ * @param {number} digits the minimum number of digits
  */
 export function hex(number, digits) {
   return number.toString(16).toUpperCase().padStart(digits, "0");
 }
 
 /**
- * Returns the number that a word of a line means, `12` or `0x0C`; NaN if it is no number.
+ * Parses a decimal or hexadecimal word, such as `12` or `0x0C`; returns NaN for any other word.
  * @param {string} word
  */
 export function numberOf(word) {
@@ -20,9 +20,9 @@ export function numberOf(word) {
 }
 
 /**
- * Returns the count that is written, perhaps with commas; 0 if it is not from 1 to the maximum.
+ * Parses a count, which can contain commas; returns 0 if it is not from 1 to the maximum.
  * @param {string} text
- * @param {number} most
+ * @param {number} most the maximum
  */
 export function countOf(text, most) {
   const plain = text.trim().replace(/,/g, "");
@@ -31,11 +31,11 @@ export function countOf(text, most) {
 }
 
 /**
- * A number with one digit after the point, rounded as `printf` of C does: halfway between two, to the even one.
+ * Formats a number with one decimal digit. A number halfway between two is rounded to the even digit, as `printf` does in C.
  * @param {number} value not negative
  */
 export function withTenths(value) {
-  // Only quarters are halfway in binary.
+  // Only odd multiples of 1/4 are exactly halfway in binary.
   if ((value * 4) % 2 !== 1) return value.toFixed(1);
   const lower = Math.floor(value * 10);
   return ((lower + (lower % 2)) / 10).toFixed(1);
@@ -44,15 +44,15 @@ export function withTenths(value) {
 /**
  * Returns a count with its noun: `1 line`, `1,543 cycles`.
  * @param {number} count
- * @param {string} one
- * @param {string} [several]
+ * @param {string} one the singular
+ * @param {string} [several] the plural
  */
 export function counted(count, one, several = `${one}s`) {
   return `${count.toLocaleString("en")} ${count === 1 ? one : several}`;
 }
 
 /**
- * 0, 1, .. up to a number, which does not belong to it.
+ * Returns the numbers from 0 to `count` - 1.
  * @param {number} count
  */
 export function upTo(count) {

@@ -1,5 +1,5 @@
-// Work in a worker of its own, so that the session that is shown continues meanwhile. The worker exists only during the work; stopping the
-// work ends it at once.
+// Runs long work in a separate worker, so that the worker of the session stays free. The separate worker exists only during the work;
+// stopping the work ends that worker at once.
 
 import { WorkerDied } from "./faults.js";
 
@@ -7,14 +7,15 @@ import { WorkerDied } from "./faults.js";
  * @typedef {import("./bench_client.js").Bench} Bench
  * @typedef {import("../testing/prepared.js").TextFault} TextFault
  *
- * The errors of the texts, which prevented the work; and whether it was stopped before its end.
+ * The end of the work: errors in the texts, which prevented the work, and whether the user stopped it.
  * @typedef {{ faults: TextFault[], isStopped: boolean }} Ended
  */
 
+/** A worker for one kind of long work. */
 export class OwnWorker {
   /**
    * @param {() => Bench} makeBench
-   * @param {boolean} isPatient whether the worker may be silent for as long as it likes
+   * @param {boolean} isPatient true if a silent worker never counts as dead
    */
   constructor(makeBench, isPatient) {
     this.makeBench = makeBench;
@@ -23,6 +24,7 @@ export class OwnWorker {
     this.made = null;
   }
 
+  /** The connection to the worker, made on first use. */
   get bench() {
     if (!this.made) {
       this.made = this.makeBench();
@@ -32,8 +34,8 @@ export class OwnWorker {
   }
 
   /**
-   * Starts the worker for some work.
-   * @param {AbortSignal} signal stops it
+   * Starts the worker, runs the work in it, and ends it.
+   * @param {AbortSignal} signal ends the worker at once
    * @param {(bench: Bench) => Promise<TextFault[]>} work
    * @returns {Promise<Ended>}
    */

@@ -1,4 +1,4 @@
-// The positions of a board's parts in its text: `rom 1`, `ram 0` (a bank), `chain 0`, `keys`, `lamp 3`.
+// Finds the parts of a board in its text, as ranges of lines. Parts are named `rom 1`, `ram 0` (a bank), `chain 0`, `keys` and `lamp 3`.
 
 import { readBoardText } from "../text/board_reader.js";
 
@@ -8,16 +8,16 @@ import { readBoardText } from "../text/board_reader.js";
  */
 
 /**
- * The key whose value numbers a part; parts of another kind are counted.
+ * The TOML key whose value is the part's number, by the kind of part. The other kinds are numbered in order.
  * @type {Record<string, string>}
  */
 const NUMBERED = { rom: "chip", ram: "bank" };
 const COUNTED = ["chain", "lamp"];
 
 /**
- * Returns the name of a part; "" if it has none.
+ * Returns the name of a part, such as `rom 1`; "" for a table without a name.
  * @param {Entry} entry
- * @param {Record<string, number>} counts how many parts of each counted kind there were before
+ * @param {Record<string, number>} counts the parts so far of each kind that is numbered in order; updated
  */
 function nameOf({ table, keys }, counts) {
   const kind = table.replace(/[[\]]/g, "");
@@ -32,7 +32,7 @@ function nameOf({ table, keys }, counts) {
 }
 
 /**
- * Returns the lines of each part of a board's text; a text that is not finished has fewer.
+ * Returns the range of lines of each part in a board's text. A part that is not finished can be missing.
  * @param {string} text
  * @returns {Map<string, Lines>}
  */
@@ -50,7 +50,7 @@ export function partLines(text) {
 }
 
 /**
- * Returns the first part that a line of the text belongs to; "" if it belongs to none.
+ * Returns the name of the first part that contains a line of the text; "" if no part contains it.
  * @param {Map<string, Lines>} parts
  * @param {number} line
  */

@@ -5,15 +5,15 @@ import { LAST_ADDRESS, hex, upTo } from "./numbers.js";
 
 export const ADDRESSES = LAST_ADDRESS + 1;
 export const PAGE_BYTES = 256;
-/** The numbers of all ROMs. */
+/** The numbers of all pages: a ROM chip has one page of 256 bytes. */
 export const PAGES = upTo(ADDRESSES / PAGE_BYTES);
-/** The most lines that `list` reports. */
+/** The maximum number of lines in the answer to `list`. */
 export const MOST_LISTED = 256;
-/** The value of an address without a byte in any line. */
+/** The value for an address that no line lists. */
 export const NONE = -1;
 
 /**
- * The questions for the bytes of ROMs.
+ * Returns the queries for the bytes of ROM pages.
  * @param {number[]} pages
  */
 export function listsOf(pages) {
@@ -21,7 +21,7 @@ export function listsOf(pages) {
 }
 
 /**
- * The bytes that lists report, by their addresses.
+ * Returns the bytes in the answers to `list`, by address; `NONE` for an address that no line lists.
  * @param {string[]} answers
  */
 export function bytesOf(answers) {

@@ -1,5 +1,5 @@
-// ROM images as S-records and BNPF, the format in which Intel took the masks of 4001s; and the format of an image by its first bytes and
-// its name.
+// Reads ROM images in S-records and in BNPF, the format in which customers sent 4001 masks to Intel. Writes BNPF. Detects the format of an
+// image from its first bytes and its name.
 
 import { hex } from "./numbers.js";
 import { ImageBytes, NotARecord, NotAnImage, readLines } from "./rom_image.js";
@@ -9,12 +9,12 @@ import * as say from "../../words/bench.js";
 
 // --- S-records ---
 
-/** The bytes of an address, by the type of a record of data. */
+/** The number of address bytes, by the type of a data record. */
 const ADDRESS_SIZES = new Map([["1", 2], ["2", 3], ["3", 4]]);
 const LAST_TYPES = ["7", "8", "9"];
 
 /**
- * Takes a record; returns whether it is the last one.
+ * Puts the bytes of a record into the image; returns whether it is the last record.
  * @param {string} record
  * @param {ImageBytes} image
  */
@@ -33,7 +33,7 @@ function takeSRecord(record, image) {
 }
 
 /**
- * Returns the bytes of an image in S-records.
+ * Parses S-records; returns the bytes of the image. Throws `NotAnImage` for an error.
  * @param {string} text
  * @param {number} [offset] is added to each address
  */
@@ -54,11 +54,11 @@ export function readSRecords(text, offset = 0) {
 // --- BNPF ---
 
 const WORD_LENGTH = 9;
-/** The rest of a line after the `B` of a word: three of its letters, or the end of the line after fewer. */
+/** The text after the `B` of a word: three letters of the word, or the end of the line after fewer. */
 const AFTER_B = /[ \t]*(?:[NP][ \t]*[NP][ \t]*[NP]|(?:[NP][ \t]*)?(?:[NP][ \t]*)?$)/iy;
 
 /**
- * Returns whether a word begins at a `B`. In a remark, such as `BNPF` itself, none does.
+ * Returns whether a word begins at a `B`; false for a `B` in a comment, such as the word `BNPF`.
  * @param {string} line
  * @param {number} at
  */
@@ -69,8 +69,8 @@ function beginsWord(line, at) {
 }
 
 /**
- * Returns the bytes of a BNPF image. A word is `B`, eight of `P` (1) and `N` (0), the highest bit first, and `F`; it may continue on the
- * next line. Anything between words is ignored.
+ * Parses BNPF; returns the bytes of the image. A word is `B`, eight letters `P` (1) or `N` (0), the highest bit first, and `F`. A word can
+ * continue on the next line. Anything between words is ignored.
  * @param {string} text
  * @param {number} [from] the address of the first word
  */
@@ -105,13 +105,13 @@ function wordOf(byte) {
   return `B${byte.toString(2).padStart(8, "0").replace(/1/g, "P").replace(/0/g, "N")}F`;
 }
 
-/** The words on a line. */
+/** The number of words on a written line. */
 const WORDS_OF_LINE = 4;
 
 /**
- * Returns bytes as BNPF; the address of the first word of a line is a remark before it.
- * @param {Int16Array} bytes of a range, by their addresses
- * @param {number} from
+ * Writes a range of bytes as BNPF. Each line starts with the address of its first word, as a comment.
+ * @param {Int16Array} bytes by address
+ * @param {number} from the first address
  * @param {number} count
  */
 export function bnpfOf(bytes, from, count) {
@@ -123,14 +123,14 @@ export function bnpfOf(bytes, from, count) {
   return text;
 }
 
-// --- the form of an image ---
+// --- The format of an image ---
 
 /** @type {(bytes: Uint8Array, is: (byte: number) => boolean) => boolean} */
 const hasOnly = (bytes, is) => bytes.every(is);
 const isOfText = (/** @type {number} */ byte) => byte === 9 || byte === 10 || byte === 13 || (byte >= 32 && byte < 127);
 
 /**
- * Returns whether bytes are a text: lines of ASCII, or of UTF-8.
+ * Returns whether bytes are a text in ASCII or UTF-8. UTF-8 counts only with a line feed.
  * @param {Uint8Array} bytes
  */
 function isText(bytes) {
@@ -146,7 +146,7 @@ function isText(bytes) {
 }
 
 /**
- * Returns the form of an image by its first bytes and its name; null for a text in none of the forms.
+ * Returns the format of an image, from its name and its first bytes; null for a text in an unknown format.
  * @param {string} name
  * @param {Uint8Array} bytes
  * @returns {ImageForm | null}

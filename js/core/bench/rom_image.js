@@ -1,27 +1,28 @@
-// Images of ROM in files: raw bytes, and Intel HEX. (S-records and BNPF: rom_formats.js.)
+// Reads ROM images in raw bytes and in Intel HEX, and writes Intel HEX. (S-records and BNPF: rom_formats.js.)
 
 import { ADDRESSES, NONE } from "./rom_bytes.js";
 import { hex } from "./numbers.js";
 import * as say from "../../words/bench.js";
 
-/** Says why bytes are not an image, in words. */
+/** The error for bytes that are not an image. */
 export class NotAnImage extends Error {}
 
-/** A line is no record: the file may be of another form. */
+/** The error for a line that is not a record: the file can be in another format. */
 export class NotARecord extends NotAnImage {}
 
-/** The bytes in a record that is written. */
+/** The maximum number of data bytes in a written record. */
 const BYTES_OF_RECORD = 16;
+/** The record types for data, and for the end of the file. */
 const DATA = 0;
 const LAST = 1;
-/** The record types for segments and upper halves of addresses: for a 4004 they are 0. */
+/** The record types for segments and upper address halves; their values must be 0 for a 4004. */
 const BASES = [2, 4];
-/** The record types for a program's start, as linkers write them: the 4004 begins at 000. */
+/** The record types for a program's start address, as linkers write them. They are ignored: the 4004 starts at 000. */
 const STARTS = [3, 5];
 
-/** The bytes of an image, as they are read. */
+/** The bytes of an image that is being read. */
 export class ImageBytes {
-  /** @param {number} offset is added to each address */
+  /** @param {number} offset added to each address */
   constructor(offset) {
     this.offset = offset;
     this.bytes = new Int16Array(ADDRESSES).fill(NONE);
@@ -32,7 +33,7 @@ export class ImageBytes {
   }
 
   /**
-   * Puts bytes from an address on, unless bytes are there already.
+   * Stores bytes from an address on. Throws `NotAnImage` for an address outside ROM or one that already has a byte.
    * @param {number} address
    * @param {ArrayLike<number>} data
    */
@@ -47,9 +48,9 @@ export class ImageBytes {
 }
 
 /**
- * Returns the bytes of a raw image.
+ * Returns the bytes of a raw image, by address. Throws `NotAnImage` if the file is empty or too long.
  * @param {Uint8Array} file
- * @param {number} [from] the address of the first one
+ * @param {number} [from] the address of the first byte
  */
 export function readBytes(file, from = 0) {
   if (file.length === 0) throw new NotAnImage(say.NO_BYTE);
@@ -63,7 +64,7 @@ export function readBytes(file, from = 0) {
 }
 
 /**
- * Reads a text line by line; an error gets the number of its line.
+ * Reads a text line by line; adds the line number to the message of a `NotAnImage` error.
  * @param {string} text
  * @param {(line: string) => void} read
  */
@@ -79,7 +80,7 @@ export function readLines(text, read) {
 }
 
 /**
- * A record: its address, its type, and its bytes.
+ * Parses a record of Intel HEX. Throws `NotARecord`, or `NotAnImage` for a wrong checksum.
  * @param {string} text
  * @returns {{ address: number, type: number, data: number[] }}
  */
@@ -96,12 +97,12 @@ function readRecord(text) {
   return { address: high * 256 + low, type, data: bytes.slice(4, -1) };
 }
 
-/** The size of a record by its type, if it is fixed. */
+/** The number of data bytes in a record, for the types that fix it. */
 const SIZES = new Map([[LAST, 0], ...BASES.map((type) => /** @type {[number, number]} */ ([type, 2])),
   ...STARTS.map((type) => /** @type {[number, number]} */ ([type, 4]))]);
 
 /**
- * Executes a record: puts its bytes, or does nothing; rejects any other type.
+ * Stores the bytes of a data record, and checks a record of another known type. Throws `NotAnImage` for an error.
  * @param {{ address: number, type: number, data: number[] }} record
  * @param {ImageBytes} image
  */
@@ -114,7 +115,7 @@ function takeRecord({ address, type, data }, image) {
 }
 
 /**
- * The bytes of an image in Intel HEX.
+ * Parses Intel HEX; returns the bytes of the image. Throws `NotAnImage` for an error.
  * @param {string} text
  * @param {number} [offset] is added to each address
  */
@@ -135,7 +136,7 @@ export function readHex(text, offset = 0) {
 }
 
 /**
- * A record of bytes.
+ * Writes a record of Intel HEX.
  * @param {number} address
  * @param {number} type
  * @param {number[]} data
@@ -147,7 +148,7 @@ function recordOf(address, type, data) {
 }
 
 /**
- * Returns bytes as Intel HEX, without gaps; a record has at most 16 bytes, and none spans a gap.
+ * Writes bytes as Intel HEX, without the addresses that have no byte. A record has at most 16 bytes.
  * @param {Int16Array} bytes
  */
 export function hexOf(bytes) {

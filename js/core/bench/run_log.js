@@ -1,12 +1,13 @@
-// The work of running time, for the log: changes of keys one by one, and runs together.
+// The lines that running time served, for the console: each key change as one entry, and consecutive runs together as one.
 
 import * as say from "../../words/bench.js";
 
 /**
- * Lines that were served, with the last answer; `runs` counts consecutive lines of runs, 0 for another line.
+ * Served lines, with the last answer. `runs` is the number of consecutive `run` lines; 0 for a line of another kind.
  * @typedef {{ line: string, answer: string, runs: number, cycles: number }} RanEntry
  */
 
+/** The entries since the last report. */
 export class RunLog {
   constructor() {
     /** @type {RanEntry[]} */
@@ -14,7 +15,7 @@ export class RunLog {
   }
 
   /**
-   * Appends what was done after this.
+   * Appends entries. A run after a run is added to the last entry.
    * @param {RanEntry[]} entries
    */
   add(entries) {
@@ -30,7 +31,7 @@ export class RunLog {
     }
   }
 
-  /** Returns all entries, and forgets them. */
+  /** Removes all entries and returns them. */
   take() {
     const { entries } = this;
     this.entries = [];
@@ -39,7 +40,7 @@ export class RunLog {
 }
 
 /**
- * Returns an entry in words.
+ * Returns the text of an entry for the console.
  * @param {RanEntry} entry
  */
 export function wordsOfRuns({ line, runs, cycles }) {

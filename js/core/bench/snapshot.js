@@ -1,4 +1,4 @@
-// The snapshot of a session: its queries, and the changes since the last answers.
+// The snapshot of a session: its queries, and the changes from one snapshot to the next.
 
 import { readRam } from "./answers.js";
 import { matchAnswers } from "./inputs.js";
@@ -16,7 +16,7 @@ import { itemsOf, partsOfState, portsOf, registersOf } from "./state_line.js";
  */
 
 /**
- * The queries of a snapshot of a board.
+ * Returns the queries of a snapshot for a board.
  * @param {Pick<Board, "banks">} board
  */
 export function questionsOf(board) {
@@ -24,41 +24,41 @@ export function questionsOf(board) {
 }
 
 /**
- * The answers to such queries, each as one text.
- * @param {Input[]} inputs the questions, read
+ * Returns the answer to each query of a snapshot, its lines joined to one text.
+ * @param {Input[]} inputs the queries
  * @param {string[]} answers
  */
 export function snapshotOf(inputs, answers) {
   return matchAnswers(inputs, answers).map((lines) => lines.join("\n"));
 }
 
-/** @type {StateParts} */
+/** @type {StateParts} the parts before the first snapshot */
 const NOTHING = { registers: "", test: "", ports: "", keys: "", lamps: "", breaks: "", watches: "" };
 
 /**
- * Reads one snapshot after the other and returns the changes: of the front panel in each snapshot, of all else only in those that are
- * drawn.
+ * Reads snapshots and returns the changes between them. Each snapshot is read for the front panel. The other parts are read only from
+ * snapshots that are drawn.
  */
 export class SnapshotReader {
   constructor() {
     /** @type {string[]} the last snapshot */
     this.snapshot = [];
     this.parts = NOTHING;
-    /** @type {string[]} the last snapshot that was read whole */
+    /** @type {string[]} the last snapshot that `readRest` read */
     this.before = [];
     this.partsBefore = NOTHING;
-    /** @type {Registers | null} the registers that were read last */
+    /** @type {Registers | null} the registers of the last snapshot that `readRest` read */
     this.registers = null;
   }
 
-  /** Everything counts as changed at the next snapshot. */
+  /** Forgets the last snapshot: the next one counts as changed in all parts. */
   forget() {
     this.snapshot = this.before = [];
     this.parts = this.partsBefore = NOTHING;
   }
 
   /**
-   * Takes a snapshot; returns the changes of the front panel since the last one.
+   * Stores a snapshot; returns the changes in the front panel since the last snapshot.
    * @param {string[]} snapshot
    * @returns {ChangedFront}
    */
@@ -76,7 +76,7 @@ export class SnapshotReader {
   }
 
   /**
-   * Returns the changes of all other parts of the last snapshot since the last call.
+   * Returns the changes in all other parts of the last snapshot since the last call.
    * @returns {Changed}
    */
   readRest() {

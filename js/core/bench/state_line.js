@@ -1,4 +1,4 @@
-// The answer to `state`: all that is not ROM or RAM, in one line of keys and values in a fixed order.
+// Parses the answer to `state`: one line with keys and values in a fixed order, for everything except ROM and RAM.
 
 import { readRegisters } from "./answers.js";
 
@@ -6,14 +6,15 @@ import { readRegisters } from "./answers.js";
  * @typedef {import("./answers.js").Ports} Ports
  * @typedef {import("./answers.js").Registers} Registers
  *
- * The parts of the line that are shown separately, each as it is written, so that an unchanged one need not be read. The level of the TEST
- * pin is among the registers too, and the keys that are down among the ports.
+ * The parts of the line that are shown separately, as unparsed text: an unchanged part is not parsed again. The level of the TEST pin is
+ * also part of `registers`, and the keys that are down are also part of `ports`.
  * @typedef {{ registers: string, test: string, ports: string, keys: string, lamps: string, breaks: string, watches: string }} StateParts
  */
 
 const STATE = /^state seq \d+ (acc .* test (\d) .*) src (.* keys (\S+)) lamps (\S+) breaks (\S+) watches (\S+)$/;
 
 /**
+ * Splits the answer to `state` into its parts.
  * @param {string} answer
  * @returns {StateParts}
  */
@@ -25,7 +26,7 @@ export function partsOfState(answer) {
 }
 
 /**
- * Returns the value of a key of the line, as it is written.
+ * Returns the value of a key of the line, as unparsed text.
  * @param {string} answer
  * @param {string} key
  */
@@ -36,15 +37,15 @@ export function valueIn(answer, key) {
 }
 
 /**
- * Returns the line without its count of commands: two sessions that are the same have the same.
- * @param {string} answer which other answers may follow
+ * Removes the count of commands from the line, to compare the states of two sessions.
+ * @param {string} answer to `state`; other answers can follow in the same text
  */
 export function withoutSeq(answer) {
   return answer.replace(/^state seq \d+ /, "");
 }
 
 /**
- * The items of a value that is a list.
+ * Returns the items of a value that is a list; none for `-`.
  * @param {string} value
  */
 export function itemsOf(value) {
@@ -52,6 +53,7 @@ export function itemsOf(value) {
 }
 
 /**
+ * Parses the part of the line with the registers.
  * @param {string} part
  * @returns {Registers}
  */
@@ -60,6 +62,7 @@ export function registersOf(part) {
 }
 
 /**
+ * Parses the part of the line with ports, chains and keys.
  * @param {string} part from the value of `src` on
  * @returns {Ports}
  */

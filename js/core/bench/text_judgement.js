@@ -1,24 +1,24 @@
-// The bench's judgement of a text: its answers to `wiring` and to `errors`, which change nothing.
+// Parses the answers to `wiring` and `errors`, which check a text and change nothing.
 
 /**
- * The error in a board's text: the number of the refusal, its line from 1 (0 if it has none), and the wrong part.
+ * The error in a board's text.
  * @typedef {object} BoardError
  * @property {number} number of the refusal, as in the answer to `wire`
  * @property {number} line from 1; 0 if none is named
- * @property {string} section the table's name, as `lamp`; "" for a key at the top and for a text that is no TOML
- * @property {number} index of the table among those of its name, from 1; 0 if there is at most one, or none is wrong
- * @property {string} key the wrong key; "" if it is the table itself
+ * @property {string} section the name of the table with the error, such as `lamp`; "" for a key outside tables and for invalid TOML
+ * @property {number} index the table's number among those with the same name, from 1; 0 if the answer gives none
+ * @property {string} key the wrong key; "" if the error is in the table itself
  *
- * The error in a line of a program: the line's number from 1, and the number of the refusal.
+ * The error in a line of a program: the line number from 1, and the number of the refusal.
  * @typedef {{ line: number, number: number }} LineError
  */
 
-/** The most errors of lines that the bench reports. */
+/** The maximum number of errors that the bench reports for a program. */
 export const MOST_ERRORS = 100;
 const OF_BOARD = /^no (\d+)(?: line (\d+))?(?: (rom|ram|chain|keys|lamp))?(?: (\d+))?(?: key (\S+))?$/;
 
 /**
- * Reads the answer to `wiring`; null if the text is right.
+ * Parses the answer to `wiring`; returns null if the text is valid.
  * @param {string} answer
  * @returns {BoardError | null}
  */
@@ -28,7 +28,7 @@ export function readWiring(answer) {
 }
 
 /**
- * Reads the answer to `errors`.
+ * Parses the answer to `errors`.
  * @param {string[]} answers
  * @returns {LineError[]}
  */

@@ -1,4 +1,4 @@
-// Texts for users: refusals, errors, times.
+// Texts for users: the messages of refusals and errors, and durations.
 
 import { BenchRefusal, BenchTrap, Cancelled, WorkerDied } from "./faults.js";
 import { counted } from "./numbers.js";
@@ -20,7 +20,7 @@ export class Words {
   }
 
   /**
-   * Returns an error in words, with the number of a refusal.
+   * Returns the message for an error; for a refusal, with its number.
    * @param {unknown} fault
    */
   ofFault(fault) {
@@ -31,7 +31,7 @@ export class Words {
   }
 
   /**
-   * A call on the session failed.
+   * Returns the message for a failed call to the session.
    * @param {unknown} fault
    */
   ofFailure(fault) {
@@ -43,13 +43,16 @@ export class Words {
   }
 }
 
-/** @param {number} count of errors in a text */
+/**
+ * Returns the text for the number of errors in a text.
+ * @param {number} count
+ */
 export function countOfFaults(count) {
   return counted(count, "fault");
 }
 
 /**
- * Returns a time in its two largest units, as `1 hour 2 minutes`, from a second on.
+ * Returns a duration in its two largest units, such as `1 hour 2 minutes`; "" below half a second.
  * @param {number} milliseconds
  */
 export function wordsOfTime(milliseconds) {
