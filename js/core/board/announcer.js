@@ -1,27 +1,31 @@
-// Announcements for screen readers: a text that was still for a while, not each one before it.
+// Announcements for screen readers. A text is announced once it has not changed for a while; texts that change earlier are skipped.
 
-/** The milliseconds that a text must be still; nothing is announced more often. */
+/** The milliseconds without a change before a text is announced, and the minimum time between announcements. */
 export const STILL_TIME = 1000;
 
+/** Announces one changing text, such as a display. */
 export class Announcer {
-  /** @param {(text: string) => void} say */
+  /** @param {(text: string) => void} say announces a text */
   constructor(say) {
     this.say = say;
     this.text = "";
     this.said = "";
-    /** True if the next text is the page's first, which is not announced. */
+    /** True before the first text of a board, which is not announced. */
     this.isFirst = true;
-    /** True if the text has not changed since the timer was set. */
+    /** True if the text has not changed since the timer started. */
     this.isStill = true;
     this.timer = 0;
   }
 
-  /** Another board: its first text is not announced. */
+  /** Starts with another board, whose first text is not announced. */
   begin() {
     this.isFirst = true;
   }
 
-  /** @param {string} text */
+  /**
+   * Sets the text, to be announced once it is still.
+   * @param {string} text
+   */
   announce(text) {
     if (this.isFirst) {
       this.isFirst = false;
@@ -33,11 +37,13 @@ export class Announcer {
     if (this.timer === 0) this.wait();
   }
 
+  /** Starts the timer. */
   wait() {
     this.isStill = true;
     this.timer = Number(setTimeout(() => this.due(), STILL_TIME));
   }
 
+  /** Announces the text if it was still while the timer ran, otherwise starts the timer again. */
   due() {
     this.timer = 0;
     if (!this.isStill) {

@@ -1,4 +1,4 @@
-// The keys of a board: their places, their names, and the characters that press them.
+// The keys of a board: their positions, their legends, and the characters on the keyboard that press them.
 
 import { matrixKey, pinKey, textOfKey } from "./key_place.js";
 import * as say from "../../words/board.js";
@@ -9,14 +9,16 @@ import * as say from "../../words/board.js";
  *
  * @typedef {import("./key_place.js").Key} Key
  *
- * A key of the board, or the switch at its TEST pin. `letter` is the character that presses it, "" for none.
+ * A key of the board, or the button or switch at its TEST pin. `words` is its description. `isNamed` is true if the front panel gives its
+ * legend. `letter` is the character on the keyboard that presses it, "" for none.
  * @typedef {{ key: Key, legend: string, words: string, isNamed: boolean, isSwitch: boolean, letter: string }} BoardKey
  */
 
+/** The characters for keys without a free character in their names, in order. */
 const LETTERS = "1234567890qwertyuiopasdfghjklzxcvbnm";
 
 /**
- * Returns the character for one of several equal legends: its own, or the next free one.
+ * Returns the first free character for a key: from its name, otherwise from `LETTERS`; "" if none is free.
  * @param {string} name
  * @param {Set<string>} taken
  */
@@ -25,7 +27,7 @@ function freeLetter(name, taken) {
 }
 
 /**
- * Returns the keys of a board, row by row, and then the switch at its TEST pin, if the front panel has one.
+ * Returns the keys of a board, row by row, and then the button or switch at the TEST pin, if the front panel has one.
  * @param {Pick<Board, "rows" | "columns">} board
  * @param {Pick<Face, "keys" | "test">} face
  * @returns {BoardKey[]}
@@ -53,6 +55,7 @@ export function keysOf(board, face) {
 }
 
 /**
+ * Returns the button or switch at the TEST pin.
  * @param {import("./face.js").TestPin} test
  * @param {(legend: string, name: string) => string} take
  */
@@ -63,16 +66,16 @@ function keyOfTest({ kind, name, level }, take) {
 }
 
 /**
- * Returns the legend that a key of the keyboard presses: Enter is `=`, Escape clears.
+ * The legends that special keys of the keyboard press.
  * @type {Record<string, string>}
  */
 const NAMED_KEYS = { Enter: "=", Escape: "C", Backspace: "CE", Delete: "CE", ",": "." };
 
 /**
- * Returns the board's key for a key of the keyboard; undefined if there is none.
+ * Returns the board's key that a key of the keyboard presses; undefined if it presses none. A letter also presses a key of the other case.
  * @template {BoardKey} Shown
  * @param {Shown[]} keys
- * @param {string} typed
+ * @param {string} typed the keyboard event's `key`
  * @returns {Shown | undefined}
  */
 export function keyOfKeyboard(keys, typed) {

@@ -1,5 +1,5 @@
-// The perceived brightness of a board's lamps. A steady lamp is seen at once; a flickering lamp has the brightness of its duty cycle; what
-// was seen before fades.
+// The perceived brightness of a board's lamps. A steady lamp is on or off at once. A flickering lamp has the brightness of its duty cycle.
+// Earlier light fades over the persistence of vision (`EYE_MS`).
 
 import { fittingGroups, isScanned } from "./face_board.js";
 import { NOT_LIT, isLit } from "./digit_patterns.js";
@@ -12,51 +12,52 @@ import { EYE_MS } from "../time/mcs4_time.js";
  * @typedef {import("../engine/brightness_meter.js").ShownDisplay} ShownDisplay
  */
 
-/** From this duty cycle on a flickering lamp counts as on. */
+/** The duty cycle from which a flickering lamp counts as on. */
 export const SEEN_PART = 0.5;
-/** The milliseconds of rest: a display that changes again within them is not still. */
+/** The minimum milliseconds without a change before a lamp or a display can count as steady. */
 const LEAST_REST = 2;
-/** The eye distinguishes dark lamps better than bright ones. */
+/** The exponent from duty cycle to perceived brightness: the eye distinguishes dark lamps better than bright ones. */
 const GAMMA = 2.2;
-/** The duty cycle at which each level begins if brightness has few levels: dim, half, full. */
+/** The minimum duty cycle of each level of brightness: dim, half, full. */
 const LEVELS = [0.01, 0.15, 0.6];
 export const FULL_LEVEL = LEVELS.length;
-/** The smallest share of the time that is remembered. */
+/** The minimum duty cycle that is kept; a smaller one becomes 0. */
 const LEAST_PART = 0.0001;
 const SEGMENTS = 8;
 
 /**
- * Returns the perceived brightness, in hundredths, of a lamp with this duty cycle, both from 0 to 1.
- * @param {number} part
+ * Returns the perceived brightness of a lamp, from 0 to 1, rounded to hundredths.
+ * @param {number} part the duty cycle, from 0 to 1
  */
 export function shineOf(part) {
   return Math.round(100 * Math.min(1, part) ** (1 / GAMMA)) / 100;
 }
 
 /**
- * Returns the level of a lamp with this duty cycle, 0 for dark.
- * @param {number} part
+ * Returns the level of brightness of a lamp: 0 for dark, otherwise 1 (dim) to `FULL_LEVEL`.
+ * @param {number} part the duty cycle
  */
 export function levelOf(part) {
   return LEVELS.filter((least) => part >= least).length;
 }
 
 /**
- * Returns true if a lamp or a display is steady: it has rested for an eye's persistence, or since its last change for twice as long as it
- * ever did between changes since then. So a single change is seen at once, changes that are shifted in one after the other once they are
- * over, and flicker is never steady.
+ * Decides whether a lamp or a display is steady. It is steady if it has not changed for the persistence of vision. It is also steady if its
+ * current rest is more than twice its longest rest since it was last steady in the first sense. A single change is therefore perceived at
+ * once, bits that are shifted in are perceived at the end of the shift, and a flickering lamp is never steady.
  */
 class Stillness {
   constructor() {
-    /** How long it has rested, and the longest rest before since it was steady for the persistence, in milliseconds. */
+    /** The milliseconds since the last change, and the longest rest between changes in the current series of changes. */
     this.rest = Infinity;
     this.longest = 0;
   }
 
   /**
-   * @param {Moved} moved when it changed, in cycles
-   * @param {number} cycles in all
-   * @param {number} time that they took, in milliseconds; Infinity if they do not follow those before
+   * Adds a period of time.
+   * @param {Moved} moved the changes in the period
+   * @param {number} cycles the length of the period in cycles
+   * @param {number} time the length of the period in milliseconds; Infinity if it does not follow the last period
    */
   add(moved, cycles, time) {
     if (time === Infinity) {
@@ -77,16 +78,19 @@ class Stillness {
   }
 }
 
-/** A digit as perceived: for each pattern, its share of the time in which the digit was visible. */
+/** A digit as perceived. */
 export class SeenDigit {
   constructor() {
-    /** @type {Map<number, number>} */
+    /** @type {Map<number, number>} the share of each pattern in the perceived picture */
     this.parts = new Map();
-    /** The only pattern that is seen while it is steady; NOT_LIT for none. */
+    /** The pattern of a steady digit; NOT_LIT for a digit that changes. */
     this.whole = NOT_LIT;
   }
 
-  /** @param {number} pattern the only one that is seen from now on */
+  /**
+   * Shows one steady pattern.
+   * @param {number} pattern
+   */
   stand(pattern) {
     if (pattern === this.whole) return;
     this.whole = pattern;
@@ -94,7 +98,10 @@ export class SeenDigit {
     this.parts.set(pattern, 1);
   }
 
-  /** @param {number} kept the share of the former picture that is still seen */
+  /**
+   * Fades the picture.
+   * @param {number} kept the share of the picture that remains
+   */
   fade(kept) {
     this.whole = NOT_LIT;
     for (const [pattern, part] of this.parts) {
@@ -104,31 +111,33 @@ export class SeenDigit {
   }
 
   /**
+   * Adds a pattern to the picture.
    * @param {number} pattern
-   * @param {number} part its share of what is seen
+   * @param {number} part its share
    */
   add(pattern, part) {
     this.parts.set(pattern, (this.parts.get(pattern) || 0) + part);
   }
 
-  /** Returns the pattern that is seen longest; dark if there is none. */
+  /** The pattern with the largest share; 0 (dark) if there is none. */
   get pattern() {
     return this.longest.pattern;
   }
 
-  /** Returns whether most of what is seen differs from this pattern. */
+  /** True if the pattern with the largest share has less than half of the picture. */
   get isSmeared() {
     const all = [...this.parts.values()].reduce((sum, part) => sum + part, 0);
     return this.longest.part < SEEN_PART * all;
   }
 
+  /** The pattern with the largest share, and that share. */
   get longest() {
     const longest = { pattern: 0, part: 0 };
     for (const [pattern, part] of this.parts) if (part > longest.part) Object.assign(longest, { pattern, part });
     return longest;
   }
 
-  /** Returns the duty cycle of each segment and of the point. */
+  /** The duty cycle of each segment, and of the decimal point. */
   get segments() {
     const seen = new Array(SEGMENTS).fill(0);
     for (const [pattern, part] of this.parts) {
@@ -138,6 +147,7 @@ export class SeenDigit {
   }
 }
 
+/** The perceived brightness of a board's lamps and displays. */
 export class Brightness {
   /**
    * @param {Face} face
@@ -155,15 +165,15 @@ export class Brightness {
       .map(({ rows, columns }) => new Array(rows * columns).fill(0));
     /** @type {SeenDigit[][]} */
     this.digits = [];
-    /** @type {Stillness[]} of the lamps */
+    /** @type {Stillness[]} one for each lamp */
     this.stillness = [];
-    /** @type {Stillness[]} of the displays */
+    /** @type {Stillness[]} one for each display */
     this.stillDisplays = [];
     this.begin("");
   }
 
   /**
-   * Starts here: the lamps of this instant count as the former picture.
+   * Starts with the lamps of an instant as the perceived picture.
    * @param {string} marks a `*` for each lamp that is on
    */
   begin(marks) {
@@ -176,8 +186,9 @@ export class Brightness {
   }
 
   /**
+   * Adds the light of a period of time.
    * @param {LitShares} litShares
-   * @param {number} time that it took, in milliseconds; Infinity if it does not follow the last addition
+   * @param {number} time the length of the period in milliseconds; Infinity if it does not follow the last period
    */
   add(litShares, time) {
     const { cycles } = litShares;
@@ -188,7 +199,7 @@ export class Brightness {
       stillness.add(litShares.moved[at], cycles, time);
       const { isStill } = stillness;
       const isLitNow = isLit(litShares.marks, at);
-      // A lamp that goes off fades: otherwise a short flash would not be seen.
+      // A lamp that goes off fades, so that a short flash stays visible.
       if (isStill && isLitNow) this.lamps[at] = 1;
       this.isOn[at] = isStill ? isLitNow : this.lamps[at] >= SEEN_PART;
     });
@@ -200,10 +211,11 @@ export class Brightness {
   }
 
   /**
-   * @param {number[]} parts
-   * @param {number[]} lit how long each was on
-   * @param {number} cycles
-   * @param {number} kept
+   * Updates duty cycles with the light of a period.
+   * @param {number[]} parts the duty cycles, by lamp
+   * @param {number[]} lit the cycles in which each lamp was on
+   * @param {number} cycles the length of the period
+   * @param {number} kept the share of the former picture that remains
    */
   fade(parts, lit, cycles, kept) {
     for (let at = 0; at < parts.length; at++) {
@@ -213,10 +225,11 @@ export class Brightness {
   }
 
   /**
-   * @param {number} at
+   * Updates a display with the patterns of a period.
+   * @param {number} at the index of the display
    * @param {ShownDisplay} shown
-   * @param {number} cycles
-   * @param {number} kept
+   * @param {number} cycles the length of the period
+   * @param {number} kept the share of the former picture that remains
    */
   addDisplay(at, { patterns, moved, shown }, cycles, kept) {
     const isStill = this.stillDisplays[at].isStill && !isScanned(this.displays[at]);
@@ -231,7 +244,7 @@ export class Brightness {
     });
   }
 
-  /** The pattern of each digit of each display that is seen longest. */
+  /** The pattern with the largest share, for each digit of each display. */
   get patterns() {
     return this.digits.map((display) => display.map(({ pattern }) => pattern));
   }

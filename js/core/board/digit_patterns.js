@@ -1,4 +1,4 @@
-// The drawing of a display: a pattern for each digit, in which segment a is 1, b is 2, up to g, 64; the decimal point is 128.
+// The digits of a display as patterns: numbers in which segment a is 1, b is 2, up to g, which is 64. The decimal point is 128.
 
 import { SEGMENTS } from "./face_words.js";
 
@@ -6,19 +6,19 @@ import { SEGMENTS } from "./face_words.js";
 
 export const MINUS = 64;
 export const POINT = 128;
-/** A digit that is off at this instant, because its line is 0. */
+/** The pattern of a multiplexed digit that is off at this instant, because its line is 0. */
 export const NOT_LIT = -1;
 const LIT = "*".charCodeAt(0);
 
-/** @type {Map<number, string>} what the patterns of seven segments show */
+/** @type {Map<number, string>} the character that each pattern of seven segments shows */
 const SIGNS = new Map([...SEGMENTS].map(([marks, sign]) => [segmentsAt(marks, 0), sign]));
-/** Four lamps that are no digit: a, b, e and g. */
+/** The pattern for a BCD value above 9: segments a, b, e and g. */
 const NO_DIGIT = 1 + 2 + 16 + 64;
-/** The segments that are on for 0 to 9; the first form of a digit is that of a 7447. */
+/** The patterns of the digits 0 to 9, in the shape of a 7447. */
 const DIGITS = [..."0123456789"].map(patternOf);
 
 /**
- * Returns the pattern that shows a digit, a minus or a blank; that of any other sign is no digit.
+ * Returns the pattern that shows a digit, a minus or a blank; `NO_DIGIT` for any other character.
  * @param {string} sign
  */
 export function patternOf(sign) {
@@ -27,16 +27,18 @@ export function patternOf(sign) {
 }
 
 /**
+ * Returns whether a lamp is on.
  * @param {string} marks a `*` for each lamp that is on
- * @param {number} at
+ * @param {number} at the number of the lamp
  */
 export function isLit(marks, at) {
   return marks.charCodeAt(at) === LIT;
 }
 
 /**
+ * Returns the pattern that seven lamps show, segment a first.
  * @param {string} marks
- * @param {number} at
+ * @param {number} at the number of the first lamp
  */
 function segmentsAt(marks, at) {
   let bits = 0;
@@ -45,7 +47,7 @@ function segmentsAt(marks, at) {
 }
 
 /**
- * Returns whether digits of this many lamps have points.
+ * Returns whether digits have a decimal point, from the number of lamps per digit.
  * @param {number} columns
  */
 export function hasPoints(columns) {
@@ -53,16 +55,17 @@ export function hasPoints(columns) {
 }
 
 /**
- * The value of four lamps, the one for 8 first.
+ * Returns the value of four lamps, the most significant one first.
  * @param {string} marks
- * @param {number} at
+ * @param {number} at the number of the first lamp
  */
 function valueAt(marks, at) {
   return (isLit(marks, at) ? 8 : 0) + (isLit(marks, at + 1) ? 4 : 0) + (isLit(marks, at + 2) ? 2 : 0) + (isLit(marks, at + 3) ? 1 : 0);
 }
 
 /**
- * The pattern of each digit at an instant. Of digits in BCD, leading zeros and a point after the last digit are dark.
+ * Returns the pattern of each digit at an instant. In a BCD display that is not multiplexed, leading zeros and a point after the last digit
+ * are dark.
  * @param {Group} display
  * @param {string} marks a `*` for each lamp that is on
  * @returns {number[]}
@@ -72,7 +75,7 @@ export function patternsAt(display, marks) {
 }
 
 /**
- * Multiplexed digits: all have the same lines, and no digit knows of another.
+ * Returns the patterns of multiplexed digits. All digits share their segment lines, so leading zeros are not dark.
  * @param {Group} display
  * @param {string} marks
  */
@@ -84,6 +87,7 @@ function patternsOfScanned({ first, rows, columns, by }, marks) {
 }
 
 /**
+ * Returns the patterns of digits that are not multiplexed.
  * @param {Group} display
  * @param {string} marks
  */
@@ -106,8 +110,7 @@ function patternsOfAll({ first, rows, columns }, marks) {
 }
 
 /**
- * Returns the number that patterns show, without leading dark digits and without a point at the end. A pattern that is not a digit is a
- * `?`.
+ * Returns the number that patterns show, without leading dark digits and without a point at the end. An unknown pattern becomes `?`.
  * @param {number[]} patterns
  */
 export function numberOf(patterns) {

@@ -1,14 +1,14 @@
-// The text of a board's displays, by the rule of mcs4 display.
+// The text of a board's displays, as `mcs4 display` prints it.
 
 import { isLit, numberOf, patternsAt } from "./digit_patterns.js";
 
 /** @typedef {import("./face.js").Group} Group */
 
-/** Reads what the displays of a board show. */
+/** Converts the lamps of a board to the text of its displays. */
 export class DisplayText {
   /**
    * @param {Group[]} displays
-   * @param {{ at: number, text: string }[]} names of lamps
+   * @param {{ at: number, text: string }[]} names the numbers and names of lamps
    */
   constructor(displays, names) {
     this.displays = displays;
@@ -16,7 +16,7 @@ export class DisplayText {
   }
 
   /**
-   * Returns a minus if the lamp `minus` is on, and the number; and the names of the other lamps that are on.
+   * Returns the number on the displays, after a minus if the lamp `minus` is on, and the names of the other lamps that are on.
    * @param {string} marks a `*` for each lamp that is on
    */
   read(marks) {
@@ -24,9 +24,9 @@ export class DisplayText {
   }
 
   /**
-   * Returns the same for the perceived picture.
-   * @param {number[][]} patterns of the displays
-   * @param {(lamp: number) => boolean} isSeen
+   * Returns the number and the names, as `read` does, for a perceived picture.
+   * @param {number[][]} patterns the patterns of each display
+   * @param {(lamp: number) => boolean} isSeen returns whether a lamp counts as on
    */
   words(patterns, isSeen) {
     let minus = "";
@@ -41,7 +41,7 @@ export class DisplayText {
 }
 
 /**
- * Returns what a display shows as one text.
+ * Joins the number and the names to one text.
  * @param {{ number: string, names: string }} read
  */
 export function wholeText({ number, names }) {

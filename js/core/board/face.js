@@ -1,44 +1,48 @@
-// The front panel of a board: the names, colours and positions in the comments of its text. Its words are in tools/lib/face.txt.
+// Parses the front panel of a board: names, colours and positions in the comments of its text. The syntax is defined in tools/lib/face.txt.
 
 import { COLOURS, fitsHead, fitsWords, headOf, isNumber, limit, said, sizeOf, wordsOf } from "./face_words.js";
 import { matrixKey, textOfKey } from "./key_place.js";
 import * as say from "../../words/board.js";
 
 /**
- * An error; `isRefused` if it is about names or displays, on which tests depend.
+ * An error in a line. `isRefused` is true if names or displays depend on the line: tools that need those reject the text.
  * @typedef {{ line: number, words: string, isRefused: boolean }} Fault
  * @typedef {import("./face_words.js").Kind} Kind
  * @typedef {import("./key_place.js").MatrixKey} MatrixKey
- * @typedef {{ text: string, line: number }} FaceText a word or words, and their line
+ * @typedef {{ text: string, line: number }} FaceText a name or a colour, and its line number
  * @typedef {{ row: number, column: number, lamp: number, line: number }} GridLamp
- * @typedef {{ kind: string, first: number, rows: number, columns: number, by: number, line: number }} Group rows of lamps; of a display the
- * digits, and the lamps of each: four or seven, and one more with points. A scanned group has one row of lamps only, and from lamp `by` (-1
- * for others) one lamp per row: a lamp in a row is on if both its column's lamp and its row's lamp are on
- * @typedef {{ kind: string, name: string, level: number, line: number }} TestPin a `button` or a `switch`; TEST has this level while
- *   it is pressed
- * @typedef {{ name: string, kind: Kind, first: string, words: string, line: number }} Line with the word that begins it, the first word
- * after that, and the text after the colon
- */
-
-/**
- * A printer: at the rising edge of its strobe, it prints the word of the code at its port.
+ *
+ * A group of lamps from lamp `first` on: a display, a die, a bar or a matrix. In a display, each digit is a row, with four or seven columns
+ * and one more for a decimal point. If `by` is -1, each lamp of the group has its own line. Otherwise the group is multiplexed: it has one
+ * lamp for each column, and from lamp `by` on one lamp for each row. The group's lamp at a row and a column is on while
+ * the board's lamps for that row and that column are both on.
+ * @typedef {{ kind: string, first: number, rows: number, columns: number, by: number, line: number }} Group
+ *
+ * The `button` or `switch` at the TEST pin. `level` is the level of TEST while it is pressed.
+ * @typedef {{ kind: string, name: string, level: number, line: number }} TestPin
+ *
+ * A line of the front panel: the word that begins it, the first word after that, the text after the colon, and the line number.
+ * @typedef {{ name: string, kind: Kind, first: string, words: string, line: number }} Line
+ *
+ * A printer: at each rising edge of its strobe, it prints the word for the code at its port.
  * @typedef {{ strobe: string, port: string, words: string[], line: number }} Printer
  */
 
-/** The most words in all lists of names, colours and positions together: several times what a board needs. */
+/** The maximum number of words in all lists of names, colours and positions together: several times the need of a board. */
 const MOST_WORDS = limit("words");
 
+/** The front panel in a board's text. */
 export class Face {
-  /** @param {string} text of a board */
+  /** @param {string} text of the board */
   constructor(text) {
     this.title = "";
-    /** @type {Map<string, FaceText & { key: MatrixKey }>} the names of the keys by `row column`, "" for a place without a key */
+    /** @type {Map<string, FaceText & { key: MatrixKey }>} the names of the keys by `row column`, "" for a position without a key */
     this.keys = new Map();
-    /** @type {Map<number, FaceText>} */
+    /** @type {Map<number, FaceText>} the names of lamps, by number */
     this.lamps = new Map();
-    /** @type {Map<string, number>} the lamps by their names */
+    /** @type {Map<string, number>} the numbers of lamps, by name */
     this.lampNumbers = new Map();
-    /** @type {Map<number, FaceText>} */
+    /** @type {Map<number, FaceText>} the colours of lamps, by number */
     this.colours = new Map();
     /** @type {GridLamp[]} */
     this.grid = [];
@@ -46,42 +50,43 @@ export class Face {
     this.groups = [];
     /** @type {TestPin | null} */
     this.test = null;
-    /** @type {{ place: string, name: string, line: number } | null} the buzzer, which the edges of a line drive */
+    /** @type {{ place: string, name: string, line: number } | null} the buzzer, and the output line whose edges drive it */
     this.buzzer = null;
     /** @type {Printer | null} */
     this.printer = null;
-    /** @type {Map<string, FaceText>} the names of ports and chains, by `rom0`, `ram0.0`, `chain0` */
+    /** @type {Map<string, FaceText>} the names of ports and chains, by `rom0`, `ram0.0` or `chain0` */
     this.ports = new Map();
     /** @type {Fault[]} */
     this.faults = [];
-    /** All that was read, for comparing two front panels. */
+    /** All lines of the front panel, to compare two front panels. */
     this.comments = "";
-    /** @type {Map<string, number>} the lines of what may be given once */
+    /** @type {Map<string, number>} the line numbers of things that can be defined only once */
     this.lines = new Map();
-    /** @type {{ row: number, column: number, word: string, line: number }[]} */
+    /** @type {{ row: number, column: number, word: string, line: number }[]} the words of grid lines */
     this.gridWords = [];
-    /** True if names or displays hang on the line that is read. */
+    /** True if names or displays depend on the line that is being read. */
     this.isRefused = false;
-    /** The number of words read from lists; no line is read after the limit is exceeded. */
+    /** The number of words read from lists. When it exceeds the limit, reading stops. */
     this.wordCount = 0;
     text.split("\n").forEach((line, at) => this.read(line.replace(/\r$/, ""), at + 1));
     for (const word of this.gridWords) this.putOnGrid(word);
   }
 
   /**
+   * Reports an error.
    * @param {number} line
-   * @param {string} words
+   * @param {string} words the message
    */
   fault(line, words) {
     this.faults.push({ line, words, isRefused: this.isRefused });
   }
 
   /**
-   * Returns whether this is given for the first time; a second time is an error.
-   * @param {string} name
+   * Returns whether a thing is defined for the first time; otherwise reports an error.
+   * @param {string} name of the thing
    * @param {number} line
-   * @param {string} words its name in the error message
-   * @param {...(string | number)} about
+   * @param {string} words the name of the error message
+   * @param {...(string | number)} about values for the error message
    */
   isFirst(name, line, words, ...about) {
     const before = this.lines.get(name);
@@ -91,6 +96,7 @@ export class Face {
   }
 
   /**
+   * Reads a line of the board's text.
    * @param {string} text
    * @param {number} line
    */
@@ -109,6 +115,7 @@ export class Face {
   }
 
   /**
+   * Reads the title of the board.
    * @param {string} text
    * @param {number} line
    */
@@ -117,6 +124,7 @@ export class Face {
   }
 
   /**
+   * Reads the names of a row of keys.
    * @param {number} row
    * @param {string} text
    * @param {number} line
@@ -132,7 +140,8 @@ export class Face {
   }
 
   /**
-   * @param {number} first
+   * Reads the names of lamps.
+   * @param {number} first the number of the first lamp
    * @param {string} text
    * @param {number} line
    */
@@ -153,7 +162,8 @@ export class Face {
   }
 
   /**
-   * @param {number} first
+   * Reads a list of colours, one for each lamp.
+   * @param {number} first the number of the first lamp
    * @param {string} text
    * @param {number} line
    */
@@ -162,9 +172,9 @@ export class Face {
   }
 
   /**
-   * One colour for all these lamps.
-   * @param {number} first
-   * @param {number} last
+   * Reads one colour for a range of lamps.
+   * @param {number} first the number of the first lamp
+   * @param {number} last the number of the last lamp
    * @param {string} text
    * @param {number} line
    * @param {Kind} kind
@@ -176,8 +186,9 @@ export class Face {
   }
 
   /**
-   * @param {number} first
-   * @param {Iterable<string>} words
+   * Sets the colours of lamps.
+   * @param {number} first the number of the first lamp
+   * @param {Iterable<string>} words the colours; `_` for none
    * @param {number} line
    */
   colour(first, words, line) {
@@ -195,6 +206,7 @@ export class Face {
   }
 
   /**
+   * Reads a row of the grid.
    * @param {number} row
    * @param {string} text
    * @param {number} line
@@ -209,7 +221,7 @@ export class Face {
   }
 
   /**
-   * Finds the lamp of a word of the grid, once all names are known.
+   * Puts the lamp that a word names on the grid. Called when the names of all lamps are known.
    * @param {{ row: number, column: number, word: string, line: number }} word
    */
   putOnGrid({ row, column, word, line }) {
@@ -220,7 +232,7 @@ export class Face {
   }
 
   /**
-   * A display, a die, a bar or a matrix.
+   * Reads a display, a die, a bar or a matrix.
    * @param {Line} line
    */
   readGroup({ name, kind, first, words, line }) {
@@ -231,7 +243,7 @@ export class Face {
   }
 
   /**
-   * Returns whether the scanned group is not too large and names no lamp twice; otherwise reports an error.
+   * Returns whether a multiplexed group is within the limits and names no lamp twice; otherwise reports an error.
    * @param {Group} group
    */
   canBeScanned({ kind, first, rows, columns, by, line }) {
@@ -246,6 +258,7 @@ export class Face {
   }
 
   /**
+   * Reads the button or switch at the TEST pin.
    * @param {string} text
    * @param {number} line
    */
@@ -255,8 +268,9 @@ export class Face {
   }
 
   /**
-   * @param {string} place
-   * @param {string} text
+   * Reads the buzzer.
+   * @param {string} place the output line that drives it
+   * @param {string} text its name
    * @param {number} line
    */
   readBuzzer(place, text, line) {
@@ -264,8 +278,9 @@ export class Face {
   }
 
   /**
-   * @param {string} strobe
-   * @param {string} text
+   * Reads the printer.
+   * @param {string} strobe the output line of its strobe
+   * @param {string} text the port, and the word for each code
    * @param {number} line
    */
   readPrinter(strobe, text, line) {
@@ -277,7 +292,8 @@ export class Face {
   }
 
   /**
-   * @param {string} port
+   * Reads the name of a port or a chain.
+   * @param {string} port `rom0`, `ram0.0` or `chain0`
    * @param {string} text
    * @param {number} line
    */
@@ -287,6 +303,7 @@ export class Face {
 }
 
 /**
+ * Yields a word `count` times.
  * @param {string} word
  * @param {number} count
  */
@@ -294,11 +311,11 @@ function* repeated(word, count) {
   for (let at = 0; at < count; at++) yield word;
 }
 
-/** @type {(face: Face, line: Line) => void} */
+/** @type {(face: Face, line: Line) => void} reads a group of lamps */
 const readGroup = (face, line) => face.readGroup(line);
 
 /**
- * The reader of each line, by the word that begins it.
+ * The method that reads a line, by the word that begins the line.
  * @type {Record<string, (face: Face, line: Line) => void>}
  */
 const READERS = {
@@ -315,7 +332,7 @@ const READERS = {
 };
 
 /**
- * Returns the errors in comments that look like a part of a front panel, by rising line.
+ * Returns the errors in the front panel of a board's text, sorted by line.
  * @param {string} text
  * @returns {Fault[]}
  */
@@ -324,16 +341,16 @@ export function faceFaults(text) {
 }
 
 /**
- * Returns the text that replaces the errors that are not listed.
+ * Returns the message for the errors beyond the maximum, with their number; "" if there are none.
  * @param {unknown[]} faults
- * @param {number} most errors are reported
+ * @param {number} most the maximum number of listed errors
  */
 export function moreThan(faults, most) {
   return faults.length > most ? say.andMore((faults.length - most).toLocaleString("en")) : "";
 }
 
 /**
- * By rising line.
+ * Returns errors sorted by line.
  * @param {Fault[]} faults
  */
 export function byLine(faults) {

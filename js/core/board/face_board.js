@@ -1,4 +1,4 @@
-// A front panel with the board that it belongs to: what the board lacks, and the positions of the lamps.
+// Compares a front panel with its board: parts that the board lacks, and the groups, names and colours of the lamps that it has.
 
 import { byLine } from "./face.js";
 import { KINDS, said } from "./face_words.js";
@@ -38,7 +38,7 @@ export function hasOutput(board, line) {
 }
 
 /**
- * The buzzer of a front panel, null if it has none at a line of the board.
+ * Returns the buzzer of a front panel; null if there is none, or if the board lacks its output line.
  * @param {Board} board
  * @param {Face} face
  */
@@ -47,7 +47,7 @@ export function buzzerOf(board, { buzzer }) {
 }
 
 /**
- * The printer of a front panel, null if it has none at lines of the board.
+ * Returns the printer of a front panel; null if there is none, or if the board lacks one of its output lines.
  * @param {Board} board
  * @param {Face} face
  */
@@ -56,7 +56,7 @@ export function printerOf(board, { printer }) {
 }
 
 /**
- * The number after that of the last lamp.
+ * Returns the number after the last lamp of a group.
  * @param {Group} group
  */
 export function endOf({ first, rows, columns, by }) {
@@ -64,7 +64,7 @@ export function endOf({ first, rows, columns, by }) {
 }
 
 /**
- * The numbers of its lamps.
+ * Returns the numbers of a group's lamps.
  * @param {Group} group
  */
 export function lampsOf({ first, rows, columns, by }) {
@@ -72,20 +72,20 @@ export function lampsOf({ first, rows, columns, by }) {
   return by < 0 ? from(first, rows * columns) : [...from(first, columns), ...from(by, rows)];
 }
 
-/** @param {Group} group */
+/** @param {Group} group returns whether it is multiplexed */
 export const isScanned = ({ by }) => by >= 0;
 
 /**
- * Returns the groups on a board with this many lamps.
+ * Returns the groups whose lamps all exist on the board.
  * @param {Face} face
- * @param {number} count
+ * @param {number} count of the board's lamps
  */
 export function fittingGroups(face, count) {
   return face.groups.filter((group) => endOf(group) <= count);
 }
 
 /**
- * Returns the lamp that is the minus of a display, -1 if there is none.
+ * Returns the number of the lamp that is the minus of a display; -1 if there is none.
  * @param {Face} face
  */
 export function minusOf({ lampNumbers }) {
@@ -93,9 +93,9 @@ export function minusOf({ lampNumbers }) {
 }
 
 /**
- * Returns the lamps without a position: neither in a group nor on the grid.
+ * Returns the numbers of lamps that are neither in a group nor on the grid. The minus of a display counts as in a group.
  * @param {Face} face
- * @param {number} count
+ * @param {number} count of the board's lamps
  */
 export function looseLamps(face, count) {
   const groups = fittingGroups(face, count);
@@ -105,7 +105,7 @@ export function looseLamps(face, count) {
 }
 
 /**
- * Its strobe, and the four lines of its code.
+ * Returns the lines of a printer: its strobe, and the four lines of its code.
  * @param {import("./face.js").Printer} printer
  */
 export function linesOfPrinter({ strobe, port }) {
@@ -113,7 +113,7 @@ export function linesOfPrinter({ strobe, port }) {
 }
 
 /**
- * Returns the parts that the comments name and the board lacks.
+ * Returns an error for each part that the front panel names and the board lacks, sorted by line.
  * @param {Face} face
  * @param {Board} board
  * @returns {Fault[]}
@@ -145,32 +145,35 @@ export function missingOf(face, board) {
   return byLine(faults);
 }
 
-/** @param {string} kind the word that begins a line */
+/**
+ * Returns whether names or displays depend on a kind of line.
+ * @param {string} kind the word that begins the line
+ */
 function isRefused(kind) {
   const found = KINDS.get(kind);
   return found !== undefined && found.isRefused;
 }
 
 /**
- * Returns the names of the first lamps, "" for one without.
+ * Returns the name of each lamp; "" for a lamp without a name.
  * @param {Face} face
- * @param {number} count
+ * @param {number} count of the board's lamps
  */
 export function lampNames(face, count) {
   return upTo(count).map((at) => (face.lamps.get(at) || { text: "" }).text.replace(/_/g, " "));
 }
 
 /**
- * Returns the colours of the first lamps, "" for one without its own.
+ * Returns the colour of each lamp; "" if the front panel gives none.
  * @param {Face} face
- * @param {number} count
+ * @param {number} count of the board's lamps
  */
 export function lampColours(face, count) {
   return upTo(count).map((at) => (face.colours.get(at) || { text: "" }).text);
 }
 
 /**
- * The last lamp for which each line sets a colour.
+ * Returns the last lamp that each line colours, by line number.
  * @param {Face} face
  */
 function lastColours(face) {

@@ -1,23 +1,25 @@
-// The words of a front panel, from the table tools/lib/face.txt, which describes its columns: heads of lines, the words after them, and the
-// error of a line that is wrong.
+// The syntax of a front panel: the words that begin lines, the words after them, and the error messages. They are read from the table
+// tools/lib/face.txt, whose head explains the columns.
 
 import table from "#face-table";
 
 /**
- * A word that begins a line: what follows it (`N`, `N to N`, `place`, or `-`), whether its words count towards the limit, whether names or
- * displays depend on it, the meaning of its numbers, its words, and the error for others.
+ * A kind of line. `head`: the form of the text between its first word and the colon (`N`, `N to N`, `place`, `line`, or `-` for none).
+ * `counts`: its words count towards the limit. `isRefused`: names or displays depend on it. `size`: the meaning of its numbers. `words`:
+ * the form of the words after the colon, null for any. `form` and `other`: the messages for a wrong head and for wrong words.
  * @typedef {{ head: string, counts: boolean, isRefused: boolean, size: string, words: RegExp | null, form: string, other: string }} Kind
  */
 
 const rows = table.split("\n").filter((line) => line !== "" && !line.startsWith("#")).map((line) => line.split("\t"));
 
 /**
- * The rows that begin with a word, without that word.
+ * Returns the rows of the table that begin with a word, without that word.
  * @param {string} word
  */
 const rowsOf = (word) => rows.filter((row) => row[0] === word).map((row) => row.slice(1));
 
 /**
+ * Returns the word and the kind of line in a row of the table.
  * @param {string[]} columns
  * @returns {[string, Kind]}
  */
@@ -31,35 +33,37 @@ function kindOf([word, head, counts, weight, size, words, form, other]) {
 /** @type {Map<string, Kind>} the kinds of lines, by the words that begin them */
 export const KINDS = new Map(rowsOf("kind").map(kindOf));
 export const COLOURS = new Set(rowsOf("colour").map(([word]) => word));
-/** @type {Map<string, string>} what segments a to g show */
+/** @type {Map<string, string>} the character that segments a to g show, by their marks */
 export const SEGMENTS = new Map(rowsOf("digit").map(([marks, sign]) => [marks, sign === "_" ? " " : sign]));
 const LIMITS = new Map(rowsOf("limit").map(([name, number]) => [name, Number(number)]));
 const HEADS = new Map(rowsOf("head").map(([name, expression]) => [name, new RegExp(expression)]));
-/** Synonyms. */
+/** The word that each synonym means. */
 const OTHERS = new Map(rowsOf("other").map(([word, meant]) => [word, meant]));
 const SAID = new Map(rowsOf("say").map(([name, words]) => [name, words]));
+/** A line of a front panel: the word, the number or place, the number after `to`, and the text after the colon. */
 const LINE = /^[ \t]*#[ \t]*([A-Za-z]+)(?:[ \t]+([^ \t:]+)(?:[ \t]+to[ \t]+([^ \t:]+))?)?[ \t]*:(.*)$/i;
 
-/** @param {string} name of a limit */
+/** @param {string} name of a limit; returns its value */
 export const limit = (name) => LIMITS.get(name) || 0;
 
 /**
- * Returns the message of an error.
- * @param {string} name
- * @param {...(string | number)} about
+ * Returns an error message.
+ * @param {string} name of the message
+ * @param {...(string | number)} about values for `{1}`, `{2}` ..
  */
 export function said(name, ...about) {
   return about.reduce((/** @type {string} */ words, each, at) => words.replace(`{${at + 1}}`, () => String(each)), SAID.get(name) || name);
 }
 
-/** @param {string} text */
+/** @param {string} text is split at blanks and tabs */
 export const wordsOf = (text) => text.split(/[ \t]+/).filter(Boolean);
 
-/** @param {string | undefined} word */
+/** @param {string | undefined} word returns whether it is a decimal number of at most four digits */
 export const isNumber = (word) => isHead("N", word);
 
 /**
- * @param {string} name a head's name
+ * Returns whether a word has the form of a head.
+ * @param {string} name of the head
  * @param {string | undefined} word
  */
 function isHead(name, word) {
@@ -68,10 +72,10 @@ function isHead(name, word) {
 }
 
 /**
- * Returns whether this can be between the word of a line and its colon.
- * @param {Kind} kind
+ * Returns whether the text between the first word of a line and the colon is correct.
+ * @param {Kind} kind of the line
  * @param {string | undefined} first
- * @param {string | undefined} last after `to`
+ * @param {string | undefined} last the word after `to`
  */
 export function fitsHead({ head }, first, last) {
   if (head === "-") return first === undefined;
@@ -80,7 +84,7 @@ export function fitsHead({ head }, first, last) {
 }
 
 /**
- * Returns whether a line of this kind allows such words.
+ * Returns whether a kind of line allows the words after the colon.
  * @param {Kind} kind
  * @param {string[]} words
  */
@@ -89,7 +93,8 @@ export function fitsWords({ words: expression }, words) {
 }
 
 /**
- * Returns the rows and columns in the words of a group, and the first lamp that scans it, -1 if none does; null if the words give none.
+ * Parses the words of a group. Returns its rows and columns, and the first lamp that scans it (-1 if none does). Returns null if the words
+ * give no size.
  * @param {Kind} kind
  * @param {string[]} words
  */
@@ -106,7 +111,7 @@ export function sizeOf(kind, words) {
 }
 
 /**
- * Returns the head of a line, and the words after it; null if it is not a line of a front panel.
+ * Parses a line of a front panel: its first word, the words before the colon, and the text after it. Returns null for any other line.
  * @param {string} text
  */
 export function headOf(text) {

@@ -1,7 +1,7 @@
-// A key of a board as a value: its row and column, or the TEST pin. Only this module converts keys to texts and back.
+// A key of a board as a value: its row and column, or the TEST pin. Only this module converts keys to text and back.
 
 /**
- * A key of the matrix, by its row and column from 0 on.
+ * A key of the matrix: its row and its column, from 0.
  * @typedef {{ kind: "matrix", row: number, column: number }} MatrixKey
  *
  * The key at the TEST pin: `level` is the level of the pin while it is pressed, 0 or 1.
@@ -10,10 +10,11 @@
  * @typedef {MatrixKey | PinKey} Key
  */
 
-/** More columns than a board can have: a key of the matrix is one number. */
+/** The factor that makes one number of a row and a column: more than the columns of a board. */
 const COLUMNS = 256;
 
 /**
+ * Returns a key of the matrix.
  * @param {number} row
  * @param {number} column
  * @returns {MatrixKey}
@@ -23,7 +24,8 @@ export function matrixKey(row, column) {
 }
 
 /**
- * @param {number} level
+ * Returns the key at the TEST pin.
+ * @param {number} level of the pin while the key is pressed
  * @returns {PinKey}
  */
 export function pinKey(level) {
@@ -31,7 +33,7 @@ export function pinKey(level) {
 }
 
 /**
- * Returns whether two values are the same key.
+ * Returns whether two keys are equal.
  * @param {Key} one
  * @param {Key} other
  */
@@ -41,7 +43,7 @@ export function isSameKey(one, other) {
 }
 
 /**
- * Returns the text of a key: `0 2` as lines have it, or `test 0`.
+ * Returns the text of a key: `0 2`, as in the bench's lines, or `test 0`.
  * @param {Key} key
  */
 export function textOfKey(key) {
@@ -49,7 +51,7 @@ export function textOfKey(key) {
 }
 
 /**
- * Returns the key of such a text; null if it is none.
+ * Parses the text of a key, such as `0 2` or `test 0`; returns null for any other text.
  * @param {string} text
  * @returns {Key | null}
  */
@@ -69,9 +71,9 @@ export function lineOfKey(word, key) {
   return `test ${word === "press" ? key.level : 1 - key.level}`;
 }
 
-/** The keys of the matrix that are down, as the bench reported them. */
+/** The set of matrix keys that are down, as the bench reported them. */
 export class KeysDown {
-  /** @param {string[]} items of a list in an answer: `0.2` for row 0, column 2 */
+  /** @param {string[]} items of the list in the answer: `0.2` for row 0, column 2 */
   constructor(items = []) {
     /** @type {Set<number>} */
     this.numbers = new Set();
@@ -88,7 +90,7 @@ export class KeysDown {
   /**
    * Returns whether a key is down.
    * @param {Key} key
-   * @param {string} level of the TEST pin
+   * @param {string} level the current level of the TEST pin
    */
   has(key, level) {
     return key.kind === "matrix" ? this.numbers.has(key.row * COLUMNS + key.column) : level === String(key.level);

@@ -1,24 +1,25 @@
-// The keys as they will be once all requests for them are done: the changes on their way to the worker, and those that wait there for their
-// time. So a key that is typed again before its release is reported does not stay down.
+// Predicts which keys will be down after all pending changes: those on their way to the worker, and those in the worker's queue. A key that
+// is typed again before its release is reported therefore does not stay down.
 
 import { isSameKey } from "./key_place.js";
 
 /**
  * @typedef {import("../engine/key_queue.js").Change} Change
  * @typedef {import("./key_place.js").Key} Key
- * @typedef {{ key: Key, word: "press" | "release" | "forget" }} Asked
+ * @typedef {{ key: Key, word: "press" | "release" | "forget" }} Asked a change, or `forget` to drop the key's queued changes
  */
 
+/** The changes of keys that are not done yet. */
 export class PendingKeys {
   constructor() {
-    /** @type {Change[]} those that wait in the worker, as it reported them last */
+    /** @type {Change[]} the changes in the worker's queue, from its last report */
     this.waiting = [];
-    /** @type {Asked[]} those on their way to it */
+    /** @type {Asked[]} the changes on their way to the worker */
     this.sent = [];
   }
 
   /**
-   * Notes a change on its way; returns a function to call once the worker has it.
+   * Adds a change that is sent to the worker. Returns a callback to call once the worker has received it.
    * @param {Asked} change
    */
   send(change) {
@@ -29,9 +30,9 @@ export class PendingKeys {
   }
 
   /**
-   * Returns whether a key will be down.
+   * Returns whether a key will be down after all pending changes.
    * @param {Key} key
-   * @param {boolean} isDown whether the bench reports it as down
+   * @param {boolean} isDown true if the bench reports the key as down
    */
   willBeDown(key, isDown) {
     /** @type {Asked[]} */

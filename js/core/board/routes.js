@@ -1,26 +1,29 @@
-// The route of a wire in the picture of the wiring: straight to its pin, or, if a part is in the way, through the gap above or below that
-// part; if parts were moved, it may have to run backwards. Nothing here draws.
+// Computes the route of a wire in the wiring diagram. A wire runs straight to its pin or, if a part is in the way, through the gap above or
+// below that part. If parts were moved, a wire can run from right to left. This module does not draw.
 
 /**
  * @typedef {import("./wiring.js").Point} Point
  * @typedef {import("./wiring.js").Part} Part
  * @typedef {Pick<Part, "x" | "y" | "width" | "height">} Box
- * @typedef {{ from: Point, to: Point }} Ends
- * @typedef {[Point, Point, Point, Point]} Curve from a point to the last one, as a cubic of Bezier has them
+ * @typedef {{ from: Point, to: Point }} Ends the two ends of a wire
+ * @typedef {[Point, Point, Point, Point]} Curve a cubic Bezier curve: its start, two control points, and its end
  */
 
-/** The length of a wire's stub between parts of one column, and the distance at which a wire turns around a part. */
+/** The distance of control points from pins, for a wire within one column or from right to left. */
 const OUT = 12;
+/** The distance of turning points from pins and parts. */
 const ASIDE = 8;
-/** The least that a curve is bent. */
+/** The minimum distance of a control point from its end of the curve, for other wires. */
 const BEND = 30;
-/** The distance of a wire from the part that it runs along, and between such wires. */
+/** The distance of a wire from the part that it runs along. */
 const LANE = 5;
+/** The offsets that separate wires along the same part. */
 const LANES = [0, -2, 2, -4, 4];
-/** The points of a curve that are tried. */
+/** The number of intervals into which a curve is sampled. */
 const LOOKS = 24;
 
 /**
+ * Returns the direct curve between the ends of a wire. Between ends in one column it is an arc to the right.
  * @param {Ends} ends
  * @returns {Curve}
  */
@@ -31,7 +34,7 @@ function straight({ from, to }) {
 }
 
 /**
- * A curve that is level at both ends.
+ * Returns a curve that is horizontal at both ends.
  * @param {Point} from
  * @param {Point} to
  * @returns {Curve}
@@ -42,9 +45,9 @@ function level(from, to) {
 }
 
 /**
- * A point of a curve.
+ * Returns a point of a curve.
  * @param {Curve} curve
- * @param {number} part of it, 0 to 1
+ * @param {number} part the curve's parameter, from 0 (start) to 1 (end)
  * @returns {Point}
  */
 export function pointOf(curve, part) {
@@ -56,6 +59,7 @@ export function pointOf(curve, part) {
 }
 
 /**
+ * Returns whether a point is inside a box.
  * @param {Point} point
  * @param {Box} box
  */
@@ -64,7 +68,7 @@ function isIn({ x, y }, box) {
 }
 
 /**
- * Returns whether a curve runs below a part.
+ * Returns whether a part covers some of a curve.
  * @param {Curve} curve
  * @param {Box} box
  */
@@ -73,7 +77,7 @@ export function isBelow(curve, box) {
 }
 
 /**
- * Above and below each part, the shortest ways first.
+ * Returns the y coordinates of the lanes above and below each part, the shortest detour first.
  * @param {Ends} ends
  * @param {Box[]} boxes
  */
@@ -85,7 +89,7 @@ function lanesOf({ from, to }, boxes) {
 }
 
 /**
- * Returns the lane for a wire along the parts between its ends, as near to both as possible.
+ * Returns the y coordinate of the shortest lane that is free of all parts between the ends.
  * @param {Ends} ends
  * @param {Box[]} between
  */
@@ -98,11 +102,11 @@ function laneBeside({ from, to }, between) {
 }
 
 /**
- * The curves of a wire that turns at two points, and runs level between them.
+ * Returns the curves of a wire that turns at two points and is horizontal between them.
  * @param {Ends} ends
- * @param {number} y
- * @param {number} left
- * @param {number} right
+ * @param {number} y of the horizontal part
+ * @param {number} left the x coordinate of the first point
+ * @param {number} right the x coordinate of the second point
  * @returns {Curve[]}
  */
 function turning({ from, to }, y, left, right) {
@@ -110,10 +114,10 @@ function turning({ from, to }, y, left, right) {
 }
 
 /**
- * Returns the curves of a wire that turns near its pins: it leaves to the right and arrives from the left. If its end is left of its
- * beginning, it runs back between them.
+ * Returns the curves of a wire that turns near its pins. It leaves to the right and arrives from the left; between the two it can run from
+ * right to left.
  * @param {Ends} ends
- * @param {number} y of its horizontal part
+ * @param {number} y of the horizontal part
  * @returns {Curve[]}
  */
 function detour(ends, y) {
@@ -128,15 +132,15 @@ function detour(ends, y) {
 }
 
 /**
- * The curves of a wire.
+ * Returns the curves of a wire: the first route that no part covers, or the direct one if there is none.
  * @param {Ends} ends
  * @param {Box[]} boxes of the parts
- * @param {number} number of the wire: neighbours that run along a part are apart
+ * @param {number} number of the wire, which selects its offset from other wires along a part
  * @returns {Curve[]}
  */
 export function routeOf(ends, boxes, number) {
   const { from, to } = ends;
-  // A part over a pin cannot be bypassed.
+  // A part that covers an end of the wire cannot be avoided.
   const others = boxes.filter((box) => !isIn(from, box) && !isIn(to, box));
   /** @type {(route: Curve[]) => boolean} */
   const isFree = (route) => !route.some((curve) => others.some((box) => isBelow(curve, box)));
@@ -153,7 +157,7 @@ export function routeOf(ends, boxes, number) {
 }
 
 /**
- * As a path of SVG has it.
+ * Returns curves as the `d` attribute of an SVG path.
  * @param {Curve[]} curves
  */
 export function pathText(curves) {

@@ -1,4 +1,4 @@
-// The lamps of a board as perceived: each at an instant, and by its brightness while time runs.
+// Reads a lamp of a board, at an instant and as perceived over time.
 
 import { SEEN_PART } from "./brightness.js";
 import { isLit } from "./digit_patterns.js";
@@ -6,14 +6,15 @@ import { isLit } from "./digit_patterns.js";
 /**
  * @typedef {import("./brightness.js").Brightness} Brightness
  *
- * A lamp: whether it is on at an instant, as a text with a `*` for each lamp that is; its duty cycle, and whether that counts as on.
+ * A lamp. `isLit` returns whether it is on at an instant, from a text with a `*` for each lamp that is on. `part` returns its duty cycle.
+ * `isOn` returns whether it is perceived as on.
  * @typedef {{ isLit: (marks: string) => boolean, part: (brightness: Brightness) => number,
  *   isOn: (brightness: Brightness) => boolean }} SeenLamp
  */
 
 /**
- * Returns the lamp of a number.
- * @param {number} at
+ * Returns the lamp with a number.
+ * @param {number} at the number
  * @returns {SeenLamp}
  */
 export function lampAt(at) {
@@ -21,11 +22,11 @@ export function lampAt(at) {
 }
 
 /**
- * Returns a lamp of a multiplexed group: it can be on for its part of the time only, which counts as all of it.
+ * Returns a lamp of a multiplexed group. Each row is on for at most 1 / `rows` of the time, so its duty cycle is scaled by `rows`.
  * @param {import("./face.js").Group} group
- * @param {number} number of those groups that are scanned and no display
- * @param {number} at counts row by row
- * @returns {SeenLamp & { column: number, row: number }} with the lamps whose lines drive it
+ * @param {number} number the group's index among the multiplexed groups that are not displays
+ * @param {number} at the lamp's index in the group, row by row
+ * @returns {SeenLamp & { column: number, row: number }} with the numbers of the board's lamps that select its column and its row
  */
 export function scannedLampAt({ first, rows, columns, by }, number, at) {
   const [column, row] = [first + (at % columns), by + Math.floor(at / columns)];

@@ -1,5 +1,5 @@
-// The text of a display, from answers about its lamps: to `lamps`, or to `trace` of the lamps alone, which gives the perceived picture of
-// that time.
+// Converts answers about lamps to the text of the display. An answer to `lamps` gives the text at an instant. An answer to `trace` with the
+// place `lamps` alone gives the perceived text over that time.
 
 import { SeenText, hasScannedDisplay } from "../engine/seen_text.js";
 import { DisplayText, wholeText } from "./display_text.js";
@@ -10,14 +10,15 @@ import * as say from "../../words/board.js";
  * @typedef {import("../bench/answers.js").Board} Board
  * @typedef {import("./face.js").Face} Face
  *
- * Returns a line for each of the answers; or the error, in words.
+ * The text for each answer about the lamps. `words` is an error message, or "".
  * @typedef {{ lines: string[], words: string }} Shown
  */
 
+/** The first line of an answer to `trace` with the place `lamps` alone. */
 const TRACE = /^trace ran \d+ \w+ lines (\d+) ([.*]+|-)$/;
 const REFUSED = /^no \d/;
 
-/** Reads answers about the lamps of a board with a display. */
+/** Converts answers about the lamps of a board with a display. */
 class ShownAnswers {
   /**
    * @param {Face} face
@@ -34,9 +35,9 @@ class ShownAnswers {
   }
 
   /**
-   * Returns why an answer cannot be shown, in words; "" if it can.
-   * @param {string} marks
-   * @param {number} line
+   * Returns an error message if there are too few lamps for the displays, otherwise "".
+   * @param {string} marks a `*` for each lamp that is on
+   * @param {number} line the line number of the answer
    */
   faultOf(marks, line) {
     const count = marks === "-" ? 0 : marks.length;
@@ -44,10 +45,10 @@ class ShownAnswers {
   }
 
   /**
-   * Reads the answer that begins at a line.
+   * Converts the answer that begins at an index.
    * @param {string[]} answers
-   * @param {number} at
-   * @returns {{ text: string, words: string, count: number }} `count` is the number of its lines, 0 if it is not about the lamps
+   * @param {number} at the index
+   * @returns {{ text: string, words: string, count: number }} `count` is the number of lines in the answer, 0 if it is not about lamps
    */
   read(answers, at) {
     const wrong = (/** @type {string} */ words) => ({ text: "", words, count: 1 });
@@ -69,7 +70,7 @@ class ShownAnswers {
 }
 
 /**
- * Returns what the display of a board shows in each answer about its lamps.
+ * Converts all answers about a board's lamps to the text of its display.
  * @param {Face} face
  * @param {Board} board
  * @param {string} name of the board

@@ -1,9 +1,9 @@
-// The sound of a line: a sample for each cycle.
+// Converts the levels of a buzzer's line to sound samples, one for each cycle.
 
 /** @typedef {import("../engine/sounding.js").Heard} Heard */
 
 /**
- * The samples of a line, 1 or -1.
+ * Returns the samples for the levels of a line: 1 for high, -1 for low.
  * @param {Heard} heard
  */
 export function samplesOf({ cycles, level, edges }) {
@@ -16,9 +16,9 @@ export function samplesOf({ cycles, level, edges }) {
   return samples;
 }
 
-/** Gathers the sound of frames until there is enough to play. */
+/** Collects the samples of frames until there are enough to play. */
 export class SoundPieces {
-  /** @param {number} least the cycles that are played at once */
+  /** @param {number} least the minimum number of samples that are played at once */
   constructor(least) {
     this.least = least;
     /** @type {Float32Array[]} */
@@ -26,13 +26,14 @@ export class SoundPieces {
     this.count = 0;
   }
 
+  /** Drops all samples. */
   forget() {
     this.pieces = [];
     this.count = 0;
   }
 
   /**
-   * Returns all samples if there are enough; otherwise null.
+   * Adds the samples of a frame. If there are enough, removes and returns all samples; otherwise returns null.
    * @param {Heard} heard
    */
   add(heard) {

@@ -1,11 +1,12 @@
-// The printout of a printer: the lines that result from the codes sent to it.
+// Converts the codes sent to a printer to the lines of its printout.
 
-/** The printout is this wide, in characters; the rest continues on a line of its own. */
+/** The width of the printer tape in characters. A text that does not fit on a line starts the next one. */
 const WIDTH = 24;
+/** The word in a front panel for a code that ends the line. */
 const FEED = "feed";
 
 /**
- * Returns the text that a code prints; `?` if the front panel does not say.
+ * Returns the text that a code prints; `?` if the front panel has no word for it.
  * @param {string | undefined} word
  */
 function printedBy(word) {
@@ -13,9 +14,9 @@ function printedBy(word) {
 }
 
 /**
- * The lines of a strip; the last one has not ended.
+ * Returns the lines of a printout. The last line is still open.
  * @param {number[]} codes
- * @param {string[]} words the text that is printed for codes 0, 1 ..
+ * @param {string[]} words the words for codes 0, 1 ..
  */
 export function linesOf(codes, words) {
   const lines = [""];

@@ -1,15 +1,16 @@
-// The text of the wired board: it has the front panel, whatever was typed since. The bench keeps no text, so a session keeps it.
+// The text of the wired board. Its comments define the front panel, even after the text in the editor has changed. The session keeps the
+// text because the bench does not.
 
 import { BoardDraft } from "../drawing/board_draft.js";
 import { sentText } from "../text/text_fault.js";
 
 /** @typedef {{ text: string, board: string }} WiredText a text, and the bench's answer to `board` once it is wired */
 
-/** The most texts that are kept: going back can lead to an earlier board. */
+/** The maximum number of texts that are kept: going back can lead to an earlier board. */
 const MOST_TEXTS = 4;
 
 /**
- * Returns whether a text is that of the wired board, perhaps with other comments.
+ * Returns whether a text describes the wired board; comments can differ.
  * @param {string} text
  * @param {WiredText} wired
  */
@@ -18,10 +19,10 @@ export function isTextOf(text, wired) {
 }
 
 /**
- * Returns the text of the board that the bench has, which is "" for a board of unknown text.
+ * Returns the text of the board in the bench; "" if the text is unknown.
  * @param {string[]} answers to `board`
  * @param {string} text in the editor
- * @param {WiredText[] | undefined} kept undefined in a session that has saved none so far: then its text counts
+ * @param {WiredText[] | undefined} kept the texts that the session keeps; undefined if it has none yet: then the editor's text is returned
  * @returns {WiredText}
  */
 export function wiredOf(answers, text, kept) {
@@ -31,7 +32,7 @@ export function wiredOf(answers, text, kept) {
 }
 
 /**
- * Returns the texts that a session keeps, the newest first.
+ * Returns the texts for the session to keep after a board is wired, the newest first.
  * @param {WiredText} wired
  * @param {WiredText[]} [kept]
  */

@@ -1,4 +1,5 @@
-// The wiring of a board as a drawing: its parts with their pins, and the wires between them, each at its place. Nothing here draws.
+// The layout of the wiring diagram: the parts of a board with their pins, the wires between them, and their positions. This module does not
+// draw.
 
 import { BITS } from "../bench/board_form.js";
 import * as say from "../../words/board.js";
@@ -8,14 +9,14 @@ import * as say from "../../words/board.js";
  * @typedef {import("./face.js").TestPin} TestPin
  * @typedef {{ place: string, name: string }} Buzzer
  *
- * A pin of a part. `line` is the line of the board that it is connected to, as the board's text names it ("" for the TEST pin); a lamp has
- * a colour. Its own name is that line if the part drives or reads it, otherwise its function: `clock 0`, `data 0`, `row 1`, `column 2`,
- * `lamp 3`, `buzzer 0`. A pin of a chip has its number on the package, of 16 pins.
+ * A pin of a part. `line` is the name of the board's line that it is connected to ("" for the TEST pin). `id` is the same name for a pin of
+ * a port or a bit of a chain, otherwise its function: `clock 0`, `data 0`, `row 1`, `column 2`, `lamp 3` or `buzzer 0`. `colour` is the
+ * colour of a lamp. `number` is the pin's number on the 16-pin package of a chip.
  * @typedef {{ id: string, line: string, label: string, colour?: string, number?: number, x: number, y: number }} Pin
  * @typedef {Omit<Pin, "x" | "y">} PinToPut
  *
- * A part: its name in the text (`rom 1`, `ram 0.2`, `chain 0`, `keys`, `lamps`, `test`, `buzzer`, `processor`), its title, and its
- * position.
+ * A part. `id` is its name (`rom 1`, `ram 0.2`, `chain 0`, `keys`, `lamps`, `test`, `buzzer` or `processor`). `says` are the lines of its
+ * description.
  * @typedef {{ id: string, kind: string, title: string, x: number, y: number, width: number, height: number, pins: Pin[],
  *   says: string[] }} Part
  *
@@ -23,23 +24,24 @@ import * as say from "../../words/board.js";
  * @typedef {{ line: string, from: Pin, to: Pin }} Wire
  * @typedef {{ parts: Part[], wires: Wire[], width: number, height: number }} Picture
  *
- * The information of a front panel: the names of the lamps, "" for one without, their colours, "" for one without its own, the switch at
- * the TEST pin, and the line of the buzzer.
+ * The parts of the front panel that the diagram shows: the names and colours of the lamps ("" for none), the button or switch at the TEST
+ * pin, and the buzzer.
  * @typedef {{ names: string[], colours: string[], test: TestPin | null, buzzer: Buzzer | null }} Appearance
  *
  * @typedef {{ x: number, y: number }} Point
  *
- * The positions of parts that were dragged, by their names.
+ * The positions of parts that the user dragged, by the parts' ids.
  * @typedef {Map<string, Point>} Moved
  */
 
+/** Lengths in the diagram: between two pins, of a part's title bar, between two parts, and of the margin. */
 export const PIN_STEP = 18;
 export const HEAD = 26;
 const GAP = 14;
 const EDGE = 10;
-/** The unused bits of a chain that are drawn, to be wired. */
+/** The maximum number of unused chain bits that are shown, so that they can be wired. */
 const FREE_BITS = 6;
-/** The columns of parts: the width of their parts, and the room for the wires before them. */
+/** The columns of parts: their widths, and the room for wires to the left of each. */
 const COLUMNS = [
   { room: 0, width: 84 },
   { room: 24, width: 112 },
@@ -47,17 +49,17 @@ const COLUMNS = [
   { room: 90, width: 150 },
 ];
 
-/** The longest name that fits a part of the first column. */
+/** The maximum length of a title in the first column. */
 const LONGEST_NAME = 11;
 
-/** The numbers of pins on the package: TEST of the 4004, lines 0 to 3 of the 4001 and the 4002, inputs and bits 0 to 9 of the 4003. */
+/** Pin numbers on the package: TEST of the 4004, port lines 0 to 3 of the 4001 and 4002, and clock, data and bits 0 to 9 of the 4003. */
 const TEST_NUMBER = 10;
 const PORT_NUMBERS = [16, 15, 14, 13];
 const CLOCK_NUMBER = 1;
 const DATA_NUMBER = 2;
 const BIT_NUMBERS = [3, 4, 6, 7, 8, 9, 10, 11, 12, 14];
 
-/** Parts of one column, one below the other. */
+/** A column of parts, one below the other. */
 class Column {
   /**
    * @param {number} x
@@ -70,7 +72,7 @@ class Column {
   }
 
   /**
-   * Adds a part with pins at its left and its right side.
+   * Adds a part with pins on its left and right sides.
    * @param {Pick<Part, "id" | "kind" | "title" | "says">} part
    * @param {PinToPut[]} left
    * @param {PinToPut[]} right
@@ -87,16 +89,16 @@ class Column {
   }
 }
 
-/** The line that each pin of the board uses, with the words for it. */
+/** The uses of each line of the board, as descriptions. */
 class Uses {
   /**
    * @param {Board} board
    * @param {Buzzer | null} buzzer
    */
   constructor(board, buzzer) {
-    /** @type {Map<string, string[]>} */
+    /** @type {Map<string, string[]>} the descriptions of each line's uses */
     this.words = new Map();
-    /** @type {Map<string, number>} at which of all uses a line is used first */
+    /** @type {Map<string, number>} the rank of each line, by its first use */
     this.order = new Map();
     board.chains.forEach(({ clock, data }, at) => {
       this.add(clock, say.clocksChain(at));
@@ -107,15 +109,19 @@ class Uses {
     if (buzzer) this.add(buzzer.place, say.SOUNDS_BUZZER);
   }
 
-  /** @param {NonNullable<Board["matrix"]>} matrix */
+  /**
+   * Adds the rows and columns of the key matrix.
+   * @param {NonNullable<Board["matrix"]>} matrix
+   */
   addMatrix({ chain, first, rows, columns }) {
     for (let row = 0; row < rows; row++) this.add(`chain${chain}.${first + row}`, say.drivesRow(row));
     columns.forEach((line, at) => this.add(line, say.readsColumn(at)));
   }
 
   /**
+   * Adds a use of a line.
    * @param {string} line
-   * @param {string} words
+   * @param {string} words the description
    */
   add(line, words) {
     if (!this.words.has(line)) this.order.set(line, this.order.size);
@@ -123,21 +129,24 @@ class Uses {
   }
 
   /**
-   * Returns how far down a line is used: rows first, then columns, then lamps.
+   * Returns the rank of a line by its first use: rows first, then columns, then lamps.
    * @param {string} line
    */
   orderOf(line) {
     return this.order.get(line) || 0;
   }
 
-  /** @param {string} line */
+  /**
+   * Returns the descriptions of a line's uses.
+   * @param {string} line
+   */
   of(line) {
     return this.words.get(line) || [];
   }
 
   /**
-   * Returns the function of a line, in words.
-   * @param {string} name
+   * Returns a sentence about the uses of a line.
+   * @param {string} name of the line or its pin
    * @param {string} line
    */
   say(name, line) {
@@ -147,7 +156,7 @@ class Uses {
 }
 
 /**
- * The four lines of a port, line 3 first in the mask.
+ * Returns the four pins of a port, line 0 first.
  * @param {string} chip `rom1` or `ram0.2`
  */
 function linesOfPort(chip) {
@@ -155,6 +164,7 @@ function linesOfPort(chip) {
 }
 
 /**
+ * Adds the processor to a column.
  * @param {Column} column
  * @param {TestPin | null} test
  */
@@ -165,13 +175,16 @@ function drawProcessor(column, test) {
   return column.add({ id: "processor", kind: "processor", title: "4004", says }, [], [pin]);
 }
 
-/** @param {TestPin} test */
+/**
+ * Returns the name of a button or switch, with blanks for underscores.
+ * @param {TestPin} test
+ */
 function nameOf({ name }) {
   return name.replace(/_/g, " ");
 }
 
 /**
- * The button or the switch at the TEST pin.
+ * Adds the button or switch at the TEST pin to a column.
  * @param {Column} column
  * @param {TestPin} test
  */
@@ -183,6 +196,7 @@ function drawTest(column, test) {
 }
 
 /**
+ * Adds a ROM to a column.
  * @param {Column} column
  * @param {Board["roms"][number]} rom
  * @param {Uses} uses
@@ -195,6 +209,7 @@ function drawRom(column, { chip, port }, uses) {
 }
 
 /**
+ * Adds a RAM chip to a column.
  * @param {Column} column
  * @param {number} bank
  * @param {number} chip
@@ -207,10 +222,10 @@ function drawRam(column, bank, chip, uses) {
 }
 
 /**
- * A chain with the bits that are used, and some of the others.
+ * Adds a chain to a column, with its used bits and some unused ones.
  * @param {Column} column
  * @param {Board["chains"][number]} chain
- * @param {number} at
+ * @param {number} at the number of the chain
  * @param {Uses} uses
  */
 function drawChain(column, { clock, data, chips }, at, uses) {
@@ -225,6 +240,7 @@ function drawChain(column, { clock, data, chips }, at, uses) {
 }
 
 /**
+ * Adds the key matrix to a column.
  * @param {Column} column
  * @param {NonNullable<Board["matrix"]>} matrix
  */
@@ -238,6 +254,7 @@ function drawKeys(column, { chain, first, rows, columns }) {
 }
 
 /**
+ * Adds the lamps to a column, as one part.
  * @param {Column} column
  * @param {string[]} lamps
  * @param {Appearance} look
@@ -249,6 +266,7 @@ function drawLamps(column, lamps, { names, colours }) {
 }
 
 /**
+ * Adds the buzzer to a column.
  * @param {Column} column
  * @param {Buzzer} buzzer
  */
@@ -258,7 +276,7 @@ function drawBuzzer(column, { place, name }) {
 }
 
 /**
- * The wires: from the pin of the chip or chain that drives a line to each other pin of the line.
+ * Returns the wires of all lines. A wire runs from the pin of the port or chain that owns the line to each other pin on the line.
  * @param {Part[]} parts
  */
 function wiresOf(parts) {
@@ -281,8 +299,8 @@ function wiresOf(parts) {
 }
 
 /**
- * The columns; those without parts take no room.
- * @param {boolean[]} areUsed
+ * Returns the columns of the diagram; an empty column takes no room.
+ * @param {boolean[]} areUsed by column
  */
 function columnsOf(areUsed) {
   let right = EDGE;
@@ -294,7 +312,7 @@ function columnsOf(areUsed) {
 }
 
 /**
- * Puts parts where they were dragged to, with their pins.
+ * Moves parts, with their pins, to the positions to which the user dragged them.
  * @param {Part[]} parts
  * @param {Moved} moved
  */
@@ -309,7 +327,7 @@ function moveParts(parts, moved) {
 }
 
 /**
- * The drawing of a board.
+ * Returns the wiring diagram of a board.
  * @param {Board} board
  * @param {Appearance} look
  * @param {Moved} [moved]
@@ -338,7 +356,7 @@ export function drawBoard(board, look = { names: [], colours: [], test: null, bu
 }
 
 /**
- * Returns whether a line of a port is at 1.
+ * Returns whether a line of a port is high.
  * @param {string} digit the value of the port, as a hexadecimal digit
  * @param {number} line
  */
@@ -347,7 +365,7 @@ export function isHigh(digit, line) {
 }
 
 /**
- * Returns whether a line of a ROM's port is at 1: an input line has the level that is read at it, an output line the latch.
+ * Returns whether a line of a ROM's port is high: for an input line, the level that the chip reads; for an output line, the latch.
  * @param {string} mask the port in the board's text, line 3 first
  * @param {{ out: string, in: string }} portLevels
  * @param {number} line
