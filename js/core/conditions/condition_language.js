@@ -1,14 +1,17 @@
-// The language of all conditions (docs/MANUAL.md, "Conditions"), read with the names of a board's front panel and of a program. A condition
-// lists the places that it depends on, and decides by the bench's answers about them whether it holds.
+// Compiles conditions (docs/MANUAL.md, "Conditions"), in which the names of a front panel and of a program can occur. A compiled condition
+// lists the places that it depends on. Its method `holds` evaluates it on the bench's answers about these places.
 //
 //     const { condition, fault } = conditionOf("lamp open on and (r9 >= 8 or cy = 1)", { face, board, map });
 //     if (condition) .. `trace 1000 ${condition.places.join(" ")}` ..; condition.holds(valuesOf(row))
 //
-// `places` are at most 16, each once: words of `trace`, and of STATE_PLACES, which `state` reports and only commands change (probes.js asks
-// for both); `values` are the reports on them, in that order. `fault` says in words what is wrong, and `column` where, from 0.
+// `places` has at most 16 entries, each once: places that `trace` reports, and STATE_PLACES, which `state` reports and only commands
+// change. (probes.js queries both.) `values` are the reported values, in the same order. `fault` is an error message, and `column` its
+// column, from 0.
 //
-// conditionOf reads the condition of a breakpoint; tracedConditionOf the same if only `trace` is asked; testConditionOf the condition of a
-// line of a test, which may also ask for cycles, for the printout and for perceived lamps.
+// There are three kinds of conditions:
+// - conditionOf: the condition of a breakpoint;
+// - tracedConditionOf: the same without STATE_PLACES, for callers that only use `trace`;
+// - testConditionOf: the condition in a line of a test, which can also use cycles, the printout and perceived lamps.
 
 import { MOST_PLACES } from "../bench/inputs.js";
 import { meaningOf } from "./meaning.js";
@@ -22,38 +25,47 @@ import * as say from "../../words/conditions.js";
  * @typedef {import("../board/face.js").Face} Face
  * @typedef {import("../machine/source_map.js").SourceMap} SourceMap
  * @typedef {import("./parser.js").ConditionNode} ConditionNode
- * @typedef {{ face: Face, board: Board, map: Pick<SourceMap, "names" | "nameOf"> | null, watched?: Map<string, string> }} Names the
- *   board's face, its parts as the query `board` reports them, the names of the program, and those of Watch with their expressions
- * @typedef {{ test: string, owed: string, keys: string, cycles: number, seen: string[], printed: string[] }} Beside The values that no
- * trace reports: TEST, the pending second cycle and the keys, as `state` reports them, the cycles since the mark of a test, the answer
- * about the perceived lamps, and the words that were printed
+ *
+ * The names that a condition can use: the front panel, the board from the answer to `board`, the names of the program, and the names in
+ * Watch with their expressions.
+ * @typedef {{ face: Face, board: Board, map: Pick<SourceMap, "names" | "nameOf"> | null, watched?: Map<string, string> }} Names
+ *
+ * Values that `trace` does not report: TEST, the pending second cycle and the keys, all in the spelling of `state`; the cycles since the
+ * last mark in a test; the answer about the perceived lamps; the printed words.
+ * @typedef {{ test: string, owed: string, keys: string, cycles: number, seen: string[], printed: string[] }} Beside
+ *
+ * A compiled condition. `explain` returns "" if the condition holds, otherwise a message with the actual and the required values.
+ * `negation` is the text of the opposite condition. `needs` names the members of `Beside` that it depends on. `address` is the address in
+ * a condition `pc = ADDRESS`, otherwise -1.
  * @typedef {{ text: string, negation: string, places: string[], holds: (values: string[], beside?: Beside) => boolean, explain: (values:
- * string[], beside?: Beside) => string, needs: string[], address: number }} Condition `explain` says what is and what must be if the
- * condition does not hold, "" if it holds; `negation` is the text of the opposite condition; `needs` are the parts of `Beside` that decide
- * it; `address` is the counter that makes it true if the condition is that alone, otherwise -1
+ * string[], beside?: Beside) => string, needs: string[], address: number }} Condition
  * @typedef {{ condition: Condition, fault: "", column: -1 } | { condition: null, fault: string, column: number }} ReadCondition
  *
- * Describes a value or a condition in words: a place as `trace` has it, another value as a decimal number, a condition as true or false.
- * @typedef {{ places: string[], textOf: (values: string[]) => string, number: ((values: string[]) => number) | null }} Expression `number`
- *   is null for a condition
+ * A compiled value or condition. `textOf` returns its text: a place in the spelling of `trace`, any other value as a decimal number, a
+ * condition as `true` or `false`. `number` returns its value, and is null for a condition.
+ * @typedef {{ places: string[], textOf: (values: string[]) => string, number: ((values: string[]) => number) | null }} Expression
  * @typedef {{ expression: Expression, fault: "", column: -1 } | { expression: null, fault: string, column: number }} ReadExpression
  */
 
-/** @type {Beside} at the end of an instruction, if nothing else is known */
+/** @type {Beside} the default values, at the end of an instruction */
 const NOTHING = { test: "", owed: "0", keys: "", cycles: 0, seen: [], printed: [] };
 
-/** @param {Names} names */
+/** @param {Names} names returns a function that returns whether a name is that of a lamp */
 const isLampOf = ({ face }) => (/** @type {string} */ name) => face.lampNumbers.has(name);
 
 /** @type {(place: string) => place is "test" | "owed" | "keys"} */
 const isOfState = (place) => STATE_PLACES.has(place);
 
-/** @param {string[]} places */
+/**
+ * Throws `Unreadable` if there are too many places for one `trace`.
+ * @param {string[]} places
+ */
 function checkCount({ length }) {
   if (length > MOST_PLACES) fail(say.tooManyPlaces(length, MOST_PLACES), 0);
 }
 
 /**
+ * Returns the result of a parser, or the error that it throws.
  * @template Read
  * @param {() => Read} read
  * @returns {{ read: Read, fault: "", column: -1 } | { read: null, fault: string, column: number }}
@@ -68,6 +80,7 @@ function orFault(read) {
 }
 
 /**
+ * Returns the condition from a parser, or the error that it throws.
  * @param {() => Condition} read
  * @returns {ReadCondition}
  */
@@ -82,7 +95,7 @@ const withSingleBlanks = (text) => text.trim().replace(/\s+/g, " ");
 /**
  * Returns the text of the opposite condition.
  * @param {ConditionNode} node
- * @param {string} text
+ * @param {string} text of the condition
  */
 function negationOf(node, text) {
   if (node.kind === "not" && /^(not\b|!)/i.test(node.text)) return withSingleBlanks(node.part.text);
@@ -90,9 +103,10 @@ function negationOf(node, text) {
 }
 
 /**
- * @param {string} whole
+ * Parses and compiles the text of a condition.
+ * @param {string} whole the text
  * @param {Names} names
- * @param {Looked} looked
+ * @param {Looked} looked receives the places that the condition depends on
  * @returns {Pick<Condition, "text" | "negation"> & import("./meaning.js").Meaning}
  */
 function meaningOfText(whole, names, looked) {
@@ -102,8 +116,8 @@ function meaningOfText(whole, names, looked) {
 }
 
 /**
- * Reads a condition that a person writes.
- * @param {string} whole
+ * Compiles the condition of a breakpoint.
+ * @param {string} whole the text
  * @param {Names} names
  * @returns {ReadCondition}
  */
@@ -121,8 +135,8 @@ export function conditionOf(whole, names) {
 }
 
 /**
- * Reads the condition of a line of a test: `trace` answers about its places, and the test itself about the rest, its needs.
- * @param {string} whole
+ * Compiles the condition in a line of a test. `trace` reports its places; the test supplies the values in `needs`.
+ * @param {string} whole the text
  * @param {Names} names
  * @returns {ReadCondition}
  */
@@ -134,7 +148,7 @@ export function testConditionOf(whole, names) {
     const others = all.filter(isOfState);
     const places = all.filter((place) => !isOfState(place));
     checkCount(places);
-    /** @type {(values: string[], beside: Beside) => string[]} what all its places are, in their order */
+    /** @type {(values: string[], beside: Beside) => string[]} returns the values of all places, in their order */
     const whatIs = (values, beside) => {
       let at = 0;
       return all.map((place) => (isOfState(place) ? beside[place] : values[at++]));
@@ -152,7 +166,7 @@ export function testConditionOf(whole, names) {
 }
 
 /**
- * Reads a condition for which only `trace` is asked.
+ * Compiles a condition that depends only on places that `trace` reports; other places are an error.
  * @param {string} text
  * @param {Names} names
  * @returns {ReadCondition}
@@ -164,7 +178,7 @@ export function tracedConditionOf(text, names) {
 }
 
 /**
- * A value, or a condition.
+ * Compiles a value or a condition.
  * @param {string} text
  * @param {Names} names
  * @returns {ReadExpression}

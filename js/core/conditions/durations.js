@@ -1,20 +1,21 @@
-// Times as tests report them: `538`, `538 cycles`, `54 us`, `20 ms`, `1.5 s`, with or without the blank.
+// Parses durations in tests: `538`, `538 cycles`, `54 us`, `20 ms` or `1.5 s`. The blank before `us`, `ms` and `s` is optional.
 
 import { cyclesOfMs } from "../time/mcs4_time.js";
 
-/** The longest time in a line, three hours. */
+/** The maximum duration in a line: three hours. */
 const MOST_CYCLES = 1000000000;
-/** The milliseconds of a unit. */
+/** The milliseconds in each unit. */
 const UNITS = new Map([["us", 0.001], ["ms", 1], ["s", 1000]]);
 
 /**
- * @typedef {{ cycles: number, words: number }} Duration the count of its words; no cycles if they are not a duration
+ * A duration in cycles (0 if it is invalid), and the number of words that it consists of.
+ * @typedef {{ cycles: number, words: number }} Duration
  */
 
 /**
- * Returns the duration in words from one of them on.
+ * Parses the duration that begins at a word.
  * @param {string[]} words
- * @param {number} from
+ * @param {number} from the index of that word
  * @returns {Duration}
  */
 export function durationOf(words, from) {
@@ -32,7 +33,7 @@ export function durationOf(words, from) {
 }
 
 /**
- * Returns the cycles of a time that consists of all these words; 0 if they are not one.
+ * Parses words that together must be one duration; returns its cycles, or 0 if they are not.
  * @param {string[]} words
  */
 export function wholeDuration(words) {

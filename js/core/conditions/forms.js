@@ -1,5 +1,5 @@
-// The forms of conditions that name what the front panel shows: `lamps`, `display`, `printed`; and `cycles`, the bits of a chain, the
-// counter at an address. The parser has split them into words; this module gives these a meaning on a board.
+// Compiles the conditions that begin with a keyword: `lamps`, `display` and `printed` for the front panel, `cycles`, and `chain0` for the
+// bits of a chain. Also compiles a condition that the program counter is at an address. The parser has split each into words.
 
 import { hex, upTo } from "../bench/numbers.js";
 import { DisplayText } from "../board/display_text.js";
@@ -17,13 +17,14 @@ import * as say from "../../words/conditions.js";
  * @typedef {import("./meaning.js").Meaning} Meaning
  * @typedef {import("./values.js").Looked} Looked
  *
- * The meaning of a form: `want` says in words what it must be; `measure` returns what it is, in words that `fits` judges and `remark`
- * follows.
+ * The parts of such a condition. `what` names the measured thing, and `isMany` is true if that name is a plural. `want` is the text of the
+ * required value. `measure` returns the text of the actual value, `matches` compares it, and `remark` returns a remark for the message.
  * @typedef {{ what: string, want: string, isMany?: boolean, measure: (values: string[], beside: Beside) => string,
  *   matches: (is: string, beside: Beside) => boolean, remark?: (is: string) => string, address?: number }} Asked
  */
 
 /**
+ * Returns the compiled condition with these parts.
  * @param {Asked} asked
  * @returns {Meaning}
  */
@@ -47,12 +48,12 @@ function fitsPattern(text, pattern) {
   return text.length === pattern.length && [...pattern].every((mark, at) => mark === "?" || mark === text[at]);
 }
 
-/** @type {(value: string) => string} the marks of all lamps */
+/** @type {(value: string) => string} returns the marks of all lamps, from the value of the place `lamps` */
 const marksOf = (value) => (value === "-" ? "" : value);
 
 /**
- * Returns whether a lamp belongs to a display, and has no name of its own.
- * @param {number} at
+ * Returns whether a lamp without a name belongs to a display.
+ * @param {number} at the number of the lamp
  * @param {Names} names
  */
 function isOfDisplay(at, { face }) {
@@ -61,8 +62,8 @@ function isOfDisplay(at, { face }) {
 }
 
 /**
- * Returns the meaning of `lamps` with a pattern of `*`, `.` and `?` for any, or with the names of all lamps that are on. Lamps of a display
- * that have no name do not matter then.
+ * Compiles `lamps` with a pattern of `*` (on), `.` (off) and `?` (any), or with the names of all lamps that must be on. With names, the
+ * unnamed lamps of a display are ignored.
  * @param {string[]} words
  * @param {Names} names
  * @param {Looked} looked
@@ -88,8 +89,8 @@ export function lampsMeaning(words, names, looked) {
 }
 
 /**
- * Returns the meaning of `display 42`: the number that is shown; or of `display 0 overflow`, with the names of the lamps after it, as mcs4
- * display prints both. Multiplexed digits are as perceived.
+ * Compiles `display 42`, for the number on the display, or `display 0 overflow`, for the number and the names of lamps, in the spelling of
+ * `mcs4 display`. Multiplexed digits count as perceived.
  * @param {string[]} words
  * @param {Names} names
  * @param {Looked} looked
@@ -114,7 +115,7 @@ export function displayMeaning(words, names, looked) {
 }
 
 /**
- * Returns the meaning of `printed 12+ 30= 42`: the last lines of the printout, or `nothing`.
+ * Compiles `printed 12+ 30= 42`, for the last words of the printout. The word `nothing` stands for an empty printout.
  * @param {string[]} words
  * @param {Names} names
  * @param {Looked} looked
@@ -130,7 +131,7 @@ export function printedMeaning(words, { face, board }, looked) {
 }
 
 /**
- * Returns the meaning of `cycles 538`, `cycles at most 20 ms`: the cycles since the mark of a test.
+ * Compiles `cycles 538`, `cycles at most 20 ms` or `cycles at least 1 s`, for the cycles since the last mark in a test.
  * @param {string[]} words
  * @param {Names} names
  * @param {Looked} looked
@@ -149,8 +150,8 @@ export function cyclesMeaning(words, names, looked) {
 }
 
 /**
- * Returns the meaning of the bits of a chain, `chain0 1100??????`, or of one of its lines.
- * @param {string} name
+ * Compiles `chain0 1100??????`, for the bits of a chain.
+ * @param {string} name of the chain
  * @param {string[]} words
  * @param {Names} names
  * @param {Looked} looked
@@ -166,7 +167,7 @@ export function chainMeaning(name, words, { board }, looked) {
 }
 
 /**
- * Returns the counter's address with its name: `012 (next + 2)`.
+ * Returns the text of an address with its name in the program: `012 (next + 2)`.
  * @param {number} address
  * @param {Names} names
  */
@@ -176,9 +177,9 @@ function namedAddress(address, { map }) {
 }
 
 /**
- * Returns the meaning of a counter at an address, between two instructions.
+ * Compiles the condition that the program counter is at an address, between two instructions.
  * @param {number} address
- * @param {string} want
+ * @param {string} want the address in the condition's spelling
  * @param {Names} names
  * @param {Looked} looked
  */

@@ -1,5 +1,5 @@
-// The meaning of a condition's tree on a board with a program: the places that it depends on, and whether it holds for the bench's answers
-// about them. Nothing here computes the machine.
+// Compiles the syntax tree of a condition, for a board and a program, to functions that evaluate it on the bench's answers. Collects the
+// places that the condition depends on. This module does not simulate the machine.
 
 import { chainMeaning, counterMeaning, cyclesMeaning, displayMeaning, lampsMeaning, printedMeaning } from "./forms.js";
 import { fail } from "./scanner.js";
@@ -18,8 +18,8 @@ import * as say from "../../words/conditions.js";
  * @typedef {import("./values.js").Looked} Looked
  * @typedef {import("./values.js").Value} Value
  *
- * `explain` says what is and what must be, or, with `isNot`, what must not be; `address` is the counter that makes it true if the condition
- * is that alone, otherwise -1.
+ * A compiled condition. `explain` returns a message with the actual and the required value, or, with `isNot`, with the forbidden value.
+ * `address` is the address in a condition `pc = ADDRESS`, otherwise -1.
  * @typedef {{ matches: (values: string[], beside: Beside) => boolean,
  *   explain: (values: string[], beside: Beside, isNot: boolean) => string, address: number }} Meaning
  */
@@ -30,10 +30,11 @@ const COMPARISONS = {
   ">": (is, than) => is > than, ">=": (is, than) => is >= than,
 };
 
-/** @type {Record<string, (words: string[], names: Names, looked: Looked) => Meaning>} */
+/** @type {Record<string, (words: string[], names: Names, looked: Looked) => Meaning>} the compilers of conditions, by keyword */
 const FORMS = { lamps: lampsMeaning, display: displayMeaning, printed: printedMeaning, cycles: cyclesMeaning };
 
 /**
+ * Returns the compiled comparison of two values.
  * @param {Value} value
  * @param {CompareNode["sign"]} sign
  * @param {Value} wanted
@@ -53,10 +54,10 @@ function comparedMeaning(value, sign, wanted) {
 }
 
 /**
- * Rejects a number that a place can never have.
+ * Throws `Unreadable` if a value is compared with a constant above its maximum.
  * @param {Value} value
- * @param {ValueNode} node
- * @param {Value} wanted
+ * @param {ValueNode} node of the constant
+ * @param {Value} wanted the constant
  */
 function checkRange(value, node, wanted) {
   if (value.isConstant || !wanted.isConstant) return;
@@ -66,6 +67,7 @@ function checkRange(value, node, wanted) {
 }
 
 /**
+ * Compiles a comparison.
  * @param {CompareNode} node
  * @param {Names} names
  * @param {Looked} looked
@@ -83,7 +85,7 @@ function compareMeaning({ sign, left, right }, names, looked) {
 }
 
 /**
- * The meaning of a place with its value; of RAM several values are those of the characters from there on.
+ * Compiles a place with its value, such as `r0 5`. Several values after a RAM character belong to that character and the next ones.
  * @param {HoldsNode} node
  * @param {Names} names
  * @param {Looked} looked
@@ -108,6 +110,7 @@ function holdsMeaning({ place, values, text, column }, names, looked) {
 }
 
 /**
+ * Compiles a condition that begins with a keyword.
  * @param {FormNode} node
  * @param {Names} names
  * @param {Looked} looked
@@ -119,6 +122,7 @@ function formMeaning({ words: [head, ...rest] }, names, looked) {
 }
 
 /**
+ * Compiles `lamp NAME on` or `key NAME down`.
  * @param {PanelIsNode} node
  * @param {Names} names
  * @param {Looked} looked
@@ -135,8 +139,9 @@ function panelMeaning({ what, name, isOn }, names, looked) {
 }
 
 /**
+ * Returns the opposite of a compiled condition.
  * @param {Meaning} meaning
- * @param {string} text "" for a condition of its own
+ * @param {string} text of the condition if it is joined by `and` or `or`, otherwise ""
  * @returns {Meaning}
  */
 function notMeaning(meaning, text) {
@@ -150,6 +155,7 @@ function notMeaning(meaning, text) {
 }
 
 /**
+ * Returns the conjunction or disjunction of compiled conditions.
  * @param {"or" | "and"} by
  * @param {Meaning[]} parts
  * @param {string} text
@@ -171,10 +177,10 @@ function joinedMeaning(by, parts, text) {
 }
 
 /**
- * Returns the meaning of a condition.
+ * Compiles a condition.
  * @param {ConditionNode} node
  * @param {Names} names
- * @param {Looked} looked receives the places that it depends on
+ * @param {Looked} looked receives the places that the condition depends on
  * @returns {Meaning}
  */
 export function meaningOf(node, names, looked) {

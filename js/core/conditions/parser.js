@@ -1,5 +1,5 @@
-// The grammar of conditions (docs/MANUAL.md, "Conditions"): a text becomes a tree, whose nodes know their columns. The meaning of
-// names is not decided here, except for names of lamps and keys, in which any sign may be a letter.
+// Parses conditions (docs/MANUAL.md, "Conditions") to a syntax tree; each node has its text and column. Names are resolved later, except
+// the names of lamps and keys: these can contain any character, so the parser must recognise them.
 //
 //     condition  = and { or and }      and = not { and not }      not = { "not" } ( lamps | .. | value [ sign value ] )
 //     value      = operand { ("+" | "-" | "&") operand }          operand = number | name | place | "(" value ")"
@@ -11,14 +11,16 @@ import * as say from "../../words/conditions.js";
  * @typedef {import("./scanner.js").Token} Token
  * @typedef {"=" | "!=" | "<" | "<=" | ">" | ">="} Sign
  *
- * A value: a number; a name or a place, with `in` or `out` of a port; a lamp or a key by its name; a sum of two values.
+ * A value: a number; the name of a value or a place, with `in` or `out` after a port; a lamp or a key; the sum, difference or bitwise AND
+ * of two values.
  * @typedef {{ kind: "number", value: number, text: string, column: number }} NumberNode
  * @typedef {{ kind: "name", text: string, way: "" | "in" | "out", column: number }} NameNode
  * @typedef {{ kind: "lamp" | "key", text: string, column: number }} PanelNode
  * @typedef {{ kind: "sum", sign: "+" | "-" | "&", left: ValueNode, right: ValueNode, text: string, column: number }} SumNode
  * @typedef {NumberNode | NameNode | PanelNode | SumNode} ValueNode
  *
- * A condition. `form` is a place with values in the words of tests, or `lamps`, `display`, `printed`, `cycles` with the rest.
+ * A condition. `form`: a keyword (`lamps`, `display`, `printed`, `cycles` or a chain) with the words after it. `holds`: a place with its
+ * values. `panel`: `lamp NAME on` or `key NAME down`. `at`: `at LABEL`.
  * @typedef {{ kind: "or" | "and", parts: ConditionNode[], text: string, column: number }} JoinedNode
  * @typedef {{ kind: "not", part: ConditionNode, text: string, column: number }} NotNode
  * @typedef {{ kind: "compare", sign: Sign, left: ValueNode, right: ValueNode, text: string, column: number }} CompareNode
@@ -30,27 +32,29 @@ import * as say from "../../words/conditions.js";
  * @typedef {ConditionNode | ValueNode} Node
  */
 
-/** The words of the language, which names do not replace: for colours. */
+/** The keywords of the language, for syntax colouring. */
 export const WORDS = new Set(["or", "and", "not", "lamps", "lamp", "key", "display", "printed", "cycles", "at", "most", "least", "on",
   "off", "down", "up", "none", "in", "out"]);
 
-/** The most characters of a condition, and its deepest nesting of parentheses. */
+/** The maximum length of a condition, and the maximum nesting of parentheses. */
 export const LONGEST = 2000;
 export const MOST_DEPTH = 30;
 
-/** @type {Record<string, Sign>} */
+/** @type {Record<string, Sign>} the operator of each spelling */
 const SIGNS = { "=": "=", "==": "=", "!=": "!=", "<": "<", "<=": "<=", ">": ">", ">=": ">=" };
 const JOINS = new Map([["or", "or"], ["||", "or"], ["and", "and"], ["&&", "and"]]);
 const PORT = /^(rom\d+|ram\d+\.\d+)$/i;
+/** The kinds of nodes that are conditions. */
 const CONDITIONS = new Set(["or", "and", "not", "compare", "form", "holds", "panel", "at"]);
-/** The number of numerals after the first word of a place that has blanks in it. */
+/** The number of numerals after the first word of a place that is written with blanks, such as `ram 0 0x12`. */
 const SPACED = new Map([["ram", 2], ["st", 3]]);
-/** The kinds of nodes that need no parentheses, because their text is a name. */
+/** The kinds of nodes whose text stays without parentheses, because it is a single name or number. */
 const BARE = new Set(["number", "name", "lamp", "key"]);
 const FORMS = { lamp: say.LAMP_FORM, key: say.KEY_FORM };
 const STATES = new Map([["on", true], ["off", false], ["down", true], ["up", false]]);
 
 /**
+ * Returns whether a node is a condition, not a value.
  * @param {Node} node
  * @returns {node is ConditionNode}
  */
@@ -58,10 +62,11 @@ export function isCondition(node) {
   return CONDITIONS.has(node.kind);
 }
 
+/** A recursive-descent parser. */
 class Parser {
   /**
    * @param {string} text
-   * @param {(name: string) => boolean} isOfPanel whether a lamp has this name
+   * @param {(name: string) => boolean} isOfPanel returns whether a lamp has the name
    */
   constructor(text, isOfPanel) {
     this.text = text;
@@ -72,13 +77,16 @@ class Parser {
 
   // --- tokens ---
 
-  /** @param {Token} token */
+  /**
+   * Returns whether a token is `not` or `!`.
+   * @param {Token} token
+   */
   isNot({ kind, text }) {
     return kind === "sign" ? text === "!" : kind === "word" && text.toLowerCase() === "not";
   }
 
   /**
-   * Returns the operator that a token is, or "" if it is none.
+   * Returns "or" or "and" for a token that is such an operator, otherwise "".
    * @param {Token} token
    */
   joinOf({ kind, text }) {
@@ -86,7 +94,10 @@ class Parser {
     return kind === "sign" || kind === "word" ? JOINS.get(word) || "" : "";
   }
 
-  /** @param {number} column */
+  /**
+   * Returns the text from a column to the current position.
+   * @param {number} column
+   */
   textFrom(column) {
     return this.text.slice(column, this.scanner.place).trim();
   }
@@ -94,7 +105,7 @@ class Parser {
   // --- conditions ---
 
   /**
-   * All of the text.
+   * Parses the whole text.
    * @returns {Node}
    */
   whole() {
@@ -104,12 +115,16 @@ class Parser {
     return node;
   }
 
-  /** @param {Token} token */
+  /**
+   * Returns a token in the spelling of the text.
+   * @param {Token} token
+   */
   textOf({ kind, text }) {
     return kind === "text" ? `"${text}"` : text;
   }
 
   /**
+   * Parses operands joined by `or`, or by `and`.
    * @param {"or" | "and"} by
    * @returns {Node}
    */
@@ -125,7 +140,10 @@ class Parser {
     return { kind: by, parts: parts.map((part) => this.needCondition(part)), text: this.textFrom(column), column };
   }
 
-  /** @returns {Node} */
+  /**
+   * Parses a comparison after any number of `not`.
+   * @returns {Node}
+   */
   negated() {
     const { column } = this.scanner.peek();
     let count = 0;
@@ -137,6 +155,7 @@ class Parser {
   }
 
   /**
+   * Returns a node that must be a condition; throws `Unreadable` for a value. `@NAME` becomes `at NAME`.
    * @param {Node} node
    * @returns {ConditionNode}
    */
@@ -150,6 +169,7 @@ class Parser {
   }
 
   /**
+   * Returns a node that must be a value; throws `Unreadable` for a condition.
    * @param {Node} node
    * @returns {ValueNode}
    */
@@ -157,7 +177,10 @@ class Parser {
     return isCondition(node) ? fail(say.noValue(node.text), node.column) : node;
   }
 
-  /** @returns {Node} */
+  /**
+   * Parses a comparison, a place with its values, or a single value.
+   * @returns {Node}
+   */
   comparison() {
     const left = this.sum();
     if (isCondition(left)) return left;
@@ -171,6 +194,7 @@ class Parser {
   }
 
   /**
+   * Parses the right side of a comparison.
    * @param {ValueNode} left
    * @param {Sign} sign
    * @returns {ConditionNode}
@@ -187,6 +211,7 @@ class Parser {
   }
 
   /**
+   * Returns the node for a place with its values.
    * @param {NameNode} place
    * @param {ValueNode[]} values
    * @returns {HoldsNode}
@@ -195,13 +220,13 @@ class Parser {
     return { kind: "holds", place, values, text: this.textFrom(place.column), column: place.column };
   }
 
-  /** Returns whether a value follows directly after another one. */
+  /** Returns whether the next token begins a value. */
   isValueNext() {
     const token = this.scanner.peek();
     return token.kind === "number" || (token.kind === "word" && this.joinOf(token) === "" && !this.isNot(token));
   }
 
-  /** Reads consecutive values. */
+  /** Parses consecutive values. */
   values() {
     /** @type {ValueNode[]} */
     const values = [];
@@ -211,7 +236,10 @@ class Parser {
 
   // --- values ---
 
-  /** @returns {Node} */
+  /**
+   * Parses operands joined by `+`, `-` or `&`.
+   * @returns {Node}
+   */
   sum() {
     let left = this.operand();
     for (;;) {
@@ -225,12 +253,18 @@ class Parser {
     }
   }
 
-  /** @param {string} sign that must be followed by something */
+  /**
+   * Throws `Unreadable` if the text ends after an operator.
+   * @param {string} sign the operator
+   */
   needMore(sign) {
     if (this.scanner.peek().kind === "end") fail(say.missingBehind(sign), this.last);
   }
 
-  /** @returns {Node} */
+  /**
+   * Parses a number, a name, a place, a condition with a keyword, or an expression in parentheses.
+   * @returns {Node}
+   */
   operand() {
     const token = this.scanner.peek();
     const { kind, text, column } = token;
@@ -245,12 +279,15 @@ class Parser {
     return this.named(token);
   }
 
-  /** The last column of the text. */
+  /** The last column of the text, for errors at its end. */
   get last() {
     return Math.max(0, this.text.length - 1);
   }
 
-  /** @returns {Node} the contents of parentheses */
+  /**
+   * Parses an expression in parentheses.
+   * @returns {Node}
+   */
   inside() {
     const { column } = this.scanner.next();
     this.depth += 1;
@@ -266,7 +303,7 @@ class Parser {
   }
 
   /**
-   * Parses a form that begins with a word.
+   * Parses a name, a place, or a condition with a keyword.
    * @param {Token} token
    * @returns {Node}
    */
@@ -293,8 +330,8 @@ class Parser {
   }
 
   /**
-   * Reads the direction that may follow a port.
-   * @param {string} word
+   * Parses the optional direction after a port; returns "" if there is none.
+   * @param {string} word the port
    * @returns {"" | "in" | "out"}
    */
   way(word) {
@@ -306,8 +343,8 @@ class Parser {
   }
 
   /**
-   * The counter is at a label.
-   * @param {number} column
+   * Parses the label after `at`.
+   * @param {number} column of `at`
    * @returns {AtNode}
    */
   label(column) {
@@ -317,10 +354,11 @@ class Parser {
     return { kind: "at", label: name.text.replace(/^@/, ""), text: this.textFrom(column), column };
   }
 
-  // --- forms whose words are names ---
+  // --- Keywords followed by names ---
 
   /**
-   * Reads `lamp NAME on`, `key NAME down`, or such a value; null if the word is a name of the source in a comparison.
+   * Parses `lamp NAME on` or `key NAME down`, or, without `on` or `down`, a value. Returns null if the word `lamp` or `key` is itself a
+   * name of the program, followed by an operator.
    * @param {Token} token
    * @param {"lamp" | "key"} what
    * @returns {Node | null}
@@ -345,7 +383,7 @@ class Parser {
   }
 
   /**
-   * Reads the lamps that are on, by their names or marks; or all as one number, which is compared.
+   * Parses `lamps` with names or marks; or, before an operator, `lamps` as the number of which each lamp is a bit.
    * @param {Token} token
    * @returns {Node}
    */
@@ -360,7 +398,7 @@ class Parser {
   }
 
   /**
-   * Reads `display TEXT`, with a sign of equality or without.
+   * Parses `display TEXT`, with an optional `=` or `!=` before the text.
    * @param {Token} head
    * @returns {ConditionNode}
    */
@@ -371,14 +409,14 @@ class Parser {
     return isNot ? { kind: "not", part: form, text: form.text, column: head.column } : form;
   }
 
-  /** Reads a sign of equality or inequality; returns whether it is inequality. */
+  /** Skips an optional `=`, `==` or `!=`; returns true for `!=`. */
   equality() {
     const { text } = this.peekLoosely();
     if (text === "=" || text === "==" || text === "!=") this.scanner.next();
     return text === "!=";
   }
 
-  /** Returns the next token; a sign that is not part of the language is a word. */
+  /** Returns the next token without consuming it. Characters that are not an operator count as a word. */
   peekLoosely() {
     const { scanner } = this;
     const { place } = scanner;
@@ -390,9 +428,9 @@ class Parser {
   }
 
   /**
-   * Returns the words up to the next `and`, `or` or parenthesis.
-   * @param {boolean} isText whether they may be a text in quotes
-   * @param {boolean} [hasLamps] whether they may be names of lamps; a lamp may be called `or`
+   * Returns the words up to the next `and`, `or` or closing parenthesis.
+   * @param {boolean} isText true if the words can be in quotes
+   * @param {boolean} [hasLamps] true if the words can be names of lamps: a lamp can be named `or`
    */
   following(isText, hasLamps = false) {
     const { scanner } = this;
@@ -424,14 +462,15 @@ class Parser {
     return this.text.slice(column).trim().split(/\s+/).every((word) => this.isOfPanel(word));
   }
 
-  /** The words of a text in quotes. */
+  /** Returns the words of a text in quotes. */
   quoted() {
     const token = this.scanner.next();
     return token.text.split(/\s+/).filter(Boolean).map((text) => ({ ...token, text }));
   }
 
   /**
-   * @param {Token} head
+   * Returns the node for a keyword with its words.
+   * @param {Token} head the keyword
    * @param {Token[]} words
    * @returns {FormNode}
    */
@@ -441,8 +480,8 @@ class Parser {
   }
 
   /**
-   * The bits of a chain.
-   * @param {Token} head
+   * Parses the bits after a chain.
+   * @param {Token} head the name of the chain
    * @returns {ConditionNode}
    */
   chain(head) {
@@ -465,9 +504,9 @@ class Parser {
 }
 
 /**
- * Returns the tree of a text; throws `Unreadable` if it has none.
+ * Parses a value or a condition; throws `Unreadable` for an error.
  * @param {string} text
- * @param {(name: string) => boolean} [isOfPanel] whether a lamp has this name
+ * @param {(name: string) => boolean} [isOfPanel] returns whether a lamp has the name
  * @returns {Node}
  */
 export function parse(text, isOfPanel = () => false) {
@@ -476,9 +515,9 @@ export function parse(text, isOfPanel = () => false) {
 }
 
 /**
- * The tree of a text that is a condition.
+ * Parses a condition; throws `Unreadable` for an error.
  * @param {string} text
- * @param {(name: string) => boolean} [isOfPanel]
+ * @param {(name: string) => boolean} [isOfPanel] returns whether a lamp has the name
  * @returns {ConditionNode}
  */
 export function parseCondition(text, isOfPanel = () => false) {

@@ -1,48 +1,50 @@
-// The places of the machine by their names: a register, a pair, a RAM character, a line, a port, a chain, lamps. Each place has one
-// displayed spelling, that of `trace`; others are read as well. A place knows which places of `trace` give its value on a board.
+// Parses the names of places in the machine: a register, a register pair, a RAM character, a line, a port, a chain or the lamps. A place
+// can have several spellings; it is shown in the spelling of `trace`. A place lists the `trace` places that report its value on a board.
 
 import { BITS } from "../bench/board_form.js";
 import { LAST_ADDRESS, hex, numberOf, upTo } from "../bench/numbers.js";
 
 /**
  * @typedef {import("../bench/answers.js").Board} Board
+ *
+ * A place. `name` is the spelling that is shown. `probesOn` returns the `trace` places that report its value; none if the board lacks it.
+ * `value` returns its value in the spelling of `trace`, and `number` as a number. `most` returns its maximum, -1 if it is not a number.
  * @typedef {{ name: string, most: (board: Board) => number, probesOn: (board: Board) => string[], value: (answers: string[]) => string,
- * number: (answers: string[]) => number }} Place `name` is the spelling that is shown; `probesOn` returns no place if the board lacks it;
- * `value` is as `trace` writes it, `number` its number; `most` is the largest number, -1 for a value that is not a number
+ * number: (answers: string[]) => number }} Place
  */
 
-/** Manuals of other processors call the accumulator A. */
+/** The name of the accumulator in manuals of other processors. */
 const ACCUMULATOR = "a";
-/** The characters in a register of a RAM chip, and its status characters. */
+/** The number of main memory characters, and of status characters, in a register of a RAM chip. */
 export const CHARACTERS = 16;
 export const STATUS = 4;
-/** The largest value of a place, except for a register or RAM. */
+/** The maximum values of places. All others have 4 bits, except register pairs and ROM bytes; `ret` is not a number. */
 const LARGEST = new Map([["cy", 1], ["test", 1], ["owed", 1], ["pc", LAST_ADDRESS], ["dcl", 7], ["src", 255], ["ret", -1]]);
 const LARGEST_BYTE = 255;
 const LARGEST_DIGIT = 15;
-/** A number has one bit for each lamp, and is exact up to this many. */
+/** The maximum number of lamps that fit a number with one bit for each: larger numbers are not exact. */
 const MOST_LAMPS = 52;
 
-/** Names of places that each board has, for completion. */
+/** The names of places that every board has, for completion. */
 export const PLACE_WORDS = [
   "acc", "cy", "pc", "dcl", "src", "test", "lamps", ...upTo(16).map((at) => `r${at}`), ...upTo(8).map((at) => `p${at}`)];
 
-/** @param {string} place */
+/** @param {string} place returns its maximum value; -1 if it is not a number */
 export const largestOf = (place) => LARGEST.get(place) ?? (/^(p\d$|rom\.)/.test(place) ? LARGEST_BYTE : LARGEST_DIGIT);
 
-/** @param {string[]} answers */
+/** @param {string[]} answers returns the first one */
 const first = ([answer]) => answer;
 
 /**
- * Returns the digits of a place, the highest first, as a number.
+ * Returns the number with these hexadecimal digits, the most significant one first.
  * @param {string[]} answers
  */
 const asNumber = (answers) => parseInt(answers.join(""), 16);
 
 /**
- * A place that `trace` has by one name.
+ * Returns a place whose value `trace` reports under the same name.
  * @param {string} name
- * @param {(board: Board) => boolean} [isOn]
+ * @param {(board: Board) => boolean} [isOn] returns whether a board has the place
  * @returns {Place}
  */
 function single(name, isOn = () => true) {
@@ -50,9 +52,9 @@ function single(name, isOn = () => true) {
 }
 
 /**
- * A line, which is 0 or 1.
+ * Returns a line, whose value is 0 or 1.
  * @param {string} name
- * @param {(board: Board) => boolean} isOn
+ * @param {(board: Board) => boolean} isOn returns whether a board has the line
  * @returns {Place}
  */
 function lineOf(name, isOn) {
@@ -70,6 +72,7 @@ function hasRam({ banks }, bank, chip) {
 }
 
 /**
+ * Parses the name of a register or a register pair.
  * @param {string} name
  * @returns {Place | null}
  */
@@ -82,7 +85,7 @@ function registerPlace(name) {
 }
 
 /**
- * A character or a status character: `ram.0.0x12`, `ram 0 0x12`, `st.0.1.2`.
+ * Parses the name of a RAM character or a status character: `ram.0.0x12`, `ram 0 0x12` or `st.0.1.2`.
  * @param {string} text
  * @returns {Place | null}
  */
@@ -97,7 +100,7 @@ function memoryPlace(text) {
 }
 
 /**
- * A port, or a line of one: `rom1`, `rom1.2`, `ram0.0`, `ram0.0.3`.
+ * Parses the name of a port or of its line: `rom1`, `rom1.2`, `ram0.0` or `ram0.0.3`.
  * @param {string} name
  * @returns {Place | null}
  */
@@ -112,7 +115,7 @@ function portPlace(name) {
 }
 
 /**
- * The lamps that are on as a number: lamp k is its bit k.
+ * Returns the lamps as a number: bit k is 1 if lamp k is on.
  * @param {string[]} answers
  */
 function lampsNumber([marks]) {
@@ -120,6 +123,7 @@ function lampsNumber([marks]) {
 }
 
 /**
+ * Parses `lamps`, or the name of a lamp, a chain, or a bit of a chain.
  * @param {string} name
  * @returns {Place | null}
  */
@@ -133,7 +137,7 @@ function lampPlace(name) {
   const lamp = /^lamp[ .]?(\d+)$/.exec(name);
   if (lamp) {
     const at = Number(lamp[1]);
-    // A value as its line reports it.
+    // The value of a lamp is the level of its line.
     return {
       ...lineOf(`lamp ${at}`, () => true), probesOn: ({ lamps }) => lamps.slice(at, at + 1),
       value: ([answer]) => (answer === "1" ? "*" : "."),
@@ -147,7 +151,7 @@ function lampPlace(name) {
 }
 
 /**
- * Returns the place of a name; null if there is none of this name.
+ * Parses the name of a place; returns null for any other text.
  * @param {string} text
  * @returns {Place | null}
  */
@@ -157,8 +161,8 @@ export function placeOf(text) {
 }
 
 /**
- * Returns the place of a word that the user has given to nothing: `A` is the accumulator; null for any other word. It cannot be set by
- * this word, since a name of *Watch* may be the same.
+ * Returns the accumulator for `A`, which is not one of its names; null for any other word. Callers try all other meanings of the word
+ * first, for example a name in *Watch*.
  * @param {string} text
  */
 export function placeByOtherName(text) {

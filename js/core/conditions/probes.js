@@ -1,4 +1,4 @@
-// The queries to the bench about places of conditions: `trace` reports most of them, `state` those that only commands change.
+// Queries the bench for the values of places. `trace` reports most of them, and `state` reports those that only commands change.
 
 import { MOST_PLACES } from "../bench/inputs.js";
 import { valueIn } from "../bench/state_line.js";
@@ -7,6 +7,7 @@ import { STATE_PLACES } from "./values.js";
 
 /** @typedef {import("../engine/tracing.js").Answers} Answers */
 
+/** The queries for a list of places. */
 export class Probes {
   /** @param {string[]} places */
   constructor(places) {
@@ -15,13 +16,13 @@ export class Probes {
     this.groups = [];
     for (let from = 0; from < traced.length; from += MOST_PLACES) this.groups.push(traced.slice(from, from + MOST_PLACES));
     this.asksState = traced.length < places.length;
-    /** The queries. */
+    /** The lines of the queries. */
     this.lines = this.groups.map((group) => `trace 1 ${group.join(" ")}\n`).join("") + (this.asksState ? "state\n" : "");
   }
 
   /**
-   * Returns the current answers for the places, in their order.
-   * @param {Answers} answers to the lines
+   * Returns the values of the places, in their order.
+   * @param {Answers} answers to the queries
    * @returns {string[]}
    */
   take(answers) {

@@ -1,14 +1,14 @@
-// The words of a condition, one after the other, each with its column.
+// Splits the text of a condition into tokens.
 
 import * as say from "../../words/conditions.js";
 
 /**
  * @typedef {"number" | "word" | "sign" | "text" | "end"} TokenKind
- * @typedef {{ kind: TokenKind, text: string, column: number, end: number }} Token `column` counts from 0, `end` is after its last
- *   character
+ * @typedef {{ kind: TokenKind, text: string, column: number, end: number }} Token `column` is the column of the first character, from 0;
+ *   `end` is the column after the last one
  */
 
-/** An error in a condition, or in a line of properties, with its column, from 0; -1 if it is not known yet. */
+/** An error in a condition or in a line of properties. Its column counts from 0; -1 if it is not known yet. */
 export class Unreadable extends Error {
   /**
    * @param {string} words
@@ -21,7 +21,8 @@ export class Unreadable extends Error {
 }
 
 /**
- * @param {string} words
+ * Throws `Unreadable`.
+ * @param {string} words the message
  * @param {number} [column]
  * @returns {never}
  */
@@ -34,26 +35,29 @@ const SIGN = /\|\||&&|==|!=|<=|>=|[=<>!()+\-&]/y;
 const TEXT = /"([^"]*)"/y;
 const WORD = /[A-Za-z_@][\w.@]*/y;
 const NUMBER = /\d\w*/y;
+/** A word with any characters. */
 const RAW = /\S+/y;
 
 /**
- * Returns the number of a numeral: `10`, `0xA`, `0b1010`; NaN if it is none.
+ * Parses a numeral, such as `10`, `0xA` or `0b1010`; returns NaN for any other text.
  * @param {string} text
  */
 export function numeralOf(text) {
   return /^(\d{1,15}|0x[0-9a-f]{1,12}|0b[01]{1,48})$/i.test(text) ? Number(text) : NaN;
 }
 
+/** The tokens of a text. */
 export class Scanner {
   /** @param {string} text */
   constructor(text) {
     this.text = text;
     this.at = 0;
-    /** @type {Token | null} the next token, if it was peeked at */
+    /** @type {Token | null} the next token, if `peek` has already scanned it */
     this.seen = null;
   }
 
   /**
+   * Consumes the text that matches a sticky expression; returns the match, or null.
    * @param {RegExp} form
    * @returns {RegExpExecArray | null}
    */
@@ -70,13 +74,17 @@ export class Scanner {
     return this.seen;
   }
 
+  /** Consumes the next token and returns it. */
   next() {
     const token = this.peek();
     this.seen = null;
     return token;
   }
 
-  /** @returns {Token} */
+  /**
+   * Scans a token; throws `Unreadable` for characters that begin none.
+   * @returns {Token}
+   */
   scan() {
     this.take(BLANKS);
     const column = this.at;
@@ -99,8 +107,8 @@ export class Scanner {
   }
 
   /**
-   * Returns the next word with any characters, because names of the front panel may have any; null at the end.
-   * @param {boolean} isInside whether a parenthesis is open, with which the word may end
+   * Consumes the next word up to a blank, and returns it; null at the end. Names on a front panel can contain any characters.
+   * @param {boolean} isInside true if a parenthesis is open: then closing parentheses at the end do not belong to the word
    * @returns {Token | null}
    */
   raw(isInside) {
@@ -114,21 +122,24 @@ export class Scanner {
     return { kind: "word", text, column, end: this.at };
   }
 
-  /** Reads the token that was peeked at again. */
+  /** Moves back before the token that `peek` has scanned. */
   back() {
     if (this.seen) this.at = this.seen.column;
     this.seen = null;
   }
 
   /**
-   * Returns the scanner's position, for a later return.
+   * The column of the next token, for a later `goTo`.
    * @returns {number}
    */
   get place() {
     return this.seen ? this.seen.column : this.at;
   }
 
-  /** @param {number} place */
+  /**
+   * Moves to a column.
+   * @param {number} place
+   */
   goTo(place) {
     this.at = place;
     this.seen = null;

@@ -1,4 +1,4 @@
-// `set PLACE = VALUE`, or without the sign: which places can get a value, and the lines of the bench that set it.
+// Parses `set PLACE = VALUE` or `set PLACE VALUE`, and translates it to lines of the bench.
 
 import { LAST_ADDRESS, hex, numberOf } from "../bench/numbers.js";
 import { parse } from "./parser.js";
@@ -10,16 +10,17 @@ import * as say from "../../words/conditions.js";
 /**
  * @typedef {import("./condition_language.js").Names} Names
  * @typedef {import("./parser.js").ValueNode} ValueNode
- * @typedef {{ place: string, value: ValueNode }} Setting `place` is spelled as `trace` has it
+ * @typedef {{ place: string, value: ValueNode }} Setting `place` is in the spelling that `settablePlace` returns
  *
- * The lines of the bench, or the error and its column in the text after `set`.
+ * The lines of the bench; or an error message, and its column in the text after `set`.
  * @typedef {{ place: string, lines: string, fault: string, column: number }} ReadSetting
  */
 
+/** The places that can be set, without `test` and the bytes of ROM. */
 const SETTABLE = /^(acc|cy|pc|dcl|r\d+|p\d|(ram|st)\..*)$/;
 
 /**
- * Returns the spelling of a place that can be set; "" for any other.
+ * Returns the bench's spelling of a place that can be set; "" for any other text.
  * @param {string} text
  */
 export function settablePlace(text) {
@@ -33,8 +34,8 @@ export function settablePlace(text) {
 
 /**
  * Returns the lines that set a place.
- * @param {string} place as `settablePlace` returns it
- * @param {number} value that it can hold
+ * @param {string} place in the spelling that `settablePlace` returns
+ * @param {number} value within the place's range
  */
 export function linesOfSetting(place, value) {
   if (place === "test") return `test ${value}\n`;
@@ -45,7 +46,7 @@ export function linesOfSetting(place, value) {
 }
 
 /**
- * Reads the text after `set`; throws `Unreadable` for an error.
+ * Parses the text after `set`; throws `Unreadable` for an error.
  * @param {string} text
  * @returns {Setting}
  */
@@ -57,7 +58,8 @@ export function settingOf(text) {
 }
 
 /**
- * @param {import("./parser.js").NameNode} left
+ * Returns the setting of a place; throws `Unreadable` if the place cannot be set.
+ * @param {import("./parser.js").NameNode} left the place
  * @param {ValueNode} value
  * @returns {Setting}
  */
@@ -68,10 +70,10 @@ function settingOfParts({ text, column }, value) {
 }
 
 /**
- * Reads the text after `set`, in which VALUE is a number or a name of the program.
+ * Translates the text after `set` to lines. VALUE consists of numbers and names of the program.
  * @param {string} text
- * @param {Names["map"]} map
- * @param {import("./condition_language.js").Board | null} [board] that has the place, if it is known
+ * @param {Names["map"]} map of the program
+ * @param {import("./condition_language.js").Board | null} [board] if it is known: then a place that it lacks is an error
  * @returns {ReadSetting}
  */
 export function readSetting(text, map, board = null) {

@@ -1,5 +1,5 @@
-// The values in a condition: numbers, names of the source, of Watch and of the front panel, places, and sums of them. Each value is
-// computed from the bench's answers about its places.
+// Compiles the values in a condition: numbers, places, sums, and names of the program, of *Watch* and of the front panel. A compiled value
+// is computed from the bench's answers about its places.
 
 import { keysOf, pinOf } from "../explore/explored_inputs.js";
 import { mostAlike } from "../text/alike.js";
@@ -14,33 +14,33 @@ import * as say from "../../words/conditions.js";
  * @typedef {import("./parser.js").NameNode} NameNode
  * @typedef {import("./parser.js").SumNode} SumNode
  *
- * `name` is the displayed spelling; `most` is the largest number, Infinity if unknown; `isConstant`: it depends on no place; `textOf` is
- * the displayed text of its value.
+ * A compiled value. `name` is its displayed name. `most` is its maximum, Infinity if unknown. `isConstant` is true if it depends on no
+ * place. `read` returns its number, and `textOf` its displayed text.
  * @typedef {{ name: string, most: number, isConstant: boolean, read: (values: string[]) => number, textOf?: (values: string[]) => string }}
  *   Value
  *
- * A value that no answer of the bench about a place contains; a test keeps it.
+ * A value that only a test can supply, because the bench does not report it.
  * @typedef {"cycles" | "seen" | "printed"} Need
  */
 
-/** The places that `state` has and no trace; only commands change them. */
+/** The places that `state` reports and `trace` does not; only commands change them. */
 export const STATE_PLACES = new Set(["test", "owed", "keys"]);
-/** The most names of Watch that lead from one to the next. */
+/** The maximum nesting of names in *Watch*: a name can stand for an expression with other names. */
 const MOST_NAMES_DEEP = 3;
-/** The characters of a RAM bank, as many as SRC bytes. */
+/** The last character of a RAM bank: a character is selected by the byte that SRC sends. */
 const LAST_CHARACTER = 255;
-/** Returns the place for another program's word for it. */
+/** The hint for each word that other programs use for a place. */
 const MEANT = new Map([["a", say.ACCUMULATOR_HINT], ["accu", say.ACCUMULATOR_HINT], ["accumulator", say.ACCUMULATOR_HINT],
   ["c", say.CARRY_HINT], ["carry", say.CARRY_HINT], ["ip", say.COUNTER_HINT], ["bank", say.BANK_HINT]]);
-/** Numbers are exact up to 53 bits; the signs of numbers with bits have 32. */
+/** The factor that splits a number of up to 53 bits into two halves, because JavaScript's bit operators work on 32 bits. */
 const HALF = 2 ** 26;
 
-/** The places that a condition depends on, each once, and what else a test must know. */
+/** The dependencies of a condition: its places, each once, and the values that a test must supply. */
 export class Looked {
-  /** @param {boolean} [isTest] whether the condition is one of a test */
+  /** @param {boolean} [isTest] true for a condition in a test */
   constructor(isTest = false) {
     this.isTest = isTest;
-    /** The present nesting depth of names of Watch. */
+    /** The current nesting depth of names in *Watch*. */
     this.depth = 0;
     /** @type {string[]} */
     this.places = [];
@@ -49,7 +49,7 @@ export class Looked {
   }
 
   /**
-   * Returns the index of a place among all.
+   * Adds a place if it is new; returns its index.
    * @param {string} place
    */
   at(place) {
@@ -58,9 +58,9 @@ export class Looked {
   }
 
   /**
-   * Notes what a test must know; elsewhere it is an error.
+   * Adds a value that a test must supply. Throws `Unreadable` for a condition outside a test.
    * @param {Need} need
-   * @param {string} fault
+   * @param {string} fault the error message
    */
   need(need, fault) {
     if (!this.isTest) fail(fault);
@@ -69,6 +69,7 @@ export class Looked {
 }
 
 /**
+ * Returns a constant value.
  * @param {number} number
  * @returns {Value}
  */
@@ -77,6 +78,7 @@ function constant(number) {
 }
 
 /**
+ * Returns the bitwise AND of two numbers of up to 53 bits.
  * @param {number} one
  * @param {number} other
  */
@@ -91,7 +93,7 @@ const SUMS = { "+": (one, other) => one + other, "-": (one, other) => one - othe
 /**
  * Returns a value of 0 or 1.
  * @param {string} name
- * @param {number} at
+ * @param {number} at the index of its place
  * @param {(answer: string) => number} read
  * @returns {Value}
  */
@@ -100,7 +102,7 @@ function bitValue(name, at, read) {
 }
 
 /**
- * Returns the number of a lamp, by its name or by a number.
+ * Returns the number of the lamp with a name or a number; throws `Unreadable` if there is none.
  * @param {string} name
  * @param {Names} names
  */
@@ -113,6 +115,7 @@ export function lampAt(name, { face, board }) {
 }
 
 /**
+ * Returns the value of a lamp: 1 if it is on.
  * @param {string} name
  * @param {Names} names
  * @param {Looked} looked
@@ -124,7 +127,7 @@ export function lampValue(name, names, looked) {
 }
 
 /**
- * A key that is down is 1.
+ * Returns the value of a key: 1 if it is down.
  * @param {string} name
  * @param {Names} names
  * @param {Looked} looked
@@ -143,7 +146,7 @@ export function keyValue(name, { face }, looked) {
 }
 
 /**
- * Returns a name of the source; its case is ignored if only one name matches.
+ * Finds a name of the program; if its case differs, only one name of the program may match.
  * @param {string} name
  * @param {Names["map"]} map
  */
@@ -154,7 +157,7 @@ function sourceName(name, map) {
 }
 
 /**
- * The address of a label.
+ * Returns the address of a label; throws `Unreadable` if there is none.
  * @param {string} name
  * @param {Names} names
  */
@@ -164,10 +167,11 @@ export function labelIn(name, names) {
 }
 
 /**
+ * Returns the value of a place; throws `Unreadable` if the board lacks the place, or if its value is not a number.
  * @param {import("./places.js").Place | null} place
  * @param {Names} names
  * @param {Looked} looked
- * @returns {Value | null} null if it is no place
+ * @returns {Value | null} null for null
  */
 function placeValue(place, { board }, looked) {
   if (!place) return null;
@@ -183,8 +187,8 @@ function placeValue(place, { board }, looked) {
 }
 
 /**
- * Returns `rom1 in`, the value that RDR reads there: an output line has the value that its mask gives; or `rom1 out`, `ram0.1 out`, the
- * port's latch, in which an input line is 0.
+ * Returns the value of `rom1 in`, which RDR reads, with the mask's values for output lines; or of `rom1 out` or `ram0.1 out`, the port's
+ * latch, with 0 for input lines.
  * @param {NameNode} node
  * @param {Names} names
  * @param {Looked} looked
@@ -208,7 +212,7 @@ function portValue({ text, way }, { board }, looked) {
 }
 
 /**
- * Returns what a word that is no place is likely to mean, by its form; "" if unknown.
+ * Returns a hint about the likely meaning of an unknown word; "" if there is none.
  * @param {string} text
  */
 export function meantBy(text) {
@@ -218,6 +222,7 @@ export function meantBy(text) {
 }
 
 /**
+ * Returns a hint about an unknown name: its likely meaning, or similar names.
  * @param {string} text
  * @param {Names} names
  */
@@ -230,6 +235,7 @@ function proposalFor(text, { map, watched, face }) {
 }
 
 /**
+ * Throws `Unreadable` for an unknown name.
  * @param {string} text
  * @param {Names} names
  * @returns {never}
@@ -239,7 +245,7 @@ function noPlace(text, names) {
 }
 
 /**
- * Returns the meaning of a name of Watch; it may name others, up to a limited depth.
+ * Returns the value of a name in *Watch*; its expression can contain other such names.
  * @param {string} name
  * @param {string} text its expression
  * @param {Names} names
@@ -254,7 +260,7 @@ function watchedValue(name, text, names, looked) {
   try {
     return { ...valueIn(node, names, looked), name };
   } catch (fault) {
-    // The column belongs to another text.
+    // The error's column is a column of the expression, not of the condition.
     throw fault instanceof Unreadable ? new Unreadable(say.inName(name, fault.message)) : fault;
   } finally {
     looked.depth -= 1;
@@ -262,6 +268,7 @@ function watchedValue(name, text, names, looked) {
 }
 
 /**
+ * Returns the value of a name or a place.
  * @param {NameNode} node
  * @param {Names} names
  * @param {Looked} looked
@@ -287,7 +294,7 @@ function nameValue(node, names, looked) {
 }
 
 /**
- * Returns the values of RAM characters from a place on, one after the other.
+ * Returns the values of consecutive RAM characters, from a place on.
  * @param {NameNode} node
  * @param {number} count
  * @param {Names} names
@@ -308,6 +315,7 @@ export function characterValues({ text, column }, count, names, looked) {
 }
 
 /**
+ * Returns the value of a sum.
  * @param {SumNode} node
  * @param {Names} names
  * @param {Looked} looked
@@ -320,7 +328,7 @@ function sumValue({ sign, left, right, text }, names, looked) {
 }
 
 /**
- * Returns the number that a value is, whatever the machine is.
+ * Returns the number of a constant value; throws `Unreadable` if the value depends on the machine.
  * @param {ValueNode} node
  * @param {Names["map"]} map
  * @returns {number}
@@ -333,7 +341,7 @@ export function constantIn(node, map) {
 }
 
 /**
- * Returns the meaning of a value in a condition.
+ * Compiles a value.
  * @param {ValueNode} node
  * @param {Names} names
  * @param {Looked} looked
@@ -349,7 +357,7 @@ export function valueIn(node, names, looked) {
 }
 
 /**
- * Returns what `read` returns; an error without a column gets this one.
+ * Returns the result of `read`; sets the column of an `Unreadable` error that has none.
  * @template Result
  * @param {number} column
  * @param {() => Result} read
