@@ -1,5 +1,5 @@
-// Looking ahead: the cycles until a goal is reached. They are found by queries, or on a copy of the session that is thrown away, so the
-// session itself is never disturbed, even if the page ends in the middle. The session itself then runs for that time.
+// Looks ahead: finds the number of cycles until a goal is reached. It uses queries, or a temporary copy of the session, so the session
+// itself stays unchanged, even if the page is closed in the middle. The session is then run for that number of cycles.
 
 import { Cancelled } from "../bench/faults.js";
 import { LONGEST_RUN } from "../engine/key_queue.js";
@@ -16,7 +16,7 @@ import { LARGEST_PIECE, endWithout, watcherOf } from "./goals.js";
  */
 
 /**
- * The lines of a piece.
+ * Returns the lines that run a piece, with the watcher's queries.
  * @param {Watcher} watcher
  * @param {number} cycles
  */
@@ -30,10 +30,10 @@ function linesOf(watcher, cycles) {
 }
 
 /**
- * Searches the answers of a piece; returns null if neither the goal nor a stop is among them.
+ * Searches the answers of a piece for the goal or a stop; returns null if there is neither.
  * @param {Answers} answers
  * @param {Watcher} watcher
- * @returns {Found | null} its cycles are those of this piece
+ * @returns {Found | null} its cycles count from the beginning of the piece
  */
 function foundIn(answers, watcher) {
   let done = 0;
@@ -46,13 +46,13 @@ function foundIn(answers, watcher) {
 }
 
 /**
- * Searches for a goal from now on, with the keys as they are.
+ * Searches for a goal from now on; the keys stay in their current states.
  * @param {Engine} engine
  * @param {Uint8Array} file is not changed
  * @param {Goal} goal
- * @param {(done: number) => Promise<boolean>} goesOn receives, after each piece, how many cycles were tried, and returns whether to
- * continue
- * @param {number} most the cycles that are tried
+ * @param {(done: number) => Promise<boolean>} goesOn called after each piece with the number of cycles searched; returns whether to
+ *   continue. Otherwise `seek` throws `Cancelled`
+ * @param {number} most the maximum number of cycles to search
  * @param {() => Uint8Array} [codes] returns the contents of ROM
  * @returns {Promise<Found>}
  */
@@ -73,7 +73,7 @@ export async function seek(engine, file, goal, goesOn, most, codes) {
 }
 
 /**
- * Returns how many cycles the run of a line would do, 0 for any other line.
+ * Returns the cycles of a `run` line; 0 for a key change.
  * @param {import("../engine/asking.js").SentLine} planned
  */
 export function cyclesOfLine({ line, change }) {
@@ -84,8 +84,8 @@ export function cyclesOfLine({ line, change }) {
  * Returns the cycles until the next lines reach the goal; -1 if they do not, or stop earlier.
  * @param {Engine} engine
  * @param {Uint8Array} file is not changed
- * @param {PlannedLine[]} planned
- * @param {Watcher} watcher has seen all runs up to here
+ * @param {PlannedLine[]} planned the next lines
+ * @param {Watcher} watcher that has received the answers to all runs so far
  */
 export function cyclesToGoal(engine, file, planned, watcher) {
   const lines = planned.map((each) => (
@@ -107,7 +107,7 @@ export function cyclesToGoal(engine, file, planned, watcher) {
 }
 
 /**
- * Returns the first lines, up to this many cycles.
+ * Returns the first lines, up to a number of cycles. The last run is shortened.
  * @param {PlannedLine[]} planned
  * @param {number} cycles
  * @returns {PlannedLine[]}

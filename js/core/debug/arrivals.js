@@ -1,5 +1,5 @@
-// Breakpoints that do not stop each time: with a condition, with a hit count, or with a note that is logged instead of a stop. They are
-// found ahead, on a copy that has them as breakpoints, and that reports at each arrival the values of the places in their conditions.
+// Soft breakpoints, which do not stop at every arrival: they have a condition, a hit count, or a note that is logged instead of a stop.
+// Arrivals are found ahead on a copy of the session. The copy stops at each arrival and reports the values of the places in the conditions.
 
 import { Probes } from "../conditions/probes.js";
 import { Answers } from "../engine/tracing.js";
@@ -9,40 +9,45 @@ import { cyclesOfLine } from "./ahead.js";
  * @typedef {import("../engine/engine_host.js").EngineHost} Engine
  * @typedef {import("../engine/key_queue.js").PlannedLine} PlannedLine
  *
- * `from`: the first hit that stops; `holds` and `words` receive the values of its places; `words` is null for a breakpoint that stops.
+ * A compiled soft breakpoint. `from` is the number of the first hit that stops. `holds` evaluates the condition on the values of `places`.
+ * `words` returns the text of the note from these values, and is null for a breakpoint that stops.
  * @typedef {{ id: number, address: number, from: number, hits: number, places: string[], holds: (values: string[]) => boolean,
  *   words: ((values: string[]) => string) | null }} SoftBreakpoint
  *
- * @typedef {{ id: number, cycles: number, words: string }} Logged a note, after this many cycles
+ * @typedef {{ id: number, cycles: number, words: string }} Logged a logged note: the breakpoint, the cycles before it, and its text
  *
- * The result of looking ahead: after how many cycles a breakpoint stops (-1 if none does), and which one. The hits of each breakpoint, the
- * last notes up to a limit, and how many there were. `why` is "watch" if a change of a place stops, which `change` has in words; `changes`
- * counts the changes of each (data_watches.js).
+ * The result of looking ahead. `cycles`: the cycles before the first stop, -1 if there is none. `id`: the breakpoint or watch that stops.
+ * `hits`: the hits of each breakpoint. `notes`: the last logged notes, and `noted` the number of all. `why`: "watch" if the change of a
+ * place stops, which `change` describes. `changes`: the counted changes of each watch (data_watches.js).
  * @typedef {{ cycles: number, id: number, hits: Map<number, number>, notes: Logged[], noted: number, why: "break" | "watch",
  *   change: string, changes: Map<number, number> }} Seen
  */
 
-/** The most runs that are queried at once. */
+/** The maximum number of runs in one request to the bench. */
 const MOST_RUNS = 400;
-/** The most notes that are reported at once. */
+/** The maximum number of notes in one report. */
 export const MOST_NOTES = 200;
 
-/** @returns {Seen} */
+/**
+ * Returns an empty result.
+ * @returns {Seen}
+ */
 export function nothingSeen() {
   return { cycles: -1, id: 0, hits: new Map(), notes: [], noted: 0, why: "break", change: "", changes: new Map() };
 }
 
+/** Finds arrivals at soft breakpoints. */
 export class Arrivals {
-  /** @param {SoftBreakpoint[]} breakpoints each at an address of its own */
+  /** @param {SoftBreakpoint[]} breakpoints at different addresses */
   constructor(breakpoints) {
     this.breakpoints = breakpoints;
     this.at = new Map(breakpoints.map((each) => [each.address, each]));
     this.places = ["pc", ...new Set(breakpoints.flatMap(({ places }) => places))];
     this.looks = new Map(breakpoints.map(({ id, places }) => [id, places.map((place) => this.places.indexOf(place))]));
     this.first = breakpoints.map(({ address }) => `break ${address}\n`).join("");
-    /** The queries at an arrival. */
+    /** The queries after each run. */
     this.probes = new Probes(this.places);
-    /** The recent number of arrivals per cycle. */
+    /** The number of arrivals per cycle in the last run. */
     this.density = 0;
     this.copy = new Uint8Array(0);
   }
@@ -52,7 +57,7 @@ export class Arrivals {
   }
 
   /**
-   * Searches the next lines.
+   * Searches the next lines for arrivals, up to the first stop.
    * @param {Engine} engine
    * @param {Uint8Array} file is not changed
    * @param {PlannedLine[]} planned
@@ -82,7 +87,7 @@ export class Arrivals {
   }
 
   /**
-   * Returns whether there is no arrival at all: one query shows that.
+   * Returns whether the next lines reach no breakpoint, with one query.
    * @param {Engine} engine
    * @param {Uint8Array} file
    * @param {PlannedLine[]} planned
@@ -93,12 +98,12 @@ export class Arrivals {
   }
 
   /**
-   * Makes a run on a file that has the breakpoints; returns its cycles, -1 if a visit ends it.
+   * Runs a session that has the breakpoints; returns the cycles, or -1 if `visit` ends the run.
    * @param {Engine} engine
-   * @param {Uint8Array} file
-   * @param {{ lines: string, count: number, cycles: number }} run the lines before it, the number of their answers, and its cycles
-   * @param {(end: string, row: string[], ran: number) => boolean} visit receives each stop, by the word of its answer, the values of
-   * `places` there, and the cycles of the run so far; it returns whether that is the end
+   * @param {Uint8Array} file of the session, which is changed
+   * @param {{ lines: string, count: number, cycles: number }} run the lines before the run, the number of their answers, and the cycles
+   * @param {(end: string, row: string[], ran: number) => boolean} visit called at each stop with the word for why the run ended, the values
+   *   of `places`, and the cycles so far; returns whether to end the run
    */
   run(engine, file, { lines, count, cycles }, visit) {
     let [before, skipped, ran, arrivals] = [lines, count, 0, 0];
@@ -123,7 +128,7 @@ export class Arrivals {
   }
 
   /**
-   * Returns the breakpoint that time has reached, if its condition holds; otherwise null.
+   * Returns the breakpoint at the current address if its condition holds; otherwise null.
    * @param {string[]} row the values of `places`
    */
   heldAt(row) {
@@ -132,22 +137,23 @@ export class Arrivals {
   }
 
   /**
+   * Returns the values of a breakpoint's places.
    * @param {SoftBreakpoint} breakpoint
-   * @param {string[]} row
+   * @param {string[]} row the values of `places`
    */
   valuesFor({ id }, row) {
     return (this.looks.get(id) || []).map((at) => row[at]);
   }
 
   /**
-   * Returns whether time stops at an arrival.
-   * @param {string[]} row
-   * @param {number} cycles
-   * @param {Seen} seen
+   * Counts an arrival and logs its note; returns whether it stops.
+   * @param {string[]} row the values of `places`
+   * @param {number} cycles before it
+   * @param {Seen} seen receives the hit, and the note or the stop
    */
   isStop(row, cycles, seen) {
     const found = this.at.get(parseInt(row[0], 16));
-    // A breakpoint that always stops is in the session itself.
+    // A breakpoint that always stops is set in the session itself.
     if (!found) return true;
     const { id, holds, words, from } = found;
     const values = this.valuesFor(found, row);
@@ -166,12 +172,15 @@ export class Arrivals {
     return true;
   }
 
-  /** Returns how many hits there were of each, in their order. */
+  /** The hit counts, in the order of the breakpoints. */
   get hits() {
     return this.breakpoints.map(({ hits }) => hits);
   }
 
-  /** @param {number[]} hits the hits before, because the counted ones did not happen */
+  /**
+   * Restores earlier hit counts, because the counted hits did not happen.
+   * @param {number[]} hits
+   */
   takeBack(hits) {
     this.breakpoints.forEach((breakpoint, at) => {
       breakpoint.hits = hits[at];
@@ -179,8 +188,8 @@ export class Arrivals {
   }
 
   /**
-   * Counts the arrivals that were seen, as they have happened.
-   * @param {Seen} seen
+   * Adds hits to the hit counts, after the session has done the lines.
+   * @param {Seen} seen the result for these lines
    */
   count({ hits }) {
     for (const breakpoint of this.breakpoints) breakpoint.hits += hits.get(breakpoint.id) || 0;

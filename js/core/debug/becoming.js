@@ -1,4 +1,4 @@
-// A condition that is searched for, forward or back: it is reached when it becomes true.
+// Searches for a condition, forward or back: the search stops when the condition becomes true.
 
 import { expressionOf, tracedConditionOf } from "../conditions/condition_language.js";
 import { placeOf } from "../conditions/places.js";
@@ -12,7 +12,7 @@ import * as say from "../../words/debug.js";
  */
 
 /**
- * Reads a condition to search for; `fault` says what is wrong with it, and in which column.
+ * Compiles a condition to search for; `fault` is an error message with its column, or "".
  * @param {string} text
  * @param {Names} names
  * @returns {{ asked: Asked | null, fault: string }}
@@ -20,7 +20,7 @@ import * as say from "../../words/debug.js";
 export function askedOf(text, names) {
   const { condition, ...wrong } = tracedConditionOf(text, names);
   if (!condition) {
-    // If a lone name is unknown, that is the error.
+    // For a value with an unknown name, report that name, not the missing comparison.
     const value = expressionOf(text, names);
     const { fault, column } = value.expression ? wrong : value;
     return { asked: null, fault: inColumn(fault, column) };
@@ -29,7 +29,7 @@ export function askedOf(text, names) {
 }
 
 /**
- * Reads the text of a search: a place, each change of which counts, or a condition.
+ * Parses the text of a search: a place, whose changes are searched, or a condition.
  * @param {string} text
  * @param {Names} names
  * @returns {{ goal: { kind: "change", place: string } | { kind: "when", condition: string } | null, fault: string }}
@@ -43,10 +43,10 @@ export function goalOfText(text, names) {
 }
 
 /**
- * Returns whether a condition becomes true by a change.
+ * Returns whether a change makes a condition true.
  * @param {Asked} asked
- * @param {string} before the row of its places
- * @param {string} after
+ * @param {string} before the row of its places before the change
+ * @param {string} after the row after the change
  */
 export function becomesTrue({ holds }, before, after) {
   return holds(valuesOf(after)) && !holds(valuesOf(before));

@@ -1,5 +1,5 @@
-// The breakpoints of the session that is shown: a list that moves with the source, and the bench, whose breakpoints follow the list. If the
-// bench reports others (a line `break` that was typed, a session of mcs4) the list takes them over.
+// Keeps the breakpoints of the current session: a list that moves with the source, and the bench's breakpoints, which are set from the
+// list. Breakpoints that only the bench has are added to the list: for example from a typed `break`, or from a session file of mcs4.
 
 import { BreakpointList, MOST_BREAKPOINTS, MOST_ON, instructionOfAddress, instructionOfLine } from "./breakpoints.js";
 import { isSoft } from "./soft_breakpoints.js";
@@ -15,57 +15,59 @@ import * as say from "../../words/debug.js";
  */
 
 /**
- * The calls that the list of breakpoints makes.
+ * The callbacks of the keeper.
  * @typedef {object} KeeperCalls
- * @property {(placed: Placed[]) => Promise<[number, string][]>} set Replaces all breakpoints of the bench by these. Resolves to the ids of
- * those that cannot be read, each with the reason.
- * @property {() => void} changed The list, or an error of one of its breakpoints, has changed.
- * @property {() => void} counted Only the hits have changed.
- * @property {() => void} touched The user has changed the list, so it must be saved.
+ * @property {(placed: Placed[]) => Promise<[number, string][]>} set Replaces all breakpoints of the bench. Resolves to the ids of those
+ *   that cannot be compiled, each with an error message.
+ * @property {() => void} changed Handles a change of the list, or of an error of one of its breakpoints.
+ * @property {() => void} counted Handles a change of hit counts alone.
+ * @property {() => void} touched Handles a change by the user: the list must be saved.
  * @property {(words: string) => void} showMessage Shows a message near the user's last action.
  * @property {(fault: unknown) => void} failed Reports an error that `set` threw.
  */
 
 const TOO_MANY = say.tooManyOn(MOST_ON);
-/** The number of sessions whose lists are remembered. */
+/** The maximum number of sessions whose lists are kept. */
 const MOST_LISTS = 30;
 
+/** The breakpoints of the current session, in the list and in the bench. */
 export class BreakpointKeeper {
   /** @param {KeeperCalls} calls */
   constructor(calls) {
     this.calls = calls;
     this.list = new BreakpointList();
-    /** @type {Map<string, BreakpointList>} the lists of sessions that were shown, the last one last */
+    /** @type {Map<string, BreakpointList>} the lists of recent sessions, by session id, the newest last */
     this.lists = new Map();
-    /** @type {SourceMap | null} the program in ROM, if the source is that program */
+    /** @type {SourceMap | null} the map of the source, null if ROM does not contain its bytes */
     this.map = null;
-    /** The reason. */
+    /** The reason if ROM does not contain the bytes of the source. */
     this.words = "";
-    /** @type {string[]} the values that are watched, whose names conditions may have */
+    /** @type {string[]} the expressions in *Watch*, whose names conditions can contain */
     this.watched = [];
-    /** @type {Map<number, string>} why one cannot be read, by its id */
+    /** @type {Map<number, string>} the error messages of breakpoints that cannot be compiled, by id */
     this.faults = new Map();
-    /** @type {Set<number> | null} the addresses that the bench has; null until it has reported a session */
+    /** @type {Set<number> | null} the addresses of the bench's breakpoints; null before the first report about a session */
     this.onBench = null;
-    /** @type {string[] | null} the bench's report while it was being sent the list: it is applied once that is done */
+    /** @type {string[] | null} a report that the bench sent before it received the list; applied afterwards */
     this.waiting = null;
-    /** True if the list of a session was restored. */
+    /** True if the session was saved with a list of breakpoints. */
     this.isKept = false;
-    /** The number of answers that are still expected from the bench, and what it was asked last. */
+    /** The number of requests to the bench without an answer, and the content of the last request. */
     this.asked = 0;
     this.last = "";
-    /** @type {Promise<void>} all requests are done */
+    /** @type {Promise<void>} resolves when all requests are done */
     this.settled = Promise.resolve();
-    /** @type {{ id: number, some: Partial<KeptBreakpoint> } | null} words of a breakpoint that are typed and not entered yet */
+    /** @type {{ id: number, some: Partial<KeptBreakpoint> } | null} an edit of a breakpoint that is typed but not entered yet */
     this.typed = null;
   }
 
-  // --- reports of others ---
+  // --- Reports from other parts of the page ---
 
   /**
-   * Another session is shown. It gets the list that it had here before, if that is what was kept: that list knows what an undo restores.
+   * Switches to another session. A list that was kept for it is used again if it equals the saved one: only the kept list can restore
+   * breakpoints on undo.
    * @param {string} id of the session
-   * @param {KeptBreakpoint[] | undefined} kept undefined if none were kept: then those of its file count
+   * @param {KeptBreakpoint[] | undefined} kept the saved breakpoints; undefined if none were saved: then those of its file are used
    */
   open(id, kept) {
     const old = this.lists.get(id);
@@ -85,19 +87,25 @@ export class BreakpointKeeper {
     this.calls.changed();
   }
 
-  /** @param {string[]} texts of the values that are watched from now on */
+  /**
+   * Sets the expressions in *Watch*.
+   * @param {string[]} texts
+   */
   takeWatched(texts) {
     this.watched = texts;
     if (this.onBench) this.apply();
   }
 
-  /** The bench was restarted, and has no breakpoints. */
+  /** Sends the list again after the bench was restarted without breakpoints. */
   again() {
     this.last = "";
     this.apply();
   }
 
-  /** @param {Edit[]} edits of the source, one after the other */
+  /**
+   * Moves the breakpoints after edits of the source.
+   * @param {Edit[]} edits in order
+   */
   edited(edits) {
     const moved = edits.filter((edit) => this.list.edit(edit));
     if (moved.length === 0) return;
@@ -106,9 +114,9 @@ export class BreakpointKeeper {
   }
 
   /**
-   * Takes the map of the source: whether ROM has its bytes, and the address of each line.
-   * @param {SourceMap | null} map
-   * @param {string} words the reason
+   * Sets the map of the source, and moves the breakpoints to its instructions.
+   * @param {SourceMap | null} map null if ROM does not contain the bytes of the source
+   * @param {string} words the reason for null
    */
   takeMap(map, words) {
     this.map = map;
@@ -120,8 +128,8 @@ export class BreakpointKeeper {
   }
 
   /**
-   * Takes the breakpoints of the bench from a snapshot.
-   * @param {string[]} breaks as answers write them
+   * Updates the list from the bench's breakpoints in a snapshot.
+   * @param {string[]} breaks the addresses, in the spelling of the answer
    */
   take(breaks) {
     const addresses = breaks.map((address) => parseInt(address, 16));
@@ -132,7 +140,7 @@ export class BreakpointKeeper {
     }
     this.onBench = new Set(addresses);
     if (!before) {
-      // The session was just opened. Breakpoints of its file that the list lacks were set by another program.
+      // First report after opening: another program set the breakpoints of the file that the list lacks.
       if (!this.isKept) for (const address of addresses) this.adopt(address);
       this.calls.changed();
       return;
@@ -143,12 +151,15 @@ export class BreakpointKeeper {
     this.apply();
   }
 
-  /** Returns the addresses of the breakpoints that always stop. */
+  /** The addresses of the breakpoints that always stop. */
   get hard() {
     return this.list.placed.filter((each) => !isSoft(each)).map(({ address }) => address);
   }
 
-  /** @param {number} address the bench has a breakpoint there */
+  /**
+   * Adds a breakpoint that only the bench has to the list.
+   * @param {number} address
+   */
   adopt(address) {
     const found = this.list.atAddress(address);
     if (found) {
@@ -162,23 +173,29 @@ export class BreakpointKeeper {
     this.list.add({ line: instruction.line, address: instruction.address });
   }
 
-  /** @param {number} address the bench has none there any more */
+  /**
+   * Removes a breakpoint that the bench no longer has from the list.
+   * @param {number} address
+   */
   drop(address) {
     const found = this.list.atAddress(address);
     if (found) this.list.remove(found.id);
   }
 
-  /** @param {Tally} tally the work of breakpoints */
+  /**
+   * Adds hits to the hit counts.
+   * @param {Tally} tally
+   */
   count({ hits }) {
     if (hits.length === 0) return;
     this.list.count(hits);
     this.calls.counted();
   }
 
-  // --- actions of the user ---
+  // --- Actions of the user ---
 
   /**
-   * Toggles the breakpoint of a line.
+   * Toggles the breakpoint of a line. Without an instruction on the line, the breakpoint moves to the next instruction.
    * @param {number} line
    */
   toggleLine(line) {
@@ -195,7 +212,7 @@ export class BreakpointKeeper {
   }
 
   /**
-   * Returns the breakpoint of a line, after setting it if there is none; undefined if there can be none.
+   * Returns the breakpoint of a line, or adds one. Returns undefined if no instruction follows the line.
    * @param {number} line
    */
   ofLine(line) {
@@ -204,12 +221,13 @@ export class BreakpointKeeper {
     return this.list.atLine(line) || this.list.atLine(next);
   }
 
+  /** Returns the message that the breakpoint has no effect yet, with the reason; "" if there is no reason. */
   wordsOfLater() {
     return this.words ? say.untilThen(this.words) : "";
   }
 
   /**
-   * Toggles the breakpoint of an address.
+   * Toggles the breakpoint at an address.
    * @param {number} address
    */
   toggleAddress(address) {
@@ -223,7 +241,10 @@ export class BreakpointKeeper {
     this.add({ line: instruction.line, address: instruction.address });
   }
 
-  /** @param {Partial<KeptBreakpoint>} some */
+  /**
+   * Adds a breakpoint. It is disabled if the maximum number of breakpoints is already enabled.
+   * @param {Partial<KeptBreakpoint>} some
+   */
   add(some) {
     if (this.list.all.length >= MOST_BREAKPOINTS) {
       this.calls.showMessage(say.mostBreakpoints(MOST_BREAKPOINTS));
@@ -242,7 +263,7 @@ export class BreakpointKeeper {
   }
 
   /**
-   * Saves the words of a breakpoint while they are typed. The bench receives them once they are entered.
+   * Saves an edit of a breakpoint while the user types. The bench receives it when the user enters it.
    * @param {number} id
    * @param {Partial<KeptBreakpoint>} some
    */
@@ -253,7 +274,7 @@ export class BreakpointKeeper {
   }
 
   /**
-   * Returns the breakpoints as the session keeps them, including what is being typed.
+   * The breakpoints to be saved in the session, with the edit that is being typed.
    * @returns {KeptBreakpoint[]}
    */
   get kept() {
@@ -262,7 +283,7 @@ export class BreakpointKeeper {
   }
 
   /**
-   * Changes the words, or switches on or off.
+   * Changes some members of a breakpoint.
    * @param {number} id
    * @param {Partial<KeptBreakpoint>} some
    */
@@ -280,7 +301,10 @@ export class BreakpointKeeper {
     this.acted();
   }
 
-  /** @param {boolean} isOn all of them, as many as there can be */
+  /**
+   * Enables all breakpoints, up to the maximum, or disables all.
+   * @param {boolean} isOn
+   */
   switchAll(isOn) {
     let left = MOST_ON;
     for (const { id } of [...this.list.all]) {
@@ -302,22 +326,24 @@ export class BreakpointKeeper {
     this.apply();
   }
 
-  // --- the bench ---
+  // --- The bench ---
 
+  /** True while a request to the bench is not answered. */
   get isApplying() {
     return this.asked > 0;
   }
 
+  /** Saves and applies a change by the user. */
   acted() {
     this.calls.touched();
     this.apply();
   }
 
-  /** Gives the bench the list; done once `settled` resolves. */
+  /** Sends the list to the bench, unless the bench already has it. `settled` resolves when the bench has set it. */
   apply() {
     this.calls.changed();
     const { placed } = this.list;
-    // Names in conditions may mean something else in another text.
+    // A name in a condition can have another meaning in another text.
     const names = placed.some(isSoft) ? [this.map ? this.map.text : "", this.watched] : [];
     const next = JSON.stringify([names, placed.map((each) => ({ ...each, line: 0, hits: 0 }))]);
     const isNone = placed.length === 0 && this.onBench !== null && this.onBench.size === 0;
@@ -327,7 +353,7 @@ export class BreakpointKeeper {
   }
 
   /**
-   * Sends the list at once, so that no later request to the bench overtakes it. Answers are handled in the order of the lists.
+   * Sends the list at once, so that no later request to the bench overtakes it. Answers are handled in the order of the requests.
    * @param {Placed[]} placed
    */
   send(placed) {
@@ -342,10 +368,10 @@ export class BreakpointKeeper {
   }
 
   /**
-   * The bench has a list.
+   * Handles the bench's answer to a list.
    * @param {BreakpointList} list
-   * @param {number[]} hard the addresses of those that always stop
-   * @param {[number, string][]} faults
+   * @param {number[]} hard the addresses of the breakpoints that always stop
+   * @param {[number, string][]} faults the ids of breakpoints that cannot be compiled, each with an error message
    */
   sent(list, hard, faults) {
     if (list !== this.list) return;
@@ -355,7 +381,7 @@ export class BreakpointKeeper {
     this.takeWaiting();
   }
 
-  /** A line that was typed meanwhile may have set or deleted some. */
+  /** Applies the report that was postponed: a line typed in the meantime can have set or deleted breakpoints. */
   takeWaiting() {
     const { waiting } = this;
     if (this.isApplying || !waiting) return;

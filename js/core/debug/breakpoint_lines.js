@@ -1,4 +1,5 @@
-// Breakpoints as lines of a project: `break line 14 at 0x00F off from 5 if "r4 = 7" log "R4 is {r4}"`; defaults are left out.
+// Reads and writes breakpoints as lines of a project: `break line 14 at 0x00F off from 5 if "r4 = 7" log "R4 is {r4}"`. Default values are
+// left out.
 
 import { hex } from "../bench/numbers.js";
 import { MOST_BREAKPOINTS } from "./breakpoints.js";
@@ -8,20 +9,29 @@ import { MOST_BREAKPOINTS } from "./breakpoints.js";
 const TEXT = '"((?:[^"\\\\]|\\\\.)*)"';
 const LINE = new RegExp("^break(?: line (\\d{1,5}))?(?: at 0x([0-9A-F]{3}))?( off)?(?: from (\\d{1,9}))?"
   + `(?: if ${TEXT})?(?: log ${TEXT})?$`);
-/** The most characters of a condition or a note. */
+/** The maximum length of a condition or a note. */
 export const LONGEST_WORDS = 250;
 
-/** @param {string} text */
+/**
+ * Returns a text in quotes.
+ * @param {string} text
+ */
 function quoted(text) {
   return `"${text.slice(0, LONGEST_WORDS).replace(/\s+/g, " ").replace(/["\\]/g, "\\$&")}"`;
 }
 
-/** @param {string} [text] */
+/**
+ * Returns the text inside quotes, without escapes.
+ * @param {string} [text]
+ */
 function plain(text = "") {
   return text.replace(/\\(.)/g, "$1").slice(0, LONGEST_WORDS);
 }
 
-/** @param {KeptBreakpoint[]} breakpoints */
+/**
+ * Returns a line for each breakpoint.
+ * @param {KeptBreakpoint[]} breakpoints
+ */
 export function linesOfBreakpoints(breakpoints) {
   return breakpoints.map(({ line, address, isOn, from, condition, note }) => ["break",
     ...(line > 0 ? [`line ${line}`] : []), ...(address >= 0 ? [`at 0x${hex(address, 3)}`] : []), ...(isOn ? [] : ["off"]),
@@ -30,7 +40,7 @@ export function linesOfBreakpoints(breakpoints) {
 }
 
 /**
- * Reads the breakpoint of such a line; null for any other line, and for one without a place.
+ * Parses a line; returns its breakpoint, or null for any other line and for one without a line number or an address.
  * @param {string} line
  * @returns {KeptBreakpoint | null}
  */
@@ -45,7 +55,7 @@ export function breakpointOfLine(line) {
 }
 
 /**
- * Returns the breakpoints of lines from elsewhere, at most as many as a session keeps.
+ * Returns at most as many breakpoints as a session can keep.
  * @param {KeptBreakpoint[]} breakpoints
  */
 export function mostBreakpoints(breakpoints) {

@@ -1,5 +1,5 @@
-// Breakpoints as lines of a program's text: they move with the text, and if the text is the program in ROM each has an address. A
-// breakpoint without a line of the text has an address only.
+// The list of breakpoints. A breakpoint belongs to a line of the program's text and moves with that line. If the text is the program in
+// ROM, each breakpoint also has an address. A breakpoint outside the text has only an address.
 
 import * as say from "../../words/debug.js";
 
@@ -7,42 +7,45 @@ import * as say from "../../words/debug.js";
  * @typedef {import("../machine/source_map.js").SourceMap} SourceMap
  * @typedef {import("./soft_breakpoints.js").Placed} Placed
  *
- * `line` from 1, 0 if it has an address only; `address`: its last address, -1 if it never had one; `isOn`: it stops; the rest as in Placed.
+ * A breakpoint. `line` counts from 1, and is 0 without a line. `address` is its last address, -1 if it never had one. `isOn` is true if it
+ * is enabled. The other members are those of `Placed`.
  * @typedef {{ id: number, line: number, address: number, isOn: boolean, condition: string, from: number, note: string, hits: number }}
  *   Breakpoint
- * @typedef {Omit<Breakpoint, "id" | "hits">} KeptBreakpoint as a session and a project keep it
+ * @typedef {Omit<Breakpoint, "id" | "hits">} KeptBreakpoint a breakpoint in a saved session or project
  *
- * An edit of the text: the lines between two positions (lines count from 0) were replaced. `isWhole`: all of the text was.
+ * An edit that replaces the text between two positions (lines count from 0). `isWhole` is true if it replaces the whole text.
  * @typedef {{ from: { line: number, ch: number }, to: { line: number, ch: number }, text: string[], removed?: string[],
  *   origin?: string, isWhole?: boolean }} Edit
  */
 
-/** The most breakpoints of the bench, which always stop; a copy of it can have as many again with the others. */
+/** The maximum number of enabled breakpoints: the bench has room for as many. */
 export const MOST_ON = 32;
-/** The most breakpoints in a list. */
+/** The maximum number of breakpoints in a list. */
 export const MOST_BREAKPOINTS = 256;
-/** The most deleted breakpoints that come back with their lines on undo. */
+/** The maximum number of deleted breakpoints that are kept, to be restored with their lines on undo. */
 const MOST_GONE = 256;
-/** The number of replaced texts whose breakpoints are remembered. */
+/** The maximum number of replaced texts whose breakpoints are kept. */
 const MOST_TEXTS = 30;
 
-/** @type {Omit<Breakpoint, "id" | "line" | "address">} */
+/** @type {Omit<Breakpoint, "id" | "line" | "address">} the default values */
 const PLAIN = { isOn: true, condition: "", from: 1, note: "", hits: 0 };
 
+/** The breakpoints of a program's text and of ROM. */
 export class BreakpointList {
   /** @param {Partial<KeptBreakpoint>[]} [kept] */
   constructor(kept = []) {
     this.made = 0;
-    /** @type {Breakpoint[]} in the order of their lines, those without a line last */
+    /** @type {Breakpoint[]} sorted by line, those without a line last */
     this.all = kept.map((each) => this.make(each));
-    /** @type {{ text: string, breakpoint: Breakpoint }[]} those that were deleted with their lines, the last one last */
+    /** @type {{ text: string, breakpoint: Breakpoint }[]} breakpoints deleted with their lines, with the lines' texts, the newest last */
     this.gone = [];
-    /** @type {Map<string, Breakpoint[]>} those of texts that were replaced as a whole, the last one last */
+    /** @type {Map<string, Breakpoint[]>} the breakpoints of texts that were replaced as a whole, by text, the newest last */
     this.ofTexts = new Map();
     this.sort();
   }
 
   /**
+   * Returns a breakpoint with a new id.
    * @param {Partial<KeptBreakpoint>} some
    * @returns {Breakpoint}
    */
@@ -57,7 +60,10 @@ export class BreakpointList {
     this.all.sort((one, other) => rank(one) - rank(other));
   }
 
-  /** @param {Partial<KeptBreakpoint>} some */
+  /**
+   * Adds a breakpoint and returns it.
+   * @param {Partial<KeptBreakpoint>} some
+   */
   add(some) {
     const made = this.make(some);
     this.all.push(made);
@@ -71,7 +77,7 @@ export class BreakpointList {
   }
 
   /**
-   * Changes the words, or switches on or off.
+   * Changes some members of a breakpoint.
    * @param {number} id
    * @param {Partial<KeptBreakpoint>} some
    */
@@ -103,13 +109,13 @@ export class BreakpointList {
     return this.all.find((each) => each.address === address);
   }
 
-  /** Returns how many are on. */
+  /** The number of enabled breakpoints. */
   get countOn() {
     return this.all.filter(({ isOn }) => isOn).length;
   }
 
   /**
-   * The text was edited. Returns whether a breakpoint has moved.
+   * Moves breakpoints after an edit of the text; returns whether one has moved.
    * @param {Edit} edit
    */
   edit(edit) {
@@ -117,8 +123,8 @@ export class BreakpointList {
   }
 
   /**
-   * All of the text is replaced: its breakpoints are remembered. A text that was here before gets back its breakpoints. Returns whether it
-   * was here before.
+   * Handles the replacement of the whole text. Keeps the breakpoints of the old text, and restores those of the new text if it was in the
+   * editor before. Returns whether it was.
    * @param {Edit} edit
    */
   exchange({ removed = [], text }) {
@@ -126,7 +132,7 @@ export class BreakpointList {
     const known = this.ofTexts.get(text.join("\n"));
     if (!known) return false;
     const ids = new Set(known.map(({ id }) => id));
-    // A breakpoint that was changed meanwhile stays changed; and one that has no line belongs to ROM, not to the text.
+    // A breakpoint that was changed in the meantime keeps the change. A breakpoint without a line belongs to ROM, not to the text.
     const back = known.filter(({ id, line }) => line > 0 || this.get(id))
       .map((each) => ({ ...(this.get(each.id) || each), line: each.line, address: each.address }));
     const ofRom = this.all.filter(({ id, line, address }) => !ids.has(id) && line === 0 && !back.some((each) => each.address === address));
@@ -137,14 +143,17 @@ export class BreakpointList {
     return true;
   }
 
-  /** @param {string} text whose breakpoints are the current ones */
+  /**
+   * Keeps the current breakpoints as those of a text.
+   * @param {string} text
+   */
   remember(text) {
     this.ofTexts.delete(text);
     this.ofTexts.set(text, [...this.all]);
     for (const oldest of [...this.ofTexts.keys()].slice(0, -MOST_TEXTS)) this.ofTexts.delete(oldest);
   }
 
-  /** There are never more than the maximum, nor more enabled ones than the maximum. */
+  /** Limits the number of breakpoints and of enabled breakpoints to their maximums. */
   limit() {
     let count = 0;
     this.all = this.all.slice(0, MOST_BREAKPOINTS).map((each) => {
@@ -154,7 +163,7 @@ export class BreakpointList {
   }
 
   /**
-   * A breakpoint moves with its line; one whose whole line is deleted is deleted with it. Returns whether one has moved.
+   * Moves breakpoints with their lines, and deletes those whose lines are deleted. Returns whether one has moved.
    * @param {Edit} edit
    */
   move(edit) {
@@ -166,7 +175,7 @@ export class BreakpointList {
     this.all = this.all.flatMap((each) => {
       if (each.line < first) return [each];
       if (each.line > last) return [{ ...each, line: each.line + more }];
-      // A line that was replaced by others becomes the one at its place among them.
+      // The breakpoint of a replaced line stays on that line number if the replacement has enough lines.
       if (each.line < first + count) return [each];
       this.leave(each, edit);
       return [];
@@ -175,7 +184,7 @@ export class BreakpointList {
     return (isUndone && this.bringBack(edit, first, count)) || isMoved;
   }
 
-  /** The whole text is replaced: of the breakpoints only the addresses remain known, if they have any. */
+  /** Detaches all breakpoints that have an address from their lines, after the whole text was replaced. Returns whether there are any. */
   leaveText() {
     this.all = this.all.map((each) => (each.address >= 0 ? { ...each, line: 0 } : each));
     this.sort();
@@ -183,7 +192,7 @@ export class BreakpointList {
   }
 
   /**
-   * A breakpoint moves with its line.
+   * Keeps a breakpoint that is deleted with its line, so that undo can restore it.
    * @param {Breakpoint} breakpoint
    * @param {Edit} edit
    */
@@ -193,10 +202,10 @@ export class BreakpointList {
   }
 
   /**
-   * Lines were restored, and with them the breakpoints that were deleted with them; returns whether there are any.
+   * Restores the breakpoints of lines that undo restores; returns whether there are any.
    * @param {Edit} edit
-   * @param {number} first
-   * @param {number} count
+   * @param {number} first the first restored line, from 1
+   * @param {number} count the number of restored lines
    */
   bringBack({ from, text }, first, count) {
     const before = this.all.length;
@@ -212,7 +221,7 @@ export class BreakpointList {
   }
 
   /**
-   * The text is now the program in ROM: each breakpoint gets an address. Returns words about those that moved.
+   * Sets the addresses of all breakpoints, after the text became the program in ROM. Returns a message about each breakpoint that moved.
    * @param {SourceMap} map
    */
   locate(map) {
@@ -224,7 +233,7 @@ export class BreakpointList {
       const found = each.line > 0 ? instructionOfLine(each.line, map) : instructionOfAddress(each.address, map);
       if (found.words) words.push(found.words);
       const { line, address } = found;
-      // Two breakpoints at the same place become one.
+      // Two breakpoints at the same address become one.
       if (address >= 0 && placed.has(address)) continue;
       placed.set(address >= 0 ? address : -1 - each.id, { ...each, line, address });
     }
@@ -234,14 +243,17 @@ export class BreakpointList {
   }
 
   /**
-   * Returns the enabled breakpoints that have an address.
+   * The enabled breakpoints that have an address.
    * @returns {Placed[]}
    */
   get placed() {
     return this.all.filter(({ isOn, address }) => isOn && address >= 0);
   }
 
-  /** @param {[number, number][]} hits more of each, by its id */
+  /**
+   * Adds hits to the hit counts.
+   * @param {[number, number][]} hits the ids of breakpoints, each with the number of new hits
+   */
   count(hits) {
     for (const [id, more] of hits) {
       const found = this.get(id);
@@ -261,10 +273,10 @@ export class BreakpointList {
 }
 
 /**
- * Returns how many lines are the same at the beginning of both, or at the end.
- * @param {string[]} olds
- * @param {string[]} news
- * @param {number} most
+ * Returns the number of equal lines at the beginning, or at the end, of two texts.
+ * @param {string[]} olds the lines of one text
+ * @param {string[]} news the lines of the other text
+ * @param {number} most the maximum result
  * @param {boolean} isAtEnd
  */
 function sameLines(olds, news, most, isAtEnd) {
@@ -276,8 +288,9 @@ function sameLines(olds, news, most, isAtEnd) {
 }
 
 /**
- * The lines that an edit replaces, from 1, and by how many; lines that stay at its beginning and end are excluded. Text inserted at the
- * beginning of a line is before that line. `isOther`: the edit replaces the whole text, from its first line to its last.
+ * Returns the first and last line that an edit replaces, from 1, and the number of new lines. Equal lines at the beginning and the end are
+ * excluded. Text inserted at the beginning of a line counts as before that line. `isOther` is true if the edit replaces the whole text and
+ * keeps no line of it.
  * @param {Edit} edit
  */
 function replacedLines({ from, to, text, removed = Array(to.line - from.line + 1).fill("\n"), isWhole = false }) {
@@ -292,7 +305,8 @@ function replacedLines({ from, to, text, removed = Array(to.line - from.line + 1
 }
 
 /**
- * Returns the instruction that a line begins, or the next one with an instruction.
+ * Returns the line and address of the instruction on a line, or of the next instruction. `words` is a message if the line differs. Without
+ * a next instruction, the address is -1.
  * @param {number} line
  * @param {SourceMap} map
  */
@@ -310,7 +324,8 @@ export function instructionOfLine(line, map) {
 }
 
 /**
- * Returns the line of an address, or of the next instruction if the address is inside one.
+ * Returns the line of the instruction at an address. For an address inside an instruction, returns the next instruction with a message; if
+ * none follows, that instruction.
  * @param {number} address
  * @param {SourceMap} map
  */

@@ -1,11 +1,17 @@
-// Common mistakes, reported as they happen (docs/MANUAL.md, "Common mistakes"): a fourth JMS inside three others, a
-// BBL without a call, WRR or RDR at a port without such lines, a write to a chip that the board lacks, bytes that no line put there, and an
-// SRC that still points elsewhere. The bench is asked before each run what it would do; this module knows nothing of the effects of
-// instructions, except which of them use the selection of SRC (selected.js).
+// Reports common mistakes of programs as they happen (docs/MANUAL.md, "Common mistakes"):
+// - a fourth nested JMS;
+// - a BBL without a call;
+// - a WRR at a port without outputs, or an RDR at a port without inputs;
+// - a write to a chip that the board lacks;
+// - an instruction at an address that no line of the program defines;
+// - an SRC that was meant for another instruction.
 //
-//     const watch = new UsualFaults(session);
-//     watch.begin();                                 time begins to run: each kind is reported once from now on
-//     const { faults, stop } = watch.look(lines);    before the lines;  `stop` is after how many cycles one is to stop time, -1 for none
+// Before each run, this module queries what the run would do. It does not simulate instructions; selected.js knows which of them use the
+// selection by SRC.
+//
+//     const mistakes = new CommonMistakes(session);
+//     mistakes.begin();                                  before time runs: each kind is reported once after this
+//     const { faults, stop } = mistakes.look(lines);     before the lines; `stop`: the cycles up to a mistake that stops time, or -1
 
 import { readBoard } from "../bench/answers.js";
 import { hex } from "../bench/numbers.js";
@@ -24,48 +30,52 @@ import * as say from "../../words/debug.js";
  * @typedef {import("../engine/worker_session.js").WorkerSession} WorkerSession
  * @typedef {"calls" | "return" | "lines" | "chip" | "bytes" | "source"} Kind
  *
- * A mistake: the address of the instruction that is about to make it, after this many cycles of the lines, and its description. `isAgain`:
- * one of its kind was reported before.
+ * A mistake: the address of its instruction, the cycles before that instruction, and a description. `isAgain` is true if a mistake of the
+ * same kind was reported before.
  * @typedef {{ kind: Kind, address: number, cycles: number, words: string, isAgain?: boolean }} CommonMistake
  * @typedef {import("../conditions/condition_language.js").Condition} Condition
  * @typedef {{ faults: CommonMistake[], stop: number }} Looked
  */
 
 const ALL = Object.keys(say.KINDS).length;
-/** After time began and after each key this many cycles are checked, half a second of a real 4004; then a sample. */
+/** The cycles that are checked after time starts and after each key change: half a second of a real 4004. Then samples are checked. */
 const LOOKED_CYCLES = 50000;
+/** One of this many calls of `look` checks a sample, of `SAMPLE_CYCLES` cycles. */
 const SAMPLE = 16;
 const SAMPLE_CYCLES = 2000;
-/** Lines of more cycles are those of full speed, of which no more are checked: a check takes as long as millions of them. */
+/** The maximum number of cycles that one call of `look` checks. At full speed, lines have more: checking all would be too slow. */
 export const CYCLES_OF_CALL = 10000;
 
 /** @type {Looked} */
 const NOTHING = { faults: [], stop: -1 };
 
+/** Finds common mistakes in the next lines of a session. */
 export class CommonMistakes {
   /** @param {WorkerSession} session */
   constructor(session) {
     this.session = session;
-    /** @type {Set<Kind>} at which time stops */
+    /** @type {Set<Kind>} the kinds that stop time */
     this.stops = new Set();
-    /** @type {Map<Kind, Condition>} if time stops at a kind only when a condition holds before the instruction */
+    /** @type {Map<Kind, Condition>} the condition that must hold before the instruction for a kind to stop time */
     this.conditions = new Map();
-    /** @type {SourceMap | null} the program, if it is the one in ROM */
+    /** @type {SourceMap | null} the map of the program in ROM, null if its text is unknown */
     this.map = null;
-    /** @type {Uint8Array | null} the contents of ROM, if they were read */
+    /** @type {Uint8Array | null} the contents of ROM, null before they are read */
     this.codes = null;
     /** @type {Selected | null} */
     this.selected = null;
-    /** @type {Set<Kind>} */
+    /** @type {Set<Kind>} the kinds that were reported since time started */
     this.reported = new Set();
-    /** The address of the last stop at a mistake, with whose instruction the session continues. */
+    /** The address of the last mistake that stopped time, -1 for none. */
     this.stopped = -1;
+    /** The address of a mistake that is not reported again when the session continues there, -1 for none. */
     this.skipped = -1;
+    /** The cycles that are still to be checked in full. */
     this.left = LOOKED_CYCLES;
     this.looks = 0;
   }
 
-  /** Time begins to run. */
+  /** Prepares for running time: each kind can be reported again. */
   begin() {
     this.reported.clear();
     this.left = LOOKED_CYCLES;
@@ -73,15 +83,16 @@ export class CommonMistakes {
     this.stopped = -1;
   }
 
-  /** Something else than time has changed the session: ROM and the board may be new, and so may the selection of SRC. */
+  /** Forgets ROM, the board and the selection by SRC, after something other than running time has changed the session. */
   forget() {
     this.codes = null;
     this.selected = null;
   }
 
   /**
-   * @param {PlannedLine[]} planned the lines that come next
-   * @param {Uint8Array} [file] before them, if they are done already
+   * Returns the mistakes in the next lines, up to the first that stops time.
+   * @param {PlannedLine[]} planned the next lines
+   * @param {Uint8Array} [file] the session before the lines, if they are already done
    * @returns {Looked}
    */
   look(planned, file = this.session.file) {
@@ -96,10 +107,10 @@ export class CommonMistakes {
   }
 
   /**
-   * Returns whether time stops at a mistake.
+   * Returns whether a mistake stops time.
    * @param {CommonMistake} fault
    * @param {PlannedLine[]} planned the lines with the mistake
-   * @param {Uint8Array} file before them
+   * @param {Uint8Array} file the session before these lines
    */
   isStop({ kind, cycles }, planned, file) {
     if (!this.stops.has(kind)) return false;
@@ -113,8 +124,9 @@ export class CommonMistakes {
   }
 
   /**
-   * Returns how many of the cycles of some lines are checked: all soon after time began or a key moved, and if time is to stop at mistakes,
-   * except at full speed; otherwise a sample, because a check costs three more passes over each cycle.
+   * Returns the number of cycles to check in the next lines. All are checked soon after time starts, soon after a key change, and if a
+   * mistake stops time; at full speed there is a maximum. Otherwise only samples are checked, because a check runs each cycle three more
+   * times.
    * @param {PlannedLine[]} planned
    */
   mostOf(planned) {
@@ -128,7 +140,7 @@ export class CommonMistakes {
     return most;
   }
 
-  /** Returns the bytes of ROM, and the selection by SRC. */
+  /** Returns the bytes of ROM and the selection by SRC; reads them if they are unknown. */
   read() {
     const { engine, file, statusQueries } = this.session;
     this.codes = this.codes || romCodes(engine, file);
@@ -137,8 +149,9 @@ export class CommonMistakes {
   }
 
   /**
+   * Returns the mistakes in lines.
    * @param {PlannedLine[]} planned
-   * @param {Uint8Array} file
+   * @param {Uint8Array} file the session before the lines
    */
   faultsIn(planned, file) {
     const { engine } = this.session;
@@ -168,10 +181,10 @@ export class CommonMistakes {
 
   /**
    * Checks the instructions of a run.
-   * @param {{ codes: Uint8Array, selected: Selected, done: number }} known
-   * @param {Trace} changes of the places that SRC, DCL, JMS and BBL change
-   * @param {string[]} instructions
-   * @param {CommonMistake[]} faults receives what is found
+   * @param {{ codes: Uint8Array, selected: Selected, done: number }} known the bytes of ROM, the selection, and the cycles before the run
+   * @param {Trace} changes of the places `src`, `dcl` and `ret`
+   * @param {string[]} instructions the lines of a trace of all instructions
+   * @param {CommonMistake[]} faults receives the mistakes
    */
   follow({ codes, selected, done }, changes, instructions, faults) {
     let values = valuesOf(changes.row);
@@ -194,10 +207,11 @@ export class CommonMistakes {
   }
 
   /**
-   * @param {CommonMistake[]} faults
-   * @param {number} address
-   * @param {number} cycles
-   * @param {{ kind: Kind, words: string } | null} fault
+   * Adds a mistake, unless its kind was reported before.
+   * @param {CommonMistake[]} faults receives the mistake
+   * @param {number} address of the instruction
+   * @param {number} cycles before it
+   * @param {{ kind: Kind, words: string } | null} fault null if the instruction is right
    */
   report(faults, address, cycles, fault) {
     const isSkipped = cycles === 0 && address === this.skipped;
@@ -210,10 +224,10 @@ export class CommonMistakes {
   }
 
   /**
-   * Returns the mistake in a call, a return or the place of the instruction, if there is one.
-   * @param {Uint8Array} codes
+   * Returns the mistake in a call, in a return, or in the address of an instruction; null if there is none.
+   * @param {Uint8Array} codes the bytes of ROM
    * @param {number} address
-   * @param {string[]} values the values of src, dcl and ret before it
+   * @param {string[]} values the values of src, dcl and ret before the instruction
    * @returns {{ kind: Kind, words: string } | null}
    */
   faultOf(codes, address, values) {
@@ -227,7 +241,10 @@ export class CommonMistakes {
     return live[2] ? { kind: "calls", words: say.wayBackLost(oldest) } : null;
   }
 
-  /** @param {number} address */
+  /**
+   * Returns whether no line of the program defines the byte at an address.
+   * @param {number} address
+   */
   isUnspelled(address) {
     return this.map !== null && this.map.lineOf(address) === 0;
   }
