@@ -1,5 +1,5 @@
-// Places whose changes stop time: a register, a port, lamps, a chain, and RAM characters with a condition or beyond those that the bench
-// can watch. Their changes are found ahead, by queries, so the session never contains anything of them.
+// Data watches: a change of a place stops time. The place is a register, a port, the lamps, a chain, or a RAM character that the bench
+// itself cannot watch, for example because of a condition. Changes are found ahead, by queries. The session file contains no data watch.
 
 import { readBoard } from "../bench/answers.js";
 import { MOST_PLACES } from "../bench/inputs.js";
@@ -19,26 +19,28 @@ import { changedFrom, CHANGES_ALWAYS } from "../../words/debug.js";
  * @typedef {import("../engine/engine_host.js").EngineHost} Engine
  * @typedef {import("../engine/key_queue.js").PlannedLine} PlannedLine
  *
- * A requested watch: the name of a place, the condition under which a change counts ("" for none), and the first change that stops.
+ * A requested watch. `name`: the name of a place. `condition`: a change counts only if this holds, "" for none. `from`: the number of the
+ * first counted change that stops.
  * @typedef {{ id: number, name: string, condition: string, from: number }} WantedWatch
  *
- * A watch on a board: the places of `trace` that give its value, and those of its condition.
+ * A compiled watch. `probes`: the `trace` places that report the value. `hits`: the number of counted changes so far.
  * @typedef {{ id: number, place: Place, probes: string[], condition: Condition | null, from: number, hits: number }} DataWatch
  *
- * The first change that stops: after how many cycles, -1 for none, of which watch, and the change in words; and the count of each watch.
+ * The first change that stops: the cycles before it (-1 if there is none), the id of the watch, and a description. `hits` are the counted
+ * changes of each watch.
  * @typedef {{ cycles: number, id: number, change: string, hits: Map<number, number> }} SeenChange
  */
 
-/** The counter changes with each instruction. */
+/** The place that cannot be watched: the counter changes with each instruction. */
 const ALWAYS = "pc";
-/** The cycles of one query. */
+/** The maximum number of cycles in one query. */
 const ASKED_CYCLES = 50000;
 
-/** @returns {SeenChange} */
+/** @returns {SeenChange} an empty result */
 const nothingSeen = () => ({ cycles: -1, id: 0, change: "", hits: new Map() });
 
 /**
- * Reads requested watches; `faults` says why some cannot be watched, by their ids.
+ * Compiles requested watches. `faults` has an error message for each that is not possible, by its id.
  * @param {WantedWatch[]} wanted
  * @param {Names} names
  * @returns {{ watches: DataWatch[], faults: Map<number, string> }}
@@ -62,12 +64,13 @@ export function readWatches(wanted, names) {
   return { watches, faults };
 }
 
+/** Finds changes of watched places. */
 export class DataWatches {
-  /** @param {DataWatch[]} watches with at most as many places together as `trace` accepts */
+  /** @param {DataWatch[]} watches that together have at most as many places as `trace` accepts */
   constructor(watches) {
     this.watches = watches;
     this.places = [...new Set(watches.flatMap(({ probes, condition }) => [...probes, ...(condition ? condition.places : [])]))];
-    /** The columns of each watch in a row: of its place, and of its condition. */
+    /** The indexes of each watch's values in a row of the trace: those of its place, and those of its condition. */
     this.columns = new Map(watches.map(({ id, probes, condition }) => (
       [id, [probes, condition ? condition.places : []].map((places) => places.map((place) => this.places.indexOf(place)))])));
   }
@@ -77,7 +80,7 @@ export class DataWatches {
   }
 
   /**
-   * Searches the next lines.
+   * Searches the next lines for changes, up to the first that stops.
    * @param {Engine} engine
    * @param {Uint8Array} file is not changed
    * @param {PlannedLine[]} planned
@@ -107,10 +110,10 @@ export class DataWatches {
   }
 
   /**
-   * The instruction that makes the first change that stops; null for none.
-   * @param {string} row before the run
-   * @param {string[]} lines
-   * @param {SeenChange} seen receives what is seen
+   * Returns the instruction that makes the first change that stops; null if there is none.
+   * @param {string} row the values before the run
+   * @param {string[]} lines of the trace
+   * @param {SeenChange} seen receives the counts, and the change that stops
    */
   stopIn(row, lines, seen) {
     let before = valuesOf(row);
@@ -144,7 +147,7 @@ export class DataWatches {
   }
 
   /**
-   * Returns whether a place changes and the condition holds after it.
+   * Returns whether a place changes and the condition holds after the change.
    * @param {DataWatch} watch
    * @param {string[]} before the values of all places
    * @param {string[]} after
@@ -156,6 +159,7 @@ export class DataWatches {
   }
 
   /**
+   * Returns the value of a watch's place, as text.
    * @param {DataWatch} watch
    * @param {string[]} values of all places
    */
@@ -165,7 +169,7 @@ export class DataWatches {
   }
 
   /**
-   * Counts the changes that were seen, as they have happened.
+   * Adds counted changes, after the session has done the lines.
    * @param {Map<number, number>} hits
    */
   count(hits) {
@@ -173,7 +177,7 @@ export class DataWatches {
   }
 
   /**
-   * Returns the finders of each watch's last change in the past, whatever its hit count.
+   * Returns a finder for each watch, which finds its last change in the past. Hit counts are ignored.
    * @param {Engine} engine
    */
   finders(engine) {
@@ -195,7 +199,8 @@ class LastWatched extends LastChange {
   }
 
   /**
-   * @param {string} before the rows of the places
+   * Returns the change between two rows of the trace; null if nothing changes or the condition does not hold.
+   * @param {string} before
    * @param {string} after
    */
   changeBetween(before, after) {
@@ -207,7 +212,7 @@ class LastWatched extends LastChange {
 }
 
 /**
- * Splits a line into parts that are queried at once.
+ * Splits a line into parts that one query can cover.
  * @param {PlannedLine} planned
  */
 function partsOf(planned) {
@@ -222,8 +227,8 @@ function partsOf(planned) {
 }
 
 /**
- * Breakpoints that are found ahead, at addresses (arrivals.js) and at changes of places: the earliest stops time. It has the interface of
- * Arrivals.
+ * All stops that are found ahead: soft breakpoints (arrivals.js) and data watches. The earliest one stops time. This class has the
+ * interface of `Arrivals`.
  */
 export class SoftStops {
   /**
@@ -242,7 +247,7 @@ export class SoftStops {
   }
 
   /**
-   * Searches the next lines.
+   * Searches the next lines, up to the first stop.
    * @param {Engine} engine
    * @param {Uint8Array} file is not changed
    * @param {PlannedLine[]} planned
@@ -257,18 +262,24 @@ export class SoftStops {
     return { ...this.arrivals.look(engine, file, linesUpTo(planned, changed.cycles)), ...changed, why: "watch", changes: hits };
   }
 
-  /** @param {import("./arrivals.js").Seen} seen what has happened */
+  /**
+   * Adds hits and counted changes, after the session has done the lines.
+   * @param {import("./arrivals.js").Seen} seen the result for these lines
+   */
   count(seen) {
     this.arrivals.count(seen);
     this.changes.count(seen.changes);
   }
 
-  /** Returns how many hits there were of each, in their order. */
+  /** The hit counts of the breakpoints, then of the watches, in their order. */
   get hits() {
     return [...this.arrivals.hits, ...this.changes.watches.map(({ hits }) => hits)];
   }
 
-  /** @param {number[]} hits the hits before, because the counted ones did not happen */
+  /**
+   * Restores earlier hit counts, because the counted hits did not happen.
+   * @param {number[]} hits
+   */
   takeBack(hits) {
     const { length } = this.arrivals.hits;
     this.arrivals.takeBack(hits.slice(0, length));
@@ -279,7 +290,7 @@ export class SoftStops {
 }
 
 /**
- * Returns the names of the places that can be watched on a board: those of `trace`, except the counter.
+ * Returns a place by its name if it can be watched on a board, otherwise null. All places of `trace` can be, except the counter.
  * @param {string} name
  * @param {string[]} board the answer to `board`
  */

@@ -1,16 +1,16 @@
-// A session in memory with its debugger, the program's lines, and breakpoints at these: an editor, a prompt or a test in node opens it.
+// A session in memory, with its debugger, the lines of its program, and breakpoints on these lines: for an editor, the prompt, or a test.
 //
 //     const engine = await Engine.load(bytes of the module);         (engine/engine.js)
-//     const session = new DebugSession(engine, { board, program });  texts; or { file, board, program } for the bytes of a .mcs
-//     session.refused;                                               the errors of the texts
+//     const session = new DebugSession(engine, { board, program });  both are texts; `file` instead of them: the bytes of a session file
+//     session.refused;                                               the texts that the bench rejected
 //     session.breakpoints.add({ line: 12, condition: "r9 = 9" }); await session.applyBreakpoints();
 //     const stop = await session.go();                               runs up to a stop; go({ kind: "over" | "out" | "here" | "change" .. })
 //     stop.why, stop.words, session.line, session.values(["r4", "pc", "lamps"]), session.returns;
 //     await session.into(); await session.back({ kind: "instruction" }); session.forward();
-//     await session.setProgram(text);                                assembled again: breakpoints move with their lines
+//     await session.setProgram(text);                                assembles another text; breakpoints move with their lines
 //
-// Time has no clock here: `go` runs as fast as the module can, in pieces, and `goesOn` is asked between them whether to continue. Nothing
-// is written: `session.file` has the bytes, which never contain a breakpoint with a condition or a move.
+// Nothing here follows real time. `go` runs as fast as possible, in pieces, and calls `goesOn` between them, which returns whether to
+// continue. Nothing is written to disk: `session.file` has the bytes of the session file.
 
 import { readBoard, readRegisters, readRun, refusalOf } from "../bench/answers.js";
 import { Face } from "../board/face.js";
@@ -32,17 +32,21 @@ import * as say from "../../words/debug.js";
  * @typedef {import("./debugger.js").Stop} Stop
  * @typedef {import("./debugger.js").Tally} Tally
  * @typedef {import("./goals.js").Goal} Goal
- * @typedef {{ file?: Uint8Array, board?: string, program?: string }} Opened
- * @typedef {Stop & { words: string, tally: Tally }} Stopped `why` is "pause" if `goesOn` ended it, "lacks" if the board lacks a place
+ * @typedef {{ file?: Uint8Array, board?: string, program?: string }} Opened the contents of a session: the texts of the board and the
+ *   program, and the bytes of a session file
+ * @typedef {Stop & { words: string, tally: Tally }} Stopped the end of a run; `words` is its description. `why` is "pause" if `goesOn`
+ *   ended it, and "lacks" if the board lacks a place
  */
 
+/** The cycles of the first piece of a run. */
 const FIRST_PIECE = 50000;
-/** The most cycles that a step back replays: one piece (engine/timeline.js). */
+/** The maximum number of cycles in a piece: a step back replays at most one piece (engine/timeline.js). */
 export const LARGEST_PIECE = 500000;
 
 /** @type {GoesOn} */
 const always = async () => true;
 
+/** A session with a debugger. */
 export class DebugSession {
   /**
    * @param {Engine} engine
@@ -50,11 +54,11 @@ export class DebugSession {
    */
   constructor(engine, { file, board = "", program = "" }) {
     const own = file ? file.slice() : engine.begin();
-    /** @type {{ word: "wire" | "asm", refusal: Refusal }[]} the texts that the bench rejected */
+    /** @type {{ word: "wire" | "asm", refusal: Refusal }[]} the texts that the bench rejected, each with its refusal */
     this.refused = [];
     this.boardText = board;
     this.program = program;
-    /** The cycles that running time does at once. */
+    /** The maximum number of cycles in a piece of a run. */
     this.largestPiece = LARGEST_PIECE;
     if (!file) {
       this.put(engine, own, "wire", sentText(board, "#"));
@@ -62,14 +66,15 @@ export class DebugSession {
     }
     this.debugger = new Debugger(new WorkerSession(engine, own));
     this.breakpoints = new BreakpointList();
-    /** @type {Map<number, string>} why a breakpoint cannot be read, by its id */
+    /** @type {Map<number, string>} the error messages of breakpoints that cannot be compiled, by id */
     this.faults = new Map();
     this.map = this.readMap();
   }
 
   /**
+   * Sends a text to a session, unless it is empty.
    * @param {Engine} engine
-   * @param {Uint8Array} file
+   * @param {Uint8Array} file of the session, which is changed
    * @param {"wire" | "asm"} word
    * @param {string} text
    */
@@ -83,20 +88,22 @@ export class DebugSession {
     return this.debugger.session.file;
   }
 
+  /** Returns the map of the program's lines to addresses. */
   readMap() {
     const sent = sentText(this.program, ";");
     return new SourceMap(readProgram(this.debugger.session.engine, sent).map, sent);
   }
 
-  // --- program and breakpoints ---
+  // --- Program and breakpoints ---
 
-  /** The names that conditions may have. */
+  /** The names that conditions can contain. */
   get names() {
     return { face: new Face(this.boardText), board: readBoard(this.debugger.session.statusQueries.board), map: this.map };
   }
 
   /**
-   * Assembles another text; the machine is unchanged. Returns why it is rejected, or null.
+   * Assembles another text into ROM; the rest of the machine is unchanged. Resolves to the refusal if the bench rejects the text, otherwise
+   * null.
    * @param {string} program
    * @returns {Promise<Refusal | null>}
    */
@@ -111,8 +118,8 @@ export class DebugSession {
   }
 
   /**
-   * Applies the list of breakpoints. Returns words about those that moved to an instruction, and for each that cannot be read the reason,
-   * by its id.
+   * Sets the breakpoints of the list in the debugger. Resolves to messages about those that moved to an instruction, and to the ids of
+   * those that cannot be compiled, each with an error message.
    */
   async applyBreakpoints() {
     const { session } = this.debugger;
@@ -123,10 +130,10 @@ export class DebugSession {
     return { moved, faults };
   }
 
-  // --- moves ---
+  // --- Moves ---
 
   /**
-   * Runs up to a goal, or, without one, up to a stop.
+   * Runs up to a goal or an earlier stop; without a goal, up to a stop.
    * @param {Goal | null} [goal]
    * @param {GoesOn} [goesOn]
    * @returns {Promise<Stopped>}
@@ -146,7 +153,7 @@ export class DebugSession {
   }
 
   /**
-   * Runs for this many cycles, or up to an earlier stop; `why` is "passed" if they passed.
+   * Runs for a number of cycles, or up to an earlier stop. `why` is "passed" if no stop was earlier.
    * @param {number} cycles
    * @param {GoesOn} [goesOn]
    * @returns {Promise<Stopped>}
@@ -157,9 +164,10 @@ export class DebugSession {
   }
 
   /**
+   * Runs in pieces up to a stop, or up to a maximum number of cycles.
    * @param {Goal | null} goal
    * @param {GoesOn} goesOn
-   * @param {number} [most] the cycles at most
+   * @param {number} [most] the maximum
    * @returns {Promise<Stopped>}
    */
   async runOn(goal, goesOn, most = Infinity) {
@@ -182,6 +190,7 @@ export class DebugSession {
   }
 
   /**
+   * Returns a stop with its description.
    * @param {Goal | null} goal
    * @param {Stop} stop
    * @param {Tally} tally
@@ -193,7 +202,7 @@ export class DebugSession {
   }
 
   /**
-   * Returns the condition of the breakpoint that stopped time, in words.
+   * Returns a text about the condition of the breakpoint that stopped time.
    * @param {number} id
    */
   wordsOfBreakpoint(id) {
@@ -201,7 +210,7 @@ export class DebugSession {
   }
 
   /**
-   * One instruction, into a subroutine that it calls.
+   * Steps one instruction, into a subroutine if it is a call.
    * @returns {Promise<Stopped>}
    */
   async into() {
@@ -213,6 +222,7 @@ export class DebugSession {
   }
 
   /**
+   * Goes back to a goal in the past.
    * @param {BackGoal} goal
    * @param {GoesOn} [goesOn]
    */
@@ -222,16 +232,18 @@ export class DebugSession {
     return { ...went, words: wordsOfGone(goal, went, this.counterWords, this.breakpoints.get(went.id)) };
   }
 
+  /** Returns to the moment at which the last move back began. */
   forward() {
     const went = this.debugger.goForward();
     return { ...went, words: wordsOfGone({ kind: "forward" }, went, this.counterWords) };
   }
 
   /**
-   * Serves typed lines; a run among them ends at each breakpoint that it reaches. `words` say so if one ended the last line.
+   * Serves typed lines. A run among them ends at the first breakpoint that it reaches. `words` is a message if a breakpoint ended the last
+   * line, otherwise "".
    * @param {string} lines
-   * @param {(done: number) => Promise<boolean>} [goesOn] receives how many characters are done, and returns whether to continue; if not,
-   * nothing is done
+   * @param {(done: number) => Promise<boolean>} [goesOn] called with the number of characters done; returns whether to continue. Otherwise
+   *   no line takes effect
    */
   async serve(lines, goesOn = always) {
     const { result, typed: { id, why, change, cut, cycles, tally } } = await this.debugger.serveTyped(lines, goesOn);
@@ -241,7 +253,7 @@ export class DebugSession {
     return { ...result, tally, words: say.lineEnded(words, cut) };
   }
 
-  // --- the position ---
+  // --- The current position ---
 
   get registers() {
     return readRegisters(this.debugger.session.ask("regs\n")[0]);
@@ -252,11 +264,12 @@ export class DebugSession {
     return parseInt(this.registers.counter, 16);
   }
 
-  /** Its line in the program; 0 for none. */
+  /** The program's line with the next instruction; 0 if there is none. */
   get line() {
     return this.map.lineOf(this.address);
   }
 
+  /** The text of the next instruction's address. */
   get counterWords() {
     return wordsOfAddress(this.registers.counter, this.map);
   }
@@ -267,7 +280,7 @@ export class DebugSession {
   }
 
   /**
-   * Returns the values of places, by the names of conditions/places.js.
+   * Returns the values of places, as texts. The names are those of conditions/places.js.
    * @param {string[]} names
    */
   values(names) {

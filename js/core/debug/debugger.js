@@ -1,16 +1,16 @@
-// The debugger of a session: breakpoints, moves up to a goal, why time stops, values, going back. It needs no DOM: it runs in the
-// page's worker as in node. All its reports are answers of the bench, and it leaves only runs in the session.
+// The debugger of a session: breakpoints, moves to a goal, reasons for stops, values, and going back. It runs in the page's worker and in
+// Node. All that it reports is from answers of the bench. It adds only runs and always-stopping breakpoints to the session.
 //
 //     const session = new WorkerSession(engine, file);               (debug_session.js does this, and keeps the program's lines, too)
 //     const debug = new Debugger(session);
 //     debug.setBreakpoints([{ id: 1, address: 0x14, condition: "r9 = 9", from: 1, note: "", hits: 0 }], names);
 //     const { found } = await debug.goOn({ kind: "over" }, NEAR_CYCLES, goesOn);
-//     while (debug.isMoving) { const { stop } = debug.advance(FRAME_CYCLES); if (stop) .. }    farther goals need time, with its keys
+//     while (debug.isMoving) { const { stop } = debug.advance(FRAME_CYCLES); if (stop) .. }    for a goal that is not near
 //     debug.values(["r4", "lamps"]); await debug.goBack({ kind: "instruction" }, goesOn); debug.goForward();
 //
-// A move has a goal (goals.js). A near one is reached at once; any other is `isMoving` until `advance` reports a stop or `drop` is
-// called. A breakpoint that always stops is one of the bench (`break`). One with a condition, a count or a note is found ahead
-// (arrivals.js), and no file ever contains it.
+// A move has a goal (goals.js). A near goal is reached at once. For any other goal, `isMoving` is true until `advance` reports a stop or
+// `drop` is called. A breakpoint that always stops is set in the bench (`break`). A breakpoint with a condition, a hit count or a note is
+// found ahead (arrivals.js); the session file does not contain it.
 
 import { readBoard, readRun } from "../bench/answers.js";
 import { hex } from "../bench/numbers.js";
@@ -48,37 +48,42 @@ import { CommonMistakes } from "./common_mistakes.js";
  * @typedef {import("../engine/worker_session.js").Frame} Frame
  * @typedef {import("../engine/worker_session.js").LinesResult} LinesResult
  * @typedef {import("../engine/worker_session.js").WorkerSession} WorkerSession
- * @typedef {(done: number, tally?: Tally) => Promise<boolean>} GoesOn receives how many cycles were searched, or, of running time, passed,
- * with the work of breakpoints in the last of them; it returns whether to continue
  *
- * Why time stopped: at its goal, or by the word of an answer ("break", "watch", "code", a refusal). `id`: of the breakpoint, or of the
- * watched place, 0 for none; `change`: its change, in words; `cycles`: since the move began, or since time runs.
+ * A callback after each piece of work, with the number of cycles searched or run so far. For a run it also receives the tally of the last
+ * piece. It returns whether to continue.
+ * @typedef {(done: number, tally?: Tally) => Promise<boolean>} GoesOn
+ *
+ * A stop. `why`: "goal", or the word for why the run ended ("break", "watch", "code"), or a refusal, or "usual" for a common mistake, or
+ * "recorded" for the end of a recording. `id`: the breakpoint or data watch, 0 for none. `change`: a description of the watched change.
+ * `cycles`: the cycles since the move or the run began. `returns`: the goal was reached by a return.
  * @typedef {{ why: string, id: number, cycles: number, returns: boolean, change?: string }} Stop
  *
- * The work of breakpoints: hits by their ids since the last report, notes, and how many notes there were; and common mistakes, as they
- * happened (common_mistakes.js).
- * @typedef {{ hits: [number, number][], notes: Logged[], noted: number, usual: UsualFault[] }} Tally Of typed lines: if a breakpoint ended
- * the last one, its id and the line, otherwise 0 and "", with its Stop; the cycles, and the work of breakpoints.
+ * The events since the last report. `hits`: the ids of breakpoints, each with its number of hits. `notes`: the logged notes, and `noted`
+ * their number, including those beyond the limit. `usual`: the common mistakes (common_mistakes.js).
+ * @typedef {{ hits: [number, number][], notes: Logged[], noted: number, usual: UsualFault[] }} Tally
+ *
+ * The result of typed lines. If a breakpoint ended the last line, `id` is its id and `cut` is that line; otherwise they are 0 and "".
  * @typedef {{ id: number, why: string, change: string, cut: string, cycles: number, tally: Tally }} Typed
  * @typedef {Frame & { stop: Stop | null, tally: Tally }} DebugFrame
  * @typedef {{ found: Found & { id: number, returns: boolean, change?: string }, result: (LinesResult & { snapshot: string[] }) | null,
- *   tally: Tally }} Travelled no result if nothing was done
+ *   tally: Tally }} Travelled the result of a move; `result` is null if no line was served
  * @typedef {Omit<Aim, "moment" | "present"> & { isDone: boolean, wires: boolean, cycles: number }} WentBack
  * @typedef {Omit<Aim, "moment" | "present"> & { isFound: boolean, cycles: number, address: number }} LastChange
  */
 
-/** A goal within a second of a real 4004 is reached at once. */
+/** The maximum distance of a goal that is reached at once, in cycles: a second of a real 4004. */
 export const NEAR_CYCLES = CYCLES_PER_SECOND;
-/** The cycles that are searched at once for a change that needs no key; counted instructions are all done at once. */
+/** The same for a search for a change or a condition, and for a count of instructions. */
 const NEAR_CHANGE = 10000000;
 const ALL = 100000000;
 
-/** @type {Tally} */
+/** @type {Tally} the empty tally */
 export const NO_TALLY = { hits: [], notes: [], noted: 0, usual: [] };
 
 /**
+ * Returns two tallies as one.
  * @param {Tally} one
- * @param {Tally} other the tally that follows it
+ * @param {Tally} other the later tally
  * @returns {Tally}
  */
 export function bothTallies(one, other) {
@@ -91,7 +96,7 @@ export function bothTallies(one, other) {
 }
 
 /**
- * Returns how many cycles are searched for a goal at once.
+ * Returns the maximum distance at which a goal is reached at once, in cycles.
  * @param {Goal} goal
  */
 export function nearOf({ kind }) {
@@ -99,6 +104,7 @@ export function nearOf({ kind }) {
   return kind === "count" ? ALL : NEAR_CYCLES;
 }
 
+/** The debugger of a session. */
 export class Debugger {
   /** @param {WorkerSession} session */
   constructor(session) {
@@ -106,31 +112,31 @@ export class Debugger {
     this.watches = new DataWatches([]);
     this.arrivals = this.softStops([]);
     this.usual = new CommonMistakes(session);
-    /** @type {import("../engine/key_queue.js").PlannedLine[] | null} those that are done, but not yet checked for mistakes */
+    /** @type {import("../engine/key_queue.js").PlannedLine[] | null} lines that are done but not yet checked for mistakes */
     this.unlooked = null;
-    /** @type {import("./common_mistakes.js").CommonMistake[]} those that were found there, and are not reported yet */
+    /** @type {import("./common_mistakes.js").CommonMistake[]} mistakes found after their lines were done, not yet reported */
     this.late = [];
-    /** @type {Map<number, number> | null} the ids of the breakpoints that always stop, by their addresses; null until some are set */
+    /** @type {Map<number, number> | null} the ids of the breakpoints that always stop, by address; null before breakpoints are set */
     this.hard = null;
-    /** @type {import("../conditions/condition_language.js").Names | null} the names for conditions, null until they are set */
+    /** @type {import("../conditions/condition_language.js").Names | null} the names for conditions; null before they are set */
     this.names = null;
-    /** @type {Watcher | null} of the present move */
+    /** @type {Watcher | null} the watcher of the current move */
     this.watcher = null;
-    /** The cycle count at the beginning of the move, or when time began to run. */
+    /** The cycle count at the beginning of the move or the run. */
     this.begun = session.count.total;
   }
 
-  /** Returns whether a move is under way whose goal is not reached yet. */
+  /** True during a move whose goal is not reached yet. */
   get isMoving() {
     return this.watcher !== null;
   }
 
-  // --- breakpoints ---
+  // --- Breakpoints ---
 
   /**
-   * Sets the breakpoints, each at an address of its own. Returns the lines that set those that always stop in the bench, which are not sent
-   * here; and for each that cannot be read, and so stops every time, the reason, by its id.
-   * @param {Placed[]} placed the enabled ones
+   * Sets the breakpoints, which are at different addresses. Returns the lines that set the always-stopping ones in the bench; the caller
+   * sends these lines. Also returns the ids of breakpoints that cannot be compiled and therefore always stop, each with an error message.
+   * @param {Placed[]} placed the enabled breakpoints
    * @param {Names} names
    * @returns {{ lines: string, faults: [number, string][] }}
    */
@@ -148,13 +154,17 @@ export class Debugger {
     return { lines: this.breakLines(), faults };
   }
 
-  /** @param {SoftBreakpoint[]} breakpoints */
+  /**
+   * Returns the finder for soft breakpoints and data watches.
+   * @param {SoftBreakpoint[]} breakpoints
+   */
   softStops(breakpoints) {
     return new SoftStops(new Arrivals(breakpoints), this.watches, () => this.session.codes);
   }
 
   /**
-   * Sets the places whose changes stop time, in addition to the characters that the bench watches; returns why some do not, by their ids.
+   * Sets the data watches, in addition to the RAM characters that the bench watches. Returns an error message for each that is not
+   * possible, by its id.
    * @param {WantedWatch[]} wanted
    * @param {Names} names
    */
@@ -166,7 +176,7 @@ export class Debugger {
     return faults;
   }
 
-  /** Returns the lines that give the bench exactly the breakpoints that always stop. */
+  /** Returns the lines that change the bench's breakpoints to exactly those that always stop. */
   breakLines() {
     const { hard } = this;
     if (!hard) return "";
@@ -176,9 +186,9 @@ export class Debugger {
     return [...gone, ...come].join("");
   }
 
-  // --- time ---
+  // --- Running time ---
 
-  /** Time begins to run, or continues to another goal: cycles are counted from now on. */
+  /** Starts a move or a run: counts cycles from now on. */
   begin() {
     this.watcher = null;
     this.begun = this.session.count.total;
@@ -186,15 +196,15 @@ export class Debugger {
     this.usual.begin();
   }
 
-  /** The goal of the move is none any more. */
+  /** Drops the goal of the move. */
   drop() {
     this.watcher = null;
   }
 
   /**
-   * Runs for this many cycles, up to the goal of the move or a breakpoint, as the session does.
+   * Runs for a number of cycles, with the queued key changes, up to the goal of the move or an earlier stop.
    * @param {number} cycles
-   * @param {boolean} [isHurried] whether lamps wait for it: then mistakes at which nothing stops are found by `lookBack`
+   * @param {boolean} [isHurried] true if the lamps must be shown soon: then `lookBack` finds the mistakes, if none stops time
    * @returns {DebugFrame}
    */
   advance(cycles, isHurried = false) {
@@ -217,22 +227,22 @@ export class Debugger {
     return { ...frame, stop, tally: { ...this.tallyOf(seen, stop, before), usual: [...this.takeLate(), ...usual.faults] } };
   }
 
-  /** Checks what was done last for mistakes, if that is still to be done: the session's other file is as it was before. */
+  /** Checks the last lines for mistakes, if `advance` has not. The session's other file (`next`) still has the state before these lines. */
   lookBack() {
     const { unlooked } = this;
     this.unlooked = null;
     if (unlooked) this.late.push(...this.usual.look(unlooked, this.session.next).faults);
   }
 
-  /** Removes what was found late. */
+  /** Removes the mistakes that `lookBack` found, and returns them. */
   takeLate() {
     return this.late.splice(0);
   }
 
   /**
-   * Returns the stop that is neither a goal nor a breakpoint: a mistake that is reported, or the end of a recording.
+   * Returns the stop by a mistake or by the end of a recording; null if there is none.
    * @param {Frame} frame
-   * @param {number} usual after how many cycles, -1 for none
+   * @param {number} usual the cycles before the mistake, -1 for none
    */
   stopOfOthers(frame, usual) {
     if (usual >= 0 && frame.cycles === usual) return this.stopAt("usual");
@@ -243,6 +253,7 @@ export class Debugger {
   }
 
   /**
+   * Returns a stop without a breakpoint.
    * @param {string} why
    * @returns {Stop}
    */
@@ -251,9 +262,10 @@ export class Debugger {
   }
 
   /**
+   * Returns the stop at the goal, by a breakpoint or by an answer; null if there is none.
    * @param {Frame} frame
-   * @param {Seen} seen
-   * @param {number} toGoal
+   * @param {Seen} seen the result of looking ahead for breakpoints
+   * @param {number} toGoal the cycles before the goal, -1 if it was not found
    * @returns {Stop | null}
    */
   stopOf(frame, seen, toGoal) {
@@ -269,18 +281,20 @@ export class Debugger {
   }
 
   /**
-   * The breakpoint that stopped a run here.
-   * @param {string} why
+   * Returns the id of the breakpoint that ended a run at the current address; 0 for none.
+   * @param {string} why the word for why the run ended
    */
   idOfStop(why) {
     if (why !== "break" || !this.hard) return 0;
     return this.hard.get(this.counter) || 0;
   }
 
+  /** The address of the next instruction. */
   get counter() {
     return counterOf(this.session.ask("regs\n")[0]).counter;
   }
 
+  /** Ends a move or a run. */
   stopped() {
     this.lookBack();
     this.watcher = null;
@@ -288,9 +302,10 @@ export class Debugger {
   }
 
   /**
-   * @param {Seen} seen
+   * Returns the tally of lines that were done.
+   * @param {Seen} seen the result of looking ahead for breakpoints
    * @param {{ why: string, id: number } | null} stop
-   * @param {number} before the cycle count then
+   * @param {number} before the cycle count before the lines
    * @returns {Tally}
    */
   tallyOf({ hits, notes, noted, id }, stop, before) {
@@ -300,13 +315,12 @@ export class Debugger {
     return { hits: all, notes: notes.map((note) => ({ ...note, cycles: before + note.cycles })), noted, usual: [] };
   }
 
-  // --- moves ---
+  // --- Moves ---
 
   /**
-   * Moves to a goal, or to an earlier stop, if one of them is within this many cycles. Otherwise nothing is done, and the move is under
-   * way: `advance` continues it.
+   * Moves to a goal, or to an earlier stop, if it is near. Otherwise only starts the move, which `advance` continues.
    * @param {Goal} wanted
-   * @param {number} near
+   * @param {number} near the maximum distance in cycles
    * @param {GoesOn} goesOn
    * @returns {Promise<Travelled>}
    */
@@ -333,7 +347,7 @@ export class Debugger {
   }
 
   /**
-   * Resolves to the effects of breakpoints in the next cycles, with the keys as they are.
+   * Resolves to the hits, notes and first stop of breakpoints in the next cycles. The keys stay in their current states.
    * @param {number} cycles
    * @param {GoesOn} goesOn
    */
@@ -359,9 +373,9 @@ export class Debugger {
   }
 
   /**
-   * Serves typed lines, all of them or none. A run among them ends at each breakpoint that it reaches.
+   * Serves typed lines, all of them or none. A run among them ends at the first breakpoint that it reaches.
    * @param {string} lines
-   * @param {(done: number) => Promise<boolean>} goesOn receives how many characters are done
+   * @param {(done: number) => Promise<boolean>} goesOn called with the number of characters done; returns whether to continue
    * @returns {Promise<{ result: LinesResult & { snapshot: string[] }, typed: Typed }>}
    */
   async serveTyped(lines, goesOn) {
@@ -381,7 +395,7 @@ export class Debugger {
   }
 
   /**
-   * Returns the goal with its condition read, which was correct when the goal was set.
+   * Returns a goal with its condition compiled. Throws for an error in the condition; the caller has checked it.
    * @template {Goal | BackGoal} Wanted
    * @param {Wanted} goal
    * @returns {Wanted}
@@ -393,10 +407,10 @@ export class Debugger {
     return { ...goal, asked };
   }
 
-  // --- the past ---
+  // --- The past ---
 
   /**
-   * Goes back. The breakpoints are not part of the past: they stay.
+   * Goes back to a goal in the past. The current breakpoints stay: they are not part of the past.
    * @param {BackGoal} goal
    * @param {(done?: number) => Promise<boolean>} goesOn
    * @returns {Promise<WentBack>}
@@ -412,6 +426,7 @@ export class Debugger {
   }
 
   /**
+   * Resolves to the moment of a goal in the past.
    * @param {BackGoal} goal
    * @param {(done?: number) => Promise<boolean>} goesOn
    * @returns {Promise<Aim>}
@@ -424,7 +439,7 @@ export class Debugger {
   }
 
   /**
-   * Returns the breakpoints that stop time, in the form of those with a condition: the bench's own if none were set.
+   * Returns the breakpoints that stop time, all in the form of soft breakpoints. Before breakpoints are set, these are the bench's own.
    * @returns {SoftBreakpoint[]}
    */
   stopping() {
@@ -435,8 +450,8 @@ export class Debugger {
   }
 
   /**
-   * Resolves to the last change of a place, without going there: how many cycles ago, and the address of the instruction that made it, -1
-   * if none did.
+   * Finds the last change of a place and does not go there. Resolves to the number of cycles since then, and to the address of the
+   * instruction that made the change (-1 if a typed line made it).
    * @param {string} place
    * @param {(done?: number) => Promise<boolean>} goesOn
    * @returns {Promise<LastChange>}
@@ -451,7 +466,7 @@ export class Debugger {
   }
 
   /**
-   * Returns to where the last move back began.
+   * Returns to the moment at which the last move back began.
    * @returns {WentBack}
    */
   goForward() {
@@ -460,7 +475,10 @@ export class Debugger {
     return present ? { ...EMPTY_REPORT, ...this.become(present) } : { ...EMPTY_REPORT, isDone: false, wires: false, cycles: 0 };
   }
 
-  /** @param {Present} present */
+  /**
+   * Makes a moment of the past the present, with the current breakpoints.
+   * @param {Present} present
+   */
   become(present) {
     const { session } = this;
     const before = session.count.total;
@@ -472,10 +490,10 @@ export class Debugger {
     return { isDone: true, wires, cycles: Math.abs(session.count.total - before) };
   }
 
-  // --- values ---
+  // --- Values ---
 
   /**
-   * Returns the current value of each place (names as in places.js); "" if the board lacks it.
+   * Returns the current value of each place, as text; "" if the board lacks it. The names are those of conditions/places.js.
    * @param {string[]} names
    * @returns {string[]}
    */
@@ -492,7 +510,7 @@ export class Debugger {
   }
 
   /**
-   * Returns the bench's current answers for places of conditions.
+   * Returns the current values of `trace` places and of places that `state` reports.
    * @param {string[]} places
    */
   readPlaces(places) {

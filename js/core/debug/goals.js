@@ -1,4 +1,5 @@
-// Goals of running time: what each one watches, run by run. The bench is asked before each run what it would do, and does not do it.
+// The goals of moves, and a watcher for each goal. A watcher decides whether a run reaches the goal; most of them query before the run what
+// it would do.
 
 import { readBoard, readCounter, readRegisters } from "../bench/answers.js";
 import { placeOf } from "../conditions/places.js";
@@ -13,24 +14,29 @@ import { becomesTrue } from "./becoming.js";
  * @typedef {import("../engine/tracing.js").Answers} Answers
  * @typedef {import("../engine/tracing.js").Traced} Traced
  * @typedef {import("./becoming.js").Asked} Asked
- * @typedef {{ kind: "over" } | { kind: "out" } | { kind: "here", address: number } | { kind: "count", count: number } | { kind: "change",
- * place: string } | { kind: "when", condition: string, asked?: Asked }} Goal past the subroutine that is called here, out of the current
- * one, to an address, a count of instructions, until the value of a place changes, or until a condition becomes true, which `asked` is once
- * the debugger has read it
- * @typedef {{ cycles: number, isReached: boolean, end: string }} Found the cycles up to the goal, or up to an earlier stop, and what
- * stopped it: a word of the answer to a run; "bound" if neither was reached. If there is no such goal nothing is tried: "lacks" if the
- * board has no such place, "outside" if no subroutine is open
  *
- * The watcher of a goal: how many cycles can run at most without passing it; lines that are sent first, once, and how many answers they
- * have; the queries before and after a run, and the result of that run. `returns`: a return reaches it.
+ * A goal. `over`: after one instruction, or after the return from the subroutine that it calls. `out`: after the return from the current
+ * subroutine. `here`: at an address. `count`: after a number of instructions. `change`: when the value of a place changes. `when`: when a
+ * condition becomes true; `asked` is the compiled condition.
+ * @typedef {{ kind: "over" } | { kind: "out" } | { kind: "here", address: number } | { kind: "count", count: number } | { kind: "change",
+ * place: string } | { kind: "when", condition: string, asked?: Asked }} Goal
+ *
+ * The result of a search. `cycles`: the cycles up to the goal or an earlier stop. `end`: the word for why the run stopped earlier; "bound"
+ * if the search found neither; "lacks" if the board lacks the place; "outside" if no subroutine is open.
+ * @typedef {{ cycles: number, isReached: boolean, end: string }} Found
+ *
+ * The watcher of a goal. `first`: a line to send once before all runs, or "". `most`: returns the maximum number of cycles in the next run.
+ * `before`: returns the queries before a run. `after`: the queries after it. `take`: reads the answers to these and to the run, and returns
+ * the result of the run. `returns`: a return reaches the goal.
  * @typedef {{ first: string, most: () => number, before: (cycles: number) => string, after: string,
  *   take: (answers: Answers) => Found, returns: boolean }} Watcher
  */
 
+/** The maximum number of cycles in a piece of a search. */
 export const LARGEST_PIECE = 4 * LONGEST_RUN;
 
 /**
- * Reads the counter and the pending second cycle from an answer to `regs`.
+ * Parses the counter and the pending second cycle from an answer to `regs`.
  * @param {string} regs
  */
 export function counterOf(regs) {
@@ -39,9 +45,9 @@ export function counterOf(regs) {
 }
 
 /**
- * Watches for an instruction.
- * @param {string} places the places of `trace`
- * @param {(traced: Traced) => number} goal returns after how many cycles a reported instruction has reached it, -1 if it has not
+ * Returns a watcher that examines the lines of a trace.
+ * @param {string} places the places of the trace, each after a blank
+ * @param {(traced: Traced) => number} goal returns the cycles up to the goal for the instruction that reaches it, otherwise -1
  * @returns {Watcher}
  */
 function traced(places, goal) {
@@ -64,7 +70,7 @@ function traced(places, goal) {
 }
 
 /**
- * Reached when a condition becomes true. A change of a key may have made it true before a run; the run's first cycle is done then.
+ * Returns a watcher for a condition that becomes true. If a key change made it true before a run, the run is one cycle long.
  * @param {Asked} asked
  * @returns {Watcher}
  */
@@ -89,9 +95,9 @@ function becoming(asked) {
 }
 
 /**
- * Reached when the return is done that leaves this many fewer calls open than there are now: each JMS is one more, each BBL one less.
- * @param {Uint8Array} codes
- * @param {number} level 0 for the call that is about to be done, -1 for the current subroutine
+ * Returns a watcher for a return to a call depth. The current depth is 0; each JMS adds 1, and each BBL subtracts 1.
+ * @param {Uint8Array} codes the bytes of ROM
+ * @param {number} level the depth: 0 for the return from the next call, -1 for the return from the current subroutine
  * @returns {Watcher}
  */
 function returned(codes, level) {
@@ -106,9 +112,9 @@ function returned(codes, level) {
 }
 
 /**
- * Reached when this many instructions are done. No cycle does more than one.
- * @param {number} count
- * @param {boolean} isOwed whether this is the middle of one
+ * Returns a watcher for a number of instructions. A cycle completes at most one instruction.
+ * @param {number} count the number
+ * @param {boolean} isOwed true if the second cycle of an instruction is pending
  * @returns {Watcher}
  */
 function counted(count, isOwed) {
@@ -132,7 +138,7 @@ function counted(count, isOwed) {
 }
 
 /**
- * Reached at an address. The queried copy has a breakpoint there, unless all breakpoints are in use.
+ * Returns a watcher for an address. It sets a breakpoint there in the copy that is searched, unless the bench has no room for another one.
  * @param {Engine} engine
  * @param {Uint8Array} file
  * @param {number} address
@@ -157,7 +163,7 @@ function arrived(engine, file, address) {
 }
 
 /**
- * The same by the instructions that are begun; an instruction that begins at once is the current position.
+ * Returns a watcher for an address that examines all instructions. The first instruction does not count: it is the current position.
  * @param {number} address
  */
 function beginning(address) {
@@ -171,15 +177,15 @@ function beginning(address) {
 
 /**
  * Returns whether a subroutine is open: the newest return address follows a JMS.
- * @param {string} regs
- * @param {Uint8Array} codes
+ * @param {string} regs the answer to `regs`
+ * @param {Uint8Array} codes the bytes of ROM
  */
 function isInSubroutine(regs, codes) {
   return isCall(codes[callBefore(parseInt(readRegisters(regs).returns[0], 16))]);
 }
 
 /**
- * Returns the end word of a search for a goal that does not exist.
+ * Returns the member `end` of `Found` for a goal that does not exist.
  * @param {Goal} goal
  */
 export function endWithout(goal) {
@@ -187,11 +193,12 @@ export function endWithout(goal) {
 }
 
 /**
+ * Returns the watcher of a goal.
  * @param {Engine} engine
  * @param {Uint8Array} file the session, which is not changed
  * @param {Goal} goal
  * @param {() => Uint8Array} [codes] returns the contents of ROM
- * @returns {Watcher | null} null if there is no such goal
+ * @returns {Watcher | null} null if the goal does not exist
  */
 export function watcherOf(engine, file, goal, codes = () => romCodes(engine, file)) {
   if (goal.kind === "here") return arrived(engine, file, goal.address);

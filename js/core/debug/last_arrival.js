@@ -1,6 +1,6 @@
-// The last arrival at a breakpoint before the present, or the last change of a watched place. The past is done again, block by block, on a
-// copy that has the present breakpoints. A breakpoint with a note stops nothing, and hit counts are ignored. Likewise the last call of a
-// subroutine that is open.
+// Finds the last arrival at a breakpoint before the present, or the last change of a watched place. Also finds the last call of an open
+// subroutine. The past is replayed, block by block, on a copy that has the current breakpoints. Breakpoints with a note do not stop, and
+// hit counts are ignored.
 
 import { readMarks, watchedPlaces } from "../bench/answers.js";
 import { aim, changeFinder, lastInPast } from "../engine/going_back.js";
@@ -18,6 +18,7 @@ import { counterOf } from "./goals.js";
  * @typedef {import("./arrivals.js").SoftBreakpoint} SoftBreakpoint
  */
 
+/** The lines that set or delete breakpoints and watches. */
 const MARKS = /^(un)?(break|watch) /;
 /** The cycles of a JMS. */
 const JMS_CYCLES = 2;
@@ -31,15 +32,18 @@ class LastArrival {
   constructor(session, breakpoints) {
     this.engine = session.engine;
     this.arrivals = new Arrivals(breakpoints);
-    /** The present, which is no arrival before now. */
+    /** The present: an arrival at this moment does not count. */
     this.now = { total: session.count.total, counter: counterOf(session.ask("regs\n")[0]).counter };
     this.copy = new Uint8Array(0);
     this.total = 0;
-    /** The cycle count at the last match. */
+    /** The cycle count at the arrival that was found. */
     this.foundAt = 0;
   }
 
-  /** @param {Present} present */
+  /**
+   * Starts at a moment of the past: makes a copy with the current breakpoints.
+   * @param {Present} present
+   */
   begin({ file, count }) {
     const { engine, arrivals } = this;
     const [breaks, watches] = engine.ask(file, "breaks\nwatches\n").answers.map(readMarks);
@@ -50,6 +54,7 @@ class LastArrival {
   }
 
   /**
+   * Replays units of the past; returns the last arrival among them, or null.
    * @param {Unit[]} units
    * @returns {Aim | null}
    */
@@ -60,7 +65,7 @@ class LastArrival {
     let [lines, count] = ["", 0];
     for (const { line, cycles, moment } of units) {
       if (cycles === 0) {
-        // The breakpoints then are not the present ones; and a run of no cycle did nothing.
+        // Lines that changed breakpoints in the past are skipped, and so are runs of no cycle.
         if (MARKS.test(line) || /^(run|step)\b/.test(line)) continue;
         [lines, count] = [`${lines}${line}\n`, count + 1];
         continue;
@@ -84,7 +89,7 @@ class LastArrival {
 }
 
 /**
- * Returns the later of two moments; the first one if they are the same.
+ * Returns the later of two aims; the first one if their moments are equal.
  * @param {Aim | null} one
  * @param {Aim | null} other
  */
@@ -96,7 +101,7 @@ function laterOf(one, other) {
 }
 
 /**
- * Finds the last of several aims.
+ * Returns a finder for the latest aim of several finders.
  * @param {Finder[]} finders
  * @returns {Finder}
  */
@@ -108,16 +113,17 @@ function lastOf(finders) {
 }
 
 /**
- * The places that are watched in addition to those that the bench watches: a place, "" for none, and those of data_watches.js.
+ * The places that are watched in addition to those of the bench: one place ("" for none), and the data watches.
  * @typedef {{ place: string, watches?: import("./data_watches.js").DataWatches }} Beside
  */
 
 /**
+ * Finds the last arrival or change before the present. Resolves to the beginning of the recorded past if there is none.
  * @param {WorkerSession} session
- * @param {SoftBreakpoint[]} breakpoints those that stop
+ * @param {SoftBreakpoint[]} breakpoints that stop
  * @param {Beside} beside
  * @param {GoesOn} goesOn
- * @returns {Promise<Aim>} the beginning of the remembered past, if nothing else is before now
+ * @returns {Promise<Aim>}
  */
 export async function lastArrival(session, breakpoints, { place, watches }, goesOn) {
   const { engine, file, timeline } = session;
@@ -134,10 +140,10 @@ export async function lastArrival(session, breakpoints, { place, watches }, goes
 }
 
 /**
- * Finds the moment after the JMS that called an open subroutine: its first instruction is the next one.
+ * Finds the moment after the JMS that called an open subroutine, before the subroutine's first instruction.
  * @param {WorkerSession} session
  * @param {number} call the address of the JMS
- * @param {string[]} returns the return addresses that waited when it was done, the newest first
+ * @param {string[]} returns the return addresses before the JMS, the newest first
  * @param {GoesOn} goesOn
  * @returns {Promise<Aim>}
  */

@@ -1,9 +1,9 @@
-// The changes by the lines that ran last, each by one instruction, or by a call that was stepped over: reported at one pause after the
-// other.
+// Collects the changes that the last lines of the program made, each in one step: an instruction, or a call that was stepped over. It is
+// called at each pause.
 //
 //     const changes = new LineChanges();
-//     changes.stand(standing, cycles, map);      time is paused here, after this many cycles in all
-//     changes.lines                              Map { 12 => "acc 5 cy 1" }, the last one last
+//     changes.stand(standing, cycles, map);      at a pause; `cycles` is the cycle count
+//     changes.lines                              Map { 12 => "acc 5 cy 1" }, the newest line last
 
 import { partsOf } from "../text/assembly.js";
 import * as say from "../../words/debug.js";
@@ -13,12 +13,12 @@ import * as say from "../../words/debug.js";
  * @typedef {import("./standing.js").Standing} Standing
  */
 
-/** The most lines that are reported, and the most changes of each. */
+/** The maximum number of lines that are reported, and of changes for each line. */
 const MOST_LINES = 8;
 const MOST_CHANGES = 6;
 
 /**
- * Returns the values that differ in the second pause, in words.
+ * Returns the text of the values that changed between two pauses.
  * @param {Standing} before
  * @param {Standing} after
  */
@@ -30,10 +30,10 @@ export function wordsOfChanges(before, after) {
 }
 
 /**
- * Returns the line whose only instruction was done in these cycles, with all that it called; 0 for none.
+ * Returns the line whose instruction was the only step between two pauses; 0 if there is none. A call counts with its whole subroutine.
  * @param {Standing} before
  * @param {Standing} after
- * @param {number} cycles
+ * @param {number} cycles between the pauses
  * @param {SourceMap} map
  */
 function lineDone({ registers: before }, { registers: after }, cycles, map) {
@@ -44,29 +44,32 @@ function lineDone({ registers: before }, { registers: after }, cycles, map) {
   const name = head ? head.text.toUpperCase() : "";
   const size = map.sizes[line];
   if (cycles === (name === "FIN" ? 2 : size)) return line;
-  // The address that was popped is last in the stack; calls inside may have left more there.
+  // Only the newest return address is compared: the subroutine and its calls can have overwritten older entries of the stack.
   const isBack = parseInt(after.counter, 16) === address + size && before.returns[0] === after.returns[0];
   return name === "JMS" && isBack ? line : 0;
 }
 
+/** The changes by the last lines. */
 export class LineChanges {
   constructor() {
-    /** @type {Standing | null} where time was paused last, and after how many cycles */
+    /** @type {Standing | null} the state at the last pause; `cycles` is the cycle count then */
     this.before = null;
     this.cycles = 0;
-    /** @type {Map<number, string>} by line the changes that it made */
+    /** @type {Map<number, string>} the text of each line's changes, by line number */
     this.lines = new Map();
   }
 
+  /** Forgets the last pause and all changes. */
   forget() {
     this.before = null;
     this.lines = new Map();
   }
 
   /**
-   * @param {Standing} standing
-   * @param {number} cycles
-   * @param {SourceMap | null} map the program in ROM
+   * Adds a pause.
+   * @param {Standing} standing the state
+   * @param {number} cycles the cycle count
+   * @param {SourceMap | null} map the map of the program in ROM, null if its text is unknown
    */
   stand(standing, cycles, map) {
     const { before } = this;

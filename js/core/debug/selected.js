@@ -1,5 +1,5 @@
-// The selection of SRC, and the mistakes of an instruction that uses it: it reads or writes where the board has nothing, or where another
-// SRC was meant.
+// Follows the selection by SRC, and finds mistakes of the instructions that use it: the selected port or chip is missing, or the last SRC
+// was meant for another instruction.
 
 import { hex, numberOf } from "../bench/numbers.js";
 import { itemsOf, valueIn } from "../bench/state_line.js";
@@ -12,41 +12,48 @@ import * as say from "../../words/debug.js";
  * @typedef {{ kind: Kind, words: string }} Fault
  */
 
-/** The instructions that use a bank of RAM, with their names: they write, or they read. */
+/** The codes of the instructions that write to a RAM bank, with their names; and of those that read from one. */
 const WRITES = new Map([[0xE0, "WRM"], [0xE1, "WMP"], [0xE4, "WR0"], [0xE5, "WR1"], [0xE6, "WR2"], [0xE7, "WR3"]]);
 const READS = new Set([0xE8, 0xE9, 0xEB, 0xEC, 0xED, 0xEE, 0xEF]);
 
-/** @param {number} code */
+/**
+ * Returns whether an instruction is SRC.
+ * @param {number} code
+ */
 function isSource(code) {
   return code >> 4 === 2 && code % 2 === 1;
 }
 
 /**
- * Returns whether an instruction selects, or uses the selection.
+ * Returns whether an instruction is SRC or uses the selection.
  * @param {number} code
  */
 export function usesSelected(code) {
   return code >> 4 === 0xE || isSource(code);
 }
 
+/** The selection by SRC, and the instructions that have used it. */
 export class Selected {
   /** @param {Board} board */
   constructor(board) {
-    /** @type {Map<number, string>} the ports of the ROMs */
+    /** @type {Map<number, string>} the port mask of each ROM, by chip */
     this.ports = new Map(board.roms.map(({ chip, port }) => [Number(chip), port]));
-    /** @type {Map<number, number>} how many chips each bank has */
+    /** @type {Map<number, number>} the number of chips in each bank */
     this.chips = new Map(board.banks.map(({ bank, chips }) => [Number(bank), Number(chips)]));
-    /** @type {Map<number, number>} the SRC byte that each bank keeps */
+    /** @type {Map<number, number>} the SRC byte that each bank has latched */
     this.kept = new Map();
-    /** The address of the last SRC (-1 for none yet), and the instructions that have used it since. */
+    /** The address of the last SRC, -1 if there was none yet. */
     this.source = -1;
-    /** @type {Set<string>} */
+    /** @type {Set<string>} the users of the last SRC: "WRR", "RDR", and "RAM" for instructions that use RAM */
     this.users = new Set();
-    /** @type {Map<number, number>} the ROM whose port each WRR and RDR has used last, by its address */
+    /** @type {Map<number, number>} the ROM chip that each WRR and RDR used last, by the instruction's address */
     this.used = new Map();
   }
 
-  /** @param {string} state the answer to `state` */
+  /**
+   * Reads the SRC byte of each bank.
+   * @param {string} state the answer to `state`
+   */
   begin(state) {
     for (const item of itemsOf(valueIn(state, "banks"))) {
       const [bank, byte] = item.split(".");
@@ -55,9 +62,10 @@ export class Selected {
   }
 
   /**
+   * Updates the selection after an instruction.
    * @param {number} code
    * @param {number} address
-   * @param {string[]} values the values of src, dcl and ret after it
+   * @param {string[]} values the values of src, dcl and ret after the instruction
    */
   follow(code, address, [source, bank]) {
     if (isSource(code)) {
@@ -72,9 +80,10 @@ export class Selected {
   }
 
   /**
-   * @param {number} code of the next instruction
+   * Returns the mistake of the next instruction; null if there is none.
+   * @param {number} code
    * @param {number} address
-   * @param {string[]} values the values of src, dcl and ret before it
+   * @param {string[]} values the values of src, dcl and ret before the instruction
    * @returns {Fault | null}
    */
   faultOf(code, address, [source, bank]) {
@@ -84,9 +93,10 @@ export class Selected {
   }
 
   /**
-   * @param {string} name
+   * Returns the mistake of a WRR or RDR; null if there is none.
+   * @param {string} name of the instruction
    * @param {number} address
-   * @param {number} chip
+   * @param {number} chip the selected ROM
    * @returns {Fault | null}
    */
   faultOfPort(name, address, chip) {
@@ -103,14 +113,15 @@ export class Selected {
     return { kind: "source", words: say.sourceWasFor(words, user) };
   }
 
-  /** Returns the place of the last SRC, in words, if it was seen. */
+  /** The text about the last SRC; "" if there was none yet. */
   get description() {
     return this.source < 0 ? "" : say.lastSource(hex(this.source, 3));
   }
 
   /**
-   * @param {string} name
-   * @param {number} bank
+   * Returns the mistake of an instruction that writes to RAM; null if there is none.
+   * @param {string} name of the instruction
+   * @param {number} bank the selected bank
    * @returns {Fault | null}
    */
   faultOfRam(name, bank) {

@@ -1,4 +1,4 @@
-// The meaning of a breakpoint's condition, count and note on a board with a program: read once, before time runs.
+// Compiles the condition and the note of a breakpoint, for a board and a program. This is done once, before time runs.
 
 import { conditionOf, expressionOf } from "../conditions/condition_language.js";
 import { placeOf } from "../conditions/places.js";
@@ -9,19 +9,23 @@ import * as say from "../../words/debug.js";
  * @typedef {import("./arrivals.js").SoftBreakpoint} SoftBreakpoint
  * @typedef {import("../conditions/condition_language.js").Names} Names
  *
- * A breakpoint at an address. `condition`: a text of the language of conditions, "" for none; `from`: the first hit that stops, 1 for each;
- * `note`: a text that is logged instead of a stop, with places in braces, "" for none; `hits`: the hit count.
+ * A breakpoint at an address. `condition`: the text of a condition, "" for none. `from`: the number of the first hit that stops, 1 for all.
+ * `note`: a text that is logged instead of a stop, with values in braces, "" for none. `hits`: the hit count.
  * @typedef {{ id: number, address: number, condition: string, from: number, note: string, hits: number }} Placed
- * @typedef {{ places: string[], words: (values: string[]) => string }} Note
+ * @typedef {{ places: string[], words: (values: string[]) => string }} Note a compiled note: `words` returns its text from the values of
+ *   `places`
  */
 
-/** @param {Placed} placed */
+/**
+ * Returns whether a breakpoint has a condition, a note or a hit count, and so does not stop at every arrival.
+ * @param {Placed} placed
+ */
 export function isSoft({ condition, from, note }) {
   return condition.trim() !== "" || note.trim() !== "" || from > 1;
 }
 
 /**
- * Reads the contents of braces: a place, as `trace` writes it, another value, a condition.
+ * Compiles the contents of braces: a place, shown in the spelling of `trace`, another value, or a condition.
  * @param {string} text
  * @param {Names} names
  * @returns {{ note: Note, fault: "", column: -1 } | { note: null, fault: string, column: number }}
@@ -38,7 +42,8 @@ function partOf(text, names) {
 }
 
 /**
- * Reads a note: `digit {r4}, lamps {lamps}, next {r4 + 1}`. Braces are replaced by the value in them; an error has its column in the note.
+ * Compiles a note, such as `digit {r4}, lamps {lamps}, next {r4 + 1}`. Values replace the braces. `fault` is an error message with its
+ * column in the note, or "".
  * @param {string} text
  * @param {Names} names
  * @returns {{ note: Note, fault: string }}
@@ -66,10 +71,10 @@ export function noteOf(text, names) {
 }
 
 /**
+ * Compiles a breakpoint. A breakpoint with an error always stops; `fault` is the error message, or "".
  * @param {Placed} placed
  * @param {Names} names
- * @returns {{ soft: SoftBreakpoint, fault: string }} a breakpoint with an error, in words, stops every time, because nobody knows when
- * it should not
+ * @returns {{ soft: SoftBreakpoint, fault: string }}
  */
 export function softBreakpointOf(placed, names) {
   const { id, address, from, hits } = placed;

@@ -1,5 +1,5 @@
-// The state of the machine in a snapshot: registers, RAM, ports, and the selection of SRC. It is read from the answers to `state` and to
-// `ram B` of each bank, and only as far as it is asked for.
+// The state of the machine in a snapshot: registers, RAM, ports, and the selection by SRC. It is parsed from the answers to `state` and to
+// `ram B` for each bank; RAM is parsed on first use.
 
 import { readRam } from "../bench/answers.js";
 import { hex } from "../bench/numbers.js";
@@ -13,15 +13,16 @@ import * as say from "../../words/debug.js";
  */
 
 /**
- * A character of RAM, by the byte that SRC sends for it.
- * @param {number} byte
+ * Returns the text that names a RAM character: its chip, register and number.
+ * @param {number} byte that SRC sends to select the character
  */
 export function wordsOfCharacter(byte) {
   return say.characterAt(byte >> 6, byte >> 4 & 3, byte & 15);
 }
 
+/** The state of the machine in a snapshot. */
 export class Standing {
-  /** @param {string[]} look the answers to `state`, and to `ram B` of each bank that has chips, each as one text */
+  /** @param {string[]} look the answers to `state`, and to `ram B` for each bank that has chips, each as one text */
   constructor([state, ...banks]) {
     const parts = partsOfState(state);
     /** @type {Registers} */
@@ -29,11 +30,11 @@ export class Standing {
     this.parts = parts;
     this.ports = portsOf(parts.ports);
     this.banks = banks;
-    /** @type {Map<number, Ram> | null} */
+    /** @type {Map<number, Ram> | null} the contents of RAM, null before they are parsed */
     this.read = null;
   }
 
-  /** @returns {Map<number, Ram>} what each bank has, by its number */
+  /** @returns {Map<number, Ram>} the contents of each bank, by its number */
   get ram() {
     if (!this.read) {
       const numbers = this.ports.sources.slice(1).map((item) => Number(item.split(".")[0]));
@@ -47,13 +48,13 @@ export class Standing {
     return parseInt(this.registers.bank, 16);
   }
 
-  /** The SRC byte that the ROMs keep. */
+  /** The SRC byte that the ROMs have latched. */
   get source() {
     return parseInt(this.ports.sources[0], 16);
   }
 
   /**
-   * Returns the SRC byte that a bank keeps; undefined if the board has no such bank.
+   * Returns the SRC byte that a bank has latched; undefined if the board lacks the bank.
    * @param {number} [bank]
    */
   sourceOf(bank = this.bank) {
@@ -61,19 +62,26 @@ export class Standing {
     return found && parseInt(found[1], 16);
   }
 
-  /** @param {number} number of the register */
+  /**
+   * Returns the value of a register.
+   * @param {number} number of the register
+   */
   register(number) {
     return this.registers.registers[number];
   }
 
-  /** @param {number} number of the pair */
+  /**
+   * Returns the value of a register pair.
+   * @param {number} number of the pair
+   */
   pair(number) {
     return this.register(2 * number) + this.register(2 * number + 1);
   }
 
   /**
+   * Returns the contents of a RAM register; undefined if the board lacks it.
    * @param {number} bank
-   * @param {number} register
+   * @param {number} register 0 to 15, through all chips of the bank
    */
   ramRegister(bank, register) {
     const ram = this.ram.get(bank);
@@ -81,9 +89,9 @@ export class Standing {
   }
 
   /**
-   * Returns the value of a RAM nibble; "" if the board lacks it.
+   * Returns the value of a RAM character; "" if the board lacks it.
    * @param {number} bank
-   * @param {number} byte
+   * @param {number} byte that SRC sends to select the character
    */
   character(bank, byte) {
     const found = this.ramRegister(bank, byte >> 4);
@@ -91,10 +99,10 @@ export class Standing {
   }
 
   /**
-   * Returns the value of a status nibble; "" if the board lacks it.
+   * Returns the value of a status character; "" if the board lacks it.
    * @param {number} bank
    * @param {number} register 0 to 15, through all chips of the bank
-   * @param {number} number
+   * @param {number} number of the status character, 0 to 3
    */
   status(bank, register, number) {
     const found = this.ramRegister(bank, register);
@@ -102,7 +110,7 @@ export class Standing {
   }
 
   /**
-   * Returns the port of a ROM; undefined if the board has none.
+   * Returns the port of a ROM; undefined if the board lacks the ROM.
    * @param {number} chip
    * @returns {RomPort | undefined}
    */
@@ -119,8 +127,9 @@ export class Standing {
     const ram = this.ram.get(bank);
     return (ram && ram.ports.get(`${bank}.${chip}`)) || "";
   }
+
   /**
-   * Returns all that an instruction can change, by its name, in the order of reports.
+   * Returns all values that an instruction can change, by name, in the order of reports.
    * @returns {Map<string, string>}
    */
   all() {

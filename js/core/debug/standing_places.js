@@ -1,5 +1,5 @@
-// The answers of `trace` and `state` about a place of a condition, from a snapshot that is known already: so an expression is
-// computed without a question to the bench.
+// Computes the values of places from a snapshot, in the spelling of `trace` and `state`. An expression can then be evaluated without a
+// query to the bench.
 
 import { itemsOf } from "../bench/state_line.js";
 import { hex, numberOf, upTo } from "../bench/numbers.js";
@@ -9,11 +9,11 @@ import { hex, numberOf, upTo } from "../bench/numbers.js";
  * @typedef {import("./standing.js").Standing} Standing
  */
 
-/** @type {(bits: number, line: number) => string} */
+/** @type {(bits: number, line: number) => string} returns a bit as "0" or "1" */
 const bitOf = (bits, line) => String((bits >> line) & 1);
 
 /**
- * Returns the levels of the lines of a ROM's port: an output line has the level of its latch, an input line the level that RDR reads.
+ * Returns the levels of the lines of a ROM's port as a number: for an output line its latch, for an input line the level that RDR reads.
  * @param {number} chip
  * @param {Standing} standing
  * @param {Board} board
@@ -27,6 +27,7 @@ function romLevels(chip, standing, { roms }) {
 }
 
 /**
+ * Returns the value of a place without a number in its name, or of a register; undefined for any other place.
  * @param {string} place
  * @param {Standing} standing
  * @returns {string | undefined}
@@ -51,8 +52,8 @@ function registerAnswer(place, standing) {
 }
 
 /**
- * Returns the answer about a place; "0" for a place that the board lacks, as `trace` has it.
- * @param {string} place of `trace`, or one of those that only commands change
+ * Returns the value of a place; "0" for a place that the board lacks, as in `trace`.
+ * @param {string} place that `trace` or `state` reports
  * @param {Standing} standing
  * @param {Board} board
  */

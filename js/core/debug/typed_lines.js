@@ -1,5 +1,5 @@
-// Typed lines, before they are served: a `run` among them ends at a breakpoint with a condition or a count as it does at one that always
-// stops. So all of them are done on a copy first, and such a run is replaced by one of the right number of cycles.
+// Plans typed lines before they are served, so that a `run` among them ends at soft breakpoints, too. The lines are first served on a copy
+// of the session. A run that reaches a soft breakpoint is replaced by a run with the cycles up to that breakpoint.
 
 import { readRun } from "../bench/answers.js";
 import { Cancelled } from "../bench/faults.js";
@@ -13,13 +13,13 @@ import { LONGEST_RUN } from "../engine/key_queue.js";
  * @typedef {import("./data_watches.js").SoftStops} SoftStops
  * @typedef {import("./arrivals.js").Seen} Seen
  *
- * The lines to serve; the work of breakpoints in each run, and the cycles before it; and if a breakpoint ends the last line, its id and the
- * line as it was typed, otherwise 0 and "", with its Seen.
+ * The plan. `lines`: the lines to serve. `runs`: the breakpoint events in each run, and the cycles before the run. If a breakpoint ends the
+ * last line, `id` is its id, `cut` is the typed line, and `why` and `change` are those of `Seen`; otherwise they are 0 and "".
  * @typedef {{ lines: string, runs: { seen: Seen, done: number }[], id: number, cut: string, why: string, change: string }} Planned
  */
 
 /**
- * Returns how many cycles a line runs for; 0 for any other line, and for one that the bench rejects.
+ * Returns the cycles of a `run` line; 0 for any other line and for one that the bench rejects.
  * @param {Input | undefined} input
  */
 function cyclesOf(input) {
@@ -28,11 +28,12 @@ function cyclesOf(input) {
 }
 
 /**
+ * Plans typed lines. Throws `Cancelled` if `goesOn` returns false.
  * @param {Engine} engine
  * @param {Uint8Array} file is not changed
- * @param {SoftStops} arrivals count what they see
+ * @param {SoftStops} arrivals receives the hits
  * @param {string} lines
- * @param {(done: number) => Promise<boolean>} goesOn receives how many characters are searched, and returns whether to continue
+ * @param {(done: number) => Promise<boolean>} goesOn called with the number of characters planned; returns whether to continue
  * @returns {Promise<Planned>}
  */
 export async function planTyped(engine, file, arrivals, lines, goesOn) {

@@ -1,5 +1,5 @@
-// The current value of a word of a program's text: a register, a pair, the character that SRC selects for an instruction, a number, a
-// label. It is reported in pieces: words, and between them values, each with the place by which it can be poked.
+// Describes the current value of a word in a program's text: a register, a register pair, the RAM character that an instruction uses, a
+// number or a label. The description is a list of pieces: texts, and values that the user can edit.
 //
 //     pieces(valuesAt("        SRC P2", 13, standing, names))     "P2 = 60: R4 6, R5 0; selects ROM 6, and of bank 0 chip 1, .."
 
@@ -12,22 +12,25 @@ import * as say from "../../words/debug.js";
  * @typedef {import("./standing.js").Standing} Standing
  * @typedef {import("../text/assembly.js").Parts} Parts
  *
- * A value that can be edited: its place for `poke`, and its title here.
+ * A value that can be edited: its place for `poke`, its title, and its text.
  * @typedef {{ place: string, name: string, value: string }} Value
  * @typedef {string | Value} Piece
  *
- * The program in ROM: the meaning of its names, with words about them; the effect of an instruction, "" for a word that is none.
+ * The program in ROM. `nameOf` returns the value of a name, with a description. `doesOf` returns a description of an instruction; "" for
+ * any other word.
  * @typedef {{ value: number, isLabel: boolean, words: string }} Named
  * @typedef {{ nameOf: (name: string) => Named | undefined, doesOf: (word: string) => string }} Program
  */
 
-/** The instructions on status nibbles, with the number of the nibble, and those on a register's nibbles. */
+/** The instructions that use a status character, with its number. */
 const STATUS = /^(?:RD|WR)([0-3])$/;
+/** The words in an instruction's description that show that it uses the accumulator or the carry. */
 const ACCUMULATOR = /\b(ACC|CY|carry|borrow)\b/;
+/** The instructions that use a RAM character. */
 const CHARACTER = new Set(["WRM", "RDM", "ADM", "SBM"]);
 
 /**
- * The pieces as one text.
+ * Joins pieces to one text.
  * @param {Piece[]} pieces
  */
 export function textOf(pieces) {
@@ -35,7 +38,8 @@ export function textOf(pieces) {
 }
 
 /**
- * @param {number} number
+ * Returns the value of a register.
+ * @param {number} number of the register
  * @param {Standing} standing
  * @returns {Value}
  */
@@ -44,8 +48,9 @@ function registerValue(number, standing) {
 }
 
 /**
- * @param {string} place
- * @param {string} name
+ * Returns the value of the accumulator or the carry.
+ * @param {string} place `acc` or `cy`
+ * @param {string} name the title
  * @param {Standing} standing
  * @returns {Value}
  */
@@ -54,7 +59,7 @@ function machineValue(place, name, { registers }) {
 }
 
 /**
- * Returns the character that a byte selects in a bank, and its contents.
+ * Describes the RAM character that a byte selects in a bank, with its value.
  * @param {number} bank
  * @param {number} byte
  * @param {Standing} standing
@@ -68,7 +73,7 @@ function characterPieces(bank, byte, standing) {
 }
 
 /**
- * Returns the selection of a byte sent by SRC: a ROM's port, and a character of the bank.
+ * Describes the selection by a byte that SRC sends: a ROM's port, and a RAM character of the current bank.
  * @param {number} byte
  * @param {Standing} standing
  * @returns {Piece[]}
@@ -82,6 +87,7 @@ function selectedBy(byte, standing) {
 }
 
 /**
+ * Describes a register or a register pair; for the operand of SRC, also the selection.
  * @param {string} word
  * @param {Parts} parts of its line
  * @param {Standing} standing
@@ -99,7 +105,7 @@ function registerPieces(word, { head }, standing) {
 }
 
 /**
- * Returns the value that an instruction reads or writes by SRC's selection; none if it uses no selection.
+ * Describes the value that an instruction reads or writes through the selection by SRC; returns no pieces if it uses none.
  * @param {string} name in upper case
  * @param {Standing} standing
  * @returns {Piece[]}
@@ -128,9 +134,9 @@ function portPieces(name, standing) {
 }
 
 /**
- * Returns the values that an instruction uses in addition to its operands.
+ * Describes the values that an instruction uses in addition to its operands.
  * @param {string} name in upper case
- * @param {string} does
+ * @param {string} does the description of the instruction
  * @param {Parts} parts
  * @param {Standing} standing
  * @returns {Piece[]}
@@ -146,8 +152,8 @@ function instructionPieces(name, does, parts, standing) {
 }
 
 /**
- * Returns a number, also in binary; of FIM also what it selects, once SRC sends it.
- * @param {string} written in the other bases
+ * Describes a number, also in binary; for the operand of FIM, also the selection if SRC sends it.
+ * @param {string} written the number in decimal and hexadecimal
  * @param {number} value
  * @param {Parts} parts
  * @param {Standing} standing
@@ -161,9 +167,9 @@ function numberPieces(written, value, { head }, standing) {
 }
 
 /**
- * Returns the current value of the word at a position of a line; none if there is nothing to say.
+ * Describes the current value of the word at an index in a line; returns no pieces if the word has no value.
  * @param {string} text the line
- * @param {number} at
+ * @param {number} at the index
  * @param {Standing} standing
  * @param {Program} program
  * @returns {Piece[]}

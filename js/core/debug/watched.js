@@ -1,4 +1,4 @@
-// Watched expressions, with names of the user's own: `count = R5`, `digit = ram 0 0x12`, `r5 + 1 > limit`.
+// The expressions in *Watch*, with optional names from the user: `count = R5`, `digit = ram 0 0x12`, `r5 + 1 > limit`.
 //
 //     const { watched, fault } = readWatched("digit = ram 0 0x12", names);
 //     watched.pieces(standing, names)    its current value, in pieces (value_words.js)
@@ -15,20 +15,22 @@ import * as say from "../../words/debug.js";
 /**
  * @typedef {import("./standing.js").Standing} Standing
  * @typedef {import("./value_words.js").Piece} Piece
- * @typedef {import("../conditions/condition_language.js").Names} Names `text` is as it is saved; `place` is the place of a RAM character
- * for `poke`, "" for others; `value` is the expression that the name means.
+ * @typedef {import("../conditions/condition_language.js").Names} Names
+ *
+ * A watched expression. `text` is its saved form. `value` is the expression without the name. `place` is the place of a RAM character or a
+ * status character, "" for any other expression. `pieces` returns the current value.
  * @typedef {{ name: string, text: string, place: string, value: string, pieces: Reader }} Watched
  * @typedef {(standing: Standing, names: Names) => Piece[]} Reader
  */
 
-/** The most expressions that are watched, and the most characters of one. */
+/** The maximum number of watched expressions, and the maximum length of one. */
 export const MOST_WATCHED = 40;
 const LONGEST = 200;
-/** A number above it shows its hexadecimal digits, too. */
+/** The largest number that is shown without its hexadecimal form. */
 const LAST_PLAIN = 9;
 
 /**
- * Returns a value that `poke` can set by a place; words if the board has none.
+ * Returns the reader of a place that `poke` can set.
  * @param {string} place
  * @param {(standing: Standing) => string} value
  * @returns {Reader}
@@ -40,12 +42,13 @@ function cell(place, value) {
   };
 }
 
-/** @type {Record<string, (standing: Standing) => string>} */
+/** @type {Record<string, (standing: Standing) => string>} the values of named registers */
 const REGISTERS = {
   acc: ({ registers }) => registers.accumulator, cy: ({ registers }) => registers.carry, dcl: ({ registers }) => registers.bank,
 };
 
 /**
+ * Returns the reader of a register or a register pair; null for any other place.
  * @param {string} place
  * @returns {Reader | null}
  */
@@ -60,6 +63,7 @@ function machineReader(place) {
 }
 
 /**
+ * Returns the reader of a RAM character or a status character; null for any other place.
  * @param {string} place
  * @returns {Reader | null}
  */
@@ -70,6 +74,7 @@ function memoryReader(place) {
 }
 
 /**
+ * Returns the reader of a port; null for any other place.
  * @param {string} place
  * @returns {Reader | null}
  */
@@ -90,7 +95,7 @@ function portReader(place) {
 }
 
 /**
- * A place that is shown and cannot be edited.
+ * Returns the reader of a place that cannot be edited.
  * @param {import("../conditions/places.js").Place} place
  * @returns {Reader}
  */
@@ -102,7 +107,7 @@ function placeReader(place) {
 }
 
 /**
- * A sum, a comparison, a name.
+ * Returns the reader of any other expression: a sum, a comparison or a name.
  * @param {string} text
  * @returns {Reader}
  */
@@ -118,12 +123,12 @@ function expressionReader(text) {
 }
 
 /**
- * Returns the name and the expression of a text: `count = R5` has a name, `r5 = 10` compares.
+ * Splits a text into its name and its expression. `count = R5` has the name `count`; `r5 = 10` is a comparison, without a name.
  * @param {string} text
  */
 function partsOfWatched(text) {
   const [, name, value] = /^\s*([^\s=<>!&+()-]*)\s*=(?!=)\s*(.*?)\s*$/.exec(text) || [];
-  // A name for a number would be of no use.
+  // `x = 5` is a comparison: a name for a number would be useless.
   const isCompared = name === undefined || WORDS.has(name.toLowerCase()) || /^(test|owed)$/i.test(name) || placeOf(name) !== null
     || !Number.isNaN(numeralOf(value));
   if (isCompared) return { name: "", value: text.trim(), column: text.length - text.trimStart().length };
@@ -131,7 +136,7 @@ function partsOfWatched(text) {
 }
 
 /**
- * Returns the error of an expression, with its column; "" if there is none. Without names its form alone is judged.
+ * Returns the error message for an expression, with its column; "" if there is none. If `names` is null, only the syntax is checked.
  * @param {string} value
  * @param {number} begin its column in the text
  * @param {Names | null} names
@@ -151,7 +156,7 @@ function faultOf(value, begin, names) {
 }
 
 /**
- * Reads a watched expression, or returns why it cannot be read.
+ * Parses a watched expression; `fault` is an error message, or "".
  * @param {string} text
  * @param {Names | null} [names] of the board and the program, if they are known
  * @returns {{ watched: Watched | null, fault: string }}
@@ -172,7 +177,7 @@ export function readWatched(text, names = null) {
 }
 
 /**
- * Reads the texts that were saved, which may be anything. `fault` says what is wrong with the first one that cannot be read.
+ * Parses the saved texts, which can be invalid data. `fault` is the first error message, or "".
  * @param {unknown} texts
  * @returns {{ all: Watched[], fault: string }}
  */
@@ -184,7 +189,7 @@ export function readAllWatched(texts) {
 }
 
 /**
- * Returns the user's own names, which conditions may contain, with their expressions.
+ * Returns the names that the user has given, which conditions can contain, with their expressions.
  * @param {unknown} texts
  * @returns {Map<string, string>}
  */
