@@ -1,5 +1,5 @@
-// The edits of a drawn board's text for an action: (text, action) -> edits, or a refusal in words. Nothing here touches the DOM; only the
-// bench decides whether the resulting text is right.
+// Translates an action in the drawing of a board to edits of the board's text, or to a message if the action is not possible. Only the
+// bench decides whether the resulting text is valid.
 
 import { linesOf } from "../bench/board_form.js";
 import { readBoard } from "../bench/answers.js";
@@ -20,33 +20,35 @@ import * as say from "../../words/drawing.js";
  * @typedef {import("./text_edits.js").TextEdit} TextEdit
  *
  * The actions:
- * - `add`: adds a part of the shelf: a lamp or a buzzer at a line that can be given, a display with a number of digits
- * - `wire`: wires a line to an input
- * - `port`: a line of a ROM is an input (`i`), or an output that reads as `0` or `1`
- * - `chips`, `rows`: sets the chips of a chain, the rows of the keys
- * - `column`: the keys get another column
+ * - `add`: adds a part from the shelf; `line` is an optional line for a lamp or a buzzer, `digits` the number of digits of a display
+ * - `wire`: connects a line to an input
+ * - `port`: makes a line of a ROM an input (`i`), or an output that reads as `0` or `1`
+ * - `chips`, `rows`: sets the number of chips in a chain, or of rows of keys
+ * - `column`: adds a column of keys
  * - `delete`, `copy`: deletes a part, or adds another one like it
- * - `name`: names a part, `key ROW COLUMN`, `title` or `test`; "" for no name
- * - `colour`: a lamp has this colour, "" for the usual one
+ * - `name`: names a part, a key (`key ROW COLUMN`), the board (`title`) or the button at the TEST pin (`test`); "" removes the name
+ * - `colour`: sets the colour of a lamp; "" for the default
  * @typedef {{ kind: "add", part: Shelved, line?: string, digits?: number } | { kind: "wire", line: string, target: string }
  *   | { kind: "port", line: string, as: string } | { kind: "chips", chain: number, chips: number } | { kind: "rows", rows: number }
  *   | { kind: "column" } | { kind: "delete", part: string } | { kind: "copy", part: string }
  *   | { kind: "name", part: string, name: string } | { kind: "colour", lamp: number, colour: string }} Act
  * @typedef {"rom" | "inputs" | "ram" | "chain" | "keys" | "lamp" | "digit" | "segments" | "scanned" | "button" | "switch"
  *   | "buzzer"} Shelved
+ *   the parts that can be added
  *
- * The result: the edits, one after the other, the part that it is about, a message in words, and the deleted chains; or why nothing was
- * done.
+ * The result of an action: the successive edits, the text after them, the affected part, a message (`words`), and the numbers of deleted
+ * chains. If the action is not possible, `refusal` is a message and there are no edits; otherwise it is "".
  * @typedef {{ edits: TextEdit[], text: string, part: string, words: string, goneChains: number[], refusal: string }} Result
  */
 
-/** @type {Shelved[]} */
+/** @type {Shelved[]} the parts on the shelf, in order */
 export const SHELF = ["rom", "inputs", "ram", "chain", "keys", "lamp", "button", "switch", "buzzer", "digit", "segments", "scanned"];
 
 /**
+ * Adds a part from the shelf; returns its name.
  * @param {Sketch} sketch
  * @param {Extract<Act, { kind: "add" }>} act
- * @returns {string} the part that was added
+ * @returns {string}
  */
 function addFromShelf(sketch, { part, line, digits = 1 }) {
   switch (part) {
@@ -66,6 +68,7 @@ function addFromShelf(sketch, { part, line, digits = 1 }) {
 }
 
 /**
+ * Adds a button or a switch at the TEST pin; returns the part's name.
  * @param {Sketch} sketch
  * @param {"button" | "switch"} kind
  */
@@ -77,9 +80,10 @@ function addTest(sketch, kind) {
 }
 
 /**
+ * Connects a line to an input; throws `ActRefusal` if that is not allowed.
  * @param {Sketch} sketch
- * @param {string} name
- * @param {string} target
+ * @param {string} name of the line
+ * @param {string} target the input
  */
 function wire(sketch, name, target) {
   const { board, draft } = sketch;
@@ -102,7 +106,7 @@ function wire(sketch, name, target) {
 }
 
 /**
- * Returns why a line cannot be wired to an input.
+ * Returns the message for a line that cannot be connected to an input.
  * @param {import("../bench/board_form.js").BoardLine} line
  * @param {string} target
  */
@@ -115,9 +119,10 @@ function whyNot({ name, kind, isInput }, target) {
 }
 
 /**
+ * Makes a line of a ROM an input or an output; throws `ActRefusal` if parts at the line need the other direction.
  * @param {Sketch} sketch
  * @param {string} line
- * @param {string} as
+ * @param {string} as `i`, `0` or `1`
  */
 function setPort(sketch, line, as) {
   const [chip, at] = line.replace("rom", "").split(".").map(Number);
@@ -134,7 +139,7 @@ function setPort(sketch, line, as) {
 }
 
 /**
- * Adds a part like an existing one.
+ * Adds a part like an existing one; returns its name.
  * @param {Sketch} sketch
  * @param {string} part
  */
@@ -152,9 +157,8 @@ function copy(sketch, part) {
   return addLamp(sketch, "", (face.colours.get(number) || { text: "" }).text);
 }
 
-
 /**
- * A renamed lamp stays at its place of the grid.
+ * Names a lamp; throws `ActRefusal` if the name would change the lamps on the grid.
  * @param {Sketch} sketch
  * @param {number} lamp
  * @param {string} name
@@ -168,6 +172,7 @@ function renameLamp(sketch, lamp, name) {
 }
 
 /**
+ * Names a part; throws `ActRefusal` if it cannot have the name.
  * @param {Sketch} sketch
  * @param {string} part
  * @param {string} name
@@ -190,9 +195,10 @@ function rename(sketch, part, name) {
 }
 
 /**
+ * Sets the colour of a lamp; throws `ActRefusal` for an unknown colour.
  * @param {Sketch} sketch
  * @param {number} lamp
- * @param {string} colour
+ * @param {string} colour "" for the default
  */
 function setColour(sketch, lamp, colour) {
   if (colour !== "" && !COLOURS.has(colour)) throw new ActRefusal(say.noColour(colour, [...COLOURS].join(", ")));
@@ -200,20 +206,24 @@ function setColour(sketch, lamp, colour) {
 }
 
 /**
+ * Returns a message about an action on a part.
  * @param {string} part
- * @param {string} what was done to it
+ * @param {string} what the participle of the action
  */
 function doneTo(part, what) {
   return `${capital(nameOfPart(part))} ${part === "keys" || part === "lamps" ? "were" : "was"} ${what}`;
 }
 
-/** @param {string} words */
+/**
+ * Returns a text with an upper-case first letter.
+ * @param {string} words
+ */
 function capital(words) {
   return words.charAt(0).toUpperCase() + words.slice(1);
 }
 
 /**
- * Does the action; returns the part that it is about, and a message in words.
+ * Performs an action; returns the name of the affected part, and a message.
  * @param {Sketch} sketch
  * @param {Act} act
  * @returns {[string, string]}
@@ -258,9 +268,9 @@ function perform(sketch, act) {
 }
 
 /**
- * Returns an error of the front panel that is new; "" for none.
- * @param {string} before
- * @param {string} after
+ * Returns the message for an error in the front panel that an action has caused; "" if there is none.
+ * @param {string} before the text before the action
+ * @param {string} after the text after it
  */
 function newFault(before, after) {
   const old = new Face(before).faults.map(({ words }) => words.replace(/\d+/g, ""));
@@ -271,7 +281,7 @@ function newFault(before, after) {
 }
 
 /**
- * Returns the effect of an act on a board's text.
+ * Returns the result of an action on a board's text.
  * @param {string} text
  * @param {Act} act
  * @returns {Result}
@@ -293,7 +303,7 @@ export function actOn(text, act) {
 }
 
 /**
- * Returns why a part of the shelf cannot be added; "" if it can.
+ * Returns the message if a part from the shelf cannot be added; "" if it can.
  * @param {string} text
  * @param {Shelved} part
  */
@@ -302,13 +312,13 @@ export function whyNotAdded(text, part) {
 }
 
 /**
- * Returns whether a text is read here as the bench reads it, so that it can be edited.
+ * Returns whether the page and the bench read the same board from a text. Only then can the text be edited.
  * @param {string} text
- * @param {string[]} answers to `board`, once the text is wired
+ * @param {string[]} answers to `board` after the bench has wired the text
  */
 export function isReadAlike(text, answers) {
   return new Sketch(text).draft.isAsBench(answers);
 }
 
-/** @param {string[]} answers */
+/** @param {string[]} answers to `board` */
 export const boardOfAnswers = readBoard;

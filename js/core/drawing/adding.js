@@ -1,4 +1,4 @@
-// Parts that are added to a board, each at free lines. If these are too few, chips that have them are added too.
+// Adds parts to a board, each at free lines. If there are too few free lines, also adds chips that have them.
 
 import { counted, upTo } from "../bench/numbers.js";
 import { Face } from "../board/face.js";
@@ -16,22 +16,24 @@ import * as say from "../../words/drawing.js";
  * @typedef {import("./board_lines.js").Board} Board
  */
 
+/** The masks of a ROM's port with four outputs, and with four inputs. */
 export const OUTPUTS = "0000";
 export const INPUTS = "iiii";
 const LINES_OF_DIGIT = { digit: 4, segments: 7 };
 
 /**
- * Returns the lowest unused number.
- * @param {number[]} taken
- * @param {number} most
+ * Returns the lowest unused number; undefined if all are used.
+ * @param {number[]} taken the used numbers
+ * @param {number} most the count of numbers
  */
 function freeNumber(taken, most) {
   return upTo(most).find((number) => !taken.includes(number));
 }
 
 /**
+ * Adds a ROM; returns its name.
  * @param {Sketch} sketch
- * @param {string} port
+ * @param {string} port the mask of its port
  */
 export function addRom(sketch, port) {
   const chip = freeNumber(sketch.board.roms.map((rom) => Number(rom.chip)), MOST.rom);
@@ -40,7 +42,10 @@ export function addRom(sketch, port) {
   return `rom ${chip}`;
 }
 
-/** @param {Sketch} sketch */
+/**
+ * Adds a RAM chip; returns its name.
+ * @param {Sketch} sketch
+ */
 export function addRam(sketch) {
   const { banks } = sketch.board;
   const { to: most } = RANGES["ram.chips"];
@@ -56,9 +61,9 @@ export function addRam(sketch) {
 }
 
 /**
- * Adds a part because another one needs it.
+ * Adds a part because another one needs it; returns its name.
  * @param {Sketch} sketch
- * @param {() => string} add
+ * @param {() => string} add adds the part and returns its name
  */
 function alsoAdd(sketch, add) {
   const part = add();
@@ -67,7 +72,7 @@ function alsoAdd(sketch, add) {
 }
 
 /**
- * Returns the name of a part: `ROM 0`, `RAM 0.1`, `chain 0`, `lamp 3`, `the keys`.
+ * Returns the name of a part for messages: `ROM 0`, `RAM 0.1`, `chain 0`, `lamp 3` or `the keys`.
  * @param {string} part
  */
 export function nameOfPart(part) {
@@ -79,7 +84,7 @@ export function nameOfPart(part) {
 }
 
 /**
- * A board without a ROM gets the one for its program.
+ * Adds a ROM for the program, if the board has none.
  * @param {Sketch} sketch
  */
 export function needRom(sketch) {
@@ -87,11 +92,11 @@ export function needRom(sketch) {
 }
 
 /**
- * Returns the free lines that fit, and those of parts that are added until there are enough.
+ * Returns free lines; adds parts until there are enough.
  * @param {Sketch} sketch
- * @param {number} count
- * @param {(board: Board) => string[]} find
- * @param {() => string} add
+ * @param {number} count of lines
+ * @param {(board: Board) => string[]} find returns the suitable free lines
+ * @param {() => string} add adds a part with such lines
  */
 function need(sketch, count, find, add) {
   while (find(sketch.board).length < count) alsoAdd(sketch, add);
@@ -99,20 +104,23 @@ function need(sketch, count, find, add) {
 }
 
 /**
- * Returns the free output lines of ports: those of ROMs first.
+ * Returns the free output lines of ports, ROMs first.
  * @param {Board} board
  */
 function freeOutputs(board) {
   return freeLines(board).filter(({ kind, isInput }) => kind !== "bit" && !isInput).map(({ name }) => name);
 }
 
-/** @param {Board} board */
+/**
+ * Returns the free input lines.
+ * @param {Board} board
+ */
 function freeInputs(board) {
   return freeLines(board).filter(({ isInput }) => isInput).map(({ name }) => name);
 }
 
 /**
- * Lines for lamps: ports of RAM chips, then of ROMs, then bits of chains.
+ * Returns the free lines for lamps: ports of RAM chips, then of ROMs, then bits of chains.
  * @param {Board} board
  */
 function freeForLamps(board) {
@@ -121,6 +129,7 @@ function freeForLamps(board) {
 }
 
 /**
+ * Adds a chain; returns its name.
  * @param {Sketch} sketch
  * @param {number} chips
  */
@@ -133,7 +142,7 @@ export function addChain(sketch, chips = 1) {
 }
 
 /**
- * Returns the first free bits of a chain, consecutive and this many; null if no chain has them.
+ * Returns the first `count` consecutive free bits of a chain; null if no chain has them.
  * @param {Board} board
  * @param {number} count
  */
@@ -148,6 +157,7 @@ function freeBits(board, count) {
 }
 
 /**
+ * Returns `count` consecutive free bits of a chain; adds a chain if none has them.
  * @param {Sketch} sketch
  * @param {number} count
  */
@@ -157,7 +167,7 @@ function needBits(sketch, count) {
 }
 
 /**
- * A matrix of one row: four keys, or as many as input lines are free.
+ * Adds a key matrix with one row of four keys, or of fewer if fewer input lines are free; returns its name.
  * @param {Sketch} sketch
  */
 export function addKeys(sketch) {
@@ -171,8 +181,9 @@ export function addKeys(sketch) {
 }
 
 /**
+ * Sets the number of rows of keys; returns the name of the part.
  * @param {Sketch} sketch
- * @param {number} rows the rows of the keys afterwards
+ * @param {number} rows
  */
 export function setRows(sketch, rows) {
   const { matrix, chains } = sketch.board;
@@ -187,7 +198,10 @@ export function setRows(sketch, rows) {
   return "keys";
 }
 
-/** @param {Sketch} sketch */
+/**
+ * Adds a column of keys; returns the name of the part.
+ * @param {Sketch} sketch
+ */
 export function addColumn(sketch) {
   const { matrix } = sketch.board;
   if (!matrix) throw new ActRefusal(say.NO_KEYS);
@@ -199,7 +213,7 @@ export function addColumn(sketch) {
 }
 
 /**
- * Throws if `count` more lamps do not fit.
+ * Throws `ActRefusal` if the board has no room for `count` more lamps.
  * @param {Sketch} sketch
  * @param {number} count
  */
@@ -208,6 +222,7 @@ function needRoom({ board }, count) {
 }
 
 /**
+ * Adds a lamp at each line.
  * @param {Sketch} sketch
  * @param {string[]} lines
  */
@@ -216,17 +231,17 @@ function putLamps(sketch, lines) {
 }
 
 /**
- * Adds a lamp at a line, or at the next free one.
+ * Adds a lamp; returns its name.
  * @param {Sketch} sketch
- * @param {string} [line]
- * @param {string} [colour] "" for the usual one
+ * @param {string} [line] "" for the next free one
+ * @param {string} [colour] "" for the default
  */
 export function addLamp(sketch, line = "", colour = "") {
   needRoom(sketch, 1);
   needRom(sketch);
   const at = sketch.board.lamps.length;
   const hasRam = sketch.board.banks.length > 0;
-  // The first lamps are at a port of their own.
+  // The first lamp of a board without RAM gets a RAM chip, so that all lamps can be at one port.
   if (!line && !hasRam && at === 0) alsoAdd(sketch, () => addRam(sketch));
   putLamps(sketch, [line || need(sketch, 1, freeForLamps, () => addRam(sketch))[0]]);
   if (colour) sketch.edit(colourLamp(sketch.draft, at, colour));
@@ -234,9 +249,9 @@ export function addLamp(sketch, line = "", colour = "") {
 }
 
 /**
- * Adds a buzzer at a line, or at the next free line of a port.
+ * Adds a buzzer; returns its name.
  * @param {Sketch} sketch
- * @param {string} [line]
+ * @param {string} [line] "" for the next free line of a port
  */
 export function addBuzzer(sketch, line = "") {
   if (new Face(sketch.text).buzzer) throw new ActRefusal(say.ONE_BUZZER);
@@ -247,7 +262,7 @@ export function addBuzzer(sketch, line = "") {
 }
 
 /**
- * A display: each digit at the port of a RAM chip, or of seven segments at bits of a chain.
+ * Adds a display; returns the name of its first lamp. Each BCD digit is at the port of a RAM chip; seven segments are at bits of a chain.
  * @param {Sketch} sketch
  * @param {"digit" | "segments"} kind
  * @param {number} digits
@@ -259,7 +274,7 @@ export function addDisplay(sketch, kind, digits) {
   const at = sketch.board.lamps.length;
   if (kind === "digit") for (let digit = 0; digit < digits; digit++) putLamps(sketch, portOfDigit(sketch));
   else putLamps(sketch, bitsOfSegments(sketch, digits * LINES_OF_DIGIT.segments));
-  // (This is a comment of a board's text, as tools/lib/face.txt has it.)
+  // (These words are a comment in a board's text, in the syntax of tools/lib/face.txt.)
   // eslint-disable-next-line no-restricted-syntax
   const words = `${counted(digits, "digit")}${kind === "segments" ? " of 7 segments" : ""}`;
   sketch.edit(addGroup(sketch.draft, "display", at, words));
@@ -267,7 +282,8 @@ export function addDisplay(sketch, kind, digits) {
 }
 
 /**
- * Adds a multiplexed display: seven lines for the segments of all digits, and a line for each digit.
+ * Adds a multiplexed display, with seven lines for the segments of all digits and a line for each digit. Returns the name of its first
+ * lamp.
  * @param {Sketch} sketch
  * @param {number} digits
  */
@@ -281,7 +297,7 @@ export function addScanned(sketch, digits) {
   /** @type {(board: Board) => string[]} */
   const find = (board) => freeForLamps(board).filter((line) => line.startsWith("ram"));
   putLamps(sketch, need(sketch, count, find, () => addRam(sketch)));
-  // (This is a comment of a board's text, as tools/lib/face.txt has it.)
+  // (These words are a comment in a board's text, in the syntax of tools/lib/face.txt.)
   // eslint-disable-next-line no-restricted-syntax
   const words = `${counted(digits, "digit")} of 7 segments scanned by ${at + LINES_OF_DIGIT.segments}`;
   sketch.edit(addGroup(sketch.draft, "display", at, words));
@@ -289,7 +305,7 @@ export function addScanned(sketch, digits) {
 }
 
 /**
- * Returns the free lines of a RAM chip's port, line 3 first.
+ * Returns the lines of a RAM chip's port that is free, line 3 first; adds a chip if there is none.
  * @param {Sketch} sketch
  */
 function portOfDigit(sketch) {
@@ -305,6 +321,7 @@ function portOfDigit(sketch) {
 }
 
 /**
+ * Returns consecutive free bits of a chain for segments.
  * @param {Sketch} sketch
  * @param {number} count
  */
@@ -314,9 +331,9 @@ function bitsOfSegments(sketch, count) {
 }
 
 /**
- * The lines of a buzzer and of a printer stay output lines of the board.
+ * Throws `ActRefusal` if an action would take away an output line of the buzzer or the printer.
  * @param {Sketch} sketch
- * @param {(line: string) => boolean} goes whether a line is unusable after the action
+ * @param {(line: string) => boolean} goes returns whether a line is not an output after the action
  */
 export function keepOutputs({ text }, goes) {
   const { buzzer, printer } = new Face(text);
@@ -326,7 +343,7 @@ export function keepOutputs({ text }, goes) {
 }
 
 /**
- * A chain with another number of chips.
+ * Sets the number of chips in a chain; returns the name of the chain.
  * @param {Sketch} sketch
  * @param {number} chain
  * @param {number} chips

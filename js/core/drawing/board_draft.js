@@ -1,5 +1,6 @@
-// A board's text in the editor: its parts, each with its place in the text, and the board that the text describes. Only the bench decides
-// whether that is right: its answer to `board` is compared with `boardAnswers`, and a text that is read differently is not edited.
+// Parses a board's text in the editor: its parts, their positions in the text, and the board that the text describes. Only the bench
+// decides whether a text is valid. The page compares the bench's answer to `board` with `boardAnswers`, and edits the text only if both are
+// equal.
 
 import { readBoard } from "../bench/answers.js";
 import { KEYS, KINDS } from "../bench/board_form.js";
@@ -15,7 +16,7 @@ import { readBoardText } from "../text/board_reader.js";
  */
 
 /**
- * Returns a value as the bench writes it.
+ * Returns a value in the bench's spelling.
  * @param {Value} value
  * @returns {string}
  */
@@ -24,16 +25,17 @@ function writtenValue({ inner }) {
   return JSON.stringify(typeof inner === "object" ? null : inner);
 }
 
+/** A parsed text of a board. */
 export class BoardDraft {
   /** @param {string} text */
   constructor(text) {
     this.text = text;
     this.lines = text.split("\n");
-    /** The offset of each line. */
+    /** The offset of each line in the text. */
     this.starts = [0];
     for (const line of this.lines) this.starts.push(this.starts[this.starts.length - 1] + line.length + 1);
     const { entries, keys, faults } = readBoardText(text);
-    /** The keys at the top, which may be arrays of parts. */
+    /** The keys outside tables; their values can be arrays of parts. */
     this.keys = keys;
     this.entries = entries;
     this.isToml = faults.length === 0;
@@ -59,7 +61,7 @@ export class BoardDraft {
   }
 
   /**
-   * A key of a part.
+   * Returns a key of a part, by its name.
    * @param {Entry} entry
    * @param {string} name
    */
@@ -70,7 +72,7 @@ export class BoardDraft {
   }
 
   /**
-   * Returns the part with this number: of ROMs the chip, of RAM the bank.
+   * Returns the ROM with a chip number, or the RAM with a bank number.
    * @param {"rom" | "ram"} kind
    * @param {number} number
    */
@@ -80,21 +82,24 @@ export class BoardDraft {
   }
 
   /**
-   * The offset of a character.
+   * Returns the offset of a character.
    * @param {number} line from 1
-   * @param {number} column
+   * @param {number} column from 0
    */
   offset(line, column) {
     return this.starts[line - 1] + column;
   }
 
-  /** @param {Value | Key | Entry} from whose first character is there */
+  /**
+   * Returns the offset of the first character of a value, a key or a part.
+   * @param {Value | Key | Entry} from
+   */
   startOf({ line, from }) {
     return this.offset(line, from);
   }
 
   /**
-   * Returns the end of a value.
+   * Returns the offset after a value.
    * @param {{ end?: End, line: number, to: number }} value
    */
   endOf({ end, line, to }) {
@@ -102,14 +107,14 @@ export class BoardDraft {
   }
 
   /**
-   * The last line of a part.
+   * Returns the number of a part's last line.
    * @param {Entry} entry
    */
   lastLine({ line, keys, end }) {
     return end ? end.line : Math.max(line, ...keys.map(({ value }) => value.end.line));
   }
 
-  /** Returns the board that the text describes, in the lines in which the bench answers `board`; null if a part cannot be read. */
+  /** The board that the text describes, in the form of the bench's answer to `board`; null if a part lacks a key. */
   get boardAnswers() {
     /** @type {string[]} */
     const lines = ["board"];
@@ -138,8 +143,8 @@ export class BoardDraft {
   }
 
   /**
-   * Returns whether the text is read here as the bench reads it.
-   * @param {string[]} answers to `board`, once the text is wired
+   * Returns whether the page and the bench read the same board from the text.
+   * @param {string[]} answers to `board` after the bench has wired the text
    */
   isAsBench(answers) {
     return this.isToml && this.boardAnswers !== null && this.boardAnswers.join("\n") === answers.join("\n");

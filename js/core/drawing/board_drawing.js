@@ -1,5 +1,5 @@
-// A board that is drawn, without the DOM: the selection, the wire that is begun, and the actions. Each action is tried on the bench before
-// it edits the board's text; the picture shows the bench's answer.
+// The state of the board editor, without the DOM: the selection, an unfinished wire, and the actions. The bench checks the result of each
+// action before the board's text is edited. The drawing shows the bench's answer.
 
 import { readBoard, refusalOf } from "../bench/answers.js";
 import { linesOf } from "../bench/board_form.js";
@@ -18,25 +18,26 @@ import * as say from "../../words/drawing.js";
  * @typedef {import("./acts.js").Shelved} Shelved
  * @typedef {import("./text_edits.js").TextEdit} TextEdit
  *
- * The view: the board of the text with its front panel, whether it is the wired one; why nothing can be drawn, "" if it can; the contents
- * of the shelf, with the reason if a part cannot be added; the selection, and its fields; the pin where a wire begins, and those where it
- * can end; and the last message.
+ * The state for the view. `board` and `face`: the board of the text and its front panel. `isWired`: the session's board is the same.
+ * `fault`: the message if the board cannot be drawn, or "". `shelf`: the parts on the shelf, each with a message if it cannot be added now,
+ * or "". `chosen` and `fields`: the selection and its fields. `begun`: the pin where an unfinished wire begins, or "". `ends`: the pins
+ * where the wire can end. `said`: the last message.
  * @typedef {{ board: Board, face: Face, isWired: boolean, fault: string, shelf: Map<Shelved, string>, chosen: string,
  *   fields: import("./fields.js").Fields, begun: string, ends: Set<string>, said: string }} Shown
  */
 
 /**
- * The calls that a drawing makes to the editor of its text and of the bench.
+ * The callbacks of a drawing, to the text editor and to the bench.
  * @typedef {object} DrawingCalls
- * @property {() => string} text Returns the board's text as it is in the editor.
- * @property {(lines: string) => Promise<string[]>} ask Resolves to the bench's answers to lines, which change no session.
- * @property {(edits: TextEdit[]) => void} edit Edits the text in one step that can be undone.
+ * @property {() => string} text Returns the board's text in the editor.
+ * @property {(lines: string) => Promise<string[]>} ask Resolves to the bench's answers to lines, which do not change the session.
+ * @property {(edits: TextEdit[]) => void} edit Edits the text; one undo reverts all the edits.
  * @property {() => boolean} undo Undoes the last step; returns false if there is none.
  * @property {() => boolean} redo Repeats the step that was undone last; returns false if there is none.
  * @property {(number: number) => string} wordsOfRefusal Returns the message of a refusal.
  */
 
-
+/** The board editor. */
 export class Drawing {
   /**
    * @param {DrawingCalls} calls
@@ -45,7 +46,7 @@ export class Drawing {
   constructor(calls, show) {
     this.calls = calls;
     this.show = show;
-    /** The bench's answers to `board`: for the session, and for the text. */
+    /** The bench's answers to `board`: for the session (joined), and for the text. */
     this.wired = "";
     this.answers = ["board"];
     /** @type {Board} */
@@ -54,26 +55,26 @@ export class Drawing {
     this.fault = "";
     /** @type {Map<Shelved, string>} */
     this.shelf = new Map();
-    /** The text that was read last; null if none was. */
+    /** The text that was read last; null if none was read yet. */
     this.text = /** @type {string | null} */ (null);
     this.chosen = "";
     this.begun = "";
     this.said = "";
     /** The positions of dragged parts. */
     this.movedParts = new MovedParts();
-    /** @type {Promise<void>} the action in progress */
+    /** @type {Promise<void>} resolves when all actions so far are done */
     this.turn = Promise.resolve();
   }
 
   /**
-   * Another board is wired.
+   * Sets the session's board.
    * @param {string[]} answers to `board`
    */
   takeWired(answers) {
     this.wired = answers.join("\n");
   }
 
-  /** Nothing of a session before is left. */
+  /** Forgets the text, the selection and the message of the last session. */
   forget() {
     this.text = null;
     this.chosen = "";
@@ -82,7 +83,7 @@ export class Drawing {
   }
 
   /**
-   * Actions are done one after the other.
+   * Runs an action after those that were started before it.
    * @param {() => Promise<void>} act
    */
   inTurn(act) {
@@ -96,6 +97,7 @@ export class Drawing {
     return this.inTurn(() => this.readText());
   }
 
+  /** Reads the text if it has changed, and shows the board. */
   async readText() {
     const text = this.calls.text();
     if (text !== this.text) {
@@ -107,9 +109,10 @@ export class Drawing {
   }
 
   /**
+   * Sets the board of a text.
    * @param {string} text
-   * @param {string[]} answers
-   * @param {string} fault
+   * @param {string[]} answers to `board`
+   * @param {string} fault the message if the board cannot be drawn, or ""
    */
   take(text, answers, fault) {
     this.movedParts.follow(this.text, text);
@@ -124,7 +127,7 @@ export class Drawing {
   }
 
   /**
-   * Resolves to the bench's answer to a text: its board, or the reason for the refusal.
+   * Asks the bench about a text. Resolves to the answers to `board`, and to a message if the bench rejects the text.
    * @param {string} text
    */
   async ask(text) {
@@ -151,7 +154,7 @@ export class Drawing {
     return wiringOf(board).has(name) || linesOf(board).some((line) => line.name === name);
   }
 
-  /** Returns the pins where the begun wire can end. */
+  /** The pins where the unfinished wire can end. */
   get ends() {
     const { board, begun } = this;
     if (begun === "" || this.fault) return new Set(/** @type {string[]} */ ([]));
@@ -159,6 +162,7 @@ export class Drawing {
     return new Set(now === undefined ? targetsOf(board, begun) : sourcesOf(board, begun).filter((line) => line !== now));
   }
 
+  /** Passes the state to the view. */
   reportChange() {
     const { board, face, fault, shelf, chosen, begun, ends, said } = this;
     const isWired = this.answers.join("\n") === this.wired;
@@ -166,6 +170,7 @@ export class Drawing {
   }
 
   /**
+   * Shows a message.
    * @param {string} words
    */
   say(words) {
@@ -174,8 +179,8 @@ export class Drawing {
   }
 
   /**
-   * Handles a click, a tap or Enter at a part or a pin. A begun wire ends there if it can; otherwise the part is selected, and a wire
-   * begins at a pin.
+   * Handles a click, a tap or Enter on a part or a pin. An unfinished wire ends at the pin if that is possible. Otherwise the part or pin
+   * is selected, and a wire begins at the pin.
    * @param {string} name
    */
   pressed(name) {
@@ -190,8 +195,8 @@ export class Drawing {
   }
 
   /**
-   * The wire that is begun ends.
-   * @param {string} name of a pin
+   * Ends the unfinished wire at a pin.
+   * @param {string} name of the pin
    */
   endWire(name) {
     const { begun, board } = this;
@@ -199,7 +204,7 @@ export class Drawing {
     return this.act({ kind: "wire", line, target });
   }
 
-  /** The wire that is begun is none; nothing is chosen. */
+  /** Drops the unfinished wire; if there is none, clears the selection. */
   leave() {
     const said = this.begun ? say.NO_WIRE : "";
     if (!this.begun) this.chosen = "";
@@ -207,12 +212,16 @@ export class Drawing {
     this.say(said);
   }
 
-  /** @param {Act} act */
+  /**
+   * Performs an action after those before it.
+   * @param {Act} act
+   */
   act(act) {
     return this.inTurn(() => this.perform(act));
   }
 
   /**
+   * Performs an action if the bench accepts its result.
    * @param {Act} act
    * @returns {Promise<void>}
    */
@@ -223,7 +232,7 @@ export class Drawing {
     if (done.edits.length === 0) return this.say(say.NO_CHANGE);
     const { refused, answers } = await this.ask(done.text);
     if (refused || !isReadAlike(done.text, answers)) return this.say(say.notDone(refused || say.CANNOT_READ));
-    // The text may have been edited while the bench was asked.
+    // If the text was edited while the bench was checking, start again.
     if (this.calls.text() !== text) return this.perform(act);
     this.calls.edit(done.edits);
     this.movedParts.note(text, done.text, done.goneChains);
@@ -233,7 +242,7 @@ export class Drawing {
   }
 
   /**
-   * A step of the text was undone or redone.
+   * Undoes or redoes the last step of the text.
    * @param {"undo" | "redo"} which
    */
   undoOrRedo(which) {
@@ -246,7 +255,10 @@ export class Drawing {
   }
 }
 
-/** @param {string} name */
+/**
+ * Returns the name of a pin for messages.
+ * @param {string} name
+ */
 function nameOfPin(name) {
   return name.includes(" ") ? nameOfTarget(name) : say.lineOfBoard(name);
 }

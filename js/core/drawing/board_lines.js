@@ -1,5 +1,5 @@
-// The lines of a board, the parts at each of them, and the allowed wires. The bench decides what is allowed: the unit test asks it about
-// each pair. A buzzer is only in the front panel; it takes a line as a lamp does.
+// The lines of a board, the inputs that use them, and the allowed wires between the two. The bench decides what is allowed; a unit test
+// compares each pair of a line and an input with the bench. A buzzer is part of the front panel only; it uses a line like a lamp.
 
 import { BITS, linesOf } from "../bench/board_form.js";
 import { upTo } from "../bench/numbers.js";
@@ -7,17 +7,17 @@ import { buzzerOf } from "../board/face_board.js";
 import * as say from "../../words/drawing.js";
 
 /**
- * @typedef {import("../bench/answers.js").Board & { buzzer?: string }} Board with the line of its buzzer, "" for none
+ * @typedef {import("../bench/answers.js").Board & { buzzer?: string }} Board a board with the line of its buzzer, "" for none
  * @typedef {import("../bench/board_form.js").BoardLine} BoardLine
  *
- * An input that takes a line: `clock 0` and `data 0` of a chain, `row 1` and `column 2` of the keys, `lamp 3`, `buzzer 0`.
+ * An input that uses a line: `clock 0` and `data 0` of a chain, `row 1` and `column 2` of the keys, `lamp 3`, or `buzzer 0`.
  * @typedef {string} Target
  */
 
 export const BUZZER = "buzzer 0";
 
 /**
- * A board with the buzzer of its face.
+ * Returns a board with the buzzer of its front panel.
  * @param {import("../bench/answers.js").Board} board
  * @param {import("../board/face.js").Face} face
  * @returns {Board}
@@ -46,7 +46,7 @@ export function wiringOf({ chains, matrix, lamps, buzzer }) {
 }
 
 /**
- * A target's kind and its number.
+ * Splits the name of an input into its kind and its number.
  * @param {Target} target
  * @returns {[string, number]}
  */
@@ -56,7 +56,7 @@ export function readTarget(target) {
 }
 
 /**
- * Returns the name of the part that uses a line.
+ * Returns the name of an input for messages.
  * @param {Target} target
  */
 export function nameOfTarget(target) {
@@ -67,7 +67,7 @@ export function nameOfTarget(target) {
 }
 
 /**
- * The chain and the bit that a line is.
+ * Returns the chain and the bit number of a line, such as `chain0.5`.
  * @param {string} line
  */
 export function bitOf(line) {
@@ -76,7 +76,7 @@ export function bitOf(line) {
 }
 
 /**
- * Returns whether a line may be wired to an input.
+ * Returns whether a line can be connected to an input.
  * @param {Board} board
  * @param {BoardLine} line
  * @param {Target} target
@@ -93,9 +93,9 @@ export function mayWire({ chains, matrix }, { name, kind, isInput }, target) {
 }
 
 /**
- * Returns the parts that a line can be wired to, without the one that it is wired to now.
+ * Returns the inputs that a line can be connected to and is not connected to now.
  * @param {Board} board
- * @param {string} name
+ * @param {string} name of the line
  * @returns {Target[]}
  */
 export function targetsOf(board, name) {
@@ -105,7 +105,7 @@ export function targetsOf(board, name) {
 }
 
 /**
- * Returns the lines that may be wired to an input, including the present one.
+ * Returns the lines that can be connected to an input, including the current one.
  * @param {Board} board
  * @param {Target} target
  */
@@ -114,7 +114,7 @@ export function sourcesOf(board, target) {
 }
 
 /**
- * Returns the free lines.
+ * Returns the lines that no input uses.
  * @param {Board} board
  */
 export function freeLines(board) {

@@ -1,5 +1,5 @@
-// Parts that are deleted from a board, and with each all that depends on it alone: a lamp without a line is not a lamp. The others keep
-// their wires.
+// Deletes parts from a board, together with the parts that depend on them, such as the lamps at the lines of a deleted chip. All other
+// parts keep their wires.
 
 import { counted } from "../bench/numbers.js";
 import { Face } from "../board/face.js";
@@ -20,12 +20,13 @@ import * as say from "../../words/drawing.js";
  * @typedef {{ roms: Set<number>, rams: Set<string>, chains: Set<number>, keys: boolean, columns: Set<number>, lamps: Set<number> }} Gone
  */
 
-/** @returns {Gone} */
+/** @returns {Gone} no parts */
 function nothing() {
   return { roms: new Set(), rams: new Set(), chains: new Set(), keys: false, columns: new Set(), lamps: new Set() };
 }
 
 /**
+ * Returns whether a line is on a deleted part.
  * @param {Gone} gone
  * @param {string} line
  */
@@ -36,7 +37,7 @@ function isLineGone({ roms, rams, chains }, line) {
 }
 
 /**
- * Returns the lamps of the display or bar that a lamp belongs to; the lamp alone if it belongs to none.
+ * Returns the lamps of the group that a lamp belongs to; the lamp alone if it belongs to none.
  * @param {Face} face
  * @param {number} lamp
  */
@@ -46,7 +47,7 @@ export function lampsWith(face, lamp) {
 }
 
 /**
- * Returns the display whose first lamp this is, if the shelf can add another one like it; undefined for none.
+ * Returns the display that begins with a lamp, if another display like it can be added; otherwise undefined.
  * @param {Face} face
  * @param {number} lamp
  */
@@ -56,7 +57,7 @@ export function displayAt(face, lamp) {
 }
 
 /**
- * Adds all that depends on the deleted parts.
+ * Adds the parts that depend on deleted parts to the deleted parts.
  * @param {Board} board
  * @param {Face} face
  * @param {Gone} gone
@@ -71,7 +72,7 @@ function spread(board, face, gone) {
     gone.keys = gone.keys || gone.chains.has(matrix.chain) || gone.columns.size === matrix.columns.length;
   }
   board.lamps.forEach((line, at) => isLineGone(gone, line) && gone.lamps.add(at));
-  // Adds lamps to a set, each with the group that it belongs to.
+  // A lamp is deleted together with its group. (The loop also visits lamps that it adds.)
   for (const at of gone.lamps) {
     const groups = face.groups.map(lampsOf).filter((lamps) => lamps.includes(at));
     for (const lamp of groups.flat()) if (lamp < board.lamps.length) gone.lamps.add(lamp);
@@ -79,6 +80,7 @@ function spread(board, face, gone) {
 }
 
 /**
+ * Removes the deleted parts from the text.
  * @param {Sketch} sketch
  * @param {Gone} gone
  */
@@ -93,12 +95,16 @@ function removeAll(sketch, gone) {
   for (const ram of gone.rams) removeRam(sketch, ram);
 }
 
-/** @param {Set<number>} numbers */
+/**
+ * Returns numbers in descending order, so that removing one does not renumber those that follow.
+ * @param {Set<number>} numbers
+ */
 function descending(numbers) {
   return [...numbers].sort((one, other) => other - one);
 }
 
 /**
+ * Removes lamps, and renumbers the others in the front panel.
  * @param {Sketch} sketch
  * @param {Set<number>} lamps
  */
@@ -107,13 +113,17 @@ function removeLamps(sketch, lamps) {
   for (const lamp of descending(lamps)) sketch.edit(removePart(sketch.draft, "lamp", lamp));
 }
 
-/** @param {Sketch} sketch */
+/**
+ * Removes the keys with their names.
+ * @param {Sketch} sketch
+ */
 function removeKeys(sketch) {
   sketch.edit(removeRows(sketch.draft, 0));
   sketch.edit(removePart(sketch.draft, "keys", 0));
 }
 
 /**
+ * Removes columns of keys with their names.
  * @param {Sketch} sketch
  * @param {Set<number>} columns
  */
@@ -126,7 +136,7 @@ function takeColumns(sketch, columns) {
 }
 
 /**
- * The chains after it are renumbered, and so are their bits.
+ * Removes a chain, and renumbers the chains after it and their bits.
  * @param {Sketch} sketch
  * @param {number} chain
  */
@@ -146,8 +156,9 @@ function removeChain(sketch, chain) {
 }
 
 /**
+ * Removes a ROM.
  * @param {Sketch} sketch
- * @param {number} rom
+ * @param {number} rom the chip number
  */
 function removeRom(sketch, rom) {
   sketch.edit(renamePorts(sketch.draft, (port) => (port === `rom${rom}` ? "" : port)));
@@ -156,9 +167,9 @@ function removeRom(sketch, rom) {
 }
 
 /**
- * The last chip of its bank.
+ * Removes a RAM chip, which is the last one of its bank.
  * @param {Sketch} sketch
- * @param {string} ram
+ * @param {string} ram `bank.chip`
  */
 function removeRam(sketch, ram) {
   const [bank, chip] = ram.split(".").map(Number);
@@ -169,7 +180,7 @@ function removeRam(sketch, ram) {
 }
 
 /**
- * Marks what is deleted together with a named part.
+ * Adds a part to the deleted parts; throws `ActRefusal` if it cannot be deleted alone.
  * @param {Board} board
  * @param {Gone} gone
  * @param {string} part
@@ -187,7 +198,7 @@ function mark(board, gone, part) {
 }
 
 /**
- * Returns why something cannot be deleted alone.
+ * Returns the message for a part or pin that cannot be deleted.
  * @param {string} part
  */
 function whyItStays(part) {
@@ -197,9 +208,10 @@ function whyItStays(part) {
 }
 
 /**
+ * Adds a RAM chip to the deleted parts; throws `ActRefusal` if it is not the last one of its bank.
  * @param {Board} board
  * @param {Gone} gone
- * @param {string} ram
+ * @param {string} ram `bank.chip`
  */
 function markRam({ banks }, gone, ram) {
   const [bank, chip] = ram.split(".").map(Number);
@@ -209,8 +221,8 @@ function markRam({ banks }, gone, ram) {
 }
 
 /**
- * Deletes a part: `rom 1`, `ram 0.1`, `chain 0`, `keys`, `row 1` (the last one), `column 2`, `lamp 3`, `lamps`, `test`, `buzzer`; returns
- * in words what was deleted with it.
+ * Deletes a part: `rom 1`, `ram 0.1`, `chain 0`, `keys`, `row 1` (the last one), `column 2`, `lamp 3`, `lamps`, `test` or `buzzer`. Returns
+ * a text about the parts that were deleted with it, "" if there are none.
  * @param {Sketch} sketch
  * @param {string} part
  */
@@ -227,7 +239,7 @@ export function deletePart(sketch, part) {
   if (part.startsWith("row ")) return deleteRow(sketch, Number(part.slice(4)));
   const gone = nothing();
   mark(board, gone, part);
-  // Chains depend on ROMs, keys and lamps on chains: the second pass adds nothing new.
+  // Chains depend on ROMs and RAM; keys and lamps depend on chains. Two passes are enough.
   const face = new Face(sketch.text);
   for (let times = 0; times < 2; times++) spread(board, face, gone);
   const words = wordsOfGone(board, gone, part);
@@ -236,6 +248,7 @@ export function deletePart(sketch, part) {
 }
 
 /**
+ * Deletes the last row of keys; throws `ActRefusal` for any other row. Returns "", as no other part is deleted.
  * @param {Sketch} sketch
  * @param {number} row
  */
@@ -248,7 +261,7 @@ function deleteRow(sketch, row) {
 }
 
 /**
- * Returns the names of what is deleted together with a part.
+ * Returns a text about the parts that are deleted together with a part.
  * @param {Board} board
  * @param {Gone} gone
  * @param {string} part

@@ -1,10 +1,10 @@
-// The lines in a board's text of the parts that its picture shows.
+// Finds the lines of a board's text that define the parts in its drawing.
 
 import { partLines } from "../bench/part_lines.js";
 import { Face } from "../board/face.js";
 
 /**
- * Returns the lines of each part; of the switch at TEST and of a buzzer the comment that declares it.
+ * Returns the range of lines of each part. A button at the TEST pin and a buzzer are defined by a comment.
  * @param {string} text
  */
 export function linesOfParts(text) {

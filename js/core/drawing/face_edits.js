@@ -1,5 +1,5 @@
-// Names and colours of a board's parts in its front panel: how to change them in the board's text, and how to keep them right when lamps,
-// keys or chains are deleted.
+// Edits the front panel in a board's text: changes names and colours of parts, and updates the front panel when lamps, keys or chains are
+// deleted.
 
 import { COLOURS, KINDS } from "../board/face_words.js";
 import { addFaceLine, faceLines, numberOfLine, removeFaceLine, removeWords, setWord } from "./face_lines.js";
@@ -11,15 +11,17 @@ import { addFaceLine, faceLines, numberOfLine, removeFaceLine, removeWords, setW
  */
 
 export { COLOURS };
-/** Kinds whose head has the number of a row, of keys or of a grid; other numbers there are those of lamps. */
+/** The kinds of lines that begin with the number of a row. */
 const OF_ROWS = ["row", "grid"];
+/** The kinds of lines that begin with the number of a lamp. */
 const OF_LAMPS = new Set([...KINDS].filter(([name, { head }]) => head.startsWith("N") && !OF_ROWS.includes(name)).map(([name]) => name));
-/** The lines that name a port, or a line of one. */
+/** The kinds of lines that begin with a port or a line of a port. */
 const OF_PORTS = ["port", "buzzer", "printer"];
+/** The word in a list for a part without a name or colour. */
 const NONE = "_";
 
 /**
- * Returns a name in the form of the front panel: one word.
+ * Returns a name as one word, with underscores for blanks.
  * @param {string} name
  */
 export function wordOf(name) {
@@ -27,8 +29,8 @@ export function wordOf(name) {
 }
 
 /**
- * Sets a word in a list that is numbered from the number in its head on: at its place, or after the list that ends there, or in a line of
- * its own.
+ * Sets the name or colour of a lamp: in the list that contains the lamp, otherwise at the end of the list before it, otherwise in a new
+ * line.
  * @param {BoardDraft} draft
  * @param {"lamp" | "colour"} kind
  * @param {number} lamp
@@ -50,7 +52,7 @@ function setInList(draft, kind, lamp, text) {
 }
 
 /**
- * The name of a lamp, on the grid, too.
+ * Sets the name of a lamp, also on the grid.
  * @param {BoardDraft} draft
  * @param {number} lamp
  * @param {string} name "" for none
@@ -66,9 +68,10 @@ export function nameLamp(draft, lamp, name) {
 }
 
 /**
+ * Sets the colour of a lamp.
  * @param {BoardDraft} draft
  * @param {number} lamp
- * @param {string} colour "" for the usual one
+ * @param {string} colour "" for the default
  * @returns {TextEdit[]}
  */
 export function colourLamp(draft, lamp, colour) {
@@ -84,10 +87,10 @@ export function colourLamp(draft, lamp, colour) {
 }
 
 /**
- * Sets the name of a key; unnamed keys of its row get the name that they are shown with.
+ * Sets the name of a key. Keys before it in the row that are not in the list get their default names, such as `0.1`.
  * @param {BoardDraft} draft
  * @param {{ row: number, column: number }} key
- * @param {string} name "" for a place without a key
+ * @param {string} name "" for a position without a key
  * @returns {TextEdit[]}
  */
 export function nameKey(draft, { row, column }, name) {
@@ -101,11 +104,11 @@ export function nameKey(draft, { row, column }, name) {
 }
 
 /**
- * A line with a single text, as `# port rom0: keys` and `# title: Lock`.
+ * Sets the text of a line such as `# port rom0: keys` or `# title: Lock`: adds, changes or removes the line.
  * @param {BoardDraft} draft
  * @param {"title" | "test" | "port" | "buzzer"} kind
- * @param {string} head "" for none
- * @param {string} words "" for no such line
+ * @param {string} head the port or line before the colon, "" for none
+ * @param {string} words "" removes the line
  * @returns {TextEdit[]}
  */
 export function setWhole(draft, kind, head, words) {
@@ -118,7 +121,7 @@ export function setWhole(draft, kind, head, words) {
 }
 
 /**
- * The buzzer is at another line.
+ * Moves the buzzer to another line of the board.
  * @param {BoardDraft} draft
  * @param {string} line
  */
@@ -128,20 +131,20 @@ export function moveBuzzer(draft, line) {
 }
 
 /**
- * A display, a bar and so on, from a lamp on.
+ * Adds a group of lamps, such as a display or a bar.
  * @param {BoardDraft} draft
  * @param {string} kind
- * @param {number} first
- * @param {string} words
+ * @param {number} first the number of the first lamp
+ * @param {string} words after the colon
  */
 export function addGroup(draft, kind, first, words) {
   return addFaceLine(draft, kind, `# ${kind} ${first}: ${words}`);
 }
 
 /**
- * Renumbers lamps after some were deleted.
+ * Renumbers the lamps after some were deleted.
  * @param {BoardDraft} draft
- * @param {Set<number>} gone
+ * @param {Set<number>} gone the deleted lamps
  * @returns {TextEdit[]}
  */
 export function renumberLamps(draft, gone) {
@@ -156,11 +159,11 @@ export function renumberLamps(draft, gone) {
 }
 
 /**
- * A list of names or colours, or a group.
+ * Renumbers the lamps in a list of names or colours, or in a group.
  * @param {BoardDraft} draft
  * @param {FaceLine} line
- * @param {Set<number>} gone
- * @param {(lamp: number) => number} numberOf
+ * @param {Set<number>} gone the deleted lamps
+ * @param {(lamp: number) => number} numberOf returns the new number of a lamp
  * @returns {TextEdit[]}
  */
 function renumberList(draft, line, gone, numberOf) {
@@ -170,16 +173,17 @@ function renumberList(draft, line, gone, numberOf) {
   if (kept.length === 0) return [removeFaceLine(draft, line)];
   const head = setWord(/** @type {import("./face_lines.js").FaceWord} */ (line.first), String(numberOf(kept[0])));
   if (!isGroup) return [...head, ...removeWords(line, (at) => gone.has(first + at))];
-  // `scanned by N`: the first lamp that scans the digits or the rows.
+  // The number in `scanned by N` is a lamp, too.
   const by = line.words[line.words.findIndex(({ text }) => text === "scanned") + 2];
   return line.words.some(({ text }) => text === "scanned") && by ? [...head, ...setWord(by, String(numberOf(Number(by.text))))] : head;
 }
 
 /**
+ * Renumbers the lamps in the range of a colour.
  * @param {BoardDraft} draft
  * @param {FaceLine} line
- * @param {Set<number>} gone
- * @param {(lamp: number) => number} numberOf
+ * @param {Set<number>} gone the deleted lamps
+ * @param {(lamp: number) => number} numberOf returns the new number of a lamp
  * @returns {TextEdit[]}
  */
 function renumberRange(draft, line, gone, numberOf) {
@@ -192,10 +196,11 @@ function renumberRange(draft, line, gone, numberOf) {
 }
 
 /**
+ * Renumbers the lamps in a row of the grid.
  * @param {BoardDraft} draft
  * @param {FaceLine} line
- * @param {Set<number>} gone
- * @param {(lamp: number) => number} numberOf
+ * @param {Set<number>} gone the deleted lamps
+ * @param {(lamp: number) => number} numberOf returns the new number of a lamp
  * @returns {TextEdit[]}
  */
 function renumberGrid(draft, line, gone, numberOf) {
@@ -212,7 +217,7 @@ function renumberGrid(draft, line, gone, numberOf) {
 }
 
 /**
- * Ports and chains were deleted or renumbered.
+ * Renames ports and chains in the front panel after some were deleted.
  * @param {BoardDraft} draft
  * @param {(port: string) => string} newPortOf returns the new name of a port, "" for a deleted one
  * @returns {TextEdit[]}
@@ -220,7 +225,7 @@ function renumberGrid(draft, line, gone, numberOf) {
 export function renamePorts(draft, newPortOf) {
   return faceLines(draft).flatMap((line) => {
     if (!line.first || !OF_PORTS.includes(line.kind)) return [];
-    // A printer has the port of its code after its strobe.
+    // A printer line has two: the line of its strobe, and the port of its code.
     const words = [line.first, ...(line.kind === "printer" ? line.words.slice(0, 1) : [])];
     const renamed = words.map(({ text }, at) => renamedPort(text, line.kind !== "port" && at === 0, newPortOf));
     if (renamed.includes("")) return [removeFaceLine(draft, line)];
@@ -229,8 +234,9 @@ export function renamePorts(draft, newPortOf) {
 }
 
 /**
- * @param {string} text
- * @param {boolean} isLine whether it is one line of a port
+ * Returns the new name of a port or of a line; "" for a deleted one.
+ * @param {string} text the name
+ * @param {boolean} isLine true for a line of a port
  * @param {(port: string) => string} newPortOf
  */
 function renamedPort(text, isLine, newPortOf) {
@@ -240,18 +246,18 @@ function renamedPort(text, isLine, newPortOf) {
 }
 
 /**
- * Rows of keys were deleted.
+ * Removes the names of deleted rows of keys.
  * @param {BoardDraft} draft
- * @param {number} left the number that remains
+ * @param {number} left the number of remaining rows
  */
 export function removeRows(draft, left) {
   return faceLines(draft).filter((line) => line.kind === "row" && numberOfLine(line) >= left).map((line) => removeFaceLine(draft, line));
 }
 
 /**
- * Columns of keys were deleted.
+ * Removes the names of deleted columns of keys.
  * @param {BoardDraft} draft
- * @param {Set<number>} gone
+ * @param {Set<number>} gone the deleted columns
  */
 export function removeColumns(draft, gone) {
   return faceLines(draft).filter(({ kind }) => kind === "row").flatMap((line) => {

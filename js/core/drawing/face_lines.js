@@ -1,4 +1,4 @@
-// The lines of a front panel in a board's text with the offsets of their words, and the edits of such a line.
+// Finds the lines of a front panel in a board's text, with the offsets of their words, and edits such lines.
 
 import { headOf } from "../board/face_words.js";
 import { removeLines } from "./part_edits.js";
@@ -8,17 +8,18 @@ import { removeLines } from "./part_edits.js";
  * @typedef {import("./text_edits.js").TextEdit} TextEdit
  * @typedef {{ text: string, from: number, to: number }} FaceWord
  *
- * A line of a front panel: its number in the text, its meaning, the first word of its head and the last one of a range, if it has them, and
- * its words; offsets are those of the text.
+ * A line of a front panel. `line`: its number in the text. `kind`: the word that begins it. `first` and `last`: the words before the colon,
+ * `N` or `N to N`, null for none. `words`: the words after the colon. All offsets count from the beginning of the text.
  * @typedef {{ line: number, kind: string, first: FaceWord | null, last: FaceWord | null, words: FaceWord[], end: number }} FaceLine
  */
 
+/** The comment sign and the word that begins a line. */
 const HEAD = /^[ \t]*#[ \t]*[A-Za-z]+[ \t]*/;
 
 /**
- * The words of a text, with their offsets.
+ * Returns the words of a text, with their offsets.
  * @param {string} text
- * @param {number} from where the text begins
+ * @param {number} from the offset of the text
  * @returns {FaceWord[]}
  */
 function wordsFrom(text, from) {
@@ -29,6 +30,7 @@ function wordsFrom(text, from) {
 }
 
 /**
+ * Returns the lines of the front panel.
  * @param {BoardDraft} draft
  * @returns {FaceLine[]}
  */
@@ -46,7 +48,7 @@ export function faceLines(draft) {
 }
 
 /**
- * Returns the number in the head of a line; NaN if it has none.
+ * Returns the number before the colon of a line; NaN if it has none.
  * @param {FaceLine} line
  */
 export function numberOfLine({ first }) {
@@ -54,7 +56,8 @@ export function numberOfLine({ first }) {
 }
 
 /**
- * Adds a line, after the last one of its kind, or after the last line of the front panel; without any, after the comment at the top.
+ * Adds a line: after the last one of its kind, otherwise after the last line of the front panel, otherwise after the comment at the top of
+ * the text.
  * @param {BoardDraft} draft
  * @param {string} kind
  * @param {string} text
@@ -92,7 +95,7 @@ export function setWord(word, text) {
 /**
  * Deletes words of a line, each with the blanks before it.
  * @param {FaceLine} line
- * @param {(at: number) => boolean} goes
+ * @param {(at: number) => boolean} goes returns whether to delete the word with an index
  * @returns {TextEdit[]}
  */
 export function removeWords({ words, first, last }, goes) {
@@ -100,7 +103,7 @@ export function removeWords({ words, first, last }, goes) {
   return words.flatMap(({ from, to }, at) => {
     if (!goes(at)) return [];
     const before = words[at - 1] ? words[at - 1].to : from;
-    // The first word keeps the blank after the colon for the next one.
+    // For words at the beginning, the blanks after them are deleted instead: the blank after the colon stays.
     const next = words[at + 1];
     if (at === 0 || words.slice(0, at).every((_, each) => goes(each))) return [{ from, to: next ? next.from : to, insert: "" }];
     return head ? [{ from: before, to, insert: "" }] : [];

@@ -1,4 +1,5 @@
-// The fields of a selected part or pin: its name, its colour, its wires, its number of chips. Each field knows the action for a new value.
+// The form fields for a selected part or pin: its name, its colour, its wires, its number of chips. Each field returns the action for a new
+// value.
 
 import { upTo } from "../bench/numbers.js";
 import { COLOURS } from "../board/face_words.js";
@@ -12,17 +13,19 @@ import * as say from "../../words/drawing.js";
  * @typedef {import("../board/face.js").Face} Face
  * @typedef {import("./acts.js").Act} Act
  *
- * A field: its label, its value, its possible values with their titles unless it is free text; and the action for a new value.
+ * A field: its label, its value, its options with their titles (null for free text), and a function that returns the action for a new
+ * value.
  * @typedef {{ label: string, value: string, options: { value: string, words: string }[] | null, act: (value: string) => Act }} Field
  *
- * A button: its word, and its action.
+ * A button: its label, and its action.
  * @typedef {{ word: string, act: Act }} Button
  *
- * The selection in words, and the part whose lines in the board's text it is in, "" for none.
+ * The form for the selection: its title, the name of the part in the board's text ("" for none), its fields and its buttons.
  * @typedef {{ title: string, part: string, fields: Field[], buttons: Button[] }} Fields
  */
 
 /**
+ * Returns a field with free text.
  * @param {string} label
  * @param {string} value
  * @param {(value: string) => Act} act
@@ -33,6 +36,7 @@ function text(label, value, act) {
 }
 
 /**
+ * Returns a field with options.
  * @param {string} label
  * @param {string} value
  * @param {string[] | { value: string, words: string }[]} options
@@ -44,7 +48,7 @@ function choice(label, value, options, act) {
 }
 
 /**
- * The numbers from one to another.
+ * Returns the numbers of a range, as texts.
  * @param {{ from: number, to: number }} range
  */
 function numbers({ from, to }) {
@@ -52,7 +56,7 @@ function numbers({ from, to }) {
 }
 
 /**
- * Returns the line of an input.
+ * Returns the field for the line of an input.
  * @param {Board} board
  * @param {string} target
  * @param {string} [label]
@@ -63,7 +67,7 @@ function lineField(board, target, label = nameOfTarget(target)) {
 }
 
 /**
- * Returns the words of a port or a chain, by its place in the front panel.
+ * Returns the field for the name of a port or a chain.
  * @param {Face} face
  * @param {string} part
  */
@@ -73,8 +77,9 @@ function portField(face, part) {
 }
 
 /**
+ * Returns the field for the direction of a ROM's line.
  * @param {string} line
- * @param {string} port
+ * @param {string} port the mask of the ROM's port
  * @returns {Field}
  */
 function directionField(line, port) {
@@ -83,12 +88,13 @@ function directionField(line, port) {
   return choice(say.lineIsA(at), port[3 - at], options, (as) => ({ kind: "port", line, as }));
 }
 
-/** @type {(part: string) => Button} */
+/** @type {(part: string) => Button} returns the button that copies a part */
 const copyOf = (part) => ({ word: say.COPY, act: { kind: "copy", part } });
-/** @type {(part: string, word?: string) => Button} */
+/** @type {(part: string, word?: string) => Button} returns the button that deletes a part */
 const deletionOf = (part, word = say.DELETE) => ({ word, act: { kind: "delete", part } });
 
 /**
+ * Returns the form for a ROM.
  * @param {Board} board
  * @param {Face} face
  * @param {string} part
@@ -104,6 +110,7 @@ function ofRom(board, face, part) {
 }
 
 /**
+ * Returns the form for a chain.
  * @param {Board} board
  * @param {Face} face
  * @param {string} part
@@ -119,6 +126,7 @@ function ofChain(board, face, part) {
 }
 
 /**
+ * Returns the form for the keys.
  * @param {Board} board
  * @param {Face} face
  * @returns {Fields}
@@ -136,6 +144,7 @@ function ofKeys(board, face) {
 }
 
 /**
+ * Returns the form for a lamp.
  * @param {Board} board
  * @param {Face} face
  * @param {number} lamp
@@ -145,7 +154,7 @@ function ofLamp(board, face, lamp) {
   const part = `lamp ${lamp}`;
   const all = lampsWith(face, lamp);
   const isOne = all.length === 1;
-  // The lamps of a display have the colour of the first one.
+  // All lamps of a display have the colour of its first lamp.
   const [name, colour] = [face.lamps.get(lamp), face.colours.get(all[0])];
   const fields = [
     text("name", name ? name.text : "", (value) => ({ kind: "name", part, name: value })),
@@ -158,6 +167,7 @@ function ofLamp(board, face, lamp) {
 }
 
 /**
+ * Returns the form for the buzzer.
  * @param {Board} board
  * @param {Face} face
  * @returns {Fields}
@@ -169,6 +179,7 @@ function ofBuzzer(board, { buzzer }) {
 }
 
 /**
+ * Returns the form for a RAM chip.
  * @param {Face} face
  * @param {string} part
  * @returns {Fields}
@@ -179,6 +190,7 @@ function ofRam(face, part) {
 }
 
 /**
+ * Returns the form for a line of a port or a bit of a chain.
  * @param {Board} board
  * @param {string} name
  * @returns {Fields}
@@ -196,6 +208,7 @@ function ofLine(board, name) {
 }
 
 /**
+ * Returns the form for an input of a chain or of the keys.
  * @param {Board} board
  * @param {string} target
  * @returns {Fields}
@@ -210,7 +223,7 @@ function ofTarget(board, target) {
 }
 
 /**
- * Returns the fields of the selection, or of the whole board if nothing is selected.
+ * Returns the form for the selection, or for the whole board if nothing is selected.
  * @param {Board} board
  * @param {Face} face
  * @param {string} chosen a part or a pin

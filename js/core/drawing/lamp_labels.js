@@ -1,4 +1,4 @@
-// The labels of lamps in the picture: their names; of the lamps of a display the digit and the segment.
+// The labels of lamps in the drawing: a lamp's name or, for a lamp of a display without a name, its digit and segment.
 
 import { isScanned, lampNames, lampsOf } from "../board/face_board.js";
 import { upTo } from "../bench/numbers.js";
@@ -6,14 +6,15 @@ import * as say from "../../words/drawing.js";
 
 /** @typedef {import("../board/face.js").Face} Face */
 
+/** The labels of a BCD digit's lamps, and of seven segments. */
 const OF_NUMBER = ["8", "4", "2", "1"];
 const SEGMENTS = ["a", "b", "c", "d", "e", "f", "g"];
 const POINT = "point";
 
 /**
- * Returns the labels of the first lamps, "" for one that has none.
+ * Returns the label of each lamp; "" for a lamp without a label.
  * @param {Face} face
- * @param {number} count
+ * @param {number} count of the board's lamps
  */
 export function lampLabels(face, count) {
   const labels = lampNames(face, count);
@@ -28,7 +29,7 @@ export function lampLabels(face, count) {
 }
 
 /**
- * The labels of the lamps of a display.
+ * Returns the labels of a display's lamps.
  * @param {import("../board/face.js").Group} group
  */
 function labelsOf(group) {

@@ -1,27 +1,31 @@
-// The positions of dragged parts of a picture. Once a chain is deleted, those after it are renumbered: the positions follow them, and are
-// restored with the text.
+// The positions of parts that the user dragged in the drawing. When a chain is deleted, the chains after it are renumbered, and their
+// positions with them. Undo restores the positions together with the text.
 
 /**
  * @typedef {import("../board/wiring.js").Moved} Moved
  * @typedef {import("../board/wiring.js").Point} Point
  *
- * The chains that an edit of the text deleted, by their numbers before it, and their positions.
+ * An edit of the text that deleted chains: the text before and after it, the chains' former numbers, and their positions.
  * @typedef {{ before: string, after: string, gone: number[], points: Moved }} Deletion
  */
 
 const CHAIN = /^chain (\d+)$/;
 
+/** The positions of dragged parts. */
 export class MovedParts {
   constructor() {
     /** @type {Moved} */
     this.moved = new Map();
     /** @type {Deletion[]} */
     this.deletions = [];
-    /** True if parts have moved since the last query. */
+    /** True if positions have changed since the last call of `takeNews`. */
     this.hasNews = false;
   }
 
-  /** @param {[string, Point][]} points of another session */
+  /**
+   * Sets the positions of another session.
+   * @param {[string, Point][]} points
+   */
   begin(points) {
     this.moved.clear();
     for (const [part, point] of points) this.moved.set(part, point);
@@ -29,17 +33,17 @@ export class MovedParts {
   }
 
   /**
-   * Chains go with an edit of the text.
-   * @param {string} before
-   * @param {string} after
-   * @param {number[]} gone
+   * Adds an edit of the text that deletes chains.
+   * @param {string} before the text before the edit
+   * @param {string} after the text after it
+   * @param {number[]} gone the numbers of the deleted chains
    */
   note(before, after, gone) {
     if (gone.length > 0) this.deletions.push({ before, after, gone: [...gone].sort((one, other) => one - other), points: new Map() });
   }
 
   /**
-   * The text has changed, by such an edit, by undo or by redo.
+   * Updates the positions after a change of the text, if the change deletes or restores chains.
    * @param {string | null} from
    * @param {string} to
    */
@@ -50,13 +54,17 @@ export class MovedParts {
     else if (undone) this.putBack(undone);
   }
 
+  /** Returns whether positions have changed since the last call. */
   takeNews() {
     const { hasNews } = this;
     this.hasNews = false;
     return hasNews;
   }
 
-  /** @param {Deletion} deletion */
+  /**
+   * Removes the positions of deleted chains, and renumbers the others.
+   * @param {Deletion} deletion
+   */
   takeAway({ gone, points }) {
     for (const [number, point] of this.takeChains()) {
       if (gone.includes(number)) points.set(`chain ${number}`, point);
@@ -64,7 +72,10 @@ export class MovedParts {
     }
   }
 
-  /** @param {Deletion} deletion */
+  /**
+   * Restores the positions of deleted chains, and renumbers the others.
+   * @param {Deletion} deletion
+   */
   putBack({ gone, points }) {
     for (const [now, point] of this.takeChains()) {
       const number = gone.reduce((sum, each) => (each <= sum ? sum + 1 : sum), now);
@@ -73,7 +84,7 @@ export class MovedParts {
     for (const [part, point] of points) this.moved.set(part, point);
   }
 
-  /** Returns the positions of all chains by number, and forgets them. */
+  /** Removes the positions of all chains, and returns them by number. */
   takeChains() {
     /** @type {[number, Point][]} */
     const chains = [];

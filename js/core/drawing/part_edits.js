@@ -1,4 +1,5 @@
-// Adds a part to a board's text, and removes it: comments stay, and new parts are written in the style of the existing ones.
+// Adds parts to a board's text, removes them, and changes their values. Comments stay, and new parts are written in the style of the
+// existing ones.
 
 import { tomlWords } from "../text/toml_words.js";
 import { KEYS } from "../bench/board_form.js";
@@ -13,11 +14,12 @@ import { KEYS } from "../bench/board_form.js";
  * @typedef {Record<string, string | number | string[]>} PartValues the values of a part by their keys
  */
 
-/** Lines of arrays are made no longer than that. */
+/** The maximum length of an array's line after an element is added; a longer array continues on the next line. */
 const LONGEST_LINE = 100;
 const INDENT = "    ";
 
 /**
+ * Returns a value in TOML.
  * @param {string | number | string[]} value
  * @returns {string}
  */
@@ -26,6 +28,7 @@ export function written(value) {
 }
 
 /**
+ * Returns the lines `key = value` of a part.
  * @param {Kind} kind
  * @param {PartValues} values
  */
@@ -33,13 +36,16 @@ function linesOf(kind, values) {
   return KEYS[kind].map((key) => `${key} = ${written(values[key])}`);
 }
 
-/** @param {string | undefined} line */
+/**
+ * Returns whether there is a line and it is blank.
+ * @param {string | undefined} line
+ */
 function isBlank(line) {
   return line !== undefined && line.trim() === "";
 }
 
 /**
- * Returns whether tables follow one another without a blank line.
+ * Returns whether the tables in the text follow each other without blank lines.
  * @param {BoardDraft} draft
  */
 function isCompact({ entries, lines }) {
@@ -48,7 +54,7 @@ function isCompact({ entries, lines }) {
 }
 
 /**
- * Adds a part of a kind, after the last one.
+ * Adds a part, after the last one of its kind.
  * @param {BoardDraft} draft
  * @param {Kind} kind
  * @param {PartValues} values
@@ -67,9 +73,10 @@ export function addPart(draft, kind, values) {
 }
 
 /**
+ * Adds a table at the end of the text.
  * @param {BoardDraft} draft
- * @param {string} gap
- * @param {string} block
+ * @param {string} gap the line feeds before a table
+ * @param {string} block the table
  * @returns {TextEdit}
  */
 function atEnd({ text, lines }, gap, block) {
@@ -81,7 +88,7 @@ function atEnd({ text, lines }, gap, block) {
 }
 
 /**
- * Returns the word after an offset, and the one before it, with their offsets; ends of lines do not count.
+ * Returns the TOML tokens before and after a range, with their offsets; null for none. Ends of lines do not count as tokens.
  * @param {BoardDraft} draft
  * @param {number} from
  * @param {number} to
@@ -97,7 +104,8 @@ function around(draft, from, to) {
 }
 
 /**
- * Adds an element to an array, after the last one: in its line if that has room and no other element has a line of its own.
+ * Adds an element at the end of an array: on the last line of the array, or on a new line if each element has its own line or the last line
+ * is full.
  * @param {BoardDraft} draft
  * @param {Value} array
  * @param {string} element
@@ -123,7 +131,7 @@ export function appendElement(draft, array, element) {
 }
 
 /**
- * Deletes whole lines, and with them one of two blank lines that would be adjacent.
+ * Deletes whole lines. If blank lines would then be adjacent, also deletes one of them.
  * @param {BoardDraft} draft
  * @param {number} first
  * @param {number} last
@@ -140,7 +148,7 @@ export function removeLines({ lines, starts, text }, first, last) {
 }
 
 /**
- * Deletes a stretch of a line; if the line is blank then, deletes it too.
+ * Deletes a range within a line, and the whole line if only blanks remain.
  * @param {BoardDraft} draft
  * @param {number} from
  * @param {number} to
@@ -189,7 +197,7 @@ export function removePart(draft, kind, at) {
 }
 
 /**
- * Changes a value of a part.
+ * Sets a value of a part.
  * @param {BoardDraft} draft
  * @param {Entry} entry
  * @param {string} name of its key
@@ -201,6 +209,7 @@ export function setValue(draft, entry, name, value) {
 }
 
 /**
+ * Replaces a value in the text.
  * @param {BoardDraft} draft
  * @param {Value} old
  * @param {string | number} value

@@ -1,4 +1,4 @@
-// A routine that scans the key matrix of a board: source text for the wired board.
+// Generates the source of a routine that scans the key matrix of the session's board.
 
 import { upTo } from "../bench/numbers.js";
 import * as say from "../../words/key_scan.js";
@@ -7,21 +7,22 @@ import * as say from "../../words/key_scan.js";
  * @typedef {import("../bench/answers.js").Board} Board
  * @typedef {import("../bench/answers.js").Matrix} Matrix
  *
- * A port that is written or read: the bank that must be designated (-1 for a ROM), the SRC byte that selects it, the instruction that
- * writes it, and its name. `bit` is the value of the line there.
+ * A line of a port: the bank to select with DCL (-1 for a ROM), the SRC byte that selects the port, the instruction that writes the port,
+ * the name of the port, and the value of the line's bit.
  * @typedef {{ bank: number, source: number, write: string, title: string, bit: number }} Port
  *
- * A line of source: its label, its instruction with operands, its comment.
+ * A line of source: its label ("" for none), its instruction with operands, and its comment.
  * @typedef {[label: string, instruction: string[], comment?: string]} Line
  */
 
 const LABEL_WIDTH = 12;
 const COMMENT_COLUMN = 32;
-/** The limit of a counter of ISZ. */
+/** The number of values of a register, and the maximum number of rounds in an ISZ loop. */
 const TURNS = 16;
 
 /**
- * @param {string} line of the board, as `rom0.2`, `ram1.3.0`
+ * Returns the port of a line.
+ * @param {string} line such as `rom0.2` or `ram1.3.0`
  * @returns {Port}
  */
 function portOf(line) {
@@ -31,14 +32,14 @@ function portOf(line) {
   return { bank: numbers[0], source: numbers[1] * 64, write: "WMP", title: say.ramPort(numbers[0], numbers[1]), bit };
 }
 
-/** @type {(one: Port, other: Port) => boolean} */
+/** @type {(one: Port, other: Port) => boolean} returns whether two lines are at the same port */
 const isSame = (one, other) => one.title === other.title;
 
-/** @param {number} byte */
+/** @param {number} byte returns its hexadecimal numeral */
 const inHex = (byte) => `0x${byte.toString(16).toUpperCase().padStart(2, "0")}`;
 
 /**
- * Selects a port.
+ * Returns the lines that select a port.
  * @param {Port} port
  * @returns {Line[]}
  */
@@ -48,13 +49,16 @@ function selected({ bank, source, title }) {
   return [...designated, ["", ["FIM", "P0,", inHex(source)], title], ["", ["SRC", "P0"]]];
 }
 
-/** @param {Line} line */
+/**
+ * Returns the text of a line.
+ * @param {Line} line
+ */
 function textOf([label, instruction, comment = ""]) {
   const code = `${(label && `${label}:`).padEnd(LABEL_WIDTH)}${instruction.join(" ")}`;
   return comment === "" ? code : `${code.padEnd(COMMENT_COLUMN)}; ${comment}`;
 }
 
-/** Returns the labels of a routine, none of which the text has already. */
+/** The labels of a routine, which do not occur in the text yet. */
 class Labels {
   /** @param {string} text */
   constructor(text) {
@@ -69,8 +73,8 @@ class Labels {
 }
 
 /**
- * Moves the 1 that drives row 0 to the bit of the row.
- * @param {number} first that bit
+ * Returns the lines that shift the 1 in the chain to the bit of row 0.
+ * @param {number} first the number of that bit
  * @param {Labels} labels
  * @returns {Line[]}
  */
@@ -87,7 +91,7 @@ function toFirstRow(first, labels) {
 }
 
 /**
- * Reads the columns: jumps at the first one that is at 1.
+ * Returns the lines that read the columns and jump at the first one that is 1.
  * @param {string[]} columns
  * @param {Labels} labels
  * @returns {Line[]}
@@ -110,7 +114,7 @@ function readColumns(columns, labels) {
 }
 
 /**
- * Shifts the bit in the accumulator, as the value of the data line, into the chain.
+ * Returns the subroutine that shifts a bit into the chain. It expects the value for the data port in the accumulator.
  * @param {Port} clock
  * @param {Port} data
  * @param {Labels} labels
@@ -130,7 +134,7 @@ function shiftLines(clock, data, labels) {
 }
 
 /**
- * Returns the comment before the routine.
+ * Returns the comment lines before the routine.
  * @param {Matrix} matrix
  * @param {Port} clock
  * @param {Port} data
@@ -147,9 +151,9 @@ function headOf({ chain, first, rows, columns }, clock, data, labels) {
 }
 
 /**
- * Returns the routine, and for a text without instructions a program that calls it; "" for a board without keys.
+ * Returns the source of the routine; for a text without instructions, after a program that calls it. Returns "" for a board without keys.
  * @param {Board} board
- * @param {string} text of the source that it is inserted into
+ * @param {string} text of the source into which the routine is inserted
  */
 export function keyScanOf({ matrix, chains }, text) {
   if (!matrix) return "";
@@ -176,11 +180,13 @@ export function keyScanOf({ matrix, chains }, text) {
 }
 
 /**
- * Returns the place for a routine in a text: after the line of the caret, or at the end if no caret was set. Blank lines are around it.
+ * Returns the edit that inserts a routine into a text, with blank lines around it: after the line of the caret, or at the end without a
+ * caret.
  * @param {string} text
- * @param {number} line of the caret, 0 for none
- * @param {string} code whole lines
- * @returns {{ edit: import("./text_edits.js").TextEdit, first: number, isEnd: boolean }} `first`: the first line of the routine
+ * @param {number} line the line of the caret, 0 for none
+ * @param {string} code the routine
+ * @returns {{ edit: import("./text_edits.js").TextEdit, first: number, isEnd: boolean }} `first`: the line number of the routine's first
+ *   line; `isEnd`: no text follows the routine
  */
 export function placeOfRoutine(text, line, code) {
   const lines = text.split("\n");

@@ -1,4 +1,4 @@
-// A board's text during an action: the edits so far, and the board that the text describes by now.
+// A board's text during an action: the edits so far, and the board that the edited text describes.
 
 import { Face } from "../board/face.js";
 import { BoardDraft } from "./board_draft.js";
@@ -9,23 +9,24 @@ import { edited, fromLast } from "./text_edits.js";
  * @typedef {import("./text_edits.js").TextEdit} TextEdit
  */
 
-/** An action that cannot be done; its message says why, and what to do. */
+/** The error for an action that is not possible. Its message gives the reason and, if there is one, a remedy. */
 export class ActRefusal extends Error {}
 
+/** A board's text during an action. */
 export class Sketch {
   /** @param {string} text */
   constructor(text) {
     this.draft = new BoardDraft(text);
     /** @type {TextEdit[]} */
     this.edits = [];
-    /** @type {string[]} the parts that were added because others need them, in words */
+    /** @type {string[]} the names of parts that were added because other parts need them */
     this.added = [];
     /** @type {number[]} the deleted chains, by their original numbers */
     this.goneChains = [];
   }
 
   /**
-   * Makes edits that do not overlap, given by places in the present text.
+   * Applies edits, whose offsets are those of the current text.
    * @param {TextEdit[]} edits
    */
   edit(edits) {

@@ -1,8 +1,8 @@
-// Edits of a text: each replaces the characters at a place. Those of a list are done one after the other, each in the text that the former
-// ones have made.
+// Edits of a text: each replaces a range of characters. The edits of a list are applied in order, each to the text that the earlier edits
+// have produced.
 
 /**
- * The characters from `from` to `to` are replaced by `insert`.
+ * An edit: `insert` replaces the characters from the offset `from` up to the offset `to`.
  * @typedef {{ from: number, to: number, insert: string }} TextEdit
  */
 
@@ -16,8 +16,8 @@ export function edited(text, edits) {
 }
 
 /**
- * Returns the edits that undo these.
- * @param {string} text
+ * Returns the edits that undo these edits.
+ * @param {string} text before the edits
  * @param {TextEdit[]} edits
  * @returns {TextEdit[]}
  */
@@ -34,8 +34,8 @@ export function inverseOf(text, edits) {
 }
 
 /**
- * Converts edits that are given by places in one text into successive edits: the last place first, so that no place moves. If two delete
- * the same characters, the later one deletes those that are left.
+ * Converts edits whose offsets are all those of one text into successive edits: the last offset first, so that the other offsets stay
+ * valid. If ranges overlap, each character is deleted once.
  * @param {TextEdit[]} edits
  * @returns {TextEdit[]}
  */
