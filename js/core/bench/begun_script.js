@@ -20,7 +20,7 @@ const BANKS = 8;
 const PIECE = 4096;
 /** The maximum number of differing lines that are shown. */
 const MOST_SHOWN = 4;
-/** The queries by which sessions are compared. */
+/** The queries whose answers are compared. */
 const QUESTIONS = `seq\nboard\nstate\n${upTo(BANKS).map((bank) => `ram ${bank}\n`).join("")}${listsOf(PAGES)}`;
 
 /**

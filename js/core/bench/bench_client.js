@@ -126,7 +126,7 @@ export class Bench {
       waiting.progress(message.done, message.total);
       return;
     }
-    // An early result can overtake replies to older requests. It is then ignored, and the request waits for its own reply.
+    // An early result that overtakes replies to older requests is ignored: its request waits for the reply.
     if (message.kind === "early" && message.number !== this.oldest) return;
     this.waiting.delete(message.number);
     if (message.kind === "reply" && message.fault) waiting.fail(unpackFault(message.fault));

@@ -11,7 +11,7 @@ export class BenchRefusal extends Error {
   }
 }
 
-/** The WebAssembly module trapped during a call. It is restarted before this error is thrown. */
+/** The WebAssembly module trapped during a call; the module is restarted before this error is thrown. */
 export class BenchTrap extends Error {}
 
 /** The user cancelled a call; it had no effect. */

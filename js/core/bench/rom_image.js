@@ -17,7 +17,7 @@ const DATA = 0;
 const LAST = 1;
 /** The record types for segments and upper address halves; their values must be 0 for a 4004. */
 const BASES = [2, 4];
-/** The record types for a program's start address, as linkers write them. They are ignored: the 4004 starts at 000. */
+/** The record types for a program's start address, which linkers write. Such records are ignored: the 4004 starts at 000. */
 const STARTS = [3, 5];
 
 /** The bytes of an image that is being read. */

@@ -42,9 +42,9 @@ export function levelOf(part) {
 }
 
 /**
- * Decides whether a lamp or a display is steady. It is steady if it has not changed for the persistence of vision. It is also steady if its
- * current rest is more than twice its longest rest since it was last steady in the first sense. A single change is therefore perceived at
- * once, bits that are shifted in are perceived at the end of the shift, and a flickering lamp is never steady.
+ * Decides whether a lamp or a display is steady: if it has not changed for the persistence of vision, or if its current rest is more than
+ * twice its longest rest in the current series of changes. A single change is therefore perceived at once. Bits that are shifted in are
+ * perceived at the end of the shift. A flickering lamp is never steady.
  */
 class Stillness {
   constructor() {

@@ -1,4 +1,4 @@
-// The syntax of a front panel: the words that begin lines, the words after them, and the error messages. They are read from the table
+// The syntax of a front panel: the words that begin lines, the words after them, and the error messages. All are read from the table
 // tools/lib/face.txt, whose head explains the columns.
 
 import table from "#face-table";

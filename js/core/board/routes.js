@@ -114,8 +114,8 @@ function turning({ from, to }, y, left, right) {
 }
 
 /**
- * Returns the curves of a wire that turns near its pins. It leaves to the right and arrives from the left; between the two it can run from
- * right to left.
+ * Returns the curves of a wire that turns near its pins. The wire leaves to the right and arrives from the left; between the two turns it
+ * can run from right to left.
  * @param {Ends} ends
  * @param {number} y of the horizontal part
  * @returns {Curve[]}

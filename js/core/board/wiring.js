@@ -24,8 +24,8 @@ import * as say from "../../words/board.js";
  * @typedef {{ line: string, from: Pin, to: Pin }} Wire
  * @typedef {{ parts: Part[], wires: Wire[], width: number, height: number }} Picture
  *
- * The parts of the front panel that the diagram shows: the names and colours of the lamps ("" for none), the button or switch at the TEST
- * pin, and the buzzer.
+ * The parts of the front panel that the diagram shows. `names` and `colours`: those of the lamps, "" for none. `test`: the button or switch
+ * at the TEST pin.
  * @typedef {{ names: string[], colours: string[], test: TestPin | null, buzzer: Buzzer | null }} Appearance
  *
  * @typedef {{ x: number, y: number }} Point

@@ -4,9 +4,8 @@
 //     const { condition, fault } = conditionOf("lamp open on and (r9 >= 8 or cy = 1)", { face, board, map });
 //     if (condition) .. `trace 1000 ${condition.places.join(" ")}` ..; condition.holds(valuesOf(row))
 //
-// `places` has at most 16 entries, each once: places that `trace` reports, and STATE_PLACES, which `state` reports and only commands
-// change. (probes.js queries both.) `values` are the reported values, in the same order. `fault` is an error message, and `column` its
-// column, from 0.
+// `places` has at most 16 entries, each once: places that `trace` reports, and STATE_PLACES, which `state` reports. (probes.js queries
+// both.) `values` are the reported values, in the same order. `fault` is an error message, and `column` its column, from 0.
 //
 // There are three kinds of conditions:
 // - conditionOf: the condition of a breakpoint;
@@ -30,8 +29,8 @@ import * as say from "../../words/conditions.js";
  * Watch with their expressions.
  * @typedef {{ face: Face, board: Board, map: Pick<SourceMap, "names" | "nameOf"> | null, watched?: Map<string, string> }} Names
  *
- * Values that `trace` does not report: TEST, the pending second cycle and the keys, all in the spelling of `state`; the cycles since the
- * last mark in a test; the answer about the perceived lamps; the printed words.
+ * Values that `trace` does not report. `test`, `owed` and `keys`: in the spelling of `state`. `cycles`: the cycles since the last mark in a
+ * test. `seen`: the answer about the perceived lamps. `printed`: the printed words.
  * @typedef {{ test: string, owed: string, keys: string, cycles: number, seen: string[], printed: string[] }} Beside
  *
  * A compiled condition. `explain` returns "" if the condition holds, otherwise a message with the actual and the required values.

@@ -11,8 +11,8 @@ import * as say from "../../words/conditions.js";
  * @typedef {import("./scanner.js").Token} Token
  * @typedef {"=" | "!=" | "<" | "<=" | ">" | ">="} Sign
  *
- * A value: a number; the name of a value or a place, with `in` or `out` after a port; a lamp or a key; the sum, difference or bitwise AND
- * of two values.
+ * A value. `name`: the name of a value or a place, with `in` or `out` after a port. `lamp`, `key`: a lamp or a key by its name. `sum`: the
+ * sum, difference or bitwise AND of two values.
  * @typedef {{ kind: "number", value: number, text: string, column: number }} NumberNode
  * @typedef {{ kind: "name", text: string, way: "" | "in" | "out", column: number }} NameNode
  * @typedef {{ kind: "lamp" | "key", text: string, column: number }} PanelNode
@@ -383,7 +383,7 @@ class Parser {
   }
 
   /**
-   * Parses `lamps` with names or marks; or, before an operator, `lamps` as the number of which each lamp is a bit.
+   * Parses `lamps` with names or marks; or, before an operator, `lamps` as a number with one bit for each lamp.
    * @param {Token} token
    * @returns {Node}
    */

@@ -146,7 +146,7 @@ export function keyValue(name, { face }, looked) {
 }
 
 /**
- * Finds a name of the program; if its case differs, only one name of the program may match.
+ * Returns the value of a name of the program. The case is ignored if exactly one name then matches. Returns undefined if no name matches.
  * @param {string} name
  * @param {Names["map"]} map
  */
@@ -187,8 +187,8 @@ function placeValue(place, { board }, looked) {
 }
 
 /**
- * Returns the value of `rom1 in`, which RDR reads, with the mask's values for output lines; or of `rom1 out` or `ram0.1 out`, the port's
- * latch, with 0 for input lines.
+ * Returns the value of a port with a direction. `rom1 in` is the value that RDR reads: an output line reads as its bit in the mask.
+ * `rom1 out` and `ram0.1 out` are the port's latch, with 0 for input lines.
  * @param {NameNode} node
  * @param {Names} names
  * @param {Looked} looked

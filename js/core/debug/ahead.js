@@ -1,5 +1,5 @@
-// Looks ahead: finds the number of cycles until a goal is reached. It uses queries, or a temporary copy of the session, so the session
-// itself stays unchanged, even if the page is closed in the middle. The session is then run for that number of cycles.
+// Looks ahead: finds the number of cycles until a goal is reached, with queries or on a temporary copy of the session. The session itself
+// stays unchanged, even if the page is closed in the middle. The session is then run for that number of cycles.
 
 import { Cancelled } from "../bench/faults.js";
 import { LONGEST_RUN } from "../engine/key_queue.js";

@@ -242,7 +242,7 @@ export class BreakpointKeeper {
   }
 
   /**
-   * Adds a breakpoint. It is disabled if the maximum number of breakpoints is already enabled.
+   * Adds a breakpoint, which is disabled if the maximum number of breakpoints is already enabled.
    * @param {Partial<KeptBreakpoint>} some
    */
   add(some) {

@@ -118,8 +118,8 @@ export class DebugSession {
   }
 
   /**
-   * Sets the breakpoints of the list in the debugger. Resolves to messages about those that moved to an instruction, and to the ids of
-   * those that cannot be compiled, each with an error message.
+   * Sets the breakpoints of the list in the debugger. Resolves to `moved`, a message about each breakpoint that moved to an instruction,
+   * and to `faults`, the id and the error message of each breakpoint that cannot be compiled.
    */
   async applyBreakpoints() {
     const { session } = this.debugger;

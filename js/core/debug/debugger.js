@@ -1,5 +1,5 @@
-// The debugger of a session: breakpoints, moves to a goal, reasons for stops, values, and going back. It runs in the page's worker and in
-// Node. All that it reports is from answers of the bench. It adds only runs and always-stopping breakpoints to the session.
+// The debugger of a session: breakpoints, moves to a goal, reasons for stops, values, and going back. The debugger runs in the page's
+// worker and in Node. All its reports are from answers of the bench. The only lines that it adds to the session are runs and breakpoints.
 //
 //     const session = new WorkerSession(engine, file);               (debug_session.js does this, and keeps the program's lines, too)
 //     const debug = new Debugger(session);
@@ -49,8 +49,8 @@ import { CommonMistakes } from "./common_mistakes.js";
  * @typedef {import("../engine/worker_session.js").LinesResult} LinesResult
  * @typedef {import("../engine/worker_session.js").WorkerSession} WorkerSession
  *
- * A callback after each piece of work, with the number of cycles searched or run so far. For a run it also receives the tally of the last
- * piece. It returns whether to continue.
+ * A callback after each piece of work; returns whether to continue. `done` is the number of cycles searched or run so far. `tally` is the
+ * tally of the last piece of a run.
  * @typedef {(done: number, tally?: Tally) => Promise<boolean>} GoesOn
  *
  * A stop. `why`: "goal", or the word for why the run ended ("break", "watch", "code"), or a refusal, or "usual" for a common mistake, or

@@ -138,7 +138,8 @@ function counted(count, isOwed) {
 }
 
 /**
- * Returns a watcher for an address. It sets a breakpoint there in the copy that is searched, unless the bench has no room for another one.
+ * Returns a watcher for an address, which sets a breakpoint in the copy that is searched. If the bench has no room for another breakpoint,
+ * returns a watcher that examines all instructions.
  * @param {Engine} engine
  * @param {Uint8Array} file
  * @param {number} address

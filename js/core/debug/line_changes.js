@@ -1,5 +1,4 @@
-// Collects the changes that the last lines of the program made, each in one step: an instruction, or a call that was stepped over. It is
-// called at each pause.
+// Collects, at each pause, the changes that the last line of the program made in one step: an instruction, or a call that was stepped over.
 //
 //     const changes = new LineChanges();
 //     changes.stand(standing, cycles, map);      at a pause; `cycles` is the cycle count

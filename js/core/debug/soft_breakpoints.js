@@ -1,4 +1,4 @@
-// Compiles the condition and the note of a breakpoint, for a board and a program. This is done once, before time runs.
+// Compiles the condition and the note of a breakpoint, for a board and a program, once before time runs.
 
 import { conditionOf, expressionOf } from "../conditions/condition_language.js";
 import { placeOf } from "../conditions/places.js";

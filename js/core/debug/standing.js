@@ -1,5 +1,5 @@
-// The state of the machine in a snapshot: registers, RAM, ports, and the selection by SRC. It is parsed from the answers to `state` and to
-// `ram B` for each bank; RAM is parsed on first use.
+// The state of the machine in a snapshot: registers, RAM, ports, and the selection by SRC. The snapshot consists of the answers to `state`
+// and to `ram B` for each bank; RAM is parsed on first use.
 
 import { readRam } from "../bench/answers.js";
 import { hex } from "../bench/numbers.js";

@@ -33,8 +33,8 @@ import * as say from "../../words/drawing.js";
  *   | { kind: "column" } | { kind: "delete", part: string } | { kind: "copy", part: string }
  *   | { kind: "name", part: string, name: string } | { kind: "colour", lamp: number, colour: string }} Act
  * @typedef {"rom" | "inputs" | "ram" | "chain" | "keys" | "lamp" | "digit" | "segments" | "scanned" | "button" | "switch"
- *   | "buzzer"} Shelved
- *   the parts that can be added
+ *   | "buzzer"} Shelved a part on the shelf: `rom` has outputs, `inputs` is a ROM with inputs, `digit` and `segments` are displays with
+ *   BCD digits or seven segments, and `scanned` is a multiplexed display
  *
  * The result of an action: the successive edits, the text after them, the affected part, a message (`words`), and the numbers of deleted
  * chains. If the action is not possible, `refusal` is a message and there are no edits; otherwise it is "".

@@ -104,7 +104,7 @@ function around(draft, from, to) {
 }
 
 /**
- * Adds an element at the end of an array: on the last line of the array, or on a new line if each element has its own line or the last line
+ * Adds an element at the end of an array. The element gets a new line if the elements before it are on separate lines, or if the last line
  * is full.
  * @param {BoardDraft} draft
  * @param {Value} array

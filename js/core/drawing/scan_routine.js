@@ -7,8 +7,8 @@ import * as say from "../../words/key_scan.js";
  * @typedef {import("../bench/answers.js").Board} Board
  * @typedef {import("../bench/answers.js").Matrix} Matrix
  *
- * A line of a port: the bank to select with DCL (-1 for a ROM), the SRC byte that selects the port, the instruction that writes the port,
- * the name of the port, and the value of the line's bit.
+ * A line of a port. `bank`: the bank to select with DCL, -1 for a ROM. `source`: the SRC byte that selects the port. `write`: the
+ * instruction that writes the port. `title`: the name of the port. `bit`: the value of the line's bit.
  * @typedef {{ bank: number, source: number, write: string, title: string, bit: number }} Port
  *
  * A line of source: its label ("" for none), its instruction with operands, and its comment.
