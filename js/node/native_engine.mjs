@@ -11,7 +11,7 @@ import {
 } from "node:fs";
 import { constants as system } from "node:os";
 import { join } from "node:path";
-import { isQuestion } from "../core/bench/answer_table.js";
+import { isQuery } from "../core/bench/answer_table.js";
 import { BenchRefusal } from "../core/bench/faults.js";
 import { endOfInputs, isSeq, opensText, withoutReturn } from "../core/bench/inputs.js";
 import { CommandError } from "./output.mjs";
@@ -54,15 +54,15 @@ export class ProgramError extends CommandError {}
  */
 function judge(lines) {
   let [commands, seqs] = ["", 0];
-  /** @type {{ isQuestion: boolean } | null} */
+  /** @type {{ isQuery: boolean } | null} */
   let text = null;
   for (const whole of lines.replace(/\n$/, "").split("\n")) {
     const line = withoutReturn(whole);
-    const asks = text ? text.isQuestion : isQuestion(line.trim().split(/[ \t]/, 1)[0]);
+    const asks = text ? text.isQuery : isQuery(line.trim().split(/[ \t]/, 1)[0]);
     if (!asks && (text || line.trim() !== "")) commands += `${line}\n`;
     if (!text && isSeq(line)) seqs += 1;
     if (text && line === ".") text = null;
-    else if (!text && opensText(line)) text = { isQuestion: asks };
+    else if (!text && opensText(line)) text = { isQuery: asks };
   }
   return { commands, seqs, isWhole: !text && (lines === "" || lines.endsWith("\n")) };
 }

@@ -2,7 +2,7 @@
 import { spawn } from "node:child_process";
 import { constants } from "node:os";
 import { refusalOf } from "../core/bench/answers.js";
-import { COUNTED, isSeq } from "../core/bench/inputs.js";
+import { SEQ_ANSWER, isSeq } from "../core/bench/inputs.js";
 import { programPath } from "./native_program.mjs";
 import { CommandError } from "./output.mjs";
 import { programEnded, sessionWasRefused } from "../words/commands.js";
@@ -95,7 +95,7 @@ export class SessionProgram {
     let counts = isSeq(input.trimEnd()) ? 1 : 0;
     for (;;) {
       const [line] = await this.take(1);
-      if (COUNTED.test(line)) {
+      if (SEQ_ANSWER.test(line)) {
         if (counts === 0) return;
         counts -= 1;
       }

@@ -1,6 +1,6 @@
 // The rejected parts of a script of lines: the line, the wrong line of its text or part of its board, and the reason.
 import { refusalOf } from "../core/bench/answers.js";
-import { FOREIGN, LINE_TOO_LONG, LONGEST_LINE, NOT_ASCII, opensText } from "../core/bench/inputs.js";
+import { INVALID_CHARACTER, LINE_TOO_LONG, MAX_LINE_LENGTH, NOT_ASCII, opensText } from "../core/bench/inputs.js";
 import { numberOf } from "../core/bench/numbers.js";
 import { ADDRESSES } from "../core/bench/rom_bytes.js";
 import * as say from "../words/commands.js";
@@ -14,7 +14,7 @@ const TEXTS = { wire: "board", wiring: "board", asm: "program", map: "program", 
 
 /** @type {(line: string) => string} the character for which a line is rejected, in words */
 function foreignCharacter(line) {
-  const [character = ""] = FOREIGN.exec(line) || [];
+  const [character = ""] = INVALID_CHARACTER.exec(line) || [];
   if (character === "") return "";
   return character > "\x7f" ? say.foreignCharacter(character) : say.foreignByte(character.charCodeAt(0).toString(16).toUpperCase().padStart(2, "0"));
 }
@@ -42,7 +42,7 @@ export class RefusedLines {
   errorOfText({ input }, { number, line }) {
     const { text: own, kind } = input;
     if (number === LINE_TOO_LONG || number === NOT_ASCII) {
-      const found = own.findIndex((each) => (number === NOT_ASCII ? FOREIGN.test(each) : each.length > LONGEST_LINE));
+      const found = own.findIndex((each) => (number === NOT_ASCII ? INVALID_CHARACTER.test(each) : each.length > MAX_LINE_LENGTH));
       return found < 0 ? null : { line: found + 1, words: wordsOfRefusal(number) };
     }
     const given = (/** @type {string} */ text) => ({ name: "", text, before: 0, encoding: /** @type {const} */ ("utf8") });

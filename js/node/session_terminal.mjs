@@ -1,6 +1,6 @@
 // `mcs4 new` and `mcs4 open` at a terminal: the program serves the lines, and its answers go to standard output, as they arrive. The
 // prompt, and all other words, go to standard error.
-import { linesOf } from "../core/bench/inputs.js";
+import { joinLines } from "../core/bench/inputs.js";
 import { SessionPrompt } from "../core/prompt/bench_prompt.js";
 import { BEGINNING } from "../words/session_prompt.js";
 import { fileNames, withoutTilde } from "./file_names.mjs";
@@ -53,7 +53,7 @@ function callsOn(program, terminal) {
 async function finish(program, rest) {
   program.child.stdin.write(rest);
   await program.end();
-  print(linesOf(program.lines));
+  print(joinLines(program.lines));
 }
 
 /**

@@ -4,7 +4,7 @@ import { test } from "node:test";
 import {
   isStop, readBoard, readListing, readMap, readMarks, readRam, readRegisters, readRun, refusalOf, watchedPlaces,
 } from "../core/bench/answers.js";
-import { ADDRESSES, NONE, bytesOf } from "../core/bench/rom_bytes.js";
+import { ADDRESSES, NO_BYTE, bytesOf } from "../core/bench/rom_bytes.js";
 import { Answers, readTraced, valuesOf } from "../core/engine/tracing.js";
 
 test("refusals, with a line and without", () => {
@@ -38,7 +38,7 @@ test("RAM", () => {
 
 test("the bytes of ROM, of one and two digits that are not 0", () => {
   const bytes = bytesOf(["list 0 4", "000 D3    LDM 3", "001 24 5F FIM P2 0x5F", "003 40 0C JUN 0x00C", "FFE 50 A0 JMS 0x0A0", "ok 3"]);
-  const found = [...bytes].flatMap((byte, address) => (byte === NONE ? [] : [[address, byte]]));
+  const found = [...bytes].flatMap((byte, address) => (byte === NO_BYTE ? [] : [[address, byte]]));
   assert.deepEqual(found, [[0, 0xD3], [1, 0x24], [2, 0x5F], [3, 0x40], [4, 0x0C], [0xFFE, 0x50], [0xFFF, 0xA0]]);
   assert.equal(bytes.length, ADDRESSES);
 });

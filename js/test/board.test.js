@@ -3,7 +3,7 @@ import assert from "node:assert/strict";
 import { readFileSync } from "node:fs";
 import { test } from "node:test";
 import { refusalOf } from "../core/bench/answers.js";
-import { LINE_NAMES, MOST, MOST_COLUMNS, RANGES, linesOf } from "../core/bench/board_form.js";
+import { LINE_NAMES, MAX_COLUMNS, MAX_PARTS, RANGES, boardLines } from "../core/bench/board_form.js";
 import { readErrors, readWiring } from "../core/bench/text_judgement.js";
 import { Engine } from "../core/engine/engine.js";
 import { TextBench } from "../core/server/text_bench.js";
@@ -86,11 +86,11 @@ test("what a board can have is what the bench takes, to each edge", async () => 
     ram: (count) => Array.from({ length: count }, (_, bank) => boards["ram.bank"](Math.min(7, bank))).join(""),
     chain: (count) => roms + chain(1).repeat(count), lamp: (count) => roms + '[[lamp]]\nline = "rom8.0"\n'.repeat(count),
   };
-  for (const [kind, most] of Object.entries(MOST)) {
+  for (const [kind, most] of Object.entries(MAX_PARTS)) {
     assert.deepEqual([await numberOf(counted[kind](most)), await numberOf(counted[kind](most + 1))], [0, 27], kind);
   }
   const columns = (count) => roms + chain(1) + keys(Array(count).fill(column));
-  assert.deepEqual([await numberOf(columns(MOST_COLUMNS)), await numberOf(columns(MOST_COLUMNS + 1))], [0, 27]);
+  assert.deepEqual([await numberOf(columns(MAX_COLUMNS)), await numberOf(columns(MAX_COLUMNS + 1))], [0, 27]);
   const largest = counted.rom(16) + counted.ram(8).replace(/chips = 1/g, "chips = 4") + chain(8).repeat(4);
   const lamp = (line) => `${largest}[[lamp]]\nline = "${line}"\n`;
   for (const line of LINE_NAMES) assert.equal(await numberOf(lamp(line)), 0, line);
@@ -98,7 +98,7 @@ test("what a board can have is what the bench takes, to each edge", async () => 
   for (const line of others) {
     assert.deepEqual([LINE_NAMES.has(line), await numberOf(lamp(line))], [false, 23], line);
   }
-  const lines = linesOf({ roms: [{ chip: 3, port: "i001" }], banks: [], chains: [] });
+  const lines = boardLines({ roms: [{ chip: 3, port: "i001" }], banks: [], chains: [] });
   assert.deepEqual(lines.map(({ name, isInput }) => `${name} ${isInput}`), ["rom3.0 false", "rom3.1 false", "rom3.2 false", "rom3.3 true"]);
 });
 

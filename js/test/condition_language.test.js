@@ -5,7 +5,7 @@ import { readFileSync, readdirSync } from "node:fs";
 import { before, test } from "node:test";
 import { valueOfExpression } from "../core/adapter/expression_values.js";
 import { Console } from "../core/adapter/console.js";
-import { putNames } from "../core/bench/names_in_lines.js";
+import { replaceNames } from "../core/bench/names_in_lines.js";
 import { conditionOf, expressionOf, testConditionOf, tracedConditionOf } from "../core/conditions/condition_language.js";
 import { LONGEST, MOST_DEPTH } from "../core/conditions/parser.js";
 import { readSetting } from "../core/conditions/setting.js";
@@ -335,7 +335,7 @@ test("a text of any kind is read in time, and an error is in a column of it", ()
     readCampaign(line, { names, instructions: [] });
     readTests(`test t\nexpect ${text}\nuntil ${text} within 5\nset ${text}\n`, names);
     for (const fault of [readWatched(text, names).fault, readWatched(`x = ${text}`, names).fault, goalOfText(text, names).fault,
-      noteOf(`a {${text}} b`, names).fault, putNames(`set ${text}`, session.map).words]) {
+      noteOf(`a {${text}} b`, names).fault, replaceNames(`set ${text}`, session.map).words]) {
       const column = / \(column (\d+)\)\.?$/.exec(fault);
       assert.ok(fault === "" || column === null || Number(column[1]) <= text.length + 8, `${text}: ${fault}`);
     }
@@ -344,7 +344,7 @@ test("a text of any kind is read in time, and an error is in a column of it", ()
 });
 
 test("`set PLACE = VALUE` in a console stands for the lines that do so", () => {
-  const put = (line) => putNames(line, session.map);
+  const put = (line) => replaceNames(line, session.map);
   assert.deepEqual(put("set r4 = 0b111\n"), { lines: "poke r4 7\n", words: "", line: 0 });
   assert.deepEqual(put("set RAM 0 0x12 = limit\nlamps"), { lines: "poke ram.0.0x12 9\nlamps", words: "", line: 0 });
   assert.deepEqual(put("set P2=0x1F"), { lines: "poke r4 1\npoke r5 15", words: "", line: 0 });

@@ -5,7 +5,7 @@ import { readBoard } from "../core/bench/answers.js";
 import { Face, faceFaults } from "../core/board/face.js";
 import { linesOfPrinter, missingOf } from "../core/board/face_board.js";
 import { SHELF, actOn, isReadAlike } from "../core/drawing/acts.js";
-import { linesOf } from "../core/bench/board_form.js";
+import { boardLines } from "../core/bench/board_form.js";
 import { mayWire, sourcesOf, targetsOf, wiringOf, withBuzzer } from "../core/drawing/board_lines.js";
 import { fieldsOf } from "../core/drawing/fields.js";
 import { edited, inverseOf } from "../core/drawing/text_edits.js";
@@ -183,7 +183,7 @@ for (const { name, text } of BOARDS) {
 
   onBench(`${name}: each wire that is offered is drawn, and taken back`, () => {
     const board = read();
-    const lines = linesOf(board).map((line) => line.name);
+    const lines = boardLines(board).map((line) => line.name);
     const some = lines.filter((_, at) => lines.length < 30 || at % 13 === 0);
     for (const line of some) {
       for (const target of targetsOf(board, line).filter((_, at) => at % 5 === 0 || board.lamps.length < 8)) {
@@ -310,7 +310,7 @@ onBench("what may be wired is what the bench takes, and all of it is offered", (
   const some = examples.filter((each) => ["lock", "counter", "first", "traffic light"].includes(each.name));
   for (const { name, text } of [...some, OTHERS[3]]) {
     const board = readBoard(ask([text])[0].board);
-    const pairs = linesOf(board).flatMap((line) => [...wiringOf(board).keys()].map((target) => ({ line, target })));
+    const pairs = boardLines(board).flatMap((line) => [...wiringOf(board).keys()].map((target) => ({ line, target })));
     const answers = ask(pairs.map(({ line, target }) => textOf(wired(board, line.name, target))));
     pairs.forEach(({ line, target }, at) => {
       assert.equal(mayWire(board, line, target), answers[at].first.startsWith("ok"),
@@ -330,7 +330,7 @@ function chances(seed) {
 
 /** Returns a possible action of a user on a board: what the shelf, a pin, a field or a button offers. */
 function anyAct(pick, board, face) {
-  const lines = linesOf(board).map((line) => line.name);
+  const lines = boardLines(board).map((line) => line.name);
   const parts = ["", ...board.roms.map(({ chip }) => `rom ${chip}`), ...board.banks.map(({ bank }) => `ram ${bank}.0`),
     ...board.chains.map((_, at) => `chain ${at}`), ...(board.matrix ? ["keys"] : []), ...wiringOf(board).keys(), ...lines];
   const { fields, buttons } = fieldsOf(board, face, pick(parts));

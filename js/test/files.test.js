@@ -1,7 +1,7 @@
 import assert from "node:assert/strict";
 import { test } from "node:test";
-import { NONE, bytesOf } from "../core/bench/rom_bytes.js";
-import { hexOf, readBytes, readHex } from "../core/bench/rom_image.js";
+import { NO_BYTE, bytesOf } from "../core/bench/rom_bytes.js";
+import { readBytes, readHex, writeHex } from "../core/bench/rom_image.js";
 import { openedFile } from "../core/session/opened_file.js";
 import { RomFiles } from "../core/session/rom_files.js";
 import { textsOfBytes } from "../core/text/assembling.js";
@@ -50,11 +50,11 @@ test("what is nothing for the bench is refused in words", () => {
 test("Intel HEX is read and written", () => {
   const text = ":03000000D1E2F05A\n:00000001FF\n";
   const read = readHex(text);
-  assert.deepEqual([...read.subarray(0, 4)], [0xd1, 0xe2, 0xf0, NONE]);
-  assert.equal(hexOf(read), text);
+  assert.deepEqual([...read.subarray(0, 4)], [0xd1, 0xe2, 0xf0, NO_BYTE]);
+  assert.equal(writeHex(read), text);
   assert.equal(opened("x", text.replaceAll("\n", "\r\n")).kind, "image");
-  const long = new Int16Array(4096).fill(NONE).fill(7, 256, 512);
-  assert.deepEqual(readHex(hexOf(long)), long);
+  const long = new Int16Array(4096).fill(NO_BYTE).fill(7, 256, 512);
+  assert.deepEqual(readHex(writeHex(long)), long);
 });
 
 test("a bad record is reported by its line", () => {
@@ -74,7 +74,7 @@ test("a bad record is reported by its line", () => {
 });
 
 test("an image that is bytes alone begins at 000", () => {
-  assert.deepEqual([...readBytes(Uint8Array.of(1, 2)).subarray(0, 3)], [1, 2, NONE]);
+  assert.deepEqual([...readBytes(Uint8Array.of(1, 2)).subarray(0, 3)], [1, 2, NO_BYTE]);
   assert.throws(() => readBytes(new Uint8Array(0)), /it has no byte/);
   assert.throws(() => readBytes(new Uint8Array(4097)), /it has 4,097 bytes, and ROM has 4,096/);
 });
@@ -106,7 +106,7 @@ test("an image comes into the ROMs of the board, and goes into a file", async ()
     message: "the board has no ROM 0, where the image has bytes (000): wire a [[rom]] with chip = 0",
   });
   assert.deepEqual(done, []);
-  const image = new Int16Array(4096).fill(NONE);
+  const image = new Int16Array(4096).fill(NO_BYTE);
   image[256] = 209;
   assert.equal(await rom.load("x.hex", image), "1 byte of x.hex is in ROM, from 100; nothing was reset.");
   assert.deepEqual(done, ["stop", "asm\nORG 0x100\nDB 209\n.\n"]);

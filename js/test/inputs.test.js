@@ -1,6 +1,6 @@
 import assert from "node:assert/strict";
 import { test } from "node:test";
-import { endOfInputs, linesOf, matchAnswers, readInputs } from "../core/bench/inputs.js";
+import { endOfInputs, joinLines, matchAnswers, readInputs } from "../core/bench/inputs.js";
 
 const kinds = (lines) => readInputs(lines).map(({ kind, text }) => (text.length > 0 ? `${kind}+${text.length}` : kind));
 
@@ -37,7 +37,7 @@ test("pieces of lines have the inputs of the whole", () => {
 });
 
 test("answers go to their inputs", () => {
-  const inputs = readInputs(linesOf(["seq", "ram 0", "list 0 2", "list 0 1", "ram 9", "board", "run 5"]));
+  const inputs = readInputs(joinLines(["seq", "ram 0", "list 0 2", "list 0 1", "ram 9", "board", "run 5"]));
   const answers = [["seq 4"], ["ram 0 chips 1", "0.0.0 2000000000000000 0000", "0.0 out 1"], ["000 00    NOP", "001 00    NOP"],
     ["000 00    NOP"], ["no 11"], ["board", "[[rom]]", "chip = 0"], ["ok 5 ran 5 end"]];
   assert.deepEqual(matchAnswers(inputs, answers.flat()), answers);
@@ -51,7 +51,7 @@ test("the rows of a map go to it", () => {
 });
 
 test("a listing ends after the last address, and another one may begin higher than it", () => {
-  const inputs = readInputs(linesOf(["list 4094 9", "list 4095 9", "list 0 1", "list 5 1"]));
+  const inputs = readInputs(joinLines(["list 4094 9", "list 4095 9", "list 0 1", "list 5 1"]));
   const answers = [["FFE 40 24 JUN 0x024"], ["FFF 00    NOP"], ["000 00    NOP"], ["005 00    NOP"]];
   assert.deepEqual(matchAnswers(inputs, answers.flat()), answers);
 });

@@ -1,7 +1,7 @@
 import assert from "node:assert/strict";
 import { test } from "node:test";
-import { readInputs, linesOf } from "../core/bench/inputs.js";
-import { SnapshotReader, snapshotOf, questionsOf } from "../core/bench/snapshot.js";
+import { readInputs, joinLines } from "../core/bench/inputs.js";
+import { SnapshotReader, snapshotOf, snapshotQueries } from "../core/bench/snapshot.js";
 import { itemsOf, partsOfState, portsOf, registersOf, valueIn, withoutSeq } from "../core/bench/state_line.js";
 
 // The line that docs/MANUAL.md shows.
@@ -12,9 +12,9 @@ const EMPTY = "state seq 0 acc 0 cy 0 pc 000 owed 0 dcl 0 test 1 r 0000000000000
 const RAM = ["ram 0 chips 1", "0.0.0 2000000000000000 0000", "0.0 out 1"];
 
 test("the questions of a board, and what is new in each look", () => {
-  const questions = questionsOf({ banks: [{ bank: 0, chips: 1 }] });
+  const questions = snapshotQueries({ banks: [{ bank: 0, chips: 1 }] });
   assert.deepEqual(questions, ["state", "ram 0"]);
-  const inputs = readInputs(linesOf(questions));
+  const inputs = readInputs(joinLines(questions));
   const look = snapshotOf(inputs, [STATE, ...RAM]);
   const reader = new SnapshotReader();
   assert.deepEqual(reader.take(look), { lamps: "**.", keys: ["0.1", "1.2"], test: "1" });

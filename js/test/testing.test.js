@@ -4,7 +4,7 @@ import { readFileSync } from "node:fs";
 import { before, test } from "node:test";
 import { Cancelled } from "../core/bench/faults.js";
 import { wordsOfCoverage } from "../core/testing/coverage.js";
-import { withTenths } from "../core/bench/numbers.js";
+import { formatTenths } from "../core/bench/numbers.js";
 import { sampleTest } from "../core/testing/sample_test.js";
 import { readTested, runTests } from "../core/testing/test_suite.js";
 import { Engine } from "../core/engine/engine.js";
@@ -123,7 +123,7 @@ test("bytes of ROM that a test sets are in the counts of its own run alone", asy
 });
 
 test("a number halfway between two tenths has the even one, as by printf", () => {
-  const printed = [0, 6.25, 93.75, 0.05, 33.3333, 99.96, 0.75, 20.25].map(withTenths);
+  const printed = [0, 6.25, 93.75, 0.05, 33.3333, 99.96, 0.75, 20.25].map(formatTenths);
   assert.deepEqual(printed, ["0.0", "6.2", "93.8", "0.1", "33.3", "100.0", "0.8", "20.2"]);
 });
 

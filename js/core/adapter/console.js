@@ -1,9 +1,9 @@
 // Lines in the console: those of the bench, with names for addresses; keys by their names; moves that have no button; and expressions.
 
-import { FORMS, isQuestion } from "../bench/answer_table.js";
+import { ANSWER_FORMS, isQuery } from "../bench/answer_table.js";
 import { readRun, refusalOf } from "../bench/answers.js";
 import { readInputs } from "../bench/inputs.js";
-import { putNames } from "../bench/names_in_lines.js";
+import { replaceNames } from "../bench/names_in_lines.js";
 import { LAST_ADDRESS, numberOf } from "../bench/numbers.js";
 import { goalOfText } from "../debug/becoming.js";
 import { keysOf } from "../testing/test_text.js";
@@ -26,7 +26,9 @@ import { noKey } from "../../words/testing.js";
  */
 
 /** The first words of a line. */
-export const FIRST_WORDS = ["press", "release", "keys", "until", "change", "back", "forward", "set", "help", "display", ...FORMS.keys()];
+export const FIRST_WORDS = [
+  "press", "release", "keys", "until", "change", "back", "forward", "set", "help", "display", ...ANSWER_FORMS.keys(),
+];
 /** The most characters of lines, and the most lines, that are accepted at once. */
 const LONGEST = 65536;
 const MOST_INPUTS = 1000;
@@ -74,7 +76,7 @@ export class Console {
     if (word === "set" && !line.includes("\n")) return this.served(linesOfSet(line.slice("set".length), this.session));
     if (word === "set") return this.serve(line, goesOn);
     // No line of the bench compares.
-    return FORMS.has(word) && !COMPARES.test(line) ? this.serve(line, goesOn) : this.valueOf(line, base);
+    return ANSWER_FORMS.has(word) && !COMPARES.test(line) ? this.serve(line, goesOn) : this.valueOf(line, base);
   }
 
   /**
@@ -172,12 +174,12 @@ export class Console {
    * @returns {Promise<Done>}
    */
   async serve(line, goesOn) {
-    const { lines, words } = putNames(`${line}\n`, this.session.map);
+    const { lines, words } = replaceNames(`${line}\n`, this.session.map);
     if (words) fail(words);
     const kinds = readInputs(lines).map(({ kind }) => kind);
     if (kinds.length > MOST_INPUTS) fail(say.tooManyLines(MOST_INPUTS));
     if (this.machine.isMoving && kinds.some((kind) => RUNS.has(kind))) fail(say.TIME_RUNS);
-    if (kinds.every(isQuestion)) return answerWith(this.session.debugger.session.ask(lines).join("\n"));
+    if (kinds.every(isQuery)) return answerWith(this.session.debugger.session.ask(lines).join("\n"));
     const done = await this.served(lines, goesOn);
     if (kinds.some((kind) => BREAKS.has(kind))) this.calls.breaksChanged();
     return done;

@@ -2,7 +2,7 @@
 
 import { readListing } from "../bench/answers.js";
 import { LAST_ADDRESS, upTo } from "../bench/numbers.js";
-import { MOST_LISTED } from "../bench/rom_bytes.js";
+import { MAX_LISTED } from "../bench/rom_bytes.js";
 
 /**
  * @typedef {import("../debug/debug_session.js").DebugSession} DebugSession
@@ -24,7 +24,7 @@ function listed(session, from, to) {
   /** @type {Listed[]} */
   const all = [];
   for (let address = from; address < to;) {
-    const some = readListing(session.debugger.session.ask(`list ${address} ${MOST_LISTED}\n`));
+    const some = readListing(session.debugger.session.ask(`list ${address} ${MAX_LISTED}\n`));
     all.push(...some.filter((each) => each.address < to));
     address = endOf(some[some.length - 1]);
   }

@@ -2,7 +2,7 @@
 // going back has left the history of the file, the file is replaced by the session as it was, and the program continues with that.
 
 import { refusalOf } from "../bench/answers.js";
-import { linesOf } from "../bench/inputs.js";
+import { joinLines } from "../bench/inputs.js";
 import { AdapterError } from "./dap_protocol.js";
 import * as say from "../../words/adapter.js";
 
@@ -57,8 +57,8 @@ export class KeptSession {
       const isSame = answers[answers.length - 1] === state;
       if (!isSame) throw new AdapterError(say.OTHER_STATE);
     };
-    if (missing) check(await this.file.ask(`${linesOf(missing)}state\n`, missing.length + 1));
-    else await this.file.replace(last.file, `${linesOf(all)}state\n`, all.length + 1, check);
+    if (missing) check(await this.file.ask(`${joinLines(missing)}state\n`, missing.length + 1));
+    else await this.file.replace(last.file, `${joinLines(all)}state\n`, all.length + 1, check);
     this.segment = last;
     this.count = all.length;
   }

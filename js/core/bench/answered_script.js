@@ -1,8 +1,8 @@
 // Matches the answers of a session to the inputs of a script, and rejects answers that cannot belong to the script.
 
-import { FORMS } from "./answer_table.js";
+import { ANSWER_FORMS } from "./answer_table.js";
 import { refusalOf } from "./answers.js";
-import { answerLength, mostLines, opensText, readPlacedInputs } from "./inputs.js";
+import { answerLength, maxLines, opensText, readNumberedInputs } from "./inputs.js";
 import * as say from "../../words/bench.js";
 
 /**
@@ -22,10 +22,10 @@ const OPENED = /^session (\d+)$/;
  * @param {Input} input
  * @param {string} answer
  */
-function canBegin({ kind, line }, answer) {
+function canBeginAnswer({ kind, line }, answer) {
   const refusal = refusalOf(answer);
   if (refusal) return refusal.line === 0 || opensText(line);
-  const form = FORMS.get(kind);
+  const form = ANSWER_FORMS.get(kind);
   return form !== undefined && form.first.test(answer);
 }
 
@@ -36,10 +36,10 @@ function canBegin({ kind, line }, answer) {
  * @param {string[]} answers
  * @param {number} from
  */
-function wholeLength(input, answers, from) {
-  const form = FORMS.get(input.kind);
+function completeLength(input, answers, from) {
+  const form = ANSWER_FORMS.get(input.kind);
   if (!form || !form.further || refusalOf(answers[from])) return 1;
-  return form.count === "all" || form.count === "list" ? answerLength(input, answers, from) : mostLines(input, answers[from], form.count);
+  return form.count === "all" || form.count === "list" ? answerLength(input, answers, from) : maxLines(input, answers[from], form.count);
 }
 
 /**
@@ -49,15 +49,15 @@ function wholeLength(input, answers, from) {
  * @param {number} from
  * @param {number} end
  */
-function strangerIn(input, answers, from, end) {
-  const form = FORMS.get(input.kind);
+function firstForeignLine(input, answers, from, end) {
+  const form = ANSWER_FORMS.get(input.kind);
   const further = form && form.further;
   for (let at = from + 1; at < Math.min(end, answers.length); at++) if (!further || !further.test(answers[at])) return at;
   return -1;
 }
 
 /** Matches answers to inputs, one input after the other. */
-class Matching {
+class AnswerMatcher {
   /** @param {string[]} answers */
   constructor(answers) {
     this.answers = answers;
@@ -82,18 +82,18 @@ class Matching {
     if (this.isOver) return "";
     const { answers, at } = this;
     const first = answers[at];
-    const noAnswer = (/** @type {number} */ index) => say.noAnswer(index + 1, answers[index], line, input.line);
+    const messageAt = (/** @type {number} */ index) => say.noAnswer(index + 1, answers[index], line, input.line);
     const [word, count] = first.split(" ");
-    if (!canBegin(input, first)) this.words = noAnswer(at);
-    else if (word === "ok" && Number(count) !== this.commands + 1) this.words = say.otherCountOfCommands(noAnswer(at), this.commands);
+    if (!canBeginAnswer(input, first)) this.words = messageAt(at);
+    else if (word === "ok" && Number(count) !== this.commands + 1) this.words = say.otherCountOfCommands(messageAt(at), this.commands);
     if (this.words !== "") return "";
     if (word === "ok") this.commands += 1;
-    const end = at + wholeLength(input, answers, at);
-    const stranger = strangerIn(input, answers, at, end);
-    if (stranger >= 0) this.words = noAnswer(stranger);
+    const end = at + completeLength(input, answers, at);
+    const foreignLine = firstForeignLine(input, answers, at, end);
+    if (foreignLine >= 0) this.words = messageAt(foreignLine);
     this.isCut = end > answers.length;
     this.at = end;
-    return stranger >= 0 || this.isCut ? "" : first;
+    return foreignLine >= 0 || this.isCut ? "" : first;
   }
 }
 
@@ -104,12 +104,12 @@ class Matching {
  * @returns {AnsweredScript}
  */
 export function answeredScript(script, answers) {
-  const inputs = readPlacedInputs(script);
-  const unanswered = inputs.map((each) => ({ ...each, answer: "" }));
+  const inputs = readNumberedInputs(script);
+  const unanswered = inputs.map((placed) => ({ ...placed, answer: "" }));
   if (answers.length > 0 && refusalOf(answers[0])) return { inputs: unanswered, words: "" };
   if (answers.length === 0 || !OPENED.test(answers[0])) return { inputs: unanswered, words: say.FIRST_IS_SESSION };
-  const matching = new Matching(answers);
-  const answered = inputs.map(({ input, at }) => ({ input, at, answer: matching.take(input, at) }));
-  const { words, isOver, at } = matching;
+  const matcher = new AnswerMatcher(answers);
+  const answered = inputs.map(({ input, at }) => ({ input, at, answer: matcher.take(input, at) }));
+  const { words, isOver, at } = matcher;
   return { inputs: answered, words: words || (isOver ? "" : say.comesAfterLast(at + 1, answers[at])) };
 }

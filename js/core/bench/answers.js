@@ -1,6 +1,6 @@
 // Parsers for the answers of the bench.
 
-import { isListed } from "./answer_table.js";
+import { isListingLine } from "./answer_table.js";
 
 /**
  * @typedef {{ cycles: number, end: string }} Run
@@ -103,7 +103,7 @@ export function readMarks(answer) {
  * @param {string} answer to `watches`
  */
 export function watchedPlaces(answer) {
-  return readMarks(answer).map((each) => `ram.${each.replace(".", ".0x")}`);
+  return readMarks(answer).map((place) => `ram.${place.replace(".", ".0x")}`);
 }
 
 /**
@@ -128,7 +128,7 @@ export function readMap(answers) {
  * @returns {Listed[]}
  */
 export function readListing(answers) {
-  return answers.filter(isListed).map((line) => ({ address: parseInt(line.slice(0, 3), 16), line }));
+  return answers.filter(isListingLine).map((line) => ({ address: parseInt(line.slice(0, 3), 16), line }));
 }
 
 /**
@@ -156,13 +156,13 @@ function readTables(answers) {
 export function readBoard(answers) {
   const tables = readTables(answers);
   /** @type {(name: string) => any[]} */
-  const of = (name) => tables.filter((entry) => entry.table === name);
-  const [keys = null] = of("keys");
+  const tablesNamed = (name) => tables.filter((entry) => entry.table === name);
+  const [keys = null] = tablesNamed("keys");
   return {
-    banks: of("ram"),
-    chains: of("chain"),
-    roms: of("rom"),
-    lamps: of("lamp").map((lamp) => lamp.line),
+    banks: tablesNamed("ram"),
+    chains: tablesNamed("chain"),
+    roms: tablesNamed("rom"),
+    lamps: tablesNamed("lamp").map((lamp) => lamp.line),
     rows: keys ? keys.rows : 0,
     columns: keys ? keys.columns.length : 0,
     matrix: keys,

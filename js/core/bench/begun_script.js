@@ -3,7 +3,7 @@
 import { answeredScript } from "./answered_script.js";
 import { endOfInputs, opensText } from "./inputs.js";
 import { upTo } from "./numbers.js";
-import { PAGES, listsOf } from "./rom_bytes.js";
+import { PAGES, listQueries } from "./rom_bytes.js";
 import * as say from "../../words/bench.js";
 
 /**
@@ -17,17 +17,17 @@ import * as say from "../../words/bench.js";
 
 const BANKS = 8;
 /** Characters of lines that are served at once: between two pieces the user can interrupt. */
-const PIECE = 4096;
+const PIECE_LENGTH = 4096;
 /** The maximum number of differing lines that are shown. */
-const MOST_SHOWN = 4;
+const MAX_SHOWN = 4;
 /** The queries whose answers are compared. */
-const QUESTIONS = `seq\nboard\nstate\n${upTo(BANKS).map((bank) => `ram ${bank}\n`).join("")}${listsOf(PAGES)}`;
+const QUERIES = `seq\nboard\nstate\n${upTo(BANKS).map((bank) => `ram ${bank}\n`).join("")}${listQueries(PAGES)}`;
 
 /**
  * Splits the answer to `state` into a line for each key and value; returns all answers.
  * @param {string[]} answers
  */
-function partsOf(answers) {
+function splitState(answers) {
   return answers.flatMap((answer) => {
     const [word, ...words] = answer.split(" ");
     return word === "state" ? upTo(Math.floor(words.length / 2)).map((at) => `${words[2 * at]} ${words[2 * at + 1]}`) : [answer];
@@ -37,20 +37,21 @@ function partsOf(answers) {
 /**
  * Returns the first lines that differ, each after `<` or `>`. If one list is longer, returns the lines between the common prefix and the
  * common suffix.
- * @param {string[]} own
- * @param {string[]} wanted
+ * @param {string[]} actual
+ * @param {string[]} expected
  */
-export function differences(own, wanted) {
-  const isOther = (/** @type {number} */ at) => own[at] !== wanted[at];
-  if (own.length === wanted.length) {
-    const at = upTo(own.length).filter(isOther).slice(0, MOST_SHOWN / 2);
-    return [...at.map((each) => `< ${own[each]}`), ...at.map((each) => `> ${wanted[each]}`)];
+export function differences(actual, expected) {
+  const differs = (/** @type {number} */ at) => actual[at] !== expected[at];
+  if (actual.length === expected.length) {
+    const at = upTo(actual.length).filter(differs).slice(0, MAX_SHOWN / 2);
+    return [...at.map((index) => `< ${actual[index]}`), ...at.map((index) => `> ${expected[index]}`)];
   }
-  const least = Math.min(own.length, wanted.length);
-  const begin = upTo(least).find(isOther) ?? least;
-  const ends = upTo(least - begin).find((back) => own[own.length - 1 - back] !== wanted[wanted.length - 1 - back]) ?? least - begin;
-  const ownLines = own.slice(begin, own.length - ends).map((line) => `< ${line}`);
-  return [...ownLines, ...wanted.slice(begin, wanted.length - ends).map((line) => `> ${line}`)].slice(0, MOST_SHOWN);
+  const shorter = Math.min(actual.length, expected.length);
+  const prefix = upTo(shorter).find(differs) ?? shorter;
+  const differsAtEnd = (/** @type {number} */ back) => actual[actual.length - 1 - back] !== expected[expected.length - 1 - back];
+  const suffix = upTo(shorter - prefix).find(differsAtEnd) ?? shorter - prefix;
+  const actualLines = actual.slice(prefix, actual.length - suffix).map((line) => `< ${line}`);
+  return [...actualLines, ...expected.slice(prefix, expected.length - suffix).map((line) => `> ${line}`)].slice(0, MAX_SHOWN);
 }
 
 /**
@@ -75,12 +76,12 @@ function linesUpTo(inputs, commands) {
  * @param {string} lines
  * @param {() => Promise<any>} yieldToMessages called after each piece
  */
-async function served(engine, lines, yieldToMessages) {
+async function serveScript(engine, lines, yieldToMessages) {
   const state = engine.begin();
   /** @type {string[]} */
   const answers = [];
   for (let at = 0; at < lines.length;) {
-    const end = endOfInputs(lines, at, PIECE);
+    const end = endOfInputs(lines, at, PIECE_LENGTH);
     for (const answer of engine.serve(state, lines.slice(at, end), state).answers) answers.push(answer);
     at = end;
     await yieldToMessages();
@@ -97,18 +98,18 @@ async function served(engine, lines, yieldToMessages) {
  * @returns {Promise<BegunScript>}
  */
 export async function begunScript(engine, state, script, yieldToMessages) {
-  const { opened, answers: own } = engine.ask(state, QUESTIONS);
+  const { opened, answers: actual } = engine.ask(state, QUERIES);
   const commands = Number(opened.slice("session ".length));
-  const whole = await served(engine, script, yieldToMessages);
-  const { inputs, words } = answeredScript(script, ["session 0", ...whole.answers]);
+  const complete = await serveScript(engine, script, yieldToMessages);
+  const { inputs, words } = answeredScript(script, ["session 0", ...complete.answers]);
   if (words !== "") return { lines: 0, words, differing: [] };
   const lines = linesUpTo(inputs, commands);
   if (lines < 0) {
     const accepted = inputs.filter(({ answer }) => answer.startsWith("ok ")).length;
     return { lines: 0, words: say.acceptedMore(commands, accepted), differing: [] };
   }
-  const begun = await served(engine, script.split("\n").slice(0, lines).map((line) => `${line}\n`).join(""), yieldToMessages);
-  const wanted = engine.ask(begun.state, QUESTIONS).answers;
-  const differing = differences(partsOf(own), partsOf(wanted));
+  const begun = await serveScript(engine, script.split("\n").slice(0, lines).map((line) => `${line}\n`).join(""), yieldToMessages);
+  const expected = engine.ask(begun.state, QUERIES).answers;
+  const differing = differences(splitState(actual), splitState(expected));
   return { lines, words: differing.length > 0 ? say.someDiffer(commands) : "", differing };
 }

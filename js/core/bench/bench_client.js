@@ -30,9 +30,9 @@ import { WorkerDied, unpackFault } from "./faults.js";
  */
 
 /** The milliseconds between pings of a worker with unanswered requests. */
-const WATCH_TIME = 1000;
+const PING_INTERVAL = 1000;
 /** The number of pings without an answer after which the worker counts as dead. */
-const SILENT_TIMES = 10;
+const MAX_SILENT_PINGS = 10;
 
 /** The page's end of the connection to the worker. */
 export class Bench {
@@ -61,7 +61,7 @@ export class Bench {
     this.size = 0;
     /** @type {ArrayBuffer[]} buffers of received files, which return to the worker with the next request */
     this.spare = [];
-    setInterval(() => this.watch(), WATCH_TIME);
+    setInterval(() => this.watch(), PING_INTERVAL);
   }
 
   /** Starts a worker. The promise resolves when the worker has loaded the module. */
@@ -82,11 +82,11 @@ export class Bench {
    * @template {CallName} Name
    * @param {Name} call
    * @param {Parameters<Requests[Name]>} words
-   * @param {Ways} [ways] for a call that serves lines: a callback for its progress, and a signal that cancels it without any effect
+   * @param {Ways} [options] for a call that serves lines: a callback for its progress, and a signal that cancels it without any effect
    * @returns {Promise<Awaited<ReturnType<Requests[Name]>>>}
    */
-  call(call, words, ways = {}) {
-    const { signal, progress = () => {} } = ways;
+  call(call, words, options = {}) {
+    const { signal, progress = () => {} } = options;
     this.number += 1;
     const { number } = this;
     if (signal) signal.addEventListener("abort", () => this.cancel(number));
@@ -152,7 +152,7 @@ export class Bench {
     this.send({ kind: "cancel", number });
     setTimeout(() => {
       if (this.waiting.has(number)) this.die();
-    }, 2 * WATCH_TIME);
+    }, 2 * PING_INTERVAL);
   }
 
   /** Pings a worker that has unanswered requests. The limit counts pings, not time, because the machine can sleep. */
@@ -162,7 +162,7 @@ export class Bench {
       return;
     }
     this.silent += 1;
-    if (this.silent > SILENT_TIMES) this.die();
+    if (this.silent > MAX_SILENT_PINGS) this.die();
     else this.send({ kind: "ping" });
   }
 

@@ -31,37 +31,37 @@ export const RANGES = {
  * The maximum number of parts of each kind on a board.
  * @type {Record<string, number>}
  */
-export const MOST = { rom: 16, ram: 8, chain: 4, lamp: 64 };
-export const MOST_COLUMNS = 8;
+export const MAX_PARTS = { rom: 16, ram: 8, chain: 4, lamp: 64 };
+export const MAX_COLUMNS = 8;
 /** The number of bits in each chip of a chain (a 4003). */
-export const BITS = 10;
-const LINES_OF_PORT = upTo(4);
+export const BITS_PER_CHIP = 10;
+const PORT_LINES = upTo(4);
 
 /**
  * Returns all lines of a board: ROMs first, then RAM, then chains.
  * @param {Pick<Board, "roms" | "banks"> & { chains: { chips: number }[] }} board
  * @returns {BoardLine[]}
  */
-export function linesOf({ roms, banks, chains }) {
+export function boardLines({ roms, banks, chains }) {
   /** @type {BoardLine[]} */
   const lines = [];
   for (const { chip, port } of roms) {
-    for (const at of LINES_OF_PORT) lines.push({ name: `rom${chip}.${at}`, kind: "rom", isInput: port[3 - at] === "i" });
+    for (const at of PORT_LINES) lines.push({ name: `rom${chip}.${at}`, kind: "rom", isInput: port[3 - at] === "i" });
   }
   for (const { bank, chips } of banks) {
     for (const chip of upTo(chips)) {
-      for (const at of LINES_OF_PORT) lines.push({ name: `ram${bank}.${chip}.${at}`, kind: "ram", isInput: false });
+      for (const at of PORT_LINES) lines.push({ name: `ram${bank}.${chip}.${at}`, kind: "ram", isInput: false });
     }
   }
   chains.forEach(({ chips }, chain) => {
-    for (const bit of upTo(BITS * chips)) lines.push({ name: `chain${chain}.${bit}`, kind: "bit", isInput: false });
+    for (const bit of upTo(BITS_PER_CHIP * chips)) lines.push({ name: `chain${chain}.${bit}`, kind: "bit", isInput: false });
   });
   return lines;
 }
 
 /** The names of all lines that a board can have. */
-export const LINE_NAMES = new Set(linesOf({
-  roms: upTo(MOST.rom).map((chip) => ({ chip, port: "0000" })),
-  banks: upTo(MOST.ram).map((bank) => ({ bank, chips: RANGES["ram.chips"].to })),
-  chains: upTo(MOST.chain).map(() => ({ chips: RANGES["chain.chips"].to })),
+export const LINE_NAMES = new Set(boardLines({
+  roms: upTo(MAX_PARTS.rom).map((chip) => ({ chip, port: "0000" })),
+  banks: upTo(MAX_PARTS.ram).map((bank) => ({ bank, chips: RANGES["ram.chips"].to })),
+  chains: upTo(MAX_PARTS.chain).map(() => ({ chips: RANGES["chain.chips"].to })),
 }).map(({ name }) => name));

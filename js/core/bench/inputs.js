@@ -1,15 +1,15 @@
 // Splits lines into inputs, finds offsets at which lines can be cut, and matches answers to inputs.
 
-import { FORMS } from "./answer_table.js";
+import { ANSWER_FORMS } from "./answer_table.js";
 import { LAST_ADDRESS, numberOf } from "./numbers.js";
 
 /** The maximum length of a line; the bench rejects a longer line whole. */
-export const LONGEST_LINE = 255;
+export const MAX_LINE_LENGTH = 255;
 /** The numbers of refusals: a line is too long, or has a character outside ASCII. */
 export const LINE_TOO_LONG = 12;
 export const NOT_ASCII = 14;
 /** A character that the bench accepts in no line. */
-export const FOREIGN = /[^\t -~]/u;
+export const INVALID_CHARACTER = /[^\t -~]/u;
 /** The maximum number of places in a `trace` line. */
 export const MOST_PLACES = 16;
 const ONE_WORD = /^[ \t]*([a-z]+)[ \t]*$/;
@@ -32,8 +32,8 @@ export function withoutReturn(whole) {
  * @param {string} line
  */
 export function opensText(line) {
-  const alone = line.length <= LONGEST_LINE ? ONE_WORD.exec(line) : null;
-  const form = alone && FORMS.get(alone[1]);
+  const alone = line.length <= MAX_LINE_LENGTH ? ONE_WORD.exec(line) : null;
+  const form = alone && ANSWER_FORMS.get(alone[1]);
   return Boolean(form && form.opensText);
 }
 
@@ -46,13 +46,13 @@ export function isSeq(line) {
 }
 
 /** The form of the answer to `seq`. */
-export const COUNTED = /^seq \d+$/;
+export const SEQ_ANSWER = /^seq \d+$/;
 
 /**
  * Splits lines into inputs; returns each with its line number from 1.
  * @param {string} lines
  */
-export function readPlacedInputs(lines) {
+export function readNumberedInputs(lines) {
   /** @type {{ input: Input, at: number }[]} */
   const inputs = [];
   /** @type {Input | null} */
@@ -65,9 +65,9 @@ export function readPlacedInputs(lines) {
       return;
     }
     const words = line.split(/[ \t]+/).filter((word) => word !== "");
-    if (words.length === 0 && line.length <= LONGEST_LINE) return;
+    if (words.length === 0 && line.length <= MAX_LINE_LENGTH) return;
     /** @type {Input} */
-    const input = { line, words, kind: line.length > LONGEST_LINE ? "" : words[0], text: [] };
+    const input = { line, words, kind: line.length > MAX_LINE_LENGTH ? "" : words[0], text: [] };
     inputs.push({ input, at: index + 1 });
     if (opensText(line)) open = input;
   });
@@ -80,21 +80,21 @@ export function readPlacedInputs(lines) {
  * @returns {Input[]}
  */
 export function readInputs(lines) {
-  return readPlacedInputs(lines).map(({ input }) => input);
+  return readNumberedInputs(lines).map(({ input }) => input);
 }
 
 /**
  * Returns the first offset at which an input ends and the piece from `from` has at least the wanted number of characters.
  * @param {string} lines
  * @param {number} from the offset at which an input begins
- * @param {number} least the wanted number of characters
+ * @param {number} minLength the wanted number of characters
  */
-export function endOfInputs(lines, from, least) {
+export function endOfInputs(lines, from, minLength) {
   let at = from;
   let isOpen = false;
-  while (at < lines.length && (isOpen || at - from < least)) {
-    const feed = lines.indexOf("\n", at);
-    const end = feed < 0 ? lines.length : feed;
+  while (at < lines.length && (isOpen || at - from < minLength)) {
+    const lineFeed = lines.indexOf("\n", at);
+    const end = lineFeed < 0 ? lines.length : lineFeed;
     const line = withoutReturn(lines.slice(at, end));
     isOpen = isOpen ? line !== "." : opensText(line);
     at = Math.min(end + 1, lines.length);
@@ -106,7 +106,7 @@ export function endOfInputs(lines, from, least) {
  * Returns the address after the bytes in a line of a listing.
  * @param {string} answer
  */
-function endOfListed(answer) {
+function endOfListingLine(answer) {
   return parseInt(answer.slice(0, 3), 16) + (answer[7] === " " ? 1 : 2);
 }
 
@@ -115,8 +115,8 @@ function endOfListed(answer) {
  * @param {string} before
  * @param {string} answer
  */
-function goesOn(before, answer) {
-  return endOfListed(before) <= LAST_ADDRESS && answer.slice(0, 3) > before.slice(0, 3);
+function continuesListing(before, answer) {
+  return endOfListingLine(before) <= LAST_ADDRESS && answer.slice(0, 3) > before.slice(0, 3);
 }
 
 /**
@@ -125,7 +125,7 @@ function goesOn(before, answer) {
  * @param {string} first the first line of the answer
  * @param {string} count the column COUNT of the table of answers
  */
-export function mostLines(input, first, count) {
+export function maxLines(input, first, count) {
   if (count === "all") return Infinity;
   if (count === "list") return numberOf(input.words[2]);
   const words = first.split(" ");
@@ -139,12 +139,12 @@ export function mostLines(input, first, count) {
  * @param {number} from the index of the answer's first line
  */
 export function answerLength(input, answers, from) {
-  const form = FORMS.get(input.kind);
+  const form = ANSWER_FORMS.get(input.kind);
   if (!form || !form.further || !form.first.test(answers[from])) return 1;
-  const most = mostLines(input, answers[from], form.count);
+  const max = maxLines(input, answers[from], form.count);
   let at = from + 1;
-  while (at < answers.length && at - from < most && form.further.test(answers[at])) {
-    if (form.count === "list" && !goesOn(answers[at - 1], answers[at])) break;
+  while (at < answers.length && at - from < max && form.further.test(answers[at])) {
+    if (form.count === "list" && !continuesListing(answers[at - 1], answers[at])) break;
     at++;
   }
   return at - from;
@@ -169,6 +169,6 @@ export function matchAnswers(inputs, answers) {
  * Joins lines to a text; each ends with a line feed.
  * @param {string[]} lines
  */
-export function linesOf(lines) {
+export function joinLines(lines) {
   return lines.map((line) => `${line}\n`).join("");
 }

@@ -1,8 +1,8 @@
 // The grammar of the bench's lines: their words, and the ranges of their numbers. For a line that the bench rejects, `faultOfLine` names
 // the wrong word.
 
-import { FORMS } from "./answer_table.js";
-import { FOREIGN, LINE_TOO_LONG, LONGEST_LINE, MOST_PLACES, NOT_ASCII } from "./inputs.js";
+import { ANSWER_FORMS } from "./answer_table.js";
+import { INVALID_CHARACTER, LINE_TOO_LONG, MAX_LINE_LENGTH, MOST_PLACES, NOT_ASCII } from "./inputs.js";
 import { upTo } from "./numbers.js";
 import { mostAlike } from "../text/alike.js";
 import * as say from "../../words/lines.js";
@@ -18,48 +18,49 @@ import * as say from "../../words/lines.js";
 
 const NOT_A_COMMAND = 10;
 const BAD_NUMBER = 11;
-const BIT = 1;
-const BANK = 7;
-const NIBBLE = 15;
-const BYTE = 255;
-const ADDRESS = 4095;
-const MOST_CYCLES = 100000;
-const LARGEST = 4294967295;
-const MOST_LISTED = 256;
+const MAX_BIT = 1;
+const MAX_BANK = 7;
+const MAX_NIBBLE = 15;
+const MAX_BYTE = 255;
+const MAX_ADDRESS = 4095;
+const MAX_CYCLES = 100000;
+const MAX_NUMBER = 4294967295;
+const MAX_LISTED = 256;
 
 /** @type {(most: number) => Range} */
-const upToMost = (most) => [0, most];
+const rangeTo = (max) => [0, max];
 /** @type {Record<string, Range[]>} the ranges of the numbers after the first word */
-const NUMBERS = {
-  press: [upToMost(BYTE), upToMost(BYTE)],
-  release: [upToMost(BYTE), upToMost(BYTE)],
-  run: [upToMost(LARGEST)],
-  test: [upToMost(BIT)],
-  break: [upToMost(ADDRESS)],
-  unbreak: [upToMost(ADDRESS)],
-  watch: [upToMost(BANK), upToMost(BYTE)],
-  unwatch: [upToMost(BANK), upToMost(BYTE)],
-  ram: [upToMost(BANK)],
-  list: [upToMost(ADDRESS), [1, MOST_LISTED]],
-  count: [[1, MOST_CYCLES]],
+const NUMBER_RANGES = {
+  press: [rangeTo(MAX_BYTE), rangeTo(MAX_BYTE)],
+  release: [rangeTo(MAX_BYTE), rangeTo(MAX_BYTE)],
+  run: [rangeTo(MAX_NUMBER)],
+  test: [rangeTo(MAX_BIT)],
+  break: [rangeTo(MAX_ADDRESS)],
+  unbreak: [rangeTo(MAX_ADDRESS)],
+  watch: [rangeTo(MAX_BANK), rangeTo(MAX_BYTE)],
+  unwatch: [rangeTo(MAX_BANK), rangeTo(MAX_BYTE)],
+  ram: [rangeTo(MAX_BANK)],
+  list: [rangeTo(MAX_ADDRESS), [1, MAX_LISTED]],
+  count: [[1, MAX_CYCLES]],
 };
 const NUMERAL = "(0x[0-9a-fA-F]+|[0-9]+)";
 
 /** @type {(form: string, most: number[], value?: number) => PlaceForm} `N` in the form is a number */
 const place = (form, most, value = 0) => ({ form: new RegExp(`^${form.replace(/\./g, "\\.").replace(/N/g, NUMERAL)}$`), most, value });
 /** The places that `poke` and `trace` accept. */
-const PLACES = [
-  place("acc", [], NIBBLE), place("cy", [], BIT), place("pc", [], ADDRESS), place("dcl", [], BANK), place("rN", [NIBBLE], NIBBLE),
-  place("rom.N", [ADDRESS], BYTE), place("ram.N.N", [BANK, BYTE], NIBBLE), place("st.N.N.N", [BANK, NIBBLE, 3], NIBBLE),
+const PLACE_FORMS = [
+  place("acc", [], MAX_NIBBLE), place("cy", [], MAX_BIT), place("pc", [], MAX_ADDRESS), place("dcl", [], MAX_BANK),
+  place("rN", [MAX_NIBBLE], MAX_NIBBLE), place("rom.N", [MAX_ADDRESS], MAX_BYTE), place("ram.N.N", [MAX_BANK, MAX_BYTE], MAX_NIBBLE),
+  place("st.N.N.N", [MAX_BANK, MAX_NIBBLE, 3], MAX_NIBBLE),
 ];
 /** The places that only `trace` accepts. */
-const SEEN_PLACES = [
-  place("lamps", []), place("ret", []), place("src", []), place("romN", [NIBBLE]), place("ramN.N", [BANK, 3]), place("chainN", [3]),
-  place("romN.N", [NIBBLE, 3]), place("ramN.N.N", [BANK, 3, 3]), place("chainN.N", [3, 79]),
+const TRACE_ONLY_FORMS = [
+  place("lamps", []), place("ret", []), place("src", []), place("romN", [MAX_NIBBLE]), place("ramN.N", [MAX_BANK, 3]), place("chainN", [3]),
+  place("romN.N", [MAX_NIBBLE, 3]), place("ramN.N.N", [MAX_BANK, 3, 3]), place("chainN.N", [3, 79]),
 ];
 /** The names of places for completion and for suggestions. A name that ends in a dot is incomplete. */
-export const POKED = ["acc", "cy", "pc", "dcl", ...upTo(16).map((at) => `r${at}`), "rom.", "ram.", "st."];
-export const TRACED = [...POKED, "lamps", "ret", "src"];
+export const POKE_NAMES = ["acc", "cy", "pc", "dcl", ...upTo(16).map((at) => `r${at}`), "rom.", "ram.", "st."];
+export const TRACE_NAMES = [...POKE_NAMES, "lamps", "ret", "src"];
 
 /** @type {(word: string) => number} returns the value of a numeral; NaN for any other word */
 const numeral = (word) => (new RegExp(`^${NUMERAL}$`).test(word) ? Number(word) : NaN);
@@ -80,7 +81,7 @@ function faultOfNumber(word, [first, last]) {
  * @param {string} word
  * @param {PlaceForm[]} places
  */
-function formOf(word, places) {
+function placeFormOf(word, places) {
   return places.find(({ form }) => form.test(word)) || null;
 }
 
@@ -89,13 +90,13 @@ function formOf(word, places) {
  * @param {string} word
  * @param {PlaceForm} found
  */
-function hasItsNumbers(word, { form, most }) {
+function isInRange(word, { form, most }) {
   const numbers = /** @type {RegExpExecArray} */ (form.exec(word)).slice(1).map(Number);
   return numbers.every((number, at) => number <= most[at]);
 }
 
 /** @type {(word: string, names: string[]) => LineFault} */
-const noPlace = (word, names) => ({ number: NOT_A_COMMAND, words: say.noPlace(word, mostAlike(word, names)) });
+const unknownPlace = (word, names) => ({ number: NOT_A_COMMAND, words: say.noPlace(word, mostAlike(word, names)) });
 /** @type {(word: string) => LineFault} */
 const noSuchPlace = (word) => ({ number: BAD_NUMBER, words: say.noSuchPlace(word) });
 
@@ -105,9 +106,9 @@ const noSuchPlace = (word) => ({ number: BAD_NUMBER, words: say.noSuchPlace(word
  * @param {string} value
  */
 function faultOfPoke(word, value) {
-  const found = formOf(word, PLACES);
-  if (!found) return noPlace(word, POKED);
-  return hasItsNumbers(word, found) ? faultOfNumber(value, upToMost(found.value)) : noSuchPlace(word);
+  const found = placeFormOf(word, PLACE_FORMS);
+  if (!found) return unknownPlace(word, POKE_NAMES);
+  return isInRange(word, found) ? faultOfNumber(value, rangeTo(found.value)) : noSuchPlace(word);
 }
 
 /**
@@ -116,12 +117,12 @@ function faultOfPoke(word, value) {
  * @param {string[]} places
  */
 function faultOfTrace(count, places) {
-  const all = [...PLACES, ...SEEN_PLACES];
-  const unknown = places.slice(0, MOST_PLACES).find((word) => !formOf(word, all));
-  if (unknown !== undefined) return noPlace(unknown, TRACED);
+  const forms = [...PLACE_FORMS, ...TRACE_ONLY_FORMS];
+  const unknown = places.slice(0, MOST_PLACES).find((word) => !placeFormOf(word, forms));
+  if (unknown !== undefined) return unknownPlace(unknown, TRACE_NAMES);
   if (places.length > MOST_PLACES) return { number: NOT_A_COMMAND, words: say.tooManyPlaces(MOST_PLACES) };
-  const wrong = places.find((word) => !hasItsNumbers(word, /** @type {PlaceForm} */ (formOf(word, all))));
-  return wrong === undefined ? faultOfNumber(count, [1, MOST_CYCLES]) : noSuchPlace(wrong);
+  const wrong = places.find((word) => !isInRange(word, /** @type {PlaceForm} */ (placeFormOf(word, forms))));
+  return wrong === undefined ? faultOfNumber(count, [1, MAX_CYCLES]) : noSuchPlace(wrong);
 }
 
 /**
@@ -131,11 +132,11 @@ function faultOfTrace(count, places) {
  */
 function faultOfWords([first, ...words]) {
   if (first === undefined) return null;
-  if (!FORMS.has(first)) return { number: NOT_A_COMMAND, words: say.noLine(first, mostAlike(first, FORMS.keys())) };
+  if (!ANSWER_FORMS.has(first)) return { number: NOT_A_COMMAND, words: say.noLine(first, mostAlike(first, ANSWER_FORMS.keys())) };
   const otherForm = { number: NOT_A_COMMAND, words: say.otherForm(first) };
   if (first === "trace") return words.length === 0 ? otherForm : faultOfTrace(words[0], words.slice(1));
   if (first === "poke") return words.length === 2 ? faultOfPoke(words[0], words[1]) : otherForm;
-  const ranges = NUMBERS[first] || [];
+  const ranges = NUMBER_RANGES[first] || [];
   if (words.length !== ranges.length) return otherForm;
   const faults = words.map((word, at) => faultOfNumber(word, ranges[at]));
   return faults.find((fault) => fault !== null) || null;
@@ -145,8 +146,8 @@ function faultOfWords([first, ...words]) {
  * Returns the first character of a line that the bench accepts in no line; "" if there is none.
  * @param {string} line
  */
-export function foreignIn(line) {
-  return (FOREIGN.exec(line) || [""])[0];
+export function invalidCharacterIn(line) {
+  return (INVALID_CHARACTER.exec(line) || [""])[0];
 }
 
 /**
@@ -155,8 +156,8 @@ export function foreignIn(line) {
  * @returns {LineFault | null}
  */
 export function faultOfLine(line) {
-  if (line.length > LONGEST_LINE) return { number: LINE_TOO_LONG, words: say.tooLong(LONGEST_LINE, line.length) };
-  const foreign = foreignIn(line);
-  if (foreign !== "") return { number: NOT_ASCII, words: say.foreign(foreign) };
+  if (line.length > MAX_LINE_LENGTH) return { number: LINE_TOO_LONG, words: say.tooLong(MAX_LINE_LENGTH, line.length) };
+  const character = invalidCharacterIn(line);
+  if (character !== "") return { number: NOT_ASCII, words: say.foreign(character) };
   return faultOfWords(line.split(/[ \t]+/).filter((word) => word !== ""));
 }

@@ -23,33 +23,33 @@ const SET = /^\s*set(?!\S)(.*)$/;
  * @param {SourceMap | null} map of the program in ROM; null if its names are unknown
  * @returns {Put}
  */
-export function putNames(lines, map) {
+export function replaceNames(lines, map) {
   let [words, line] = ["", 0];
   let isOpen = false;
   /** @type {(wrong: string, at: number) => void} */
-  const refuse = (wrong, at) => {
+  const reportError = (wrong, at) => {
     if (words === "" && wrong !== "") [words, line] = [wrong, at];
   };
   /** @type {(text: string, at: number) => string} */
-  const put = (text, at) => {
+  const replaceIn = (text, at) => {
     const set = SET.exec(text);
-    if (!set) return named(text, at);
+    if (!set) return replaceNamesIn(text, at);
     const { lines: setting, fault, column } = readSetting(set[1], map);
-    refuse(fault && `${inColumn(fault, column + text.length - set[1].length)}.`, at);
+    reportError(fault && `${inColumn(fault, column + text.length - set[1].length)}.`, at);
     return setting.trimEnd();
   };
   /** @type {(text: string, at: number) => string} */
-  const named = (text, at) => text.replace(NAME, (found, before, name) => {
+  const replaceNamesIn = (text, at) => text.replace(NAME, (found, before, name) => {
     const value = map ? map.valueOf(name) : undefined;
     if (value !== undefined) return `${before}0x${hex(value, 3)}`;
-    refuse(`${found.trim()}: ${map ? say.NO_SUCH_NAME : say.NAMES_UNKNOWN}.`, at);
+    reportError(`${found.trim()}: ${map ? say.NO_SUCH_NAME : say.NAMES_UNKNOWN}.`, at);
     return found;
   });
   const changed = lines.split("\n").map((whole, index) => {
     const text = withoutReturn(whole);
-    const isOfText = isOpen;
+    const isInText = isOpen;
     isOpen = isOpen ? text !== "." : opensText(text);
-    return isOfText ? whole : put(text, index + 1);
+    return isInText ? whole : replaceIn(text, index + 1);
   });
   return { lines: changed.join("\n"), words, line };
 }

@@ -22,19 +22,19 @@ export function numberOf(word) {
 /**
  * Parses a count, which can contain commas; returns 0 if it is not from 1 to the maximum.
  * @param {string} text
- * @param {number} most the maximum
+ * @param {number} max the maximum
  */
-export function countOf(text, most) {
+export function parseCount(text, max) {
   const plain = text.trim().replace(/,/g, "");
   const count = /^[0-9]{1,9}$/.test(plain) ? Number(plain) : 0;
-  return count <= most ? count : 0;
+  return count <= max ? count : 0;
 }
 
 /**
  * Formats a number with one decimal digit. A number halfway between two is rounded to the even digit, as `printf` does in C.
  * @param {number} value not negative
  */
-export function withTenths(value) {
+export function formatTenths(value) {
   // Only odd multiples of 1/4 are exactly halfway in binary.
   if ((value * 4) % 2 !== 1) return value.toFixed(1);
   const lower = Math.floor(value * 10);
@@ -44,11 +44,11 @@ export function withTenths(value) {
 /**
  * Returns a count with its noun: `1 line`, `1,543 cycles`.
  * @param {number} count
- * @param {string} one the singular
- * @param {string} [several] the plural
+ * @param {string} singular the singular
+ * @param {string} [plural] the plural
  */
-export function counted(count, one, several = `${one}s`) {
-  return `${count.toLocaleString("en")} ${count === 1 ? one : several}`;
+export function counted(count, singular, plural = `${singular}s`) {
+  return `${count.toLocaleString("en")} ${count === 1 ? singular : plural}`;
 }
 
 /**

@@ -11,8 +11,8 @@ import { readBoardText } from "../text/board_reader.js";
  * The TOML key whose value is the part's number, by the kind of part. The other kinds are numbered in order.
  * @type {Record<string, string>}
  */
-const NUMBERED = { rom: "chip", ram: "bank" };
-const COUNTED = ["chain", "lamp"];
+const NUMBER_KEYS = { rom: "chip", ram: "bank" };
+const COUNTED_KINDS = ["chain", "lamp"];
 
 /**
  * Returns the name of a part, such as `rom 1`; "" for a table without a name.
@@ -22,11 +22,11 @@ const COUNTED = ["chain", "lamp"];
 function nameOf({ table, keys }, counts) {
   const kind = table.replace(/[[\]]/g, "");
   if (kind === "keys") return "keys";
-  if (kind in NUMBERED) {
-    const key = keys.find(({ name }) => name === NUMBERED[kind]);
+  if (kind in NUMBER_KEYS) {
+    const key = keys.find(({ name }) => name === NUMBER_KEYS[kind]);
     return key && typeof key.value.inner === "number" ? `${kind} ${key.value.inner}` : "";
   }
-  if (!COUNTED.includes(kind)) return "";
+  if (!COUNTED_KINDS.includes(kind)) return "";
   counts[kind] = (counts[kind] || 0) + 1;
   return `${kind} ${counts[kind] - 1}`;
 }
@@ -38,15 +38,15 @@ function nameOf({ table, keys }, counts) {
  */
 export function partLines(text) {
   /** @type {Map<string, Lines>} */
-  const named = new Map();
+  const ranges = new Map();
   /** @type {Record<string, number>} */
   const counts = {};
   for (const entry of readBoardText(text).entries) {
     const name = nameOf(entry, counts);
     const ends = entry.keys.map(({ value: { end } }) => end.line);
-    if (name !== "") named.set(name, { from: entry.line, to: Math.max(entry.line, entry.end ? entry.end.line : 0, ...ends) });
+    if (name !== "") ranges.set(name, { from: entry.line, to: Math.max(entry.line, entry.end ? entry.end.line : 0, ...ends) });
   }
-  return named;
+  return ranges;
 }
 
 /**

@@ -8,24 +8,24 @@ export const PAGE_BYTES = 256;
 /** The numbers of all pages: a ROM chip has one page of 256 bytes. */
 export const PAGES = upTo(ADDRESSES / PAGE_BYTES);
 /** The maximum number of lines in the answer to `list`. */
-export const MOST_LISTED = 256;
+export const MAX_LISTED = 256;
 /** The value for an address that no line lists. */
-export const NONE = -1;
+export const NO_BYTE = -1;
 
 /**
  * Returns the queries for the bytes of ROM pages.
  * @param {number[]} pages
  */
-export function listsOf(pages) {
+export function listQueries(pages) {
   return pages.map((page) => `list 0x${hex(page * PAGE_BYTES, 3)} ${PAGE_BYTES}\n`).join("");
 }
 
 /**
- * Returns the bytes in the answers to `list`, by address; `NONE` for an address that no line lists.
+ * Returns the bytes in the answers to `list`, by address; `NO_BYTE` for an address that no line lists.
  * @param {string[]} answers
  */
 export function bytesOf(answers) {
-  const bytes = new Int16Array(ADDRESSES).fill(NONE);
+  const bytes = new Int16Array(ADDRESSES).fill(NO_BYTE);
   for (const { address, line } of readListing(answers)) {
     bytes[address] = parseInt(line.slice(4, 6), 16);
     if (line[7] !== " ") bytes[address + 1] = parseInt(line.slice(7, 9), 16);

@@ -11,22 +11,22 @@ import * as say from "../../words/bench.js";
 
 /** The number of address bytes, by the type of a data record. */
 const ADDRESS_SIZES = new Map([["1", 2], ["2", 3], ["3", 4]]);
-const LAST_TYPES = ["7", "8", "9"];
+const END_TYPES = ["7", "8", "9"];
 
 /**
  * Puts the bytes of a record into the image; returns whether it is the last record.
  * @param {string} record
  * @param {ImageBytes} image
  */
-function takeSRecord(record, image) {
+function storeSRecord(record, image) {
   if (!/^S\d([0-9A-F]{2}){4,}$/i.test(record)) throw new NotARecord(say.S_RECORD_FORM);
   const [count, ...bytes] = (record.slice(2).match(/../g) || []).map((digits) => parseInt(digits, 16));
   if (bytes.length !== count) throw new NotARecord(say.otherCount(count, bytes.length));
-  const right = 0xff - (bytes.slice(0, -1).reduce((sum, byte) => sum + byte, count) & 0xff);
-  const sum = bytes[bytes.length - 1];
-  if (sum !== right) throw new NotAnImage(say.otherSum(hex(sum, 2), hex(right, 2)));
+  const expected = 0xff - (bytes.slice(0, -1).reduce((sum, byte) => sum + byte, count) & 0xff);
+  const checksum = bytes[bytes.length - 1];
+  if (checksum !== expected) throw new NotAnImage(say.otherSum(hex(checksum, 2), hex(expected, 2)));
   const size = ADDRESS_SIZES.get(record[1]);
-  if (size === undefined) return LAST_TYPES.includes(record[1]);
+  if (size === undefined) return END_TYPES.includes(record[1]);
   if (bytes.length < size + 1) throw new NotAnImage(say.SHORT_RECORD);
   image.put(bytes.slice(0, size).reduce((address, byte) => address * 256 + byte, 0), bytes.slice(size, -1));
   return false;
@@ -44,7 +44,7 @@ export function readSRecords(text, offset = 0) {
     const record = line.trim();
     if (record === "") return;
     if (isEnded) throw new NotAnImage(say.AFTER_S9);
-    isEnded = takeSRecord(record, image);
+    isEnded = storeSRecord(record, image);
   });
   if (!isEnded) throw new NotAnImage(say.NO_S9);
   if (image.isEmpty) throw new NotAnImage(say.NO_BYTE);
@@ -77,7 +77,7 @@ function beginsWord(line, at) {
 export function readBnpf(text, from = 0) {
   const image = new ImageBytes(from);
   let [word, count] = ["", 0];
-  const take = (/** @type {string} */ letter, /** @type {boolean} */ begins) => {
+  const takeLetter = (/** @type {string} */ letter, /** @type {boolean} */ begins) => {
     if (word === "") {
       if (begins) word = letter;
     } else if (/[NP]/.test(letter) && word.length < WORD_LENGTH) word += letter;
@@ -89,7 +89,7 @@ export function readBnpf(text, from = 0) {
   };
   readLines(text, (whole) => {
     const line = whole.trim();
-    for (let at = 0; at < line.length; at++) take(line[at].toUpperCase(), /b/i.test(line[at]) && beginsWord(line, at));
+    for (let at = 0; at < line.length; at++) takeLetter(line[at].toUpperCase(), /b/i.test(line[at]) && beginsWord(line, at));
   });
   const lines = text.replace(/\n$/, "").split("\n").length;
   if (word !== "") throw new NotAnImage(say.imageLine(lines, say.bnpfWithoutEnd(word)));
@@ -101,12 +101,12 @@ export function readBnpf(text, from = 0) {
  * Returns a byte as a word of BNPF.
  * @param {number} byte
  */
-function wordOf(byte) {
+function bnpfWord(byte) {
   return `B${byte.toString(2).padStart(8, "0").replace(/1/g, "P").replace(/0/g, "N")}F`;
 }
 
 /** The number of words on a written line. */
-const WORDS_OF_LINE = 4;
+const WORDS_PER_LINE = 4;
 
 /**
  * Writes a range of bytes as BNPF. Each line starts with the address of its first word, as a comment.
@@ -114,10 +114,10 @@ const WORDS_OF_LINE = 4;
  * @param {number} from the first address
  * @param {number} count
  */
-export function bnpfOf(bytes, from, count) {
+export function writeBnpf(bytes, from, count) {
   let text = "";
-  for (let at = from; at < from + count; at += WORDS_OF_LINE) {
-    const words = [...bytes.subarray(at, Math.min(at + WORDS_OF_LINE, from + count))].map(wordOf);
+  for (let at = from; at < from + count; at += WORDS_PER_LINE) {
+    const words = [...bytes.subarray(at, Math.min(at + WORDS_PER_LINE, from + count))].map(bnpfWord);
     text += `${String(at).padStart(4)} ${words.join(" ")}\n`;
   }
   return text;
@@ -127,14 +127,14 @@ export function bnpfOf(bytes, from, count) {
 
 /** @type {(bytes: Uint8Array, is: (byte: number) => boolean) => boolean} */
 const hasOnly = (bytes, is) => bytes.every(is);
-const isOfText = (/** @type {number} */ byte) => byte === 9 || byte === 10 || byte === 13 || (byte >= 32 && byte < 127);
+const isTextByte = (/** @type {number} */ byte) => byte === 9 || byte === 10 || byte === 13 || (byte >= 32 && byte < 127);
 
 /**
  * Returns whether bytes are a text in ASCII or UTF-8. UTF-8 counts only with a line feed.
  * @param {Uint8Array} bytes
  */
 function isText(bytes) {
-  if (!hasOnly(bytes, (byte) => isOfText(byte) || byte >= 128)) return false;
+  if (!hasOnly(bytes, (byte) => isTextByte(byte) || byte >= 128)) return false;
   if (bytes.every((byte) => byte < 128)) return true;
   if (!bytes.includes(10)) return false;
   try {
@@ -151,12 +151,12 @@ function isText(bytes) {
  * @param {Uint8Array} bytes
  * @returns {ImageForm | null}
  */
-export function formOf(name, bytes) {
+export function formatOf(name, bytes) {
   if (/\.(hex|ihx)$/i.test(name)) return "hex";
   if (/\.bnpf?$/i.test(name)) return "bnpf";
   const begin = String.fromCharCode(...bytes.subarray(0, 2));
   if (begin.startsWith(":")) return "hex";
   if (/^S\d/.test(begin)) return "srec";
-  if (hasOnly(bytes, isOfText) && /B[NP]{8}F/i.test(new TextDecoder("latin1").decode(bytes))) return "bnpf";
+  if (hasOnly(bytes, isTextByte) && /B[NP]{8}F/i.test(new TextDecoder("latin1").decode(bytes))) return "bnpf";
   return isText(bytes) ? null : "binary";
 }

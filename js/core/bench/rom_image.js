@@ -1,6 +1,6 @@
 // Reads ROM images in raw bytes and in Intel HEX, and writes Intel HEX. (S-records and BNPF: rom_formats.js.)
 
-import { ADDRESSES, NONE } from "./rom_bytes.js";
+import { ADDRESSES, NO_BYTE } from "./rom_bytes.js";
 import { hex } from "./numbers.js";
 import * as say from "../../words/bench.js";
 
@@ -11,25 +11,25 @@ export class NotAnImage extends Error {}
 export class NotARecord extends NotAnImage {}
 
 /** The maximum number of data bytes in a written record. */
-const BYTES_OF_RECORD = 16;
+const BYTES_PER_RECORD = 16;
 /** The record types for data, and for the end of the file. */
-const DATA = 0;
-const LAST = 1;
+const DATA_TYPE = 0;
+const END_TYPE = 1;
 /** The record types for segments and upper address halves; their values must be 0 for a 4004. */
-const BASES = [2, 4];
+const BASE_TYPES = [2, 4];
 /** The record types for a program's start address, which linkers write. Such records are ignored: the 4004 starts at 000. */
-const STARTS = [3, 5];
+const START_TYPES = [3, 5];
 
 /** The bytes of an image that is being read. */
 export class ImageBytes {
   /** @param {number} offset added to each address */
   constructor(offset) {
     this.offset = offset;
-    this.bytes = new Int16Array(ADDRESSES).fill(NONE);
+    this.bytes = new Int16Array(ADDRESSES).fill(NO_BYTE);
   }
 
   get isEmpty() {
-    return this.bytes.every((byte) => byte === NONE);
+    return this.bytes.every((byte) => byte === NO_BYTE);
   }
 
   /**
@@ -41,7 +41,7 @@ export class ImageBytes {
     const from = address + this.offset;
     if (from + data.length > ADDRESSES) throw new NotAnImage(say.PAST_LAST);
     for (let at = 0; at < data.length; at++) {
-      if (this.bytes[from + at] !== NONE) throw new NotAnImage(say.secondTime(hex(from + at, 3)));
+      if (this.bytes[from + at] !== NO_BYTE) throw new NotAnImage(say.secondTime(hex(from + at, 3)));
       this.bytes[from + at] = data[at];
     }
   }
@@ -90,28 +90,28 @@ function readRecord(text) {
   const bytes = (text.slice(1).match(/../g) || []).map((digits) => parseInt(digits, 16));
   const [count, high, low, type] = bytes;
   if (bytes.length !== count + 5) throw new NotARecord(say.otherCount(count, bytes.length - 5));
-  const right = -bytes.slice(0, -1).reduce((sum, byte) => sum + byte, 0) & 0xff;
-  if (bytes[count + 4] !== right) {
-    throw new NotAnImage(say.otherSum(hex(bytes[count + 4], 2), hex(right, 2)));
+  const expected = -bytes.slice(0, -1).reduce((sum, byte) => sum + byte, 0) & 0xff;
+  if (bytes[count + 4] !== expected) {
+    throw new NotAnImage(say.otherSum(hex(bytes[count + 4], 2), hex(expected, 2)));
   }
   return { address: high * 256 + low, type, data: bytes.slice(4, -1) };
 }
 
 /** The number of data bytes in a record, for the types that fix it. */
-const SIZES = new Map([[LAST, 0], ...BASES.map((type) => /** @type {[number, number]} */ ([type, 2])),
-  ...STARTS.map((type) => /** @type {[number, number]} */ ([type, 4]))]);
+const DATA_SIZES = new Map([[END_TYPE, 0], ...BASE_TYPES.map((type) => /** @type {[number, number]} */ ([type, 2])),
+  ...START_TYPES.map((type) => /** @type {[number, number]} */ ([type, 4]))]);
 
 /**
  * Stores the bytes of a data record, and checks a record of another known type. Throws `NotAnImage` for an error.
  * @param {{ address: number, type: number, data: number[] }} record
  * @param {ImageBytes} image
  */
-function takeRecord({ address, type, data }, image) {
-  const size = SIZES.get(type);
-  if (type === DATA) image.put(address, data);
+function storeRecord({ address, type, data }, image) {
+  const size = DATA_SIZES.get(type);
+  if (type === DATA_TYPE) image.put(address, data);
   else if (size === undefined) throw new NotAnImage(say.noType(hex(type, 2)));
   else if (data.length !== size) throw new NotAnImage(say.otherSize(hex(type, 2), size));
-  else if (BASES.includes(type) && data.some((byte) => byte !== 0)) throw new NotAnImage(say.beyondAll(type));
+  else if (BASE_TYPES.includes(type) && data.some((byte) => byte !== 0)) throw new NotAnImage(say.beyondAll(type));
 }
 
 /**
@@ -127,8 +127,8 @@ export function readHex(text, offset = 0) {
     if (record === "") return;
     if (isEnded) throw new NotAnImage(say.AFTER_LAST);
     const read = readRecord(record);
-    takeRecord(read, image);
-    isEnded = read.type === LAST;
+    storeRecord(read, image);
+    isEnded = read.type === END_TYPE;
   });
   if (!isEnded) throw new NotAnImage(say.NO_LAST_RECORD);
   if (image.isEmpty) throw new NotAnImage(say.NO_BYTE);
@@ -141,7 +141,7 @@ export function readHex(text, offset = 0) {
  * @param {number} type
  * @param {number[]} data
  */
-function recordOf(address, type, data) {
+function formatRecord(address, type, data) {
   const bytes = [data.length, address >> 8, address & 0xff, type, ...data];
   const sum = -bytes.reduce((all, byte) => all + byte, 0) & 0xff;
   return `:${[...bytes, sum].map((byte) => hex(byte, 2)).join("")}\n`;
@@ -151,13 +151,13 @@ function recordOf(address, type, data) {
  * Writes bytes as Intel HEX, without the addresses that have no byte. A record has at most 16 bytes.
  * @param {Int16Array} bytes
  */
-export function hexOf(bytes) {
+export function writeHex(bytes) {
   let records = "";
   for (let at = 0; at < ADDRESSES;) {
     let end = at;
-    while (end < ADDRESSES && end < at + BYTES_OF_RECORD && bytes[end] !== NONE) end += 1;
-    if (end > at) records += recordOf(at, DATA, [...bytes.subarray(at, end)]);
+    while (end < ADDRESSES && end < at + BYTES_PER_RECORD && bytes[end] !== NO_BYTE) end += 1;
+    if (end > at) records += formatRecord(at, DATA_TYPE, [...bytes.subarray(at, end)]);
     at = Math.max(end, at + 1);
   }
-  return records + recordOf(0, LAST, []);
+  return records + formatRecord(0, END_TYPE, []);
 }

@@ -19,7 +19,7 @@ import { itemsOf, partsOfState, portsOf, registersOf } from "./state_line.js";
  * Returns the queries of a snapshot for a board.
  * @param {Pick<Board, "banks">} board
  */
-export function questionsOf(board) {
+export function snapshotQueries(board) {
   return ["state", ...board.banks.map(({ bank }) => `ram ${bank}`)];
 }
 
@@ -33,7 +33,7 @@ export function snapshotOf(inputs, answers) {
 }
 
 /** @type {StateParts} the parts before the first snapshot */
-const NOTHING = { registers: "", test: "", ports: "", keys: "", lamps: "", breaks: "", watches: "" };
+const NO_PARTS = { registers: "", test: "", ports: "", keys: "", lamps: "", breaks: "", watches: "" };
 
 /**
  * Reads snapshots and returns the changes between them. Each snapshot is read for the front panel. The other parts are read only from
@@ -43,10 +43,10 @@ export class SnapshotReader {
   constructor() {
     /** @type {string[]} the last snapshot */
     this.snapshot = [];
-    this.parts = NOTHING;
+    this.parts = NO_PARTS;
     /** @type {string[]} the last snapshot that `readRest` read */
     this.before = [];
-    this.partsBefore = NOTHING;
+    this.partsBefore = NO_PARTS;
     /** @type {Registers | null} the registers of the last snapshot that `readRest` read */
     this.registers = null;
   }
@@ -54,7 +54,7 @@ export class SnapshotReader {
   /** Forgets the last snapshot: the next one counts as changed in all parts. */
   forget() {
     this.snapshot = this.before = [];
-    this.parts = this.partsBefore = NOTHING;
+    this.parts = this.partsBefore = NO_PARTS;
   }
 
   /**

@@ -14,8 +14,8 @@
  */
 
 /** The maximum number of errors that the bench reports for a program. */
-export const MOST_ERRORS = 100;
-const OF_BOARD = /^no (\d+)(?: line (\d+))?(?: (rom|ram|chain|keys|lamp))?(?: (\d+))?(?: key (\S+))?$/;
+export const MAX_ERRORS = 100;
+const WIRING_REFUSAL = /^no (\d+)(?: line (\d+))?(?: (rom|ram|chain|keys|lamp))?(?: (\d+))?(?: key (\S+))?$/;
 
 /**
  * Parses the answer to `wiring`; returns null if the text is valid.
@@ -23,7 +23,7 @@ const OF_BOARD = /^no (\d+)(?: line (\d+))?(?: (rom|ram|chain|keys|lamp))?(?: (\
  * @returns {BoardError | null}
  */
 export function readWiring(answer) {
-  const [, number, line, section = "", index, key = ""] = OF_BOARD.exec(answer) || [];
+  const [, number, line, section = "", index, key = ""] = WIRING_REFUSAL.exec(answer) || [];
   return number ? { number: Number(number), line: Number(line || 0), section, index: Number(index || 0), key } : null;
 }
 

@@ -2,7 +2,7 @@
 
 import { byLine } from "./face.js";
 import { KINDS, said } from "./face_words.js";
-import { BITS } from "../bench/board_form.js";
+import { BITS_PER_CHIP } from "../bench/board_form.js";
 import { upTo } from "../bench/numbers.js";
 
 /**
@@ -33,7 +33,7 @@ export function hasOutput(board, line) {
   const [place, bit] = [line.slice(0, line.lastIndexOf(".")), Number(line.slice(line.lastIndexOf(".") + 1))];
   if (!hasPlace(board, place)) return false;
   const number = Number(place.slice(-1));
-  if (place.startsWith("chain")) return bit < BITS * board.chains[number].chips;
+  if (place.startsWith("chain")) return bit < BITS_PER_CHIP * board.chains[number].chips;
   return place.startsWith("ram") || board.roms.some(({ chip, port }) => `rom${Number(chip)}` === place && port[3 - bit] !== "i");
 }
 

@@ -1,7 +1,7 @@
 // The layout of the wiring diagram: the parts of a board with their pins, the wires between them, and their positions. This module does not
 // draw.
 
-import { BITS } from "../bench/board_form.js";
+import { BITS_PER_CHIP } from "../bench/board_form.js";
 import * as say from "../../words/board.js";
 
 /**
@@ -229,8 +229,8 @@ function drawRam(column, bank, chip, uses) {
  * @param {Uses} uses
  */
 function drawChain(column, { clock, data, chips }, at, uses) {
-  const bits = Array.from({ length: BITS * chips }, (_, bit) => (
-    { id: `chain${at}.${bit}`, line: `chain${at}.${bit}`, label: say.bitPin(bit), number: BIT_NUMBERS[bit % BITS] }));
+  const bits = Array.from({ length: BITS_PER_CHIP * chips }, (_, bit) => (
+    { id: `chain${at}.${bit}`, line: `chain${at}.${bit}`, label: say.bitPin(bit), number: BIT_NUMBERS[bit % BITS_PER_CHIP] }));
   const used = bits.filter(({ line }) => uses.of(line).length > 0).sort((one, other) => uses.orderOf(one.line) - uses.orderOf(other.line));
   const free = bits.filter(({ line }) => uses.of(line).length === 0).slice(0, FREE_BITS);
   const says = [say.clockIs(clock), say.dataIs(data), ...used.map(({ line, label }) => uses.say(label, line))];

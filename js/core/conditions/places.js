@@ -1,7 +1,7 @@
 // Parses the names of places in the machine: a register, a register pair, a RAM character, a line, a port, a chain or the lamps. A place
 // can have several spellings; it is shown in the spelling of `trace`. A place lists the `trace` places that report its value on a board.
 
-import { BITS } from "../bench/board_form.js";
+import { BITS_PER_CHIP } from "../bench/board_form.js";
 import { LAST_ADDRESS, hex, numberOf, upTo } from "../bench/numbers.js";
 
 /**
@@ -147,7 +147,7 @@ function lampPlace(name) {
   if (!chain) return null;
   const [, number, bit] = chain;
   if (bit === undefined) return { ...single(name, ({ chains }) => Number(number) < chains.length), most: () => -1 };
-  return lineOf(name, ({ chains }) => Number(number) < chains.length && Number(bit) < chains[Number(number)].chips * BITS);
+  return lineOf(name, ({ chains }) => Number(number) < chains.length && Number(bit) < chains[Number(number)].chips * BITS_PER_CHIP);
 }
 
 /**

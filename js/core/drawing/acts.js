@@ -1,7 +1,7 @@
 // Translates an action in the drawing of a board to edits of the board's text, or to a message if the action is not possible. Only the
 // bench decides whether the resulting text is valid.
 
-import { linesOf } from "../bench/board_form.js";
+import { boardLines } from "../bench/board_form.js";
 import { readBoard } from "../bench/answers.js";
 import { counted } from "../bench/numbers.js";
 import { Face } from "../board/face.js";
@@ -87,7 +87,7 @@ function addTest(sketch, kind) {
  */
 function wire(sketch, name, target) {
   const { board, draft } = sketch;
-  const line = linesOf(board).find((each) => each.name === name);
+  const line = boardLines(board).find((each) => each.name === name);
   if (!line || !wiringOf(board).has(target)) throw new ActRefusal(say.boardHasNo(line ? target : name));
   if (!mayWire(board, line, target)) throw new ActRefusal(whyNot(line, target));
   const [kind, number] = readTarget(target);

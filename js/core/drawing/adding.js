@@ -4,7 +4,7 @@ import { counted, upTo } from "../bench/numbers.js";
 import { Face } from "../board/face.js";
 import { linesOfPrinter } from "../board/face_board.js";
 import { limit } from "../board/face_words.js";
-import { BITS, MOST, MOST_COLUMNS, RANGES } from "../bench/board_form.js";
+import { BITS_PER_CHIP, MAX_COLUMNS, MAX_PARTS, RANGES } from "../bench/board_form.js";
 import { addGroup, colourLamp, setWhole } from "./face_edits.js";
 import { BUZZER, bitOf, freeLines, wiringOf } from "./board_lines.js";
 import { addPart, appendElement, setValue, written } from "./part_edits.js";
@@ -36,8 +36,8 @@ function freeNumber(taken, most) {
  * @param {string} port the mask of its port
  */
 export function addRom(sketch, port) {
-  const chip = freeNumber(sketch.board.roms.map((rom) => Number(rom.chip)), MOST.rom);
-  if (chip === undefined) throw new ActRefusal(say.mostRoms(MOST.rom));
+  const chip = freeNumber(sketch.board.roms.map((rom) => Number(rom.chip)), MAX_PARTS.rom);
+  if (chip === undefined) throw new ActRefusal(say.mostRoms(MAX_PARTS.rom));
   sketch.edit(addPart(sketch.draft, "rom", { chip, port }));
   return `rom ${chip}`;
 }
@@ -54,8 +54,8 @@ export function addRam(sketch) {
     sketch.edit([setValue(sketch.draft, sketch.draft.numbered("ram", open.bank), "chips", open.chips + 1)]);
     return `ram ${open.bank}.${open.chips}`;
   }
-  const bank = freeNumber(banks.map((each) => each.bank), MOST.ram);
-  if (bank === undefined) throw new ActRefusal(say.mostRams(MOST.ram, most));
+  const bank = freeNumber(banks.map((each) => each.bank), MAX_PARTS.ram);
+  if (bank === undefined) throw new ActRefusal(say.mostRams(MAX_PARTS.ram, most));
   sketch.edit(addPart(sketch.draft, "ram", { bank, chips: 1 }));
   return `ram ${bank}.0`;
 }
@@ -135,7 +135,7 @@ function freeForLamps(board) {
  */
 export function addChain(sketch, chips = 1) {
   const at = sketch.board.chains.length;
-  if (at >= MOST.chain) throw new ActRefusal(say.mostChains(MOST.chain));
+  if (at >= MAX_PARTS.chain) throw new ActRefusal(say.mostChains(MAX_PARTS.chain));
   const [clock, data] = need(sketch, 2, freeOutputs, () => addRom(sketch, OUTPUTS));
   sketch.edit(addPart(sketch.draft, "chain", { clock, data, chips }));
   return `chain ${at}`;
@@ -149,7 +149,7 @@ export function addChain(sketch, chips = 1) {
 function freeBits(board, count) {
   const free = new Set(freeLines(board).map(({ name }) => name));
   for (const [chain, { chips }] of board.chains.entries()) {
-    const begins = upTo(Math.max(0, BITS * chips - count + 1));
+    const begins = upTo(Math.max(0, BITS_PER_CHIP * chips - count + 1));
     const first = begins.find((bit) => upTo(count).every((more) => free.has(`chain${chain}.${bit + more}`)));
     if (first !== undefined) return { chain, first };
   }
@@ -162,7 +162,7 @@ function freeBits(board, count) {
  * @param {number} count
  */
 function needBits(sketch, count) {
-  if (!freeBits(sketch.board, count)) alsoAdd(sketch, () => addChain(sketch, Math.ceil(count / BITS)));
+  if (!freeBits(sketch.board, count)) alsoAdd(sketch, () => addChain(sketch, Math.ceil(count / BITS_PER_CHIP)));
   return /** @type {{ chain: number, first: number }} */ (freeBits(sketch.board, count));
 }
 
@@ -191,7 +191,7 @@ export function setRows(sketch, rows) {
   const { from, to } = RANGES["keys.rows"];
   if (rows > to) throw new ActRefusal(say.mostRows(to));
   if (rows < from) throw new ActRefusal(say.LEAST_ROWS);
-  if (matrix.first + rows > BITS * chains[matrix.chain].chips) {
+  if (matrix.first + rows > BITS_PER_CHIP * chains[matrix.chain].chips) {
     throw new ActRefusal(say.noBitForRow(matrix.chain));
   }
   sketch.edit([setValue(sketch.draft, sketch.draft.entry("keys", 0), "rows", rows)]);
@@ -205,7 +205,7 @@ export function setRows(sketch, rows) {
 export function addColumn(sketch) {
   const { matrix } = sketch.board;
   if (!matrix) throw new ActRefusal(say.NO_KEYS);
-  if (matrix.columns.length >= MOST_COLUMNS) throw new ActRefusal(say.mostColumns(MOST_COLUMNS));
+  if (matrix.columns.length >= MAX_COLUMNS) throw new ActRefusal(say.mostColumns(MAX_COLUMNS));
   const [line] = need(sketch, 1, freeInputs, () => addRom(sketch, INPUTS));
   const { draft } = sketch;
   sketch.edit(appendElement(draft, draft.keyOf(draft.entry("keys", 0), "columns").value, written(line)));
@@ -218,7 +218,7 @@ export function addColumn(sketch) {
  * @param {number} count
  */
 function needRoom({ board }, count) {
-  if (board.lamps.length + count > MOST.lamp) throw new ActRefusal(say.mostLamps(MOST.lamp, board.lamps.length));
+  if (board.lamps.length + count > MAX_PARTS.lamp) throw new ActRefusal(say.mostLamps(MAX_PARTS.lamp, board.lamps.length));
 }
 
 /**
@@ -353,7 +353,7 @@ export function setChips(sketch, chain, chips) {
   if (chips > to) throw new ActRefusal(say.mostChips(to));
   if (chips < from) throw new ActRefusal(say.LEAST_CHIPS);
   /** @type {(line: string) => boolean} */
-  const isBeyond = (line) => line.startsWith(`chain${chain}.`) && bitOf(line).bit >= BITS * chips;
+  const isBeyond = (line) => line.startsWith(`chain${chain}.`) && bitOf(line).bit >= BITS_PER_CHIP * chips;
   keepOutputs(sketch, isBeyond);
   const beyond = [...wiringOf(sketch.board).values()].find(isBeyond);
   if (beyond) throw new ActRefusal(say.inUse(beyond));

@@ -2,7 +2,7 @@
 // action before the board's text is edited. The drawing shows the bench's answer.
 
 import { readBoard, refusalOf } from "../bench/answers.js";
-import { linesOf } from "../bench/board_form.js";
+import { boardLines } from "../bench/board_form.js";
 import { counted } from "../bench/numbers.js";
 import { Face } from "../board/face.js";
 import { sentText } from "../text/text_fault.js";
@@ -150,8 +150,8 @@ export class Drawing {
     if (kind === "buzzer") return Boolean(board.buzzer);
     if (kind === "rom") return board.roms.some(({ chip }) => String(chip) === number);
     if (kind === "chain") return Number(number) < board.chains.length;
-    if (kind === "ram") return linesOf(board).some((line) => line.name.startsWith(`ram${number}.`));
-    return wiringOf(board).has(name) || linesOf(board).some((line) => line.name === name);
+    if (kind === "ram") return boardLines(board).some((line) => line.name.startsWith(`ram${number}.`));
+    return wiringOf(board).has(name) || boardLines(board).some((line) => line.name === name);
   }
 
   /** The pins where the unfinished wire can end. */

@@ -1,7 +1,7 @@
 // The lines of a board, the inputs that use them, and the allowed wires between the two. The bench decides what is allowed; a unit test
 // compares each pair of a line and an input with the bench. A buzzer is part of the front panel only; it uses a line like a lamp.
 
-import { BITS, linesOf } from "../bench/board_form.js";
+import { BITS_PER_CHIP, boardLines } from "../bench/board_form.js";
 import { upTo } from "../bench/numbers.js";
 import { buzzerOf } from "../board/face_board.js";
 import * as say from "../../words/drawing.js";
@@ -89,7 +89,7 @@ export function mayWire({ chains, matrix }, { name, kind, isInput }, target) {
   if (kind !== "bit" || !matrix) return false;
   const { chain, bit } = bitOf(name);
   const first = bit - number;
-  return first >= 0 && first + matrix.rows <= BITS * chains[chain].chips;
+  return first >= 0 && first + matrix.rows <= BITS_PER_CHIP * chains[chain].chips;
 }
 
 /**
@@ -99,7 +99,7 @@ export function mayWire({ chains, matrix }, { name, kind, isInput }, target) {
  * @returns {Target[]}
  */
 export function targetsOf(board, name) {
-  const line = linesOf(board).find((each) => each.name === name);
+  const line = boardLines(board).find((each) => each.name === name);
   if (!line) return [];
   return [...wiringOf(board)].filter(([target, now]) => now !== name && mayWire(board, line, target)).map(([target]) => target);
 }
@@ -110,7 +110,7 @@ export function targetsOf(board, name) {
  * @param {Target} target
  */
 export function sourcesOf(board, target) {
-  return linesOf(board).filter((line) => mayWire(board, line, target)).map(({ name }) => name);
+  return boardLines(board).filter((line) => mayWire(board, line, target)).map(({ name }) => name);
 }
 
 /**
@@ -119,5 +119,5 @@ export function sourcesOf(board, target) {
  */
 export function freeLines(board) {
   const used = new Set(wiringOf(board).values());
-  return linesOf(board).filter(({ name }) => !used.has(name));
+  return boardLines(board).filter(({ name }) => !used.has(name));
 }

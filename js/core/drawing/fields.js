@@ -3,7 +3,7 @@
 
 import { upTo } from "../bench/numbers.js";
 import { COLOURS } from "../board/face_words.js";
-import { RANGES, linesOf } from "../bench/board_form.js";
+import { RANGES, boardLines } from "../bench/board_form.js";
 import { displayAt, lampsWith } from "./deleting.js";
 import { BUZZER, nameOfTarget, readTarget, sourcesOf, wiringOf } from "./board_lines.js";
 import * as say from "../../words/drawing.js";
@@ -196,7 +196,7 @@ function ofRam(face, part) {
  * @returns {Fields}
  */
 function ofLine(board, name) {
-  const line = linesOf(board).find((each) => each.name === name);
+  const line = boardLines(board).find((each) => each.name === name);
   const rom = line && line.kind === "rom" ? board.roms.find(({ chip }) => name.startsWith(`rom${chip}.`)) : null;
   const isInput = line !== undefined && line.isInput;
   /** @type {Button[]} */

@@ -4,7 +4,7 @@
 import { readBoard, readMap, refusalOf } from "../bench/answers.js";
 import { matchAnswers, readInputs } from "../bench/inputs.js";
 import { upTo } from "../bench/numbers.js";
-import { ADDRESSES, NONE, PAGES, PAGE_BYTES, bytesOf, listsOf } from "../bench/rom_bytes.js";
+import { ADDRESSES, NO_BYTE, PAGES, PAGE_BYTES, bytesOf, listQueries } from "../bench/rom_bytes.js";
 import { LONGEST_TEXT, TEXT_TOO_LONG } from "../text/text_fault.js";
 
 /**
@@ -43,12 +43,12 @@ export function readProgram(engine, text) {
   const fault = faultOfText(text);
   if (fault) return { text, map: [], refusal: fault, bytes: bytesOf([]) };
   const whole = text === "" || text.endsWith("\n") ? text : `${text}\n`;
-  const lines = `${ALL_ROMS}asm\n${whole}.\nmap\n${whole}.\n${listsOf(PAGES)}`;
+  const lines = `${ALL_ROMS}asm\n${whole}.\nmap\n${whole}.\n${listQueries(PAGES)}`;
   const [, loaded, map, ...lists] = matchAnswers(readInputs(lines), engine.ask(engine.begin(), lines).answers);
   const refusal = refusalOf(loaded[0]) || refusalOf(map[0]);
   const bytes = bytesOf(refusal ? [] : lists.flat());
   const isPut = putBy(map);
-  return { text, map: refusal ? [] : map, refusal, bytes: bytes.map((byte, address) => (isPut[address] ? byte : NONE)) };
+  return { text, map: refusal ? [] : map, refusal, bytes: bytes.map((byte, address) => (isPut[address] ? byte : NO_BYTE)) };
 }
 
 /**
@@ -69,9 +69,9 @@ function putBy(map) {
  * @returns {import("../text/assembling.js").Leftovers}
  */
 export function leftoversOf(engine, file, program) {
-  const bytes = bytesOf(engine.ask(file, listsOf(PAGES)).answers);
-  const left = upTo(ADDRESSES).filter((address) => program.bytes[address] === NONE && bytes[address] > 0);
-  return { size: program.bytes.filter((byte) => byte !== NONE).length, left };
+  const bytes = bytesOf(engine.ask(file, listQueries(PAGES)).answers);
+  const left = upTo(ADDRESSES).filter((address) => program.bytes[address] === NO_BYTE && bytes[address] > 0);
+  return { size: program.bytes.filter((byte) => byte !== NO_BYTE).length, left };
 }
 
 /**
@@ -83,11 +83,11 @@ export function leftoversOf(engine, file, program) {
  * @returns {Difference | null}
  */
 export function differenceOf(engine, file, board, program) {
-  const pages = PAGES.filter((page) => program.bytes.subarray(page * PAGE_BYTES, (page + 1) * PAGE_BYTES).some((byte) => byte !== NONE));
+  const pages = PAGES.filter((page) => program.bytes.subarray(page * PAGE_BYTES, (page + 1) * PAGE_BYTES).some((byte) => byte !== NO_BYTE));
   if (pages.length === 0) return null;
   const roms = new Set(readBoard(board).roms.map(({ chip }) => chip));
-  const bytes = bytesOf(engine.ask(file, listsOf(pages)).answers);
+  const bytes = bytesOf(engine.ask(file, listQueries(pages)).answers);
   const hasRom = (/** @type {number} */ address) => roms.has(Math.floor(address / PAGE_BYTES));
-  const address = program.bytes.findIndex((byte, at) => byte !== NONE && (byte !== bytes[at] || !hasRom(at)));
+  const address = program.bytes.findIndex((byte, at) => byte !== NO_BYTE && (byte !== bytes[at] || !hasRom(at)));
   return address < 0 ? null : { address, hasRom: hasRom(address) };
 }

@@ -1,6 +1,6 @@
 // The bytes in ROM, from the bench's listing.
 
-import { ADDRESSES, PAGES, PAGE_BYTES, bytesOf, listsOf } from "../bench/rom_bytes.js";
+import { ADDRESSES, PAGES, PAGE_BYTES, bytesOf, listQueries } from "../bench/rom_bytes.js";
 
 /** The codes of the instructions that use the port of a ROM: WRR writes it, RDR reads it. */
 export const WRR = 0xE2;
@@ -14,7 +14,7 @@ export const RDR = 0xEA;
  * @param {Uint8Array} file
  */
 export function romCodes(engine, file) {
-  return codesOf(engine.ask(file, listsOf(PAGES)).answers);
+  return codesOf(engine.ask(file, listQueries(PAGES)).answers);
 }
 
 /**

@@ -5,7 +5,7 @@ import { readListing } from "../bench/answers.js";
 import { linesOfExample } from "./examples.js";
 import { BenchRefusal, NO_MEMORY } from "../bench/faults.js";
 import { LAST_ADDRESS, hex } from "../bench/numbers.js";
-import { MOST_LISTED, PAGES, listsOf } from "../bench/rom_bytes.js";
+import { MAX_LISTED, PAGES, listQueries } from "../bench/rom_bytes.js";
 
 /**
  * @typedef {import("./examples.js").Example} Example
@@ -15,7 +15,7 @@ import { MOST_LISTED, PAGES, listsOf } from "../bench/rom_bytes.js";
 
 /** No tests and no properties. */
 const NONE_BESIDE = { testText: "", propertiesText: "" };
-const ALL_ROM = listsOf(PAGES);
+const ALL_ROM = listQueries(PAGES);
 
 /**
  * @param {Engine} engine
@@ -60,7 +60,7 @@ function listAll(engine, file) {
   const lines = [];
   let address = 0;
   while (address <= LAST_ADDRESS) {
-    const listed = readListing(engine.ask(file, `list ${address} ${MOST_LISTED}\n`).answers);
+    const listed = readListing(engine.ask(file, `list ${address} ${MAX_LISTED}\n`).answers);
     if (listed.length === 0) throw new BenchRefusal(NO_MEMORY);
     lines.push(...listed);
     const last = listed[listed.length - 1];

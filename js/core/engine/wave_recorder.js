@@ -3,7 +3,7 @@
 
 import { readBoard } from "../bench/answers.js";
 import { Cancelled } from "../bench/faults.js";
-import { linesOf } from "../bench/inputs.js";
+import { joinLines } from "../bench/inputs.js";
 import { linesOfBoard } from "../waves/wave_lines.js";
 import { LONGEST_RUN } from "./key_queue.js";
 import { FIRST_CYCLES, PieceSize, RECORDED_CYCLES, RECORDED_UNITS } from "./pieces.js";
@@ -92,7 +92,7 @@ class WaveRecorder {
 export function listedAt(engine, file, addresses) {
   const all = [...addresses];
   if (all.length === 0) return [];
-  const { answers } = engine.ask(file, linesOf(all.map((address) => `list ${address} 1`)));
+  const { answers } = engine.ask(file, joinLines(all.map((address) => `list ${address} 1`)));
   return all.map((address, at) => [address, answers[at]]);
 }
 

@@ -1,7 +1,7 @@
 // A state whose runs nothing stops: without its breakpoints and watches.
 
 import { readMarks } from "../bench/answers.js";
-import { linesOf } from "../bench/inputs.js";
+import { joinLines } from "../bench/inputs.js";
 
 /**
  * The lines that take away all breakpoints and watches.
@@ -9,7 +9,7 @@ import { linesOf } from "../bench/inputs.js";
  */
 function linesWithoutStops([breaks, watches]) {
   const unwatches = readMarks(watches).map((each) => each.split(".")).map(([bank, source]) => `unwatch ${bank} 0x${source}`);
-  return linesOf([...readMarks(breaks).map((address) => `unbreak 0x${address}`), ...unwatches]);
+  return joinLines([...readMarks(breaks).map((address) => `unbreak 0x${address}`), ...unwatches]);
 }
 
 /**

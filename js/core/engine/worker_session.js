@@ -5,9 +5,9 @@ import { askedLines, partedAnswers } from "./asking.js";
 import { cyclesOfLine, linesUpTo } from "../debug/ahead.js";
 import { isStop, readBoard, readMarks, readRun, refusalOf } from "../bench/answers.js";
 import { Cancelled } from "../bench/faults.js";
-import { endOfInputs, linesOf, matchAnswers, readInputs } from "../bench/inputs.js";
+import { endOfInputs, joinLines, matchAnswers, readInputs } from "../bench/inputs.js";
 import { KeyQueue } from "./key_queue.js";
-import { snapshotOf, questionsOf } from "../bench/snapshot.js";
+import { snapshotOf, snapshotQueries } from "../bench/snapshot.js";
 import { PieceSize } from "./pieces.js";
 import { romCodes } from "./rom_codes.js";
 import { EYE_CYCLES } from "../time/mcs4_time.js";
@@ -335,7 +335,7 @@ export class WorkerSession {
  */
 function statusQueriesOf(engine, file) {
   const board = engine.ask(file, "board\n").answers;
-  const lines = linesOf(questionsOf(readBoard(board)));
+  const lines = joinLines(snapshotQueries(readBoard(board)));
   return { board, lines, inputs: readInputs(lines) };
 }
 

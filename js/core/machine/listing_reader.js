@@ -1,7 +1,7 @@
 // Asks the bench for the requested stretch of a listing, and for no more.
 
 import { readListing } from "../bench/answers.js";
-import { linesOf, matchAnswers, readInputs } from "../bench/inputs.js";
+import { joinLines, matchAnswers, readInputs } from "../bench/inputs.js";
 import { beginningsOf, beginsLine, linesNeeded } from "./listing_stretch.js";
 
 /**
@@ -35,7 +35,7 @@ export class ListingReader {
    * @param {number} count
    */
   async list(start, count) {
-    const lines = linesOf([`list ${start} ${count}`]);
+    const lines = joinLines([`list ${start} ${count}`]);
     return readListing(matchAnswers(readInputs(lines), await this.ask(lines))[0]);
   }
 }

@@ -2,7 +2,7 @@
 // first byte on, so it is in step with the program only if one of its lines begins at the known beginning of an instruction.
 
 import { upTo } from "../bench/numbers.js";
-import { ADDRESSES, MOST_LISTED } from "../bench/rom_bytes.js";
+import { ADDRESSES, MAX_LISTED } from "../bench/rom_bytes.js";
 
 /**
  * @typedef {import("../bench/answers.js").Listed} Listed
@@ -35,7 +35,7 @@ export function beginningsOf({ from, anchor }, rows) {
  * @param {number} rows
  */
 export function linesNeeded(start, { from, anchor }, rows) {
-  return Math.min(MOST_LISTED, Math.max(from, anchor || 0) - start + rows);
+  return Math.min(MAX_LISTED, Math.max(from, anchor || 0) - start + rows);
 }
 
 /**

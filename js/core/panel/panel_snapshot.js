@@ -2,7 +2,7 @@
 // the counter.
 
 import { readRam } from "../bench/answers.js";
-import { linesOf, matchAnswers, readInputs } from "../bench/inputs.js";
+import { joinLines, matchAnswers, readInputs } from "../bench/inputs.js";
 import { hex, upTo } from "../bench/numbers.js";
 import { itemsOf, partsOfState, registersOf, valueIn } from "../bench/state_line.js";
 import { FULL_LEVEL, levelOf } from "../board/brightness.js";
@@ -86,7 +86,7 @@ export class PanelSnapshot {
   async take(rows) {
     const banks = new Set(this.shownChips(rows).map(({ bank }) => bank));
     const isShining = rows > 0 && !this.panel.isPaused && this.panel.of.board.lamps.length > 0;
-    const questions = `${linesOf(["state", ...[...banks].map((bank) => `ram ${bank}`)])}${isShining ? SEEN_QUESTION : ""}`;
+    const questions = `${joinLines(["state", ...[...banks].map((bank) => `ram ${bank}`)])}${isShining ? SEEN_QUESTION : ""}`;
     const answers = matchAnswers(readInputs(questions), await this.panel.ask(questions));
     this.takeState(answers[0][0]);
     this.takeRam(answers.slice(1, 1 + banks.size));

@@ -2,7 +2,7 @@
 // everything by lines that it asks a session, and knows no terminal: js/core/panel/screen.js converts the picture to rows of characters.
 
 import { refusalOf, readRun } from "../bench/answers.js";
-import { linesOf } from "../bench/inputs.js";
+import { joinLines } from "../bench/inputs.js";
 import { hex } from "../bench/numbers.js";
 import { keyOfKeyboard, keysOf } from "../board/board_keys.js";
 import { printerOf } from "../board/face_board.js";
@@ -84,7 +84,7 @@ export class Panel {
    * @param {string} line
    */
   async act(line) {
-    const [answer] = await this.ask(linesOf([line]));
+    const [answer] = await this.ask(joinLines([line]));
     this.reportRefusal(line, answer);
     return answer;
   }

@@ -1,8 +1,8 @@
 // The completions of a line of the bench, or of the prompt around it.
 
-import { FORMS } from "../bench/answer_table.js";
+import { ANSWER_FORMS } from "../bench/answer_table.js";
 import { readBoard, readMarks } from "../bench/answers.js";
-import { POKED, TRACED } from "../bench/line_forms.js";
+import { POKE_NAMES, TRACE_NAMES } from "../bench/line_forms.js";
 import { upTo } from "../bench/numbers.js";
 
 /**
@@ -43,9 +43,9 @@ const keysAt = async (at, ask) => {
  * @type {Record<string, WordsAt>}
  */
 const WORDS_AFTER = {
-  help: atFirst([...FORMS.keys(), ...OWN_WORDS, ...HELP_WORDS]),
-  poke: atFirst(POKED),
-  trace: async (at) => (at > 0 ? TRACED : []),
+  help: atFirst([...ANSWER_FORMS.keys(), ...OWN_WORDS, ...HELP_WORDS]),
+  poke: atFirst(POKE_NAMES),
+  trace: async (at) => (at > 0 ? TRACE_NAMES : []),
   test: atFirst(["0", "1"]),
   press: keysAt,
   release: keysAt,
@@ -61,12 +61,12 @@ const WORDS_AFTER = {
  */
 export async function completeLine(line, calls) {
   const [, first] = /^[ \t]*(\S*)$/.exec(line) || [];
-  if (first !== undefined) return [beginning([...FORMS.keys(), ...OWN_WORDS], first).map((word) => `${word} `), first];
+  if (first !== undefined) return [beginning([...ANSWER_FORMS.keys(), ...OWN_WORDS], first).map((word) => `${word} `), first];
   const [, word, rest] = /** @type {RegExpExecArray} */ (/^[ \t]*(\S+)[ \t]+(.*)$/.exec(line));
   if (FILE_WORDS.includes(word)) return [calls.files(rest), rest];
   const words = line.trimStart().split(/[ \t]+/);
   const begin = /** @type {string} */ (words.pop());
   const at = WORDS_AFTER[word];
-  const found = FORMS.has(word) || word === "help" ? await (at ? at(words.length - 1, calls.ask) : []) : [];
+  const found = ANSWER_FORMS.has(word) || word === "help" ? await (at ? at(words.length - 1, calls.ask) : []) : [];
   return [beginning(found, begin), begin];
 }

@@ -1,6 +1,6 @@
 // Errors of a text as editors accept them, and their fixes.
 
-import { MOST_ERRORS } from "../bench/text_judgement.js";
+import { MAX_ERRORS } from "../bench/text_judgement.js";
 import { LONGEST_KEPT, TEXT_TOO_LONG } from "../text/text_fault.js";
 import { rangeOf } from "./lsp_protocol.js";
 import * as say from "../../words/server.js";
@@ -35,8 +35,8 @@ export function diagnosticOf({ number, line, from, to, words, isError = number >
  * @returns {Diagnostic[]}
  */
 export function diagnosticsOf(faults, areAll) {
-  const diagnostics = faults.slice(0, MOST_ERRORS).map(diagnosticOf);
-  const isMore = faults.length > MOST_ERRORS || (!areAll && faults.length > 1);
+  const diagnostics = faults.slice(0, MAX_ERRORS).map(diagnosticOf);
+  const isMore = faults.length > MAX_ERRORS || (!areAll && faults.length > 1);
   if (!isMore) return diagnostics;
   const { range } = diagnostics[diagnostics.length - 1];
   return [...diagnostics, { range, severity: INFORMATION, source: SOURCE, message: say.MAY_BE_MORE }];

@@ -1,6 +1,6 @@
 // A project as the files of a folder, which other programs edit, and the texts of such files as parts of a project.
 
-import { linesOf } from "../bench/inputs.js";
+import { joinLines } from "../bench/inputs.js";
 import { breakpointOfLine, linesOfBreakpoints } from "../debug/breakpoint_lines.js";
 import { MOST_BREAKPOINTS } from "../debug/breakpoints.js";
 import { NotAProject } from "./project_file.js";
@@ -29,7 +29,7 @@ function projectFileOf({ testText, propertiesText }) {
   const values = {
     board, program, ...(testText ? { tests: [tests] } : {}), ...(propertiesText ? { properties: [properties] } : {}),
   };
-  return linesOf([say.ABOUT_PROJECT_FILE, ...Object.entries(values).map(([key, value]) => [key, JSON.stringify(value)].join(" = "))]);
+  return joinLines([say.ABOUT_PROJECT_FILE, ...Object.entries(values).map(([key, value]) => [key, JSON.stringify(value)].join(" = "))]);
 }
 
 /**
@@ -42,8 +42,8 @@ export function partsOfProject(project) {
   const texts = [
     { name: PART_NAMES.tests, content: testText },
     { name: PART_NAMES.properties, content: propertiesText },
-    { name: PART_NAMES.breakpoints, content: linesOf(linesOfBreakpoints(breakpoints)) },
-    { name: PART_NAMES.values, content: linesOf(watched) },
+    { name: PART_NAMES.breakpoints, content: joinLines(linesOfBreakpoints(breakpoints)) },
+    { name: PART_NAMES.values, content: joinLines(watched) },
   ];
   return [
     { name: PART_NAMES.project, content: projectFileOf(project) },

@@ -2,8 +2,8 @@
 
 import { readBoard } from "../bench/answers.js";
 import { counted, hex } from "../bench/numbers.js";
-import { NONE, PAGES, PAGE_BYTES, bytesOf, listsOf } from "../bench/rom_bytes.js";
-import { hexOf } from "../bench/rom_image.js";
+import { NO_BYTE, PAGES, PAGE_BYTES, bytesOf, listQueries } from "../bench/rom_bytes.js";
+import { writeHex } from "../bench/rom_image.js";
 import { textsOfBytes } from "../text/assembling.js";
 import * as say from "../../words/session.js";
 
@@ -37,28 +37,28 @@ export class RomFiles {
    */
   async load(name, bytes) {
     const chips = await this.chips();
-    const lacked = bytes.findIndex((byte, at) => byte !== NONE && !chips.includes(Math.floor(at / PAGE_BYTES)));
+    const lacked = bytes.findIndex((byte, at) => byte !== NO_BYTE && !chips.includes(Math.floor(at / PAGE_BYTES)));
     if (lacked >= 0) {
       const chip = Math.floor(lacked / PAGE_BYTES);
       throw new LacksRom(say.lacksRom(chip, hex(lacked, 3)));
     }
     await this.calls.stop();
     const answer = await this.calls.act(textsOfBytes(bytes).map((text) => `asm\n${text}.\n`).join(""));
-    const first = bytes.findIndex((byte) => byte !== NONE);
-    const count = bytes.filter((byte) => byte !== NONE).length;
+    const first = bytes.findIndex((byte) => byte !== NO_BYTE);
+    const count = bytes.filter((byte) => byte !== NO_BYTE).length;
     return answer === null ? "" : say.bytesInRom(counted(count, "byte"), name, count === 1, hex(first, 3));
   }
 
   /** Returns the bytes of all ROMs of the board. A list continues after the end of a ROM. */
   async bytes() {
     const chips = await this.chips();
-    const listed = bytesOf(await this.calls.ask(listsOf(PAGES.filter((page) => chips.includes(page)))));
-    return listed.map((byte, at) => (chips.includes(Math.floor(at / PAGE_BYTES)) ? byte : NONE));
+    const listed = bytesOf(await this.calls.ask(listQueries(PAGES.filter((page) => chips.includes(page)))));
+    return listed.map((byte, at) => (chips.includes(Math.floor(at / PAGE_BYTES)) ? byte : NO_BYTE));
   }
 
   /** Resolves to the bytes of ROM in Intel HEX. */
   async hex() {
-    return (await this.chips()).length === 0 ? "" : hexOf(await this.bytes());
+    return (await this.chips()).length === 0 ? "" : writeHex(await this.bytes());
   }
 
   /** Resolves to the bytes of ROM from 000 to the end of the last chip; a missing chip reads as 0. */

@@ -1,6 +1,6 @@
 // The lines of a program that ran, from the counts of an account: each with its count and, for a conditional jump, its branch directions.
 
-import { withTenths } from "../bench/numbers.js";
+import { formatTenths } from "../bench/numbers.js";
 import { hasWays, isCall, targetOf } from "../engine/rom_codes.js";
 import * as say from "../../words/testing.js";
 
@@ -79,6 +79,6 @@ export function coverageOf(account, map) {
  */
 export function wordsOfCoverage({ instructions, run, ways, waysRun }) {
   /** @type {(part: number, all: number) => string} */
-  const percent = (part, all) => (all > 0 ? ` (${withTenths((100 * part) / all)} %)` : "");
+  const percent = (part, all) => (all > 0 ? ` (${formatTenths((100 * part) / all)} %)` : "");
   return say.covered([run, instructions, waysRun, ways], percent(run, instructions), percent(waysRun, ways));
 }

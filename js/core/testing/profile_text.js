@@ -1,6 +1,6 @@
 // A profile as a table for a terminal: a row for each label, and one for each key that was pressed.
 
-import { hex, withTenths } from "../bench/numbers.js";
+import { formatTenths, hex } from "../bench/numbers.js";
 import { CYCLE_MS } from "../time/mcs4_time.js";
 import * as say from "../../words/testing.js";
 
@@ -17,10 +17,10 @@ const PLACE_WIDTH = 22;
 const right = (value, width) => String(value).padStart(width);
 
 /** @param {number} cycles */
-const milliseconds = (cycles) => say.inMilliseconds(withTenths(cycles * CYCLE_MS));
+const milliseconds = (cycles) => say.inMilliseconds(formatTenths(cycles * CYCLE_MS));
 
 /** @type {(own: number, total: number) => string} */
-const share = (own, total) => `${right(own, 10)} ${right(withTenths((100 * own) / total), 6)}`;
+const share = (own, total) => `${right(own, 10)} ${right(formatTenths((100 * own) / total), 6)}`;
 
 /**
  * Returns the row of a label.

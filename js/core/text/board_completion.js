@@ -1,7 +1,7 @@
 // The completions of a word that is typed in a board's text: a part with all its keys, a key, or a value, of the lines that the board has
 // so far.
 
-import { MOST, linesOf } from "../bench/board_form.js";
+import { MAX_PARTS, boardLines } from "../bench/board_form.js";
 import { upTo } from "../bench/numbers.js";
 import { partsWithLines, readBoardText } from "./board_reader.js";
 import { alone, fitting } from "./completion.js";
@@ -36,10 +36,10 @@ class Parts {
   /** @param {string} text */
   constructor(text) {
     const { roms, banks, chains } = partsWithLines(readBoardText(text).entries);
-    this.chips = upTo(MOST.rom).filter((number) => !roms.some(({ chip }) => chip === number));
-    this.banks = upTo(MOST.ram).filter((number) => !banks.some(({ bank }) => bank === number));
+    this.chips = upTo(MAX_PARTS.rom).filter((number) => !roms.some(({ chip }) => chip === number));
+    this.banks = upTo(MAX_PARTS.ram).filter((number) => !banks.some(({ bank }) => bank === number));
     this.chains = upTo(chains.length);
-    const lines = linesOf({ roms, banks, chains });
+    const lines = boardLines({ roms, banks, chains });
     this.inputs = lines.filter(({ isInput }) => isInput);
     this.bits = lines.filter(({ kind }) => kind === "bit");
     this.outputs = lines.filter(({ kind, isInput }) => kind !== "bit" && !isInput);

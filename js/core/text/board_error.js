@@ -1,7 +1,7 @@
 // The errors in a board's text, in words: the bench reports the error and its part, the text's reader finds the place of the part, and the
 // manual says what each key must be.
 
-import { KEYS, LINE_NAMES, MOST, MOST_COLUMNS, BITS, RANGES, linesOf } from "../bench/board_form.js";
+import { KEYS, LINE_NAMES, MAX_PARTS, MAX_COLUMNS, BITS_PER_CHIP, RANGES, boardLines } from "../bench/board_form.js";
 import { meant, mostAlike } from "./alike.js";
 import { partsWithLines, readBoardText } from "./board_reader.js";
 import { faultAt } from "./text_fault.js";
@@ -50,7 +50,7 @@ class Words {
     this.tables = tables;
     this.wordsOf = wordsOf;
     this.parts = partsWithLines(text.entries);
-    this.lines = new Map(linesOf(this.parts).map((line) => [line.name, line]));
+    this.lines = new Map(boardLines(this.parts).map((line) => [line.name, line]));
   }
 
   /** Returns the tables of the wrong section. */
@@ -122,7 +122,7 @@ class Words {
     const { number, section, key: name } = this.error;
     if (number === MISSING_KEY) return say.lacks(section, name);
     if (number === BAD_VALUE) return this.wordsOfForm(value);
-    if (number === TOO_MANY) return name === "" ? say.mostTables(MOST[section], section) : say.mostColumns(MOST_COLUMNS);
+    if (number === TOO_MANY) return name === "" ? say.mostTables(MAX_PARTS[section], section) : say.mostColumns(MAX_COLUMNS);
     if (!entry || !key || !value) return this.wordsOf(number);
     if (number === THERE_TWICE) return say.alreadyThere(`${name} ${value.inner}`, this.lineOfFirst(entry, key));
     if (number === LACKS_LINE) return name === "rows" ? this.rowsNeed(entry) : this.lacking(String(value.inner));
@@ -158,7 +158,7 @@ class Words {
     const bank = banks.find((each) => String(each.bank) === number);
     if (kind === "ram") return bank && Number(chip) >= bank.chips ? say.bankHas(name, number, bank.chips) : say.noSuchBank(name, number);
     const chain = chains[Number(number)];
-    return chain ? say.chainHas(name, number, BITS * chain.chips - 1) : say.noChain(number, chains.length);
+    return chain ? say.chainHas(name, number, BITS_PER_CHIP * chain.chips - 1) : say.noChain(number, chains.length);
   }
 
   /**
@@ -171,7 +171,7 @@ class Words {
       return key ? Number(key.value.inner) : 0;
     });
     const { chips = 0 } = this.parts.chains[chain] || {};
-    return say.rowsNeed(first, first + rows - 1, chain, BITS * chips - 1);
+    return say.rowsNeed(first, first + rows - 1, chain, BITS_PER_CHIP * chips - 1);
   }
 
   /**

@@ -2,7 +2,7 @@
 
 import { namesOf, partsOf } from "./assembly.js";
 import { hex } from "../bench/numbers.js";
-import { MOST_ERRORS } from "../bench/text_judgement.js";
+import { MAX_ERRORS } from "../bench/text_judgement.js";
 import { wordsOfProgramLine } from "./program_words.js";
 import { TEXT_TOO_LONG, alignedText, faultsOfLines, sentLine } from "./text_fault.js";
 import * as say from "../../words/text.js";
@@ -70,7 +70,7 @@ export async function findProgramFaults(program, instructions, wordsOf, asked) {
   const found = errors.map((error) => errorOfLine(lines, error, facts, wordsOf));
   const faults = [...unsent, ...found].sort((one, other) => one.line - other.line || one.from - other.from);
   const rest = faults.length === 0 ? await asked.refuse(sent) : null;
-  return { faults, areAll: errors.length < MOST_ERRORS, rest };
+  return { faults, areAll: errors.length < MAX_ERRORS, rest };
 }
 
 /**

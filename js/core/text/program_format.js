@@ -1,7 +1,7 @@
 // The layout of a program's text: labels at the margin, then columns of instructions, operands and comments. Only blanks change, in lines
 // whose form is right, so each line keeps its words, and the program its bytes.
 
-import { LONGEST_LINE } from "../bench/inputs.js";
+import { MAX_LINE_LENGTH } from "../bench/inputs.js";
 import { LONGEST_KEPT, LONGEST_TEXT, bare, sentText } from "./text_fault.js";
 import * as say from "../../words/text.js";
 
@@ -129,7 +129,7 @@ export function formattedLines(lines, isHead, layout) {
     const column = line && line.comment ? columnOfComment(end, line.indent, last) : 0;
     last = column >= COMMENT ? column : 0;
     // A line is sent whole, and must not become too long for that.
-    if (!line || code.length > LONGEST_LINE) return lines[at];
+    if (!line || code.length > MAX_LINE_LENGTH) return lines[at];
     return line.comment ? code + gap(end, column, layout) + line.comment : code;
   });
 }

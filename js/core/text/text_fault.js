@@ -1,7 +1,7 @@
 // A text as it is sent, and the lines that cannot be sent. It is sent line for line, without comments and indentation, so comments take no
 // room there and may contain any character. Elsewhere a character outside ASCII is an error.
 
-import { LINE_TOO_LONG, LONGEST_LINE, NOT_ASCII } from "../bench/inputs.js";
+import { LINE_TOO_LONG, MAX_LINE_LENGTH, NOT_ASCII } from "../bench/inputs.js";
 import * as say from "../../words/text.js";
 
 /**
@@ -143,9 +143,9 @@ function wordsOfCharacter(character) {
 function faultOfLine(line, sent, at) {
   const range = { line: at, from: 0, to: line.length };
   if (sent === ".") return { number: 0, ...range, words: say.DOT_ENDS };
-  if (sent.length > LONGEST_LINE) {
-    const words = say.lineTooLong(LONGEST_LINE, sent.length);
-    return { number: LINE_TOO_LONG, ...range, from: line.indexOf(sent) + LONGEST_LINE, words };
+  if (sent.length > MAX_LINE_LENGTH) {
+    const words = say.lineTooLong(MAX_LINE_LENGTH, sent.length);
+    return { number: LINE_TOO_LONG, ...range, from: line.indexOf(sent) + MAX_LINE_LENGTH, words };
   }
   const foreign = /[^\t -~]+/u.exec(line);
   if (!foreign) return null;
@@ -159,7 +159,7 @@ function faultOfLine(line, sent, at) {
  * @param {string[]} sentLines
  */
 function canBeSent(text, sentLines) {
-  return !/[^\t\n\r -~]/.test(text) && sentLines.every((line) => line.length <= LONGEST_LINE && line !== ".");
+  return !/[^\t\n\r -~]/.test(text) && sentLines.every((line) => line.length <= MAX_LINE_LENGTH && line !== ".");
 }
 
 /**

@@ -2,7 +2,7 @@
 
 import { hex } from "../bench/numbers.js";
 import { ADDRESSES } from "../bench/rom_bytes.js";
-import { linesOf } from "../bench/inputs.js";
+import { joinLines } from "../bench/inputs.js";
 import { wordsOf } from "../engine/rom_codes.js";
 
 /**
@@ -83,7 +83,7 @@ export class InstructionTexts {
     if (news.length === 0) return;
     // An instruction at the last address may have its second byte at the first one.
     const listed = news.includes(LAST_ADDRESS) ? [...news, 0] : news;
-    const { answers } = engine.ask(state, linesOf(listed.map((address) => `list 0x${hex(address, 3)} 1`)));
+    const { answers } = engine.ask(state, joinLines(listed.map((address) => `list 0x${hex(address, 3)} 1`)));
     listed.forEach((address, at) => {
       this.codes[address] = parseInt(answers[at].slice(...CODE_IN_LINE), 16);
     });

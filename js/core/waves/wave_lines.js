@@ -1,7 +1,7 @@
 // The lines of a board that are recorded, and what else a recording can have: their names, and the places in the bench's reports. The page
 // and `mcs4 wave` have the same names in the same order.
 
-import { BITS } from "../bench/board_form.js";
+import { BITS_PER_CHIP } from "../bench/board_form.js";
 import { numberOf, upTo } from "../bench/numbers.js";
 import { placeOf } from "../conditions/places.js";
 import { Face } from "../board/face.js";
@@ -72,7 +72,7 @@ function linesOfChips({ roms, banks, chains }, face) {
   return [
     ...chips.flatMap((chip) => levels(`rom${chip}`, 4, face)),
     ...sorted.flatMap(({ bank, chips: count }) => upTo(count).flatMap((chip) => levels(`ram${bank}.${chip}`, 4, face))),
-    ...chains.flatMap(({ chips: count }, chain) => levels(`chain${chain}`, BITS * count, face)),
+    ...chains.flatMap(({ chips: count }, chain) => levels(`chain${chain}`, BITS_PER_CHIP * count, face)),
   ];
 }
 
@@ -124,7 +124,7 @@ function decodersOf({ chains, matrix }, lines, face) {
   const bitsOf = (/** @type {number} */ chain, /** @type {number} */ first, /** @type {number} */ count) => (
     upTo(count).map((bit) => `chain${chain}.${first + bit}`));
   const decoders = chains.map(({ clock, data, chips }, at) => {
-    const bits = bitsOf(at, 0, BITS * chips);
+    const bits = bitsOf(at, 0, BITS_PER_CHIP * chips);
     const members = numbers([clock, data, ...bits]);
     return made(`shift.chain${at}`, "decoders", "shift", { title: say.shiftOf(at), members, width: bits.length });
   });

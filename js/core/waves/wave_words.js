@@ -1,6 +1,6 @@
 // Texts about recordings.
 
-import { countOf, counted } from "../bench/numbers.js";
+import { counted, parseCount } from "../bench/numbers.js";
 import { timeOfCycles, wordsOfCycles } from "../time/cycles.js";
 import * as say from "../../words/waves.js";
 
@@ -89,5 +89,5 @@ export function recordedText({ span, isStuck }, wanted, isBefore) {
  * @param {string} text
  */
 export function readCycles(text) {
-  return countOf(text, MOST_CYCLES);
+  return parseCount(text, MOST_CYCLES);
 }

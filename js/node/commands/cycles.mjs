@@ -1,5 +1,5 @@
 // `mcs4 cycles`: prints how long the runs in some answers took.
-import { linesOf } from "../../core/bench/inputs.js";
+import { joinLines } from "../../core/bench/inputs.js";
 import { runTimes } from "../../core/time/run_times.js";
 import { FIRST_AND_LAST, notALine } from "../../words/commands.js";
 import { needWords } from "../arguments.mjs";
@@ -34,6 +34,6 @@ export async function run({ source }, positionals) {
   const byCounter = placeOf && ((counter) => placeOf(parseInt(counter, 16)));
   const { runs, sum, words: wrong } = runTimes(answers, first, last, byCounter);
   if (wrong !== "") throw new CommandError(wrong);
-  print(linesOf(placeOf ? [...runs, sum] : [sum]));
+  print(joinLines(placeOf ? [...runs, sum] : [sum]));
   return 0;
 }

@@ -1,5 +1,5 @@
 // `mcs4 display`: prints the text of a board's display, from answers about its lamps.
-import { linesOf } from "../../core/bench/inputs.js";
+import { joinLines } from "../../core/bench/inputs.js";
 import { shownAnswers } from "../../core/board/shown_answers.js";
 import { needWords, projectFor } from "../arguments.mjs";
 import { boardAndFace } from "../board_texts.mjs";
@@ -20,6 +20,6 @@ export async function run({ folder }, positionals) {
   const { board, face } = await boardAndFace(await startEngine(), given);
   const { lines, words: wrong } = shownAnswers(face, board, name, answers);
   if (wrong !== "") throw new CommandError(wrong);
-  print(linesOf(lines));
+  print(joinLines(lines));
   return 0;
 }

@@ -1,6 +1,6 @@
 // `mcs4 explain`: prints which lines of a script were rejected, and why.
 import { answeredScript } from "../../core/bench/answered_script.js";
-import { linesOf } from "../../core/bench/inputs.js";
+import { joinLines } from "../../core/bench/inputs.js";
 import { otherAnswers } from "../../words/commands.js";
 import { needWords } from "../arguments.mjs";
 import { GivenTexts } from "../given_texts.mjs";
@@ -21,6 +21,6 @@ export async function run({ source }, positionals) {
   if (words !== "") throw new CommandError(otherAnswers(words));
   const lines = script.split("\n").map((line) => line.replace(/\r$/, ""));
   const found = new RefusedLines(engine, lines, placeOf).all(inputs, answers[0]);
-  print(linesOf(found));
+  print(joinLines(found));
   return found.length > 0 ? 1 : 0;
 }

@@ -1,6 +1,6 @@
 // `mcs4 keys`: prints makes lines that press keys by their names, or presses them on a session up to a stop.
 import { isStop, refusalOf } from "../../core/bench/answers.js";
-import { linesOf } from "../../core/bench/inputs.js";
+import { joinLines } from "../../core/bench/inputs.js";
 import { USUAL_PACE } from "../../core/testing/press_lines.js";
 import { benchRejected } from "../../words/commands.js";
 import { needCount, needWords, projectFor } from "../arguments.mjs";
@@ -56,6 +56,6 @@ export async function run({ folder, down, up, "until-stop": session }, positiona
   const { face } = await boardAndFace(engine, given);
   const lines = keyLines(face, boardName, keys, pace);
   if (session !== undefined) return pressOn(session, lines);
-  printFile(linesOf(lines), "utf8");
+  printFile(joinLines(lines), "utf8");
   return 0;
 }

@@ -1,5 +1,5 @@
 // `mcs4 listing`: prints a program as assemblers print it, or its names.
-import { linesOf } from "../../core/bench/inputs.js";
+import { joinLines } from "../../core/bench/inputs.js";
 import { namesOfProgram, programListing } from "../../core/machine/program_listing.js";
 import { excludeEachOther } from "../../words/commands.js";
 import { needWords, projectFor } from "../arguments.mjs";
@@ -17,6 +17,6 @@ export async function run({ folder, names, labels }, positionals) {
   const { map, bytes } = await mappedProgram(await startEngine(), program);
   const lines = names || labels ? namesOfProgram(map, Boolean(labels)).map(({ name, value }) => `${name} ${value}`)
     : programListing(program.text, map, bytes);
-  printFile(linesOf(lines), program.encoding);
+  printFile(joinLines(lines), program.encoding);
   return 0;
 }

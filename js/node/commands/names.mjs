@@ -1,5 +1,5 @@
 // `mcs4 names`: puts the addresses of a program's names into lines.
-import { putNames } from "../../core/bench/names_in_lines.js";
+import { replaceNames } from "../../core/bench/names_in_lines.js";
 import { inLine } from "../../words/commands.js";
 import { needWords, projectFor } from "../arguments.mjs";
 import { GivenTexts } from "../given_texts.mjs";
@@ -14,7 +14,7 @@ export async function run({ folder }, positionals) {
   const texts = new GivenTexts();
   const { text, encoding } = texts.lines();
   const { map } = await mappedProgram(await startEngine(), texts.text(words[0], "asm"));
-  const { lines, line, words: wrong } = putNames(text, map);
+  const { lines, line, words: wrong } = replaceNames(text, map);
   if (wrong !== "") throw new CommandError(inLine(line, wrong));
   printFile(lines === "" || lines.endsWith("\n") ? lines : `${lines}\n`, encoding);
   return 0;

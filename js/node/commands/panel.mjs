@@ -1,7 +1,7 @@
 // `mcs4 panel`: the front panel of a board in a terminal, with live keys. All that is done goes into the session's file, by the program itself.
 import { basename } from "node:path";
 import { codesOf } from "../../core/engine/rom_codes.js";
-import { listsOf, PAGES } from "../../core/bench/rom_bytes.js";
+import { listQueries, PAGES } from "../../core/bench/rom_bytes.js";
 import { differences } from "../../core/bench/begun_script.js";
 import { missingOf } from "../../core/board/face_board.js";
 import { byLine } from "../../core/board/face.js";
@@ -66,7 +66,7 @@ async function knowTexts(session, name, texts) {
   const differing = differences(await answersOf(session, "board\n"), answers);
   if (differing.length > 0) throw new CommandError([`${otherBoard(texts.board.name)} (< ${name}, > ${texts.board.name})`, ...differing].join("\n"));
   const { program } = texts;
-  const map = program && await programOf(engine, codesOf(await answersOf(session, listsOf(PAGES))), program);
+  const map = program && await programOf(engine, codesOf(await answersOf(session, listQueries(PAGES))), program);
   endEngine();
   return { board, face, source: map && { map, lines: program.text.split("\n"), before: program.before } };
 }

@@ -1,9 +1,9 @@
 // `mcs4 rom`: images of ROM in and out, as lines for a session and from its answers.
 import { refusalOf } from "../../core/bench/answers.js";
 import { hex, numberOf } from "../../core/bench/numbers.js";
-import { ADDRESSES, MOST_LISTED, NONE, bytesOf } from "../../core/bench/rom_bytes.js";
-import { bnpfOf, formOf, readBnpf, readSRecords } from "../../core/bench/rom_formats.js";
-import { NotARecord, NotAnImage, hexOf, readBytes, readHex } from "../../core/bench/rom_image.js";
+import { ADDRESSES, MAX_LISTED, NO_BYTE, bytesOf } from "../../core/bench/rom_bytes.js";
+import { formatOf, readBnpf, readSRecords, writeBnpf } from "../../core/bench/rom_formats.js";
+import { NotARecord, NotAnImage, readBytes, readHex, writeHex } from "../../core/bench/rom_image.js";
 import { textsOfBytes } from "../../core/text/assembling.js";
 import * as say from "../../words/commands.js";
 import { needWords } from "../arguments.mjs";
@@ -52,7 +52,7 @@ function load(given, words) {
   const address = numberOf(word);
   if (!(address < ADDRESSES)) throw new UsageError(say.ADDRESS_RANGE);
   const file = new GivenTexts().read(name, MOST_GIVEN);
-  const form = given || formOf(name, file);
+  const form = given || formatOf(name, file);
   if (!form) throw new CommandError(say.textNoImage(name));
   try {
     print(textsOfBytes(bytesOfImage(form, file, address)).map((text) => `asm\n${text}.\n`).join(""));
@@ -82,8 +82,8 @@ function rangeOf(words) {
 function ask(words) {
   const { first, count } = rangeOf(words);
   let lines = "";
-  for (let at = first; at < first + count; at += MOST_LISTED) {
-    lines += `list 0x${hex(at, 3)} ${Math.min(MOST_LISTED, first + count - at)}\n`;
+  for (let at = first; at < first + count; at += MAX_LISTED) {
+    lines += `list 0x${hex(at, 3)} ${Math.min(MAX_LISTED, first + count - at)}\n`;
   }
   print(lines);
 }
@@ -99,9 +99,9 @@ function bytesInAnswers(answers, { first, count }) {
   const refused = lines.findIndex((line) => refusalOf(line));
   if (refused >= 0) throw new CommandError(say.answersRefusal(refused + 1, lines[refused]));
   const bytes = bytesOf(lines);
-  const lacking = bytes.subarray(first, first + count).indexOf(NONE);
+  const lacking = bytes.subarray(first, first + count).indexOf(NO_BYTE);
   if (lacking >= 0) throw new CommandError(say.noAnswerShows(hex(first + lacking, 3)));
-  bytes.fill(NONE, 0, first).fill(NONE, first + count);
+  bytes.fill(NO_BYTE, 0, first).fill(NO_BYTE, first + count);
   return bytes;
 }
 
@@ -117,8 +117,8 @@ function save(form, words) {
   const answers = readStream(STANDARD_INPUT, "-", MOST_ANSWERS);
   if (answers.length === 0) throw new CommandError(say.NO_ANSWERS);
   const bytes = bytesInAnswers(answers.toString("latin1"), range);
-  if (form === "hex") print(hexOf(bytes));
-  else if (form === "bnpf") print(bnpfOf(bytes, first, count));
+  if (form === "hex") print(writeHex(bytes));
+  else if (form === "bnpf") print(writeBnpf(bytes, first, count));
   else printBytes(Uint8Array.from(bytes.subarray(first, first + count)));
 }
 

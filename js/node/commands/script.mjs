@@ -1,5 +1,5 @@
 // `mcs4 script`: prints makes lines that wire a board, load a program, press keys, and ask for the lamps.
-import { LONGEST_LINE, linesOf } from "../../core/bench/inputs.js";
+import { MAX_LINE_LENGTH, joinLines } from "../../core/bench/inputs.js";
 import { USUAL_PACE } from "../../core/testing/press_lines.js";
 import { prepare } from "../../core/testing/prepared.js";
 import { LONGEST_TEXT, alignedText, sentText } from "../../core/text/text_fault.js";
@@ -17,7 +17,7 @@ import { printFile } from "../output.mjs";
  */
 function wholeText(text, mark) {
   const whole = alignedText(text, mark);
-  const isTooLong = whole.length > LONGEST_TEXT || whole.split("\n").some((line) => line.length > LONGEST_LINE);
+  const isTooLong = whole.length > LONGEST_TEXT || whole.split("\n").some((line) => line.length > MAX_LINE_LENGTH);
   return isTooLong ? sentText(text, mark) : whole;
 }
 
@@ -34,7 +34,7 @@ export async function run({ folder }, positionals) {
   const { prepared, faults } = prepare(engine, { boardText: board.text, programText: program.text });
   if (!prepared) throw await errorOfTexts(engine, { board, program }, faults);
   const pressed = keyLines(prepared.names.face, boardName, keys, USUAL_PACE);
-  const lines = linesOf([`run ${BEFORE_KEYS_CYCLES}`, ...pressed]);
+  const lines = joinLines([`run ${BEFORE_KEYS_CYCLES}`, ...pressed]);
   printFile(`wire\n${wholeText(board.text, "#")}.\nasm\n${wholeText(program.text, ";")}.\n${lines}`, "utf8");
   return 0;
 }

@@ -1,6 +1,6 @@
 // The wiring of the board as a picture, with the levels of its lines, and the same in words.
 
-import { BITS } from "../../core/bench/board_form.js";
+import { BITS_PER_CHIP } from "../../core/bench/board_form.js";
 import { Switch, block, element } from "../ui/dom.js";
 import { upTo } from "../../core/bench/numbers.js";
 import { drawn } from "../ui/svg.js";
@@ -126,7 +126,7 @@ export class WiringView {
     /** @type {(owner: string, count: number) => Levels} */
     const levelsOf = (owner, count) => upTo(count).map((line) => this.levels.get(`${owner}.${line}`));
     this.roms = roms.map(({ chip, port }) => ({ mask: port, levels: levelsOf(`rom${chip}`, 4) }));
-    this.chains = chains.map(({ chips }, at) => levelsOf(`chain${at}`, BITS * chips));
+    this.chains = chains.map(({ chips }, at) => levelsOf(`chain${at}`, BITS_PER_CHIP * chips));
     const names = banks.flatMap(({ bank, chips }) => upTo(chips).map((chip) => `${bank}.${chip}`));
     this.rams = new Map(names.map((name) => [name, levelsOf(`ram${name}`, 4)]));
   }

@@ -2,7 +2,7 @@
 
 import { refusalOf } from "../../core/bench/answers.js";
 import { Cancelled } from "../../core/bench/faults.js";
-import { putNames } from "../../core/bench/names_in_lines.js";
+import { replaceNames } from "../../core/bench/names_in_lines.js";
 import { lineEnded } from "../../words/debug.js";
 import * as say from "../../words/page.js";
 import { stoppedAt } from "../../words/stops.js";
@@ -70,7 +70,7 @@ export class Serving {
    */
   async send(typed) {
     const { calls } = this;
-    const { lines, words } = putNames(typed, calls.map());
+    const { lines, words } = replaceNames(typed, calls.map());
     if (words !== "") {
       this.notice.show(words);
       return null;

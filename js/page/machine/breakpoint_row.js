@@ -1,7 +1,7 @@
 // The row in which a breakpoint's condition, hit count and log message are edited: below its line of the source, or in the list of
 // breakpoints if it has no line. Enter applies them, Escape leaves them as they were.
 
-import { countOf } from "../../core/bench/numbers.js";
+import { parseCount } from "../../core/bench/numbers.js";
 import { Cell, buttonOf, element } from "../ui/dom.js";
 import * as say from "../../words/machine.js";
 
@@ -134,7 +134,7 @@ export class BreakpointRow {
    */
   read() {
     const { condition, from, note } = this.fields;
-    const count = from.value.trim() === "" ? 1 : countOf(from.value, MOST_HITS);
+    const count = from.value.trim() === "" ? 1 : parseCount(from.value, MOST_HITS);
     from.setAttribute("aria-invalid", String(count < 1));
     return count < 1 ? null : { condition: condition.value.trim(), from: count, note: note.value.trim() };
   }

@@ -2,7 +2,7 @@
 // this, and nothing of it is undone; while time runs the changes are reported.
 
 import { block, byId, field } from "../ui/dom.js";
-import { countOf } from "../../core/bench/numbers.js";
+import { parseCount } from "../../core/bench/numbers.js";
 import { PassingHeat, warmthOf, wordsOfHeat, wordsOfChanges, wordsOfPassing, wordsOfSeen } from "../../core/machine/warmth.js";
 import * as say from "../../words/machine.js";
 
@@ -74,7 +74,7 @@ export class HeatView {
 
   /** Returns the requested number of cycles; 0 if it is not a number, which is reported. */
   wanted() {
-    const cycles = countOf(this.cycles.value, MOST_CYCLES);
+    const cycles = parseCount(this.cycles.value, MOST_CYCLES);
     this.cycles.setAttribute("aria-invalid", String(cycles === 0));
     if (cycles === 0) {
       this.clear();
@@ -100,7 +100,7 @@ export class HeatView {
     if (this.kind.value === "") return;
     // The words for the past do not apply to running time; a board without RAM has no others.
     if (!warmed) this.showStatus("");
-    const most = countOf(this.cycles.value, MOST_CYCLES);
+    const most = parseCount(this.cycles.value, MOST_CYCLES);
     if (!warmed || most === 0) return;
     this.passing.add(warmed, cycles, most);
     if (performance.now() - this.drawn < DRAWN_TIME) return;

@@ -1,7 +1,7 @@
 // The position of the processor: the counter and the return addresses, with their names and lines of the source while time is paused.
 
 import { Cell, Switch, block, element, onClick, oneStop, setStop } from "../ui/dom.js";
-import { linesOf, matchAnswers, readInputs } from "../../core/bench/inputs.js";
+import { joinLines, matchAnswers, readInputs } from "../../core/bench/inputs.js";
 import { hex } from "../../core/bench/numbers.js";
 import { areLive, callBefore, noteOfCounter, noteOfReturn } from "../../core/machine/returns.js";
 import * as say from "../../words/machine.js";
@@ -116,7 +116,7 @@ export class StackView {
 
   /** @param {number[]} addresses */
   async bytesAt(addresses) {
-    const lines = linesOf(addresses.map((address) => `list 0x${hex(address, 3)} 1`));
+    const lines = joinLines(addresses.map((address) => `list 0x${hex(address, 3)} 1`));
     const answers = matchAnswers(readInputs(lines), await this.ask(lines));
     return answers.map(([line = ""]) => line.slice(BYTE_FROM, BYTE_END));
   }

@@ -2,7 +2,7 @@
 
 import { button, byId, element, field, onClick } from "../ui/dom.js";
 import { goalOfText } from "../../core/debug/becoming.js";
-import { countOf, upTo } from "../../core/bench/numbers.js";
+import { parseCount, upTo } from "../../core/bench/numbers.js";
 import * as say from "../../words/time.js";
 
 /**
@@ -90,7 +90,7 @@ export class HistoryView {
   }
 
   stepMany() {
-    const count = countOf(this.count.value, MOST_INSTRUCTIONS);
+    const count = parseCount(this.count.value, MOST_INSTRUCTIONS);
     this.count.setAttribute("aria-invalid", String(count === 0));
     if (count > 0) this.calls.goOn({ kind: "count", count });
     else this.calls.showMessage(say.giveCount(MOST_INSTRUCTIONS.toLocaleString("en")));
