@@ -1,4 +1,4 @@
-// The page: its parts, and their views of a session. All that is shown comes from answers of the bench.
+// The page: creates its parts and connects them to the session that is shown. Every value on the page is read from answers of the bench.
 
 import { AskView } from "./ui/ask_view.js";
 import { Face } from "../core/board/face.js";
@@ -30,7 +30,7 @@ import * as say from "../words/page.js";
  * @typedef {import("./session/store.js").SessionStore} SessionStore
  * @typedef {import("../core/bench/words.js").Words} Words
  * @typedef {{ bench: Bench, makeBench: () => Bench, store: SessionStore, locks: Locks, words: Words, notice: Notice, examples: Example[],
- *   manual: ManualSection[] }} Parts `makeBench` makes a further bench, in a worker of its own
+ *   manual: ManualSection[] }} Parts `makeBench` creates another bench in its own worker
  */
 
 export class Page {
@@ -42,7 +42,7 @@ export class Page {
     this.store = store;
     this.words = words;
     this.notice = notice;
-    /** True if the keyboard presses keys of the board. */
+    /** True if the computer's keyboard presses keys of the board. */
     this.types = true;
     this.past = new KeptPast();
     this.current = currentSessionOf(this);
@@ -94,7 +94,7 @@ export class Page {
   }
 
   /**
-   * Returns the listener to the bench's own messages.
+   * Returns the listener for frames, errors and the death of the bench's worker.
    * @returns {import("../core/bench/bench_client.js").Listener}
    */
   listener() {
@@ -105,13 +105,13 @@ export class Page {
     };
   }
 
-  /** The program's text, or ROM, may have changed. */
+  /** Compares the program's text with ROM. Called when either can have changed. */
   checkSource() {
     return this.source.check().catch((fault) => this.recovery.failed(fault));
   }
 
   /**
-   * Returns the text that is printed next to the lamps.
+   * Returns the name and the texts of the session for printing.
    * @returns {import("./print_view.js").Printed}
    */
   printed() {
@@ -119,7 +119,7 @@ export class Page {
   }
 
   /**
-   * Another session is shown from now on: its texts, and nothing of the one before.
+   * Shows another session: opens its texts and clears everything that belongs to the previous session.
    * @param {SessionRecord} record
    */
   begin(record) {
@@ -143,9 +143,9 @@ export class Page {
   }
 
   /**
-   * Draws another board, with the face of the text that it was wired from.
+   * Draws another board, with the front panel that its text declares.
    * @param {SessionRecord} record
-   * @param {string[]} board
+   * @param {string[]} board the answers to `board`
    */
   draw(record, board) {
     const { wiring } = this.editors;
@@ -163,7 +163,8 @@ export class Page {
   }
 
   /**
-   * Shows a changed front panel of the board. The front panel in a text of another board waits until that is wired.
+   * Shows the changed front panel of the board in use. If the text describes another board, its front panel is shown when that board is
+   * applied.
    * @param {string} boardText
    */
   readFace(boardText) {
@@ -178,8 +179,8 @@ export class Page {
   /**
    * Shows a snapshot of the session.
    * @param {Shown} shown
-   * @param {boolean} [isPassing] whether time runs and another snapshot follows
-   * @param {import("../core/engine/brightness_meter.js").LitShares | null} [litShares] the light in that time
+   * @param {boolean} [isPassing] whether time is running and another snapshot follows
+   * @param {import("../core/engine/brightness_meter.js").LitShares | null} [litShares] the measured time that each lamp was on
    */
   show({ snapshot, file, board, total, reset, future, past, waves, printed, waiting }, isPassing = false, litShares = null) {
     const { session } = this.current;

@@ -1,4 +1,4 @@
-// Composes the parts that show and draw the board: connects them to other parts; they know no page.
+// Composes the parts that show and draw the board. Connects each one to other parts, so that none needs the page.
 
 import { partAtLine } from "../core/bench/part_lines.js";
 import { Cancelled } from "../core/bench/faults.js";
@@ -76,7 +76,7 @@ export function pressingOf(page) {
 }
 
 /**
- * Another board is shown, or another text of it: its buzzer is connected.
+ * Connects the sound to the buzzer that the text of a board declares.
  * @param {Page} page
  * @param {string} boardText
  */
@@ -85,7 +85,7 @@ export function drawSound({ running, snapshotView }, boardText) {
 }
 
 /**
- * The picture of the board's text, next to that text.
+ * Returns the controller of the picture that is drawn from the board's text.
  * @param {Page} page
  * @returns {DrawingController}
  */
@@ -147,7 +147,7 @@ export function scopeOf(page) {
     begin: (wanted, values) => resultOrReport(page, page.bench.call("recordLive", [textsWith(values), wanted])),
     end: () => resultOrReport(page, page.bench.call("endRecording", [])),
     record: async (cycles, isBefore, values) => {
-      // A recording continues from a moment at which time is paused.
+      // A recording continues from the present state, so time must be paused.
       await page.running.stand();
       try {
         return await page.work.show(say.RECORDING_LINES,

@@ -1,4 +1,4 @@
-// Composes commands: connects them to the page's parts, the palette and the keys.
+// Composes the commands: connects them to the page's parts, the palette and the keys.
 
 import { textOfKey } from "../core/board/key_place.js";
 import { COMMANDS, oneOf } from "./commands/command_table.js";
@@ -27,7 +27,7 @@ import * as say from "../words/page_commands.js";
  * @typedef {import("./bench_page.js").Page} Page
  */
 
-/** The stored choice that says that the cards of a first visit were seen. */
+/** The name of the stored choice that records that the welcome cards were shown. */
 const SEEN = "welcome";
 
 /** @type {TextName[]} in the order of the page's editors */
@@ -36,7 +36,7 @@ const EDITORS = ["board", "program", "tests", "properties"];
 /**
  * Brings a text, a view or a panel to the front.
  * @param {Page} page
- * @param {string} name "" for the parts that are always there
+ * @param {string} name "" for a part that is always visible
  */
 function show({ layout }, name) {
   if (name in say.TEXTS) layout.showText(name);
@@ -44,7 +44,7 @@ function show({ layout }, name) {
 }
 
 /**
- * Makes the parts that exist before the page: the theme, tooltips and the toolbar.
+ * Creates the parts that exist before the page: the theme, tooltips and the toolbar.
  * @typedef {{ theme: Theme, tips: Tooltips, toolbar: ToolbarView }} Shell
  * @returns {Shell}
  */
@@ -55,7 +55,7 @@ export function shellOf() {
 }
 
 /**
- * Returns the calls of commands for projects, files and messages.
+ * Returns the calls that commands make for projects, files and notices.
  * @param {Page} page
  */
 function projectCalls({ export: exports, notice, recovery, sessionsController, sharing }) {
@@ -77,7 +77,7 @@ function projectCalls({ export: exports, notice, recovery, sessionsController, s
 }
 
 /**
- * Returns the calls of commands for time.
+ * Returns the calls that commands make to run, pause and step.
  * @param {Page} page
  */
 function timeCalls(page) {
@@ -104,7 +104,7 @@ function timeCalls(page) {
 }
 
 /**
- * Returns the calls of commands for the texts.
+ * Returns the calls that commands make for the texts.
  * @param {Page} page
  */
 function textCalls(page) {
@@ -130,7 +130,7 @@ function textCalls(page) {
 }
 
 /**
- * Returns the word at the caret of the text with the focus, "" for none.
+ * Returns the word at the caret in the focused text, or "" if there is none.
  * @param {Page} page
  */
 function wordAtCaret({ textEditors }) {
@@ -142,7 +142,7 @@ function wordAtCaret({ textEditors }) {
   return before + (/^\w*/.exec(text.slice(ch)) || [""])[0];
 }
 
-/** All that can be done with the page: commands, the palette that lists them and their keys. */
+/** The page's commands, the palette that lists them, and their keys. */
 export class Commands {
   /**
    * @param {Page} page
@@ -153,7 +153,7 @@ export class Commands {
   constructor(page, guide, examples, { theme, toolbar }) {
     this.page = page;
     this.examples = examples;
-    /** @type {{ id: string, name: string }[]} the saved projects, as they were listed last */
+    /** @type {{ id: string, name: string }[]} the saved projects when they were last listed */
     this.projects = [];
     this.calls = this.callsOf(guide, theme);
     this.welcome = this.welcomeOf(guide);
@@ -219,7 +219,7 @@ export class Commands {
     });
   }
 
-  /** Shows the cards, if nobody has seen them in this browser. */
+  /** Shows the welcome cards on the first visit with this browser. */
   welcomeFirst() {
     if (!this.page.layout.choices.get(SEEN)) this.welcome.open();
   }
@@ -243,7 +243,7 @@ export class Commands {
   }
 
   /**
-   * Commands that depend on the examples and on the board.
+   * Returns the commands that depend on the examples and on the board.
    * @returns {Command[]}
    */
   ownCommands() {
@@ -271,7 +271,7 @@ export class Commands {
   }
 
   /**
-   * Does a command, or reports why it cannot be done.
+   * Executes a command, or reports the reason why it cannot run.
    * @param {Command} command
    */
   do(command) {
@@ -281,8 +281,8 @@ export class Commands {
   }
 
   /**
-   * Opens the palette. Projects are listed once the store has reported them.
-   * @param {string} begin the initial text of its field
+   * Opens the palette. The saved projects appear when the store has listed them.
+   * @param {string} begin the initial text of the palette's field
    */
   open(begin) {
     const { recovery, sessionsController } = this.page;

@@ -1,4 +1,4 @@
-// Composes the debugger's parts (breakpoints, moves and values): connects them to other parts; they know no page.
+// Composes the debugger's parts: breakpoints, moves in time and values. Connects each one to other parts, so that none needs the page.
 
 import { Cancelled, WorkerDied } from "../core/bench/faults.js";
 import { hex } from "../core/bench/numbers.js";
@@ -20,7 +20,7 @@ import { block } from "./ui/dom.js";
 /** @typedef {import("./bench_page.js").Page} Page */
 
 /**
- * Runs to a line of the source, which may have no bytes.
+ * Runs to a line of the source, or shows a message if the line has no address.
  * @param {Page} page
  * @param {number} line
  */
@@ -152,7 +152,7 @@ export function heatOf(page) {
 }
 
 /**
- * The names that expressions may have: of the board that is wired, of the program in ROM, of Watch.
+ * Returns the names that expressions can use: from the board in use, from the program in ROM, and from the watch.
  * @param {Page} page
  */
 function namesOfPage({ snapshotView, source, breakpoints }) {

@@ -1,4 +1,4 @@
-// Composes sessions, their files and the guides: connects them to other parts; they know no page.
+// Composes sessions, their files and the guides. Connects each one to other parts, so that none needs the page.
 
 import { Guide } from "./help/guide.js";
 import { forgetStory } from "./session/address.js";
@@ -82,7 +82,7 @@ export function sharingOf(page) {
 }
 
 /**
- * Returns the calls of a story's places.
+ * Returns the calls that the actions of a story make.
  * @param {Page} page
  * @returns {import("../core/help/story_acts.js").ActCalls}
  */
@@ -94,7 +94,7 @@ function actsOf({ layout, snapshotView, pressing, running, source, travel }) {
     },
     keys: () => snapshotView.front.keys,
     run: async () => {
-      // Time that runs up to a goal runs on without it.
+      // A run up to a goal must end first, so that the next run continues without that goal.
       if (running.goal) await running.stand();
       running.run();
     },
@@ -118,7 +118,7 @@ function actsOf({ layout, snapshotView, pressing, running, source, travel }) {
 }
 
 /**
- * Makes the guide, which the page itself never calls.
+ * Creates the guide and connects it to the page's parts. The page itself never calls the guide.
  * @param {Page} page
  * @param {ManualSection[]} manual
  */

@@ -1,4 +1,4 @@
-// Composes the texts and their trials: gives them their calls of other parts; they know no page.
+// Composes the editors of the texts, with their tests and searches. Connects each one to other parts, so that none needs the page.
 
 import { countOfFaults } from "../core/bench/words.js";
 import { ExploreTab } from "./explore/explore_tab.js";
@@ -68,7 +68,7 @@ export function problemsOf(page) {
 }
 
 /**
- * RAM characters have their names in the list of values and in the source.
+ * Shows the names of RAM characters, from the watch and from the source, in the RAM view.
  * @param {Page} page
  */
 export function nameCharacters({ snapshotView, watched, source }) {
@@ -122,7 +122,7 @@ export function textsOf(page) {
 }
 
 /**
- * Inserts a routine that scans the keys of a board into the source, as one step that can be undone, and shows it.
+ * Inserts a key scan routine for a board into the source, as one edit that can be undone, and shows it.
  * @param {Page} page
  * @param {import("../core/bench/answers.js").Board} board
  */
@@ -149,7 +149,7 @@ export function testsOf(page, manual) {
     faults: (texts) => bench.call("testFaults", [texts]),
     sample: (texts) => bench.call("sampleTest", [texts]),
     run: async (texts) => {
-      // The worker does one thing at a time: time would be paused meanwhile, and nobody would know why.
+      // The worker serves one call at a time. Without this pause, time would stop during the tests and nothing would say why.
       await running.stand();
       return page.work.show(say.RUNNING_TESTS, (signal, progress) => bench.call("runTests", [texts], { signal, progress }));
     },
@@ -169,7 +169,7 @@ export function testsOf(page, manual) {
 }
 
 /**
- * Adds a test to those of the program; returns a message.
+ * Adds a test to the tests of the program. Returns a message for the user.
  * @param {Page} page
  * @param {string} test
  */
@@ -181,7 +181,7 @@ function addTest({ tests, texts }, test) {
 }
 
 /**
- * Opens a session of texts after lines, to which time can go back.
+ * Opens a new session with texts and executes lines in it. The user can then step back through them.
  * @param {Page} page
  * @param {{ name: string, lines: string, message: string }} wanted
  * @param {import("../core/explore/exploring.js").ExploredTexts} texts

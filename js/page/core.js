@@ -1,4 +1,4 @@
-// Composes the parts that let time run, serve lines and keep the session: connects them to other parts; they know no page.
+// Composes the parts that run the board, serve lines and save the session. Connects each one to other parts, so that none needs the page.
 
 import { wordsOfAddress, wordsOfWhen } from "../words/stops.js";
 import { Serving } from "./lines/serving.js";

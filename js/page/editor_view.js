@@ -1,6 +1,6 @@
-// The board in an editor that debugs a program: its lamps, displays and keys, drawn by the page's own views. The editor's extension reports
-// changes (adapter/shown_board.js), and is informed of fingers on keys. editors/vsix bundles it as one script;
-// editors/vscode/board_view.html has its blocks.
+// The board view of the editor's extension: lamps, displays and keys, drawn by the page's own views. The extension sends changes
+// (adapter/shown_board.js) and receives presses of keys. editors/vsix bundles this module as one script. Its elements are in
+// editors/vscode/board_view.html.
 
 import { readBoard } from "../core/bench/answers.js";
 import { keyOfKeyboard } from "../core/board/board_keys.js";
@@ -16,7 +16,7 @@ import { block, button, field } from "./ui/dom.js";
  * @typedef {import("../core/board/key_place.js").Key} Key
  */
 
-/** The interface that Visual Studio Code gives to a view. */
+/** The interface of Visual Studio Code for a web view. */
 const editor = globalThis.acquireVsCodeApi();
 let isRunning = false;
 
@@ -35,16 +35,16 @@ const pressing = new Pressing({
     return keyOfKeyboard(front.keys, event.key);
   },
 });
-/** While time runs, lamps are shown as perceived; otherwise as they are at that instant. */
+/** The front panel. While time is running, it shows lamps as perceived, otherwise as they are at that instant. */
 const front = new FrontView((node, key) => pressing.listen(node, key), () => {});
-/** The adapter keeps the printout from the moment when the board is drawn. */
+/** The printer's view. The adapter stores the printout since the board was drawn. */
 const strip = new PrinterView({ printOn: () => {}, clear: () => editor.postMessage({ isTorn: true }) });
 pressing.listenToKeyboard();
 button("test").addEventListener("click", () => sendKey(pinKey(front.level === "1" ? 0 : 1), true));
 
 /**
- * Shows changes; null once debugging has ended.
- * @param {ShownNews | null} news
+ * Shows changes of the board.
+ * @param {ShownNews | null} news null when debugging has ended
  */
 function show(news) {
   block("front").hidden = news === null;

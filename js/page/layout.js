@@ -1,4 +1,4 @@
-// The workbench: the tabs of the texts and of the dock, panels with their borders, and printing.
+// The workbench: the tabs of texts and dock, the panels with their borders, and printing.
 
 import { Choices } from "./ui/choices.js";
 import { block } from "./ui/dom.js";
@@ -17,7 +17,7 @@ import { Tabs } from "./ui/tabs.js";
 
 const TEXTS = ["program", "board", "wiring", "tests", "properties"];
 const DOCK = ["disassembly", "waves", "console", "problems"];
-/** @type {Record<string, string>} the tabs of panels that the dock has */
+/** @type {Record<string, string>} the dock's tab for each panel in the dock */
 const DOCKED = { listing: "disassembly", scope: "waves", talk: "console", problems: "problems" };
 
 /** @type {Border[]} */
@@ -30,7 +30,7 @@ const BORDERS = [
 ];
 
 export class Layout {
-  /** @param {() => Printed} printed the content to print */
+  /** @param {() => Printed} printed returns the content to print */
   constructor(printed) {
     this.choices = new Choices();
     const { choices } = this;
@@ -50,7 +50,7 @@ export class Layout {
     this.panels = new Panels(choices, () => this.reset());
   }
 
-  /** Sizes, folds and tabs are as at first. */
+  /** Restores the initial sizes, folds and tabs. */
   reset() {
     for (const splitter of this.splitters) splitter.reset();
     for (const id of this.folds) unfold(id);
@@ -60,7 +60,7 @@ export class Layout {
   }
 
   /**
-   * Brings a tab to the front, of the texts or of the dock.
+   * Brings a tab of the texts or of the dock to the front.
    * @param {string} name
    */
   showText(name) {

@@ -24,11 +24,11 @@ import * as say from "../words/page.js";
  * page
  */
 
-/** A module that fills memory at once (bulk memory), as the bench's own module does: a memory, and a function with `memory.fill`. */
+/** A WebAssembly module with one `memory.fill` instruction, to test for bulk memory: the bench's module needs it. */
 const BULK_MEMORY_TRIAL = Uint8Array.of(0, 97, 115, 109, 1, 0, 0, 0, 1, 4, 1, 96, 0, 0, 3, 2, 1, 0, 5, 3, 1, 0, 1, 10, 13, 1, 11, 0,
   65, 0, 65, 0, 65, 0, 252, 11, 0, 11);
 
-/** Returns what this browser lacks for the bench, in words; "" if nothing. */
+/** Returns the name of a feature that the bench needs and this browser lacks, or "" if nothing is missing. */
 function lackOfBrowser() {
   if (typeof WebAssembly !== "object" || !WebAssembly.validate(BULK_MEMORY_TRIAL)) return say.BULK_MEMORY;
   if (typeof BigInt !== "function") return say.BIG_INTEGERS;
@@ -38,6 +38,7 @@ function lackOfBrowser() {
 }
 
 /**
+ * Opens the store of sessions, or creates one in memory if the browser has none.
  * @param {boolean} hasLocks
  * @returns {Promise<SessionStore>}
  */
@@ -50,7 +51,7 @@ async function openStore(hasLocks) {
 }
 
 /**
- * The text of a part of the page.
+ * Returns the text of a part of the page.
  * @param {string} id
  */
 function textOf(id) {
@@ -58,7 +59,7 @@ function textOf(id) {
 }
 
 /**
- * Unpacks a part of the page.
+ * Returns the unpacked bytes of a part of the page.
  * @param {string} id
  */
 function unpackedPart(id) {
@@ -66,7 +67,7 @@ function unpackedPart(id) {
 }
 
 /**
- * Returns the maker of benches, each in a worker whose script is a part from the page.
+ * Returns a function that creates a bench in its own worker. The worker's script is a part of the page.
  * @param {Example[]} examples
  */
 function benchMaker(examples) {
@@ -102,12 +103,12 @@ function listenToChoices(page) {
     page.types = typing.checked;
   });
   show();
-  // The browser may have filled in the fields of a page to which the user returns.
+  // A browser can restore old values of the fields when the user returns to the page.
   addEventListener("pageshow", show);
 }
 
 /**
- * Listens to the events of a page that is hidden or left, and saves the session at once.
+ * Listens to events of the window: the page is hidden or left, its address changes, or an error is not caught.
  * @param {Page} page
  */
 function listenToLeaving(page) {
@@ -116,9 +117,9 @@ function listenToLeaving(page) {
   addEventListener("beforeunload", (event) => {
     if (!page.store.keeps) event.preventDefault();
   });
-  // An error that nothing awaits is reported all the same.
+  // Errors that no code catches are reported, too.
   addEventListener("error", (event) => {
-    // Browsers report this when measurements are shown a frame later; nothing fails.
+    // Browsers report this when an observed resize causes another one. It is harmless.
     if (!event.error && /^ResizeObserver loop/.test(event.message)) return;
     page.recovery.failed(event.error || event.message);
   });
@@ -127,6 +128,7 @@ function listenToLeaving(page) {
 }
 
 /**
+ * Creates the page and opens its first session.
  * @param {Words} words
  * @param {Notice} notice
  * @param {import("./compose_commands.js").Shell} shell
@@ -150,16 +152,16 @@ async function start(words, notice, shell, { examples, manual }) {
   await page.sessionsController.openFirst(story);
   if (story) guide.showStory(story, examples);
   if (isFirst) commands.welcomeFirst();
-  // The save at leaving the page must have run before, for Firefox 153 to run it then.
+  // Firefox 153 runs the save on leaving the page only if that function has run before.
   page.current.keepNow();
-  // The duration in milliseconds.
+  // The duration of the start in milliseconds.
   document.body.dataset.ready = String(Math.round(performance.now()));
 }
 
 async function main() {
   const shell = shellOf();
   const notice = new Notice();
-  // It is for browsers that cannot even run this.
+  // The block `needs` is for browsers that cannot run this script.
   block("needs").hidden = true;
   const lack = lackOfBrowser();
   if (lack) {

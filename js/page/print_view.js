@@ -1,4 +1,4 @@
-// The printed page: the lamps as they are, and both texts completely, however much of them an editor shows.
+// The printed page: the lamps in their present state, and both texts in full, not only the part that an editor shows.
 
 import { block, element } from "./ui/dom.js";
 import * as say from "../words/page.js";
@@ -6,13 +6,13 @@ import * as say from "../words/page.js";
 /** @typedef {{ name: string, board: string, program: string }} Printed */
 
 export class PrintView {
-  /** @param {() => Printed} printed the content to print now */
+  /** @param {() => Printed} printed returns the content to print */
   constructor(printed) {
     this.printed = printed;
     this.block = block("print");
     addEventListener("beforeprint", () => this.fill());
     addEventListener("afterprint", () => this.block.replaceChildren());
-    // For browsers that only preview a print.
+    // Some browsers report a print preview only by a change of the media query.
     const print = matchMedia("print");
     if (print.addEventListener) print.addEventListener("change", () => print.matches && this.fill());
   }

@@ -1,4 +1,4 @@
-// Recovery if something fails: a call, or the worker that the bench is in.
+// Recovery from errors: a call that failed, or a bench whose worker died.
 
 import * as say from "../words/page.js";
 
@@ -14,11 +14,11 @@ import * as say from "../words/page.js";
 /**
  * The calls that the recovery from errors and dead workers makes.
  * @typedef {object} RecoveryCalls
- * @property {() => KeptSession | null} session Returns the session that is shown; null if there is none.
- * @property {() => boolean} isRunning Returns whether time runs.
- * @property {() => void} stopClock Stops the clock of the page; the worker is not asked.
+ * @property {() => KeptSession | null} session Returns the session that is shown, or null if there is none.
+ * @property {() => boolean} isRunning Returns whether time is running.
+ * @property {() => void} stopClock Stops the clock of the page without a request to the worker.
  * @property {(words: string) => void} halted Shows that time is paused, and why.
- * @property {(frame: Frame) => void} ran Shows the work of time before the worker failed.
+ * @property {(frame: Frame) => void} ran Shows the last frame of a run before the error.
  * @property {(record: SessionRecord) => Promise<void>} openAgain Opens a session in a new worker and shows it. Rejects if the worker
  *   fails again.
  */
@@ -35,28 +35,28 @@ export class Recovery {
     this.words = words;
     this.notice = notice;
     this.calls = calls;
-    /** True if a worker is being started in place of a dead one. */
+    /** True while a new worker starts in place of a dead one. */
     this.isRestarting = false;
   }
 
   /**
-   * A call failed. Nothing of it was done, and the session is as it was.
+   * Reports a failed call and pauses time. The failed call has changed nothing in the session.
    * @param {unknown} fault
    */
   failed(fault) {
     const { bench, notice, words, calls } = this;
     console.error(fault);
-    // Work of the dead worker that a new one cannot answer: it is reported below.
+    // Calls to a dead worker fail while a new one starts. `restart` reports the death.
     if (this.isRestarting) return;
     notice.show(words.ofFailure(fault));
     if (!calls.session()) return;
     const isRunning = calls.isRunning();
     calls.halted(say.STOPPED);
-    // The work before it is not lost.
+    // The run before the error is not lost.
     if (isRunning) bench.call("halt", []).then(calls.ran).catch(() => {});
   }
 
-  /** Handles the death of the worker. The session continues from its last report, which is here. */
+  /** Starts a new worker after one died. The session continues from its last record, which the page has. */
   async restart() {
     const { bench, notice, words, calls } = this;
     this.isRestarting = true;

@@ -1,4 +1,4 @@
-// All views of the board and its machine: snapshots are read one after the other, and the changes go to their views.
+// All views of the board and its processor. Reads each snapshot and sends its changes to the views.
 
 import { readBoard, refusalOf } from "../core/bench/answers.js";
 import { CellEditor } from "./machine/cell_editor.js";
@@ -29,21 +29,22 @@ import * as say from "../words/page.js";
  * The calls that the views of a snapshot make to the page.
  * @typedef {object} SnapshotOwnCalls
  * @property {(node: HTMLButtonElement, key: BoardKey) => void} listen Makes a button press its key.
- * @property {() => boolean} isRunning Returns whether time runs.
- * @property {() => boolean} isFast Returns whether time runs so fast that the listing follows no instruction.
+ * @property {() => boolean} isRunning Returns whether time is running.
+ * @property {() => boolean} isFast Returns whether the speed is so high that the listing does not follow each instruction.
  * @property {() => boolean} isWiringShown Returns whether the picture of the wiring is in front.
- * @property {(lines: string) => Promise<string[]>} ask Resolves to the bench's answers to questions.
- * @property {(line: string) => Promise<string | null>} act Serves a line. Resolves to its answer, null if the call failed, which is then
+ * @property {(lines: string) => Promise<string[]>} ask Resolves to the bench's answers to queries.
+ * @property {(line: string) => Promise<string | null>} act Serves a line. Resolves to its answer, or to null after a failure that was
  *   reported.
  * @property {(number: number) => string} wordsOfRefusal Returns the message of a refusal.
- * @property {(name: string) => string} explain Returns the meaning of a place, or of a name of the program, as words.
- * @property {(counter: number) => void} isAt The counter of the machine is at an address; source and listing follow.
- * @property {(breakpoints: string[]) => void} breakAt The bench has breakpoints at these addresses, each as three hexadecimal digits.
+ * @property {(name: string) => string} explain Returns the description of a place or of a name in the program.
+ * @property {(counter: number) => void} isAt Shows the address of the program counter in the source.
+ * @property {(breakpoints: string[]) => void} breakAt Takes the addresses of the bench's breakpoints, each as three hexadecimal digits.
  * @property {(address: number) => void} toggleBreakpoint Sets or removes the breakpoint of an address.
- * @property {(address: number) => void} wentTo The listing went to an address, which the source shows too.
- * @property {(face: string, number: number) => void} watchLamps Asks the bench how long lamps are on, by the text of a front panel and its
- * number.
- * @property {(cycles: number) => number} timeOf Returns the milliseconds that cycles take at the present speed; Infinity at full speed.
+ * @property {(address: number) => void} wentTo Shows an address in the source after the listing went to it.
+ * @property {(face: string, number: number) => void} watchLamps Asks the bench to measure how long lamps are on, by the text of a front
+ *   panel and its number.
+ * @property {(cycles: number) => number} timeOf Returns the duration of cycles in milliseconds at the present speed; Infinity at full
+ *   speed.
  * @property {(fault: unknown) => void} failed Reports an error that a call threw.
  */
 
@@ -51,7 +52,7 @@ import * as say from "../words/page.js";
 
 /** @typedef {{ seeLamps: (lamps: string) => void, seeKeys: (keysDown: number) => void }} Watcher */
 
-/** The milliseconds between drawings, while time runs, of what nobody can read in a frame. */
+/** The interval in milliseconds at which values that change too fast to read are drawn while time is running. */
 const DRAWN_TIME = 100;
 
 export class SnapshotView {
@@ -61,7 +62,7 @@ export class SnapshotView {
     this.board = readBoard([]);
     this.face = new Face("");
     this.reader = new SnapshotReader();
-    /** The time at which all was drawn last. */
+    /** The time of the last complete drawing, in milliseconds. */
     this.drawn = 0;
     this.changes = new Changes();
     this.front = new FrontView(calls.listen, calls.watchLamps);
@@ -76,7 +77,7 @@ export class SnapshotView {
       this.toggleWatch(isSet, `${bank} 0x${hex(source, 2)}`, cell)));
     this.ports = new PortsView(this.changes, this.editor, calls.explain);
     this.wiring = new WiringView(calls.isWiringShown);
-    /** @type {Watcher | null} is informed of lamps and keys */
+    /** @type {Watcher | null} the listener to changes of lamps and keys */
     this.watcher = null;
     this.listing = new ListingView(calls.ask, calls.toggleBreakpoint, () => this.showListing());
     this.goTo = new GoToView(this.listing, calls.toggleBreakpoint, (address) => {
@@ -111,15 +112,15 @@ export class SnapshotView {
     return refusal ? `${this.calls.wordsOfRefusal(refusal.number)}.` : "";
   }
 
-  /** The counter that is shown, as it is written. */
+  /** The program counter that is shown, as three hexadecimal digits; "" before the first snapshot. */
   get counter() {
     return this.reader.registers ? this.reader.registers.counter : "";
   }
 
   /**
    * Draws another board.
-   * @param {string[]} answers to `board`
-   * @param {string} boardText has the face
+   * @param {string[]} answers the answers to `board`
+   * @param {string} boardText the text of the board, with its front panel
    */
   draw(answers, boardText) {
     this.board = readBoard(answers);
@@ -136,13 +137,13 @@ export class SnapshotView {
     this.forgetRom();
   }
 
-  /** The bytes of ROM may have changed. */
+  /** Discards the cached bytes of ROM, which can have changed. */
   forgetRom() {
     this.listing.forget();
     this.stack.forget();
   }
 
-  /** @param {string} boardText of this board, which may have another face */
+  /** @param {string} boardText the text of this board, with another front panel */
   readFace(boardText) {
     const face = new Face(boardText);
     this.face = face;
@@ -163,10 +164,10 @@ export class SnapshotView {
   }
 
   /**
-   * Shows a snapshot: lamps, displays and keys at once; all else less often while time runs.
+   * Shows a snapshot. Lamps, displays and keys are drawn at once. While time is running, all other views are drawn less often.
    * @param {string[]} snapshot
-   * @param {boolean} [isPassing] whether time runs and another snapshot follows
-   * @param {import("../core/engine/brightness_meter.js").LitShares | null} [litShares] the light in that time
+   * @param {boolean} [isPassing] whether time is running and another snapshot follows
+   * @param {import("../core/engine/brightness_meter.js").LitShares | null} [litShares] the measured time that each lamp was on
    */
   show(snapshot, isPassing = false, litShares = null) {
     const changed = this.reader.take(snapshot);
@@ -178,7 +179,7 @@ export class SnapshotView {
     else this.changes.stops();
   }
 
-  /** Draws the rest of the last snapshot. */
+  /** Draws the views of the last snapshot that `show` can delay. */
   showRest() {
     this.drawn = performance.now();
     this.showChanged(this.reader.readRest());
@@ -186,7 +187,7 @@ export class SnapshotView {
 
   /**
    * Shows lamps as perceived while time runs, otherwise as they are at this instant.
-   * @param {string | undefined} lamps if they have changed
+   * @param {string | undefined} lamps the marks of the lamps, if they have changed
    * @param {import("../core/engine/brightness_meter.js").LitShares | null} litShares
    */
   showLamps(lamps, litShares) {
@@ -231,7 +232,7 @@ export class SnapshotView {
     if (registers || breakpoints || this.listing.lines.length === 0) this.showListing();
   }
 
-  /** @param {Map<number, import("../core/machine/breakpoint_marks.js").BreakpointMark>} marks of breakpoints, by their addresses */
+  /** @param {Map<number, import("../core/machine/breakpoint_marks.js").BreakpointMark>} marks the marks of breakpoints, by address */
   showBreakpoints(marks) {
     this.listing.breakpoints = new Map([...marks].map(([address, mark]) => [hex(address, 3), mark]));
     this.showListing();

@@ -1,19 +1,19 @@
-// A second way for a reply to reach the page. After a key press Chromium delivers its worker's messages to a page only at the next frame,
-// but those of a broadcast channel at once. These can be lost, for example in a page that was frozen: so each reply is also sent the usual
-// way.
+// A faster way for replies to reach the page. After a key press Chromium delivers a worker's messages only at the next frame, but messages
+// of a broadcast channel at once. Broadcast messages can be lost, for example while a page is frozen. Therefore each reply is also sent as
+// an ordinary message.
 
 /**
  * @typedef {import("../../core/bench/bench_client.js").WorkerLike} WorkerLike
  * @typedef {import("../../core/bench/protocol.js").Early} Early
  */
 
-/** A name that no other page knows. */
+/** Returns a random name that no other page knows. */
 function secretName() {
   return crypto.getRandomValues(new Uint32Array(4)).join("-");
 }
 
 /**
- * Returns the channel of that name, or null if there is none: in older browsers, and in Firefox if the data of sites are blocked.
+ * Returns the broadcast channel with this name. Returns null in older browsers, and in Firefox if the data of sites is blocked.
  * @param {string} name
  */
 function channelOf(name) {
@@ -48,8 +48,8 @@ export function startWorker(address) {
 }
 
 /**
- * Returns the worker's sender of early replies. It copies the contents of the reply.
- * @param {string} name the worker's own
+ * Returns the function that sends early replies from the worker. It copies the contents of the reply.
+ * @param {string} name the worker's name
  * @returns {(early: Early) => void}
  */
 export function earlySender(name) {

@@ -1,4 +1,4 @@
-// The displays of a board: drawn digits of seven segments, and their text.
+// The displays of a board: seven-segment digits as drawings, and their content as text.
 
 import { Announcer } from "../../core/board/announcer.js";
 import { Cell, Switch, block, element } from "../ui/dom.js";
@@ -14,7 +14,7 @@ import { upTo } from "../../core/bench/numbers.js";
  */
 
 const SVG = "http://www.w3.org/2000/svg";
-/** The shapes of the segments a to g, and of the point. */
+/** The SVG paths of the segments a to g and of the point. */
 const SHAPES = [
   "M5 3 8 1h20l3 2-4 4H9z", "M32 4l2 3v20l-2 2-3-3V8z", "M32 31l2 2v20l-2 3-3-4V34z", "M5 57l4-4h18l4 4-3 2H8z",
   "M4 31l3 3v18l-3 4-2-3V33z", "M4 4l3 4v18l-3 3-2-2V7z", "M5 30l4-3h18l4 3-4 3H9z", "M38 54h5v5h-5z",
@@ -22,12 +22,13 @@ const SHAPES = [
 /** A drawn digit. It changes the page only if the brightness of a segment has changed. */
 class Digit {
   /**
-   * @param {boolean} isSign whether it has only a minus
+   * @param {boolean} isSign whether the digit has only a minus
    * @param {boolean} hasPoint
    */
   constructor(isSign, hasPoint) {
-    /** The brightness of each segment, and whether it counts as on. */
+    /** The brightness of each segment, from 0 to 1. */
     this.shines = SHAPES.map(() => 0);
+    /** The pattern of the segments that count as on. */
     this.lit = 0;
     /** The pattern of a steady digit; NOT_LIT if segments have duty cycles. */
     this.whole = 0;
@@ -54,7 +55,7 @@ class Digit {
 
   /**
    * @param {import("../../core/board/brightness.js").SeenDigit} seen
-   * @param {number} turns it is on in one of this many turns
+   * @param {number} turns the number of turns in a scan: the digit is on in one of them
    */
   shine(seen, turns) {
     if (seen.whole !== NOT_LIT) {
@@ -89,7 +90,7 @@ class Digit {
   }
 }
 
-/** A display that is drawn. */
+/** A drawn display. */
 class Display {
   /** @param {Group} group */
   constructor(group) {
@@ -104,7 +105,7 @@ class Display {
 
   /** @param {import("../../core/board/brightness.js").SeenDigit[]} seen */
   shine(seen) {
-    // In turn each of them can be on for its part of the time only.
+    // Scanned digits take turns, so each can be on for only a part of the time.
     const turns = isScanned(this.group) ? this.group.rows : 1;
     seen.forEach((digit, index) => this.digits[index].shine(digit, turns));
   }
@@ -160,7 +161,7 @@ export class DisplayView {
   }
 
   /**
-   * The minus belongs to the display: a steady one does not fade as a lamp does.
+   * Shows the minus. It belongs to the display, so a steady minus does not fade as a lamp does.
    * @param {import("../../core/board/brightness.js").Brightness} brightness
    * @param {number} lamp
    */

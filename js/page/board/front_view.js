@@ -18,11 +18,11 @@ import * as say from "../../words/board.js";
  * @typedef {BoardKey & { button: HTMLButtonElement, down: import("../ui/dom.js").Switch }} ShownKey
  */
 
-/** The most errors that are shown. */
+/** The maximum number of errors that are shown. */
 const MOST_FAULTS = 20;
 
 /**
- * Returns whether nothing is wired at all: then ways to begin are offered.
+ * Returns whether a board has neither chips nor lamps. The page then offers ways to begin.
  * @param {Board} board
  */
 function isBare({ roms, banks, chains, lamps }) {
@@ -31,33 +31,33 @@ function isBare({ roms, banks, chains, lamps }) {
 
 const AS_SEEN = say.asSeen(EYE_MS);
 
-/** Longer legends are written smaller. */
+/** The maximum length of a legend in large letters. */
 const SHORT_LEGEND = 4;
 
 export class FrontView {
   /**
    * @param {(button: HTMLButtonElement, key: BoardKey) => void} listen makes a button press its key
-   * @param {(face: string, number: number) => void} watch requests how long lamps are on, for this front panel
+   * @param {(face: string, number: number) => void} watch asks the bench how long lamps are on, for a front panel and its number
    */
   constructor(listen, watch) {
     this.listen = listen;
     this.watch = watch;
-    /** @type {ShownKey[]} with the switch at TEST, if the front panel has one */
+    /** @type {ShownKey[]} the keys, with the switch at TEST if the front panel has one */
     this.keys = [];
     this.down = new KeysDown();
     /** The level of the TEST pin. */
     this.level = "";
     /** The last answer to `lamps`. */
     this.marks = "";
-    /** The comments from which the front panel was read. */
+    /** The comments in the board's text that declare the front panel. */
     this.faceComments = "";
     this.columns = 1;
     this.lamps = new LampsView();
     this.display = new DisplayView();
-    /** The number of front panels drawn, and so the number of the last one. */
+    /** The number of front panels drawn so far, which is also the number of the last one. */
     this.faces = 0;
     this.brightness = new Brightness(new Face(""), 0);
-    /** True if lamps are shown as perceived, and not as they are at an instant. */
+    /** True if lamps are shown as perceived, false if as they are at an instant. */
     this.isShining = false;
     this.brightnessStatus = new Cell(block("brightness-status"));
     this.block = block("keys");
@@ -76,8 +76,8 @@ export class FrontView {
   }
 
   /**
-   * Draws a changed front panel of the same board. A text without a front panel may be one that is just being written: the board keeps its
-   * old one until it is wired.
+   * Draws a changed front panel of the same board. If the text has no front panel, the user may still be writing it: the board keeps its
+   * former front panel until a board is applied.
    * @param {Board} board
    * @param {Face} face
    */
@@ -132,7 +132,7 @@ export class FrontView {
     this.block.replaceChildren(...this.keys.map((key) => key.button));
     this.block.hidden = this.keys.length === 0;
     block("typing-label").hidden = this.keys.length === 0;
-    // The content of the front panel is rotated there.
+    // The front panel has its own switch at TEST.
     button("test").hidden = face.test !== null;
     setStop(this.block);
     block("keys-hint").textContent = isBare(board) ? "" : hintOfKeys(this.keys);
@@ -167,10 +167,10 @@ export class FrontView {
   }
 
   /**
-   * Shows the perceived lamps of the time that has passed.
-   * @param {string} marks the lamps that are on at its end
+   * Shows lamps as perceived during the time that has passed.
+   * @param {string} marks a `*` for each lamp that is on at the end of that time
    * @param {LitShares} litShares
-   * @param {number} time the duration, in milliseconds
+   * @param {number} time the duration of that time in milliseconds
    */
   shine(marks, litShares, time) {
     if (!this.isShining) this.brightness.begin(this.marks);
@@ -195,7 +195,7 @@ export class FrontView {
     for (const shown of this.keys) shown.down.set(this.isDown(shown.key));
   }
 
-  /** @param {string} level of the TEST pin */
+  /** @param {string} level the level of the TEST pin */
   showTest(level) {
     if (this.level === level) return;
     this.level = level;

@@ -1,4 +1,5 @@
-// The lamps of a board: at their positions if the front panel gives them; all others in rows, with their names or those of their lines.
+// The lamps of a board. A lamp is at its position on the front panel, if it has one. All other lamps are in rows, with their own names or
+// those of their lines.
 
 import { block, element } from "../ui/dom.js";
 import { shineOf } from "../../core/board/brightness.js";
@@ -34,8 +35,8 @@ class Lamp {
   }
 
   /**
-   * @param {number} part its duty cycle
-   * @param {boolean} isOn whether it counts as on
+   * @param {number} part the duty cycle, from 0 to 1
+   * @param {boolean} isOn whether the lamp counts as on
    */
   show(part, isOn) {
     if (part !== this.part) this.showShine(shineOf(part));
@@ -56,9 +57,9 @@ class Lamp {
 }
 
 /**
- * The list of a group's lamps.
+ * Returns the list of a group's lamps.
  * @param {Group} group
- * @param {(at: number, words: string) => HTMLElement} lamp
+ * @param {(at: number, words: string) => HTMLElement} lamp returns the lamp at an index in the group, with a default name
  */
 function listOf({ kind, rows, columns }, lamp) {
   const cells = upTo(rows * columns).map((at) => {
@@ -71,7 +72,7 @@ function listOf({ kind, rows, columns }, lamp) {
   return list;
 }
 
-/** @param {string} line `ram0.3.2` is line 2 of the port `ram0.3` */
+/** @param {string} line for example `ram0.3.2`, line 2 of the port `ram0.3` */
 function portOf(line) {
   return line.slice(0, line.lastIndexOf("."));
 }
@@ -87,7 +88,7 @@ export class LampsView {
   }
 
   /**
-   * @param {string[]} lines of the board's lamps
+   * @param {string[]} lines the lines of the board's lamps
    * @param {Face} face
    */
   draw(lines, face) {
@@ -112,14 +113,14 @@ export class LampsView {
 
   /**
    * @param {number} at
-   * @param {string} name its default name
+   * @param {string} name the lamp's default name
    */
   lamp(at, name) {
     return this.add(at, lampAt(at), this.nameOf(at) || name, this.lines[at]);
   }
 
   /**
-   * @param {number} at the lamp that it has its colour of
+   * @param {number} at the lamp whose colour is used
    * @param {SeenLamp} seen
    * @param {string} name
    * @param {string} line
@@ -132,7 +133,7 @@ export class LampsView {
   }
 
   /**
-   * A die, a bar or a matrix.
+   * Returns the list of a die, a bar or a matrix.
    * @param {Group} group
    */
   drawGroup(group) {
@@ -140,9 +141,9 @@ export class LampsView {
   }
 
   /**
-   * A multiplexed group: each of its lamps can be on for its part of the time only.
+   * Returns the list of a multiplexed group, whose lamps can each be on for only a part of the time.
    * @param {Group} group
-   * @param {number} number of the scanned ones
+   * @param {number} number the index of the group among the scanned groups
    */
   drawScanned(group, number) {
     return listOf(group, (at, words) => {
@@ -167,7 +168,7 @@ export class LampsView {
   }
 
   /**
-   * Lamps without a position: those with names, and between them the unnamed ones, a row for each port.
+   * Returns the rows of lamps without a position. Named lamps share a row; unnamed ones have a row for each port.
    * @param {number[]} loose
    */
   drawRows(loose) {

@@ -1,4 +1,4 @@
-// Fingers on keys: pointers, the keyboard, and their effect while time runs and while it is paused.
+// Presses of keys by pointers and by the keyboard, while time is running and while it is paused.
 
 import { textOfKey } from "../../core/board/key_place.js";
 
@@ -8,38 +8,38 @@ import { textOfKey } from "../../core/board/key_place.js";
  */
 
 /**
- * The calls that fingers and the keyboard make.
+ * The calls that presses of keys make.
  * @typedef {object} PressingCalls
- * @property {() => boolean} isRunning Returns whether time runs, so that keys wait for their time.
- * @property {(key: Key) => boolean} isDown Returns whether a key will be down after all requests.
- * @property {(key: Key) => void} press Moves a key down when its turn comes, while time runs.
- * @property {(key: Key) => void} release Moves a key up when its turn comes, while time runs.
+ * @property {() => boolean} isRunning Returns whether time is running, so that presses are queued.
+ * @property {(key: Key) => boolean} isDown Returns whether a key will be down after all queued presses.
+ * @property {(key: Key) => void} press Queues a press of a key while time is running.
+ * @property {(key: Key) => void} release Queues a release of a key while time is running.
  * @property {(word: "press" | "release", key: Key) => void} change Presses or releases a key at once, while time is paused.
- * @property {(event: KeyboardEvent) => BoardKey | undefined} meant Returns the board's key for a key of the keyboard; undefined if none, or
- * if something else wants it.
+ * @property {(event: KeyboardEvent) => BoardKey | undefined} meant Returns the board's key for a key of the keyboard; undefined if there is
+ *   none, or if another element receives the key.
  */
 
 /**
- * The press of a key by a finger: whether the key stays when the finger is lifted, and the function that undoes it.
+ * A key that a finger holds: whether the key keeps its position when the finger is lifted, and the function that undoes the press.
  * @typedef {{ key: Key, stays: boolean, takeBack: () => void }} Held
  */
 
-/** A finger on the glass presses after this many milliseconds, or when it is lifted: a swipe over the page is recognised by then. */
+/** The delay in milliseconds before a touch presses a key. By then the browser has recognised a swipe over the page. */
 const SWIPE_TIME = 60;
-/** A click within this many milliseconds after a finger was lifted comes from the finger, whatever its type. */
+/** The time in milliseconds after a finger was lifted in which a click comes from that finger, whatever the click's type. */
 const TAP_TIME = 500;
 
 export class Pressing {
   /** @param {PressingCalls} calls */
   constructor(calls) {
     this.calls = calls;
-    /** @type {Map<string, Held>} the keys that a finger presses, by their texts */
+    /** @type {Map<string, Held>} the keys that fingers hold, by their names */
     this.held = new Map();
-    /** @type {Map<number, number>} the timers of fingers that may be swiping, by pointer */
+    /** @type {Map<number, number>} the timers of touches that can become swipes, by pointer id */
     this.resting = new Map();
   }
 
-  /** Forgets the fingers: the keys have changed. */
+  /** Forgets all fingers, because the keys have changed. */
   forget() {
     this.held.clear();
     for (const timer of this.resting.values()) clearTimeout(timer);
@@ -62,7 +62,7 @@ export class Pressing {
     });
     button.addEventListener("pointerup", (event) => {
       lifted = event.timeStamp;
-      // A tap was shorter than the time that distinguishes it from a swipe.
+      // A tap is shorter than SWIPE_TIME, so it has not pressed the key yet.
       if (this.lift(event.pointerId)) this.down(boardKey, false);
       this.up(key);
     });
@@ -73,7 +73,7 @@ export class Pressing {
     button.addEventListener("contextmenu", (event) => event.preventDefault());
     button.addEventListener("keydown", (event) => this.activate(event, () => this.down(boardKey, event.shiftKey)));
     button.addEventListener("keyup", (event) => this.activate(event, () => this.up(key)));
-    // A click that is neither, as a screen reader makes it, is a short press.
+    // A click without a pointer or a key, for example from a screen reader, is a short press.
     button.addEventListener("click", (event) => {
       if (event.detail !== 0 || event.timeStamp - lifted < TAP_TIME) return;
       if (event instanceof PointerEvent && event.pointerId > 0) return;
@@ -94,7 +94,7 @@ export class Pressing {
   }
 
   /**
-   * A finger rests on a key: it is pressed in a moment, unless the browser recognises a swipe.
+   * Presses a key after SWIPE_TIME, unless the touch is lifted or becomes a swipe.
    * @param {number} pointer
    * @param {BoardKey} boardKey
    */
@@ -106,7 +106,7 @@ export class Pressing {
   }
 
   /**
-   * A finger is lifted; returns whether it had pressed nothing so far.
+   * Handles the end of a touch. Returns whether the touch has not pressed its key yet.
    * @param {number} pointer
    */
   lift(pointer) {
@@ -115,7 +115,7 @@ export class Pressing {
   }
 
   /**
-   * A switch stays in its new position, and so does a key that is pressed with Shift.
+   * Presses a key, or releases a key that stayed down. A switch, or a key that is pressed with Shift, stays in its new position.
    * @param {Pick<BoardKey, "key" | "isSwitch">} boardKey
    * @param {boolean} hasShift
    */
@@ -128,7 +128,7 @@ export class Pressing {
       change(isDown ? "release" : "press", key);
       this.held.set(name, { key, stays: true, takeBack: () => change(isDown ? "press" : "release", key) });
     } else if (isDown) {
-      // It stayed down; this press lets it go.
+      // The key stayed down after an earlier press.
       release(key);
       this.held.set(name, { key, stays: true, takeBack: () => press(key) });
     } else {
@@ -138,7 +138,7 @@ export class Pressing {
   }
 
   /**
-   * The finger was swiping: the key is as it was before.
+   * Undoes the press of a touch that became a swipe.
    * @param {Key} key
    */
   takeBack(key) {
@@ -149,7 +149,7 @@ export class Pressing {
   }
 
   /**
-   * The finger is lifted. If time is paused meanwhile, the key goes up when it resumes.
+   * Releases a key when its finger is lifted. If time is paused meanwhile, the key goes up when time resumes.
    * @param {Key} key
    */
   up(key) {
@@ -164,7 +164,7 @@ export class Pressing {
     for (const { key } of [...this.held.values()]) this.up(key);
   }
 
-  /** The keys of the keyboard press the keys of the board, unless something else on the page wants them. */
+  /** Lets the keyboard press keys of the board, unless another element receives the key. */
   listenToKeyboard() {
     /** @type {Map<string, Key>} */
     const typedAt = new Map();
@@ -181,7 +181,7 @@ export class Pressing {
       typedAt.delete(event.code);
       if (key !== undefined) this.up(key);
     });
-    // A release elsewhere is not reported to this page.
+    // The page does not receive key releases after it has lost the focus.
     addEventListener("blur", () => {
       typedAt.clear();
       this.allUp();
@@ -190,7 +190,7 @@ export class Pressing {
 }
 
 /**
- * Returns whether an element wants a key of the keyboard for itself.
+ * Returns whether an element handles a key of the keyboard itself.
  * @param {EventTarget | null} target
  * @param {string} typed
  */

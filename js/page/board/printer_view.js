@@ -1,4 +1,4 @@
-// The printout next to a board: what its program has sent to the printer of the front panel.
+// The printout of a board: the characters that its program has sent to the printer of the front panel.
 
 import { block, button, element, onClick } from "../ui/dom.js";
 import { printerOf } from "../../core/board/face_board.js";
@@ -12,16 +12,16 @@ import { linesOf } from "../../core/board/strip.js";
  */
 
 /**
- * The calls that the printer's tape makes.
+ * The calls that the printer's view makes.
  * @typedef {object} PrinterCalls
- * @property {(printer: { strobe: string, port: string } | null) => void} printOn Asks the bench to report what is sent to a printer from
- * now on; null for none.
+ * @property {(printer: { strobe: string, port: string } | null) => void} printOn Asks the bench to report the codes that are sent to a
+ *   printer; null for no printer.
  * @property {() => void} clear Clears the printout.
  */
 
-/** The most lines that are shown, the last ones. */
+/** The maximum number of lines that are shown: the last ones. */
 const MOST_LINES = 400;
-/** The most hidden pixels below at which the end of the tape stays in view. */
+/** The maximum number of pixels below the visible part at which the end of the printout stays in view. */
 const NEAR_END = 24;
 
 export class PrinterView {
@@ -30,7 +30,7 @@ export class PrinterView {
     this.calls = calls;
     /** @type {Printer | null} */
     this.printer = null;
-    /** @type {number[]} what was sent to it */
+    /** @type {number[]} the codes that were sent to the printer */
     this.codes = [];
     /** @type {string[]} the lines that are shown */
     this.lines = [];
@@ -39,13 +39,13 @@ export class PrinterView {
     /** True if the end of the printout stays in view. */
     this.follows = true;
     this.paper.addEventListener("scroll", () => this.scrolled());
-    // Lines may have arrived while it was hidden.
+    // Lines can arrive while the printout is hidden.
     new ResizeObserver(() => this.toEnd()).observe(this.paper);
     onClick(button("clear-printout"), () => this.clear());
   }
 
   /**
-   * Another board, or another face of it.
+   * Draws the printer of another board or front panel.
    * @param {Board} board
    * @param {Face} face
    */
@@ -59,8 +59,8 @@ export class PrinterView {
   }
 
   /**
-   * Draws a changed front panel of the same board. A text without a front panel, or without a printer that the board has, may be one that
-   * is just being written: the printout stays until another board or another front panel is drawn.
+   * Draws a changed front panel of the same board. If the text has no front panel, or no printer that the board has, the user may still be
+   * writing it: the printout stays until another board or another front panel is drawn.
    * @param {Board} board
    * @param {Face} face
    */
@@ -83,7 +83,7 @@ export class PrinterView {
     this.show();
   }
 
-  /** By the button. */
+  /** Clears the printout at the user's request. */
   clear() {
     this.codes = [];
     this.show();
@@ -91,7 +91,7 @@ export class PrinterView {
     this.paper.focus();
   }
 
-  /** Shows the lines; those that are shown already stay. */
+  /** Shows the lines of the printout. Elements of unchanged lines stay. */
   show() {
     const lines = this.printer ? linesOf(this.codes, this.printer.words).slice(-MOST_LINES) : [];
     if (lines[lines.length - 1] === "") lines.pop();

@@ -1,4 +1,4 @@
-// The buzzer of a board: the edges of its line in real time become sound, by Web Audio, once that is switched on.
+// The sound of a board's buzzer: in real time, Web Audio plays the edges of the buzzer's line, if the user has switched sound on.
 
 import { CYCLES_PER_SECOND } from "../../core/time/mcs4_time.js";
 import { Cell, block, button, onClick, pressedSwitch } from "../ui/dom.js";
@@ -12,17 +12,19 @@ import * as say from "../../words/board.js";
 /**
  * The calls that the buzzer makes.
  * @typedef {object} SoundCalls
- * @property {(line: string) => void} listen Asks the bench to report the edges of a line from now on; "" for none.
- * @property {() => boolean} isReal Returns whether time runs at the speed of the real chip; else nothing is heard.
+ * @property {(line: string) => void} listen Asks the bench to report the edges of a line; "" for no line.
+ * @property {() => boolean} isReal Returns whether time is running at the speed of the real chip. Otherwise the buzzer is silent.
  */
 
-/** The cycles that are played at once: 45 ms. */
+/** The number of cycles in one block of samples: 45 ms. */
 const PIECE_CYCLES = 4200;
-/** The seconds from a cycle to its sound; a later sound is left out. */
+/** The seconds from a cycle to its sound. */
 const AHEAD = 0.09;
+/** The maximum of these seconds. Later blocks are left out. */
 const MOST_AHEAD = 0.4;
+/** The gain of the sound. */
 const LOUDNESS = 0.12;
-/** The lowest audible pitch; a line that stays at 1 has none. */
+/** The lowest audible pitch in hertz. A line that stays at 1 is silent. */
 const LEAST_PITCH = 30;
 
 /** Plays samples, one block after the other. */
@@ -30,7 +32,7 @@ class Player {
   constructor() {
     this.context = new AudioContext();
     this.pieces = new SoundPieces(PIECE_CYCLES);
-    /** The end of the sound so far. */
+    /** The end of the last block, in seconds of the audio context. */
     this.end = 0;
     const loudness = new GainNode(this.context, { gain: LOUDNESS });
     const filter = new BiquadFilterNode(this.context, { type: "highpass", frequency: LEAST_PITCH });
@@ -43,7 +45,7 @@ class Player {
     const samples = this.pieces.add(heard);
     const now = this.context.currentTime;
     if (!samples || this.end > now + MOST_AHEAD) return;
-    // Before it runs, a context's time is 0.
+    // The time of an audio context is 0 until it runs.
     if (this.end <= now) this.end = now + AHEAD;
     const buffer = this.context.createBuffer(1, samples.length, CYCLES_PER_SECOND);
     buffer.copyToChannel(samples, 0);
@@ -79,7 +81,7 @@ export class Sound {
     else this.check();
   }
 
-  /** By the button. */
+  /** Switches the sound on or off. */
   turn() {
     if (this.player) this.mute();
     else if (typeof AudioContext === "function") this.begin();
@@ -98,7 +100,7 @@ export class Sound {
     this.check();
   }
 
-  /** Checks again whether the buzzer is heard. */
+  /** Updates the button, the status and the line that the bench reports. */
   check() {
     const isOn = this.player !== null;
     this.pressed.set(isOn);

@@ -1,4 +1,4 @@
-// The wiring of the board as a picture, with the levels of its lines, and the same in words.
+// The wiring of the board as a picture with the levels of its lines, and as text.
 
 import { BITS_PER_CHIP } from "../../core/bench/board_form.js";
 import { Switch, block, element } from "../ui/dom.js";
@@ -15,15 +15,16 @@ import * as say from "../../words/board.js";
  * @typedef {import("../../core/board/wiring.js").Part} Part
  * @typedef {import("../../core/board/wiring.js").Pin} Pin
  * @typedef {import("../../core/board/wiring.js").Wire} Wire
- * @typedef {(Switch | undefined)[]} Levels the lines of a port or of a chain that are drawn
+ * @typedef {(Switch | undefined)[]} Levels the levels of a port or a chain; undefined for lines without a wire
  */
 
-/** The largest distance from a pin at which the pointer counts as on it. */
+/** The radius around a pin in which the pointer is on that pin. */
 const REACH = 9;
-/** The length of a chip's leg, and half the width of its notch. */
+/** The length of a chip's leg. */
 const LEG = 7;
+/** Half the width of a chip's notch. */
 const NOTCH = 6;
-/** A small board has room around it, for parts that are dropped there. */
+/** The minimum size of the picture: a small board has space around it, for parts that are dropped there. */
 const LEAST_WIDTH = 560;
 const LEAST_HEIGHT = 240;
 
@@ -33,17 +34,17 @@ export class WiringView {
     this.isShown = isShown;
     this.root = block("wiring-picture");
     this.words = block("wiring-words");
-    /** @type {Map<string, Switch>} whether a line is at 1, by its name; the pin TEST is "" */
+    /** @type {Map<string, Switch>} the level of each line, by the line's name; "" is the pin TEST */
     this.levels = new Map();
-    /** @type {Map<string, SVGElement>} parts and pins by their names, in drawing order */
+    /** @type {Map<string, SVGElement>} the parts and the pins by their names, in drawing order */
     this.items = new Map();
     /** @type {Map<string, Part>} */
     this.parts = new Map();
-    /** @type {Map<string, string[]>} the pins of each line */
+    /** @type {Map<string, string[]>} the pins at the ends of each line's wires */
     this.takers = new Map();
-    /** @type {WeakMap<Element, string>} the part or the pin of an element */
+    /** @type {WeakMap<Element, string>} the name of an element's part or pin */
     this.names = new WeakMap();
-    /** @type {{ mask: string, levels: Levels }[]} the lines of each ROM, with its port in the board's text */
+    /** @type {{ mask: string, levels: Levels }[]} the lines of each ROM, and its port in the board's text */
     this.roms = [];
     /** @type {Levels[]} */
     this.chains = [];
@@ -57,24 +58,24 @@ export class WiringView {
     /** @type {Map<string, string>} */
     this.ramPorts = new Map();
     this.isTestHigh = false;
-    /** True if a part is being dragged: until it is dropped the picture keeps its size. */
+    /** True while a part is dragged. The picture keeps its size until the part is dropped. */
     this.isHeld = false;
     /** The visible part of the picture's plane. */
     this.viewBox = "";
-    /** A wire that is being drawn. */
+    /** The wire that the user is drawing. */
     this.pencil = drawn("path", { class: "wire pencil" });
   }
 
-  /** Another board is wired: levels of the former one do not apply. */
+  /** Forgets the levels, because another board is in use. */
   forget() {
     this.ports = null;
     this.ramPorts.clear();
   }
 
-  /** Levels are shown while the picture is in front; when it comes to the front, those of the last report. */
+  /** Shows the last reported levels. Called only while the picture is in front. */
   showLevels() {
     const { ports } = this;
-    // While a session is opened, its first levels may arrive before its board is drawn.
+    // While a session is opened, its first levels can arrive before its board is drawn.
     if (ports && ports.roms.length === this.roms.length && ports.chains.length === this.chains.length) {
       this.roms.forEach(({ mask, levels }, at) => setAll(levels, (line) => isHighAtRom(mask, ports.roms[at], line)));
       this.chains.forEach((levels, at) => setAll(levels, (bit) => ports.chains[at][bit] === "1"));
@@ -87,8 +88,8 @@ export class WiringView {
    * Draws another board.
    * @param {Board} board
    * @param {import("../../core/board/wiring.js").Appearance} look
-   * @param {{ moved: import("../../core/board/wiring.js").Moved, isWired: boolean }} how the positions of dragged parts; and whether this
-   * board is the wired one, so that its lines have levels
+   * @param {{ moved: import("../../core/board/wiring.js").Moved, isWired: boolean }} how the positions of dragged parts, and whether this
+   *   board is the one in use, whose lines have levels
    */
   draw(board, look, { moved, isWired }) {
     const { parts, wires, ...size } = drawBoard(board, look, moved);
@@ -120,7 +121,10 @@ export class WiringView {
     if (this.isShown()) this.showLevels();
   }
 
-  /** @param {Board | null} board null if it is not wired */
+  /**
+   * Groups the levels of the lines by chip and by chain.
+   * @param {Board | null} board null if the board is not in use
+   */
   groupLevels(board) {
     const { roms, chains, banks } = board || { roms: [], chains: [], banks: [] };
     /** @type {(owner: string, count: number) => Levels} */
@@ -132,9 +136,9 @@ export class WiringView {
   }
 
   /**
-   * A wire, and around it the area for the pointer.
+   * Returns the elements of a wire: its path, and the wider area in which the pointer is on the wire.
    * @param {Wire} wire
-   * @param {string} d its path
+   * @param {string} d the wire's SVG path
    * @param {Map<string, SVGElement[]>} nodes
    */
   drawWire(wire, d, nodes) {
@@ -164,7 +168,7 @@ export class WiringView {
 
   /**
    * @param {SVGElement} node
-   * @param {string} name of a part or a pin
+   * @param {string} name the name of a part or a pin
    */
   name(node, name) {
     this.items.set(name, node);
@@ -172,7 +176,7 @@ export class WiringView {
   }
 
   /**
-   * A pin with its label inside the part; the pin of a lamp is the lamp.
+   * Returns the element of a pin, with its label inside the part. The pin of a lamp is drawn as the lamp.
    * @param {Part} part
    * @param {Pin} pin
    * @param {Map<string, SVGElement[]>} nodes
@@ -198,7 +202,7 @@ export class WiringView {
   }
 
   /**
-   * Returns the name of what a pin is wired to.
+   * Returns a text that says which pins a pin is wired to.
    * @param {Pin} pin
    */
   wordsOfPin({ id, line }) {
@@ -208,7 +212,7 @@ export class WiringView {
   }
 
   /**
-   * Returns the part or the pin of an element; "" for none.
+   * Returns the name of an element's part or pin, or "" if it has none.
    * @param {Element | null} node
    */
   nameAt(node) {
@@ -220,7 +224,7 @@ export class WiringView {
   }
 
   /**
-   * All items are one stop of the Tab key.
+   * Makes one item the picture's only stop of the Tab key.
    * @param {string} name
    */
   setStop(name) {
@@ -232,7 +236,7 @@ export class WiringView {
     if (node) node.setAttribute("tabindex", "0");
   }
 
-  /** @param {string} name of a part or a pin */
+  /** @param {string} name the name of a part or a pin */
   focus(name) {
     const node = this.items.get(name);
     if (!node) return;
@@ -259,7 +263,7 @@ export class WiringView {
 
   /**
    * Draws the wire in progress, from a pin to the pointer.
-   * @param {string} name of the pin, "" for no wire
+   * @param {string} name the name of the pin, "" for no wire
    * @param {import("../../core/board/wiring.js").Point | null} to
    */
   drawPencil(name, to) {
@@ -268,7 +272,7 @@ export class WiringView {
   }
 
   /**
-   * Converts a point on the screen to one of the picture.
+   * Converts a point in the window to coordinates of the picture.
    * @param {{ clientX: number, clientY: number }} event
    */
   pointOf({ clientX, clientY }) {
@@ -317,7 +321,7 @@ export class WiringView {
 }
 
 /**
- * The pins of each line.
+ * Returns the pins at the ends of wires, by line.
  * @param {Wire[]} wires
  */
 function takersOf(wires) {

@@ -1,15 +1,15 @@
-// Colours of a program's text.
+// The colours of a program's text.
 
 import { tokensOf } from "../../core/text/assembly.js";
 
-/** @type {Record<string, string>} the colours by the kinds of words */
+/** @type {Record<string, string>} the colour of each kind of word */
 const STYLES = {
   comment: "comment", label: "def", instruction: "keyword", directive: "keyword", register: "atom", number: "number", name: "variable-2",
   unknown: "error",
 };
 
 /**
- * @param {Set<string>} mnemonics in upper case
+ * @param {Set<string>} mnemonics the mnemonics in upper case
  * @returns {import("./line_colours.js").Colours}
  */
 export function assemblyColours(mnemonics) {

@@ -1,13 +1,13 @@
-// Colours of a board's text.
+// The colours of a board's text.
 
 import { tomlWords } from "../../core/text/toml_words.js";
 
 /** @typedef {import("./line_colours.js").Coloured} Coloured */
 
 /**
- * The comment at the end of a line, after its last word.
+ * Returns the comment at the end of a line, if it has one.
  * @param {string} line
- * @param {number} from
+ * @param {number} from the end of the line's last word
  * @returns {Coloured[]}
  */
 function commentBehind(line, from) {
@@ -16,7 +16,7 @@ function commentBehind(line, from) {
 }
 
 /**
- * Returns the style of a word, by whether it is before the line's `=`.
+ * Returns the style of a word. Words before the line's `=` are keys.
  * @param {import("../../core/text/toml_words.js").TomlWord} word
  * @param {boolean} isKey
  */

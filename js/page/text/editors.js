@@ -1,4 +1,4 @@
-// Both editors and the bench: their texts are tried while they are typed, and sent.
+// The editors of board and program: they check their texts while the user types, and send them to the bench.
 
 import { readBoard, refusalOf } from "../../core/bench/answers.js";
 import { counted } from "../../core/bench/numbers.js";
@@ -35,28 +35,28 @@ import * as say from "../../words/text.js";
 /**
  * The calls that the editors of board and source make. Lines count from 1.
  * @typedef {object} EditorsCalls
- * @property {(edits: Edit[]) => void} edited A text was edited; of the source with its edits, of the board with none.
- * @property {(isBegun: boolean) => Promise<void>} assembled The source was loaded into ROM, with a reset if `isBegun`. Resolves once
- * breakpoints are at their lines.
- * @property {(lines: string) => Promise<string | null>} act Serves lines. Resolves to the first answer, null if the call failed, which is
- *   then reported.
- * @property {() => Promise<void>} stop Pauses time; resolves once it is paused.
- * @property {() => void} run Lets time run.
- * @property {() => string} counter Returns the counter that is shown, as three hexadecimal digits.
+ * @property {(edits: Edit[]) => void} edited Handles an edit of a text: the edits of the source, or an empty list for the board.
+ * @property {(isBegun: boolean) => Promise<void>} assembled Handles a program that was loaded into ROM, with a reset if `isBegun`. Resolves
+ *   when breakpoints are at their lines.
+ * @property {(lines: string) => Promise<string | null>} act Serves lines. Resolves to the first answer, or to null after a failure that
+ *   was reported.
+ * @property {() => Promise<void>} stop Pauses time. Resolves when time is paused.
+ * @property {() => void} run Resumes time.
+ * @property {() => string} counter Returns the program counter that is shown, as three hexadecimal digits.
  * @property {(line: number) => void} toggleBreakpoint Sets or removes the breakpoint of a line of the source.
- * @property {(line: number, what: BreakpointField) => void} editBreakpoint Opens the words of a line's breakpoint, from a field on.
+ * @property {(line: number, what: BreakpointField) => void} editBreakpoint Opens a field of the breakpoint at a line.
  * @property {(line: number, point: { left: number, bottom: number }) => void} askedMargin Opens the menu of a line's margin at a point of
  *   the page, in pixels.
- * @property {(name: string) => string} meaningOf Returns the meaning of a name of the program, as words; "" if it is none.
- * @property {(text: string, at: number) => import("../../core/debug/value_words.js").Piece[]} valuesAt Returns the values that the word
- *   at a place of a line has now; none while time runs.
+ * @property {(name: string) => string} meaningOf Returns the description of a name in the program, "" for an unknown name.
+ * @property {(text: string, at: number) => import("../../core/debug/value_words.js").Piece[]} valuesAt Returns the present values of the
+ *   word at an offset in a line; an empty list while time is running.
  * @property {import("./meaning_view.js").Offer} offer Makes a cell that shows a value editable.
- * @property {(name: "program" | "board", count: number) => void} hasFaults Shows on the tab of a text how many errors it has.
+ * @property {(name: "program" | "board", count: number) => void} hasFaults Shows the number of a text's errors on its tab.
  * @property {(text: string, words: string) => void} replaceBoard Replaces the board's text, with a message that offers undo.
  * @property {(fault: unknown) => void} failed Reports an error that a call threw.
  */
 
-/** The most errors that are listed next to a text. */
+/** The maximum number of errors in the list below a text. */
 const MOST_FAULTS = 20;
 
 export class Editors {
@@ -74,7 +74,7 @@ export class Editors {
     this.tables = boardTables(manual);
     this.program = this.makeProgram();
     this.board = this.makeBoard();
-    /** @type {string | null} the board's text that is being wired */
+    /** @type {string | null} the board's text while it is applied */
     this.wiring = null;
     this.all = this.allFaults(words);
     this.programFaults = new LiveFaults((isWanted) => this.all.ofProgram(this.program.text, isWanted),
@@ -101,7 +101,7 @@ export class Editors {
       mark: ";",
       colours: assemblyColours(new Set(this.instructions.keys())),
       gutters: ["breakpoints", "numbers", "addresses", "counts"],
-      // A line begins as a statement does.
+      // A new line begins with a tab, as a statement does.
       indent: "\t",
       folds: PARTS.program,
       isInstruction: (word) => this.instructions.has(word),
@@ -140,7 +140,7 @@ export class Editors {
   }
 
   /**
-   * The texts of another session are shown, or the board has changed.
+   * Checks both texts, because another session is shown or the board has changed.
    * @param {boolean} isEmpty whether the bench has no board
    */
   look(isEmpty) {
@@ -150,7 +150,7 @@ export class Editors {
   }
 
   /**
-   * An empty bench offers ways to begin. A keyboard user continues in that panel.
+   * Offers a first board to an empty bench, or hides the offer. If the hidden offer had the focus, the front panel's heading receives it.
    * @param {boolean} isOffered
    */
   offerBoard(isOffered) {
@@ -162,7 +162,7 @@ export class Editors {
   }
 
   /**
-   * Resolves to the refusal that a text would get; the session stays as it is.
+   * Resolves to the error with which the bench would reject a text. The session does not change.
    * @param {"asm" | "wire"} word
    * @param {string} text
    */
@@ -183,7 +183,7 @@ export class Editors {
   }
 
   /**
-   * Loads the program into ROM, as the only one there, and begins with it.
+   * Loads the program into ROM without leftovers of other programs, resets the processor and runs.
    */
   async assembleAndRun() {
     if (!(await this.hasNoFaults("program"))) return;
@@ -201,7 +201,7 @@ export class Editors {
     this.calls.run();
   }
 
-  /** Loads the program's bytes into ROM; nothing else changes. */
+  /** Loads the program's bytes into ROM. Nothing else changes. */
   async assembleOnly() {
     if (!(await this.hasNoFaults("program"))) return;
     const { sent } = this.program;
@@ -226,7 +226,7 @@ export class Editors {
     await this.programFaults.look();
   }
 
-  /** An empty bench gets a board. */
+  /** Replaces the text of the board with a first board, and applies it. */
   async wireFirst() {
     this.calls.replaceBoard(TOUR_BOARD, say.FIRST_BOARD);
     await this.wire();
@@ -238,7 +238,7 @@ export class Editors {
   }
 
   /**
-   * Checks a text before it is sent: one with errors is not sent, which is reported.
+   * Checks a text before it is sent. Resolves to whether it has no errors. The first error is reported.
    * @param {"program" | "board"} name
    */
   async hasNoFaults(name) {
@@ -257,7 +257,7 @@ export class Editors {
   }
 
   /**
-   * A text with errors is not sent.
+   * Reports that a text with errors is not sent, and reveals the first error.
    * @param {"program" | "board"} name
    * @param {Fault[]} faults
    */
@@ -267,7 +267,7 @@ export class Editors {
     this[name].reveal(line);
   }
 
-  /** The numbers of the ROMs of the board that is wired. */
+  /** Resolves to the numbers of the ROMs on the board in use. */
   async roms() {
     return new Set(readBoard(await this.bench.call("ask", ["board\n"])).roms.map(({ chip }) => chip));
   }

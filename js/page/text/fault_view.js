@@ -1,4 +1,4 @@
-// The errors of a text: each one in the margin of its line, its word underlined, and all of them in a list below the text.
+// The errors of a text. Each error has a mark in the margin of its line, an underlined word, and an entry in the list below the text.
 
 import { element, onClick } from "../ui/dom.js";
 import { underlined } from "./line_layers.js";
@@ -15,7 +15,7 @@ export class FaultView {
    * @param {LineEditor} editor
    * @param {LineMarks} marks
    * @param {HTMLElement} list
-   * @param {(fault: Fault) => void} goTo goes to an error
+   * @param {(fault: Fault) => void} goTo moves the caret to an error
    */
   constructor(editor, marks, list, goTo) {
     this.editor = editor;
@@ -29,7 +29,7 @@ export class FaultView {
 
   /**
    * @param {Fault[]} faults
-   * @param {string} more after the last one
+   * @param {string} more a text after the last error
    */
   show(faults, more = "") {
     if (faults.length === 0 && this.faults.length === 0) return;
@@ -44,7 +44,7 @@ export class FaultView {
   }
 
   /**
-   * Returns the underlined range of an error; none in an empty line.
+   * Returns the underlined range of an error, or an empty list if the line is empty.
    * @param {Fault} fault
    */
   underline({ line, from, to, words }) {
@@ -64,7 +64,7 @@ export class FaultView {
   }
 
   /**
-   * Returns the error at a position of the text; "" if there is none.
+   * Returns the message of the error at a position, or "" if there is none.
    * @param {import("./line_editor.js").Position} position
    */
   wordsAt({ line, ch }) {

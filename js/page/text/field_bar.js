@@ -1,18 +1,18 @@
-// A bar above a text with one field: a line to go to, another name.
+// A bar above a text with one input field, for example for the number of a line or for a new name.
 
 import { Cell, element, onClick } from "../ui/dom.js";
 import * as say from "../../words/text.js";
 
 /**
- * A question: its label, the initial text of the field, the word of the button; and the action, which returns an error message, or "" if it
- * succeeded.
+ * A question: its label, the initial text of the field, the label of the button, and the action. The action returns an error message, or ""
+ * if it succeeded.
  * @typedef {{ label: string, value: string, word: string, act: (typed: string) => string }} Asked
  */
 
 export class FieldBar {
   /**
-   * @param {HTMLElement} parent receives the bar, before all else
-   * @param {() => void} closed the keyboard is the text's again
+   * @param {HTMLElement} parent receives the bar as its first child
+   * @param {() => void} closed called after the bar was closed
    */
   constructor(parent, closed) {
     this.closed = closed;

@@ -1,4 +1,4 @@
-// Parts of a text that fold away: by the margin, or by keys.
+// Folding of parts of a text, by the margin or by keys.
 
 import { counted } from "../../core/bench/numbers.js";
 import { element } from "../ui/dom.js";
@@ -12,7 +12,7 @@ import * as say from "../../words/text.js";
  */
 
 /**
- * The lines of a text, as folding.js wants them.
+ * Returns a function that returns the lines of a document, as folding.js needs it.
  * @param {import("@codemirror/state").Text} doc
  * @returns {import("../../core/text/folding.js").LineAt}
  */
@@ -32,7 +32,7 @@ function makeWidget(count, unfoldIt) {
 }
 
 /**
- * Lets parts of an editor's text fold.
+ * Returns the extensions of CodeMirror that fold parts of a text.
  * @param {Parts} parts
  */
 export function folding(parts) {
@@ -51,7 +51,7 @@ export function folding(parts) {
 }
 
 /**
- * Returns the actions that fold and unfold a text with such parts.
+ * Returns the folding commands for a text with these parts.
  * @param {Parts} parts
  */
 export function actsOfFolding(parts) {
@@ -72,7 +72,7 @@ export function actsOfFolding(parts) {
 }
 
 /**
- * Folds all parts; the caret is then at the beginning of its line.
+ * Folds all parts. Moves the caret to the beginning of its line first.
  * @param {LineEditor} editor
  */
 function foldAllOf(editor) {
@@ -81,7 +81,7 @@ function foldAllOf(editor) {
 }
 
 /**
- * A line is to be seen.
+ * Unfolds the folded parts that contain a line.
  * @param {LineEditor} editor
  * @param {number} line from 0
  */

@@ -1,4 +1,4 @@
-// Colours of a text, each line by itself, for the lines that are shown.
+// The colours of a text's visible lines. The colours of a line depend on that line only.
 
 import { Decoration, ViewPlugin } from "@codemirror/view";
 

@@ -1,5 +1,5 @@
-// An editor of lines: CodeMirror 6 behind the page's interface for it. A position is a line and a character of it, both from 0. A text has
-// a state of its own, with its undo history, its caret and its marks.
+// An editor of lines: the page's interface to CodeMirror 6. A position is a line and an offset in that line, both from 0. Each text has
+// its own state, with its undo history, its caret and its marks.
 
 import { defaultKeymap, history, historyKeymap, indentLess, insertTab, isolateHistory, redo, redoDepth, undo, undoDepth }
   from "@codemirror/commands";
@@ -18,11 +18,11 @@ import { below } from "../ui/dom.js";
  * @typedef {import("../../core/debug/breakpoints.js").Edit} Edit
  * @typedef {import("../../core/text/completion.js").Completion} Completion
  * @typedef {import("./line_layers.js").Layer} Layer
- * @typedef {Record<string, (editor: LineEditor) => void>} KeyMap by names of keys, as `Shift-Ctrl-[`
+ * @typedef {Record<string, (editor: LineEditor) => void>} KeyMap actions by names of keys, for example `Shift-Ctrl-[`
  *
- * The options of an editor: its container, its name for screen readers, and what is announced next to it; the colours of its lines; its
- * gutters, "numbers" for those of its lines; the indentation of a new line, if it is not that of the line before; its own keys, and more of
- * CodeMirror's parts.
+ * The options of an editor: its container; its name and its description for screen readers; the colours of its lines; its gutters, with
+ * "numbers" for the gutter of line numbers; the indentation of a new line, by default that of the line before; its own keys; more
+ * extensions of CodeMirror; and its calls.
  * @typedef {{ container: HTMLElement, label: string, description: string, colours: import("./line_colours.js").Colours, gutters: string[],
  *   indent?: string, keys: KeyMap, more: Extension[], calls: EditorCalls }} EditorParts
  */
@@ -30,17 +30,17 @@ import { below } from "../ui/dom.js";
 /**
  * The calls that an editor of lines makes.
  * @typedef {object} EditorCalls
- * @property {(edits: Edit[]) => void} edited The text was edited, by these edits in their order.
- * @property {() => void} moved The caret was moved.
- * @property {(line: number) => void} clickedGutter A gutter was clicked at a line, from 0.
- * @property {(line: number, event: Event) => void} askedGutter A gutter was clicked by the second button at a line, from 0.
- * @property {(size: number) => boolean} takes Returns whether a text of `size` characters may be pasted or dropped.
+ * @property {(edits: Edit[]) => void} edited Handles the edits of the text, in their order.
+ * @property {() => void} moved Handles a move of the caret.
+ * @property {(line: number) => void} clickedGutter Handles a click on a gutter at a line, from 0.
+ * @property {(line: number, event: Event) => void} askedGutter Handles a click on a gutter with the second button at a line, from 0.
+ * @property {(size: number) => boolean} takes Returns whether a pasted or dropped text of `size` characters is accepted.
  * @property {(position: Position) => Completion} complete Returns the possible completions of the word at a position.
  */
 
 const INDENT = 8;
 const HISTORY = { minDepth: 1000, newGroupDelay: 1250 };
-/** The actions that insert a text as a whole, which must have room. */
+/** The user events that insert a whole text. The size of the result is checked first. */
 const AT_ONCE = ["input.paste", "input.drop"];
 
 keepRulesInSheet();
@@ -56,7 +56,7 @@ function positionIn(doc, offset) {
 }
 
 /**
- * The edits of a transaction, the last one first, so that each has its place in the former text.
+ * Returns the edits of a transaction, the last one first, so that the positions of each are those in the former text.
  * @param {Transaction} transaction
  */
 function editsOf(transaction) {
@@ -72,7 +72,10 @@ function editsOf(transaction) {
   return edits;
 }
 
-/** @param {string} name of a key; a letter is in lower case if it is typed without Shift */
+/**
+ * Returns the name of a key in CodeMirror, which has letters in lower case.
+ * @param {string} name
+ */
 function keyName(name) {
   return name.replace(/-([A-Z])$/, (_, letter) => `-${letter.toLowerCase()}`);
 }
@@ -84,13 +87,13 @@ export class LineEditor {
     this.container = parts.container;
     this.wrapping = new Compartment();
     this.wraps = false;
-    /** @type {Map<string, Layer>} by the names of the gutters */
+    /** @type {Map<string, Layer>} the layers of marks, by gutter */
     this.marks = new Map(parts.gutters.filter((name) => name !== "numbers").map((name) => [name, markLayer()]));
     this.layers = { next: textLayer(), nextNumber: gutterLayer(), lacking: gutterLayer(), faults: textLayer(), values: textLayer(),
       below: belowLayer() };
-    /** @type {HTMLElement | null} what is shown below a line */
+    /** @type {HTMLElement | null} the element that is shown below a line */
     this.below = null;
-    /** @type {(() => void)[]} what is to be done after each edit */
+    /** @type {(() => void)[]} called after each edit */
     this.afterEdits = [];
     this.extensions = this.extensionsOf(parts);
     this.view = new EditorView({ parent: parts.container, state: this.stateOf("") });
@@ -144,7 +147,10 @@ export class LineEditor {
     return layer ? gutterOf(name, layer, { domEventHandlers }) : lineNumbers({ domEventHandlers });
   }
 
-  /** @param {string} text of a state, which has no history */
+  /**
+   * Returns a new state of a text, without a history.
+   * @param {string} text
+   */
   stateOf(text) {
     return EditorState.create({ doc: text, extensions: [this.extensions, this.wrapping.of(this.wraps ? EditorView.lineWrapping : [])] });
   }
@@ -167,7 +173,7 @@ export class LineEditor {
   }
 
   /**
-   * Returns whether there is room for pasted or dropped text.
+   * Returns whether a transaction is accepted: a pasted or dropped text must not make the text too long.
    * @param {Transaction} transaction
    */
   takes(transaction) {
@@ -176,7 +182,7 @@ export class LineEditor {
   }
 
   /**
-   * Begins a new line, with the given indentation, or that of the line before.
+   * Begins a new line with the given indentation, by default that of the line before.
    * @param {string} [indent]
    */
   breakLine(indent) {
@@ -210,7 +216,7 @@ export class LineEditor {
     return { from: pos - ch + from, to: pos - ch + to, options, filter: false };
   }
 
-  /** Offers the completions of the word at the caret. */
+  /** Shows the completions of the word at the caret. */
   complete() {
     startCompletion(this.view);
   }
@@ -227,7 +233,10 @@ export class LineEditor {
     this.edit([{ from: 0, to: this.doc.length, insert: text }]);
   }
 
-  /** @param {number} line from 0; undefined if there is none */
+  /**
+   * Returns the text of a line, or undefined if there is no such line.
+   * @param {number} line from 0
+   */
   getLine(line) {
     return line >= 0 && line < this.doc.lines ? this.doc.line(line + 1).text : undefined;
   }
@@ -241,7 +250,7 @@ export class LineEditor {
   }
 
   /**
-   * Returns the offset of a position in the text, or of the next one if the text lacks it.
+   * Returns the offset of a position in the text. A position outside the text is first moved to its nearest end.
    * @param {Position} position
    */
   offset({ line, ch }) {
@@ -254,12 +263,12 @@ export class LineEditor {
     return positionIn(this.doc, Math.min(Math.max(0, offset), this.doc.length));
   }
 
-  /** @param {"head" | "from" | "to"} which of the selection */
+  /** @param {"head" | "from" | "to"} which end of the selection */
   getCursor(which = "head") {
     return this.position(this.state.selection.main[which]);
   }
 
-  /** Returns the place of the selection in the text. */
+  /** The offsets of the selection in the text. */
   get selected() {
     const { from, to } = this.state.selection.main;
     return { from, to };
@@ -286,7 +295,7 @@ export class LineEditor {
   /**
    * Replaces the selection with a text, and puts the caret after it.
    * @param {string} text
-   * @param {string} [event] its name if it is undone together with the text typed before
+   * @param {string} [event] the name of the user event, if the edit is undone together with the text typed before
    */
   replaceSelection(text, event) {
     const { from, to } = this.state.selection.main;
@@ -295,7 +304,7 @@ export class LineEditor {
   }
 
   /**
-   * @param {string} text replaces the text between two places
+   * @param {string} text replaces the text between two positions
    * @param {Position} from
    * @param {Position} [to]
    */
@@ -304,7 +313,7 @@ export class LineEditor {
   }
 
   /**
-   * Makes successive edits, each in the text that the former ones have made, as one step that can be undone.
+   * Makes successive edits as one undo step. The offsets of each edit are those in the text after the edits before it.
    * @param {import("../../core/drawing/text_edits.js").TextEdit[]} edits
    */
   edit(edits) {
@@ -314,7 +323,7 @@ export class LineEditor {
   }
 
   /**
-   * Undoes or redoes the last step; returns false if there is none.
+   * Undoes or redoes the last step. Returns false if there is none.
    * @param {"undo" | "redo"} which
    */
   undoOrRedo(which) {
@@ -327,7 +336,7 @@ export class LineEditor {
   }
 
   /**
-   * Shows marks in a gutter; other lines have none.
+   * Replaces the marks in a gutter.
    * @param {string} gutter
    * @param {import("./line_layers.js").GutterMark[]} marks in the order of their lines
    */
@@ -337,7 +346,7 @@ export class LineEditor {
   }
 
   /**
-   * The lines (from 0) that have a mark in a gutter.
+   * Returns the lines, from 0, that have a mark in a gutter.
    * @param {string} gutter
    */
   marksIn(gutter) {
@@ -360,12 +369,12 @@ export class LineEditor {
     if (name === "next") this.layers.next.show(this.view, starts.map((from) => look.line.range(from)));
   }
 
-  /** @param {import("@codemirror/state").Range<any>[]} ranges underlined words */
+  /** @param {import("@codemirror/state").Range<any>[]} ranges the underlined words */
   showFaults(ranges) {
     this.layers.faults.show(this.view, ranges);
   }
 
-  /** @param {import("@codemirror/state").Range<any>[]} ranges words after lines */
+  /** @param {import("@codemirror/state").Range<any>[]} ranges the words after lines */
   showValues(ranges) {
     this.layers.values.show(this.view, ranges);
   }
@@ -381,7 +390,7 @@ export class LineEditor {
     this.layers.below.show(this.view, node ? [elementBelow(node).range(this.offset({ line, ch: Infinity }))] : []);
   }
 
-  /** Makes the elements below lines no wider than the visible text. */
+  /** Makes the element below a line no wider than the visible text. */
   fitBelow() {
     if (!this.below) return;
     const gutters = below(this.view.dom, ".cm-gutters", HTMLElement).offsetWidth;
@@ -402,7 +411,7 @@ export class LineEditor {
   }
 
   /**
-   * The position nearest to a point of the window.
+   * Returns the position nearest to a point of the window.
    * @param {{ left: number, top: number }} point
    */
   positionAt({ left, top }) {
@@ -424,13 +433,13 @@ export class LineEditor {
     this.view.scrollDOM.addEventListener("scroll", act);
   }
 
-  /** @param {() => void} act is to be done after each edit */
+  /** @param {() => void} act called after each edit */
   onEdit(act) {
     this.afterEdits.push(act);
   }
 
   /**
-   * Returns the distance of a line from the text's top.
+   * Returns the distance in pixels from the top of the text to a line.
    * @param {number} line
    */
   heightAtLine(line) {
@@ -438,7 +447,7 @@ export class LineEditor {
   }
 
   /**
-   * Scrolls a position into view, with this many pixels above and below.
+   * Scrolls a position into view, with a margin in pixels above and below.
    * @param {Position} position
    * @param {number} margin
    */
@@ -446,31 +455,31 @@ export class LineEditor {
     this.view.dispatch({ effects: EditorView.scrollIntoView(this.offset(position), { yMargin: margin }) });
   }
 
-  /** @param {boolean} wraps whether long lines are broken */
+  /** @param {boolean} wraps whether long lines wrap */
   wrap(wraps) {
     if (wraps === this.wraps) return;
     this.wraps = wraps;
     this.view.dispatch({ effects: this.wrapping.reconfigure(wraps ? EditorView.lineWrapping : []) });
   }
 
-  /** Measures again, because the surroundings of the text changed size. */
+  /** Measures again, because the elements around the text have changed their sizes. */
   refresh() {
     this.fitBelow();
     this.view.requestMeasure();
   }
 
-  /** @param {() => void} act is done once the shown text has been measured, and nothing restores its scroll position any more */
+  /** @param {() => void} act called when the visible text has been measured and its scroll position is no longer restored */
   whenMeasured(act) {
     this.view.requestMeasure({ read: () => null, write: () => queueMicrotask(act) });
   }
 
   /**
-   * Shows another state; returns the former one.
+   * Shows another state. Returns the former one.
    * @param {EditorState} state
    */
   swap(state) {
     const before = this.state;
-    // The scroll position would be kept relative to the line there, because heights are measured.
+    // Otherwise CodeMirror would restore the scroll position relative to a line, because it measures heights.
     this.scrollTo(0);
     this.view.setState(state);
     this.view.dispatch({ effects: this.wrapping.reconfigure(this.wraps ? EditorView.lineWrapping : []) });

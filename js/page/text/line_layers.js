@@ -1,5 +1,5 @@
-// The layers over an editor's lines, which move with them while the text is edited: marks in the gutters, styles of lines, underlined
-// words, words after lines. Each is a set of ranges that replaces the former one.
+// Layers over an editor's lines: marks in the gutters, styles of lines, underlined words, and words after lines. Layers move with their
+// lines while the text is edited. The new ranges of a layer replace all former ones.
 
 import { RangeSet, StateEffect, StateField } from "@codemirror/state";
 import { Decoration, EditorView, GutterMarker, WidgetType, gutter, gutterLineClass } from "@codemirror/view";
@@ -11,14 +11,14 @@ import * as say from "../../words/text.js";
  * @typedef {import("@codemirror/state").Transaction} Transaction
  * @typedef {RangeSet<any>} Ranges
  *
- * The content of a gutter at a line, from 0, and its meaning.
+ * The content of a gutter at a line, from 0, and its description.
  * @typedef {{ line: number, text: string, words: string }} GutterMark
  */
 
 /** A text in a gutter. */
 class TextMark extends GutterMarker {
   /**
-   * @param {string} name of the gutter
+   * @param {string} name the name of the gutter
    * @param {string} text
    * @param {string} words
    */
@@ -37,7 +37,7 @@ class TextMark extends GutterMarker {
   }
 }
 
-/** A class of the gutters at a line. */
+/** A CSS class of the gutters at a line. */
 class LookOfGutters extends GutterMarker {
   /** @param {string} name */
   constructor(name) {
@@ -81,7 +81,7 @@ class ElementBelow extends WidgetType {
     return node === this.node;
   }
 
-  // It handles its own keys and clicks.
+  // The element handles its own keys and clicks.
   ignoreEvent() {
     return true;
   }
@@ -95,7 +95,7 @@ class ElementBelow extends WidgetType {
 export class Layer {
   /**
    * @param {(field: StateField<Ranges>) => Extension} provide provides the ranges to the editor
-   * @param {(ranges: Ranges, edit: Transaction) => Ranges} [move] moves them after an edit
+   * @param {(ranges: Ranges, edit: Transaction) => Ranges} [move] moves the ranges after an edit
    */
   constructor(provide, move = (ranges, { changes }) => ranges.map(changes)) {
     /** @type {import("@codemirror/state").StateEffectType<Ranges>} */
@@ -113,7 +113,7 @@ export class Layer {
 
   /**
    * @param {EditorView} view
-   * @param {import("@codemirror/state").Range<any>[]} ranges replaces the former ones
+   * @param {import("@codemirror/state").Range<any>[]} ranges the new ranges, which replace the former ones
    */
   show(view, ranges) {
     const before = view.state.field(this.field);
@@ -122,12 +122,12 @@ export class Layer {
   }
 }
 
-/** A layer of styles of the text. */
+/** Returns a layer of styles in the text. */
 export function textLayer() {
   return new Layer((field) => EditorView.decorations.from(field));
 }
 
-/** A layer of elements below lines: each stays below its line, also if another line begins at its end. */
+/** Returns a layer of elements below lines. An element stays below its line when a new line begins at the end of that line. */
 export function belowLayer() {
   return new Layer((field) => EditorView.decorations.from(field), (ranges, { changes, docChanged, newDoc, startState: { doc } }) => {
     if (!docChanged) return ranges;
@@ -144,18 +144,18 @@ export function elementBelow(node) {
   return Decoration.widget({ widget: new ElementBelow(node), block: true, side: 1 });
 }
 
-/** A layer of styles of the gutters. */
+/** Returns a layer of styles in the gutters. */
 export function gutterLayer() {
   return new Layer((field) => gutterLineClass.from(field));
 }
 
-/** A layer of marks of one gutter, which the gutter itself shows. */
+/** Returns a layer of marks in one gutter. The gutter itself shows them. */
 export function markLayer() {
   return new Layer(() => []);
 }
 
 /**
- * A gutter that shows the marks of a layer.
+ * Returns a gutter that shows the marks of a layer.
  * @param {string} name
  * @param {Layer} layer
  * @param {Parameters<typeof gutter>[0]} more
@@ -165,7 +165,7 @@ export function gutterOf(name, layer, more) {
 }
 
 /**
- * @param {string} name of the gutter
+ * @param {string} name the name of the gutter
  * @param {GutterMark} mark
  */
 export function textMark(name, { text, words }) {
@@ -175,7 +175,7 @@ export function textMark(name, { text, words }) {
 /** @type {Map<string, { line: Decoration, gutters: GutterMarker }>} the styles of lines by their names */
 const looks = new Map();
 
-/** @param {string} name a class of the line; in the gutters the class has the prefix `at-` */
+/** @param {string} name the CSS class of the line; the class of its gutters has the prefix `at-` */
 export function lookOf(name) {
   const look = looks.get(name) || { line: Decoration.line({ class: name }), gutters: new LookOfGutters(`at-${name}`) };
   looks.set(name, look);

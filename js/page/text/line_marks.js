@@ -1,5 +1,5 @@
-// Marks at the lines of a text: the contents of the gutters, and the next line. They move with their lines while the text is edited; each
-// call replaces the marks, and changes only those that differ.
+// Marks at the lines of a text: the contents of the gutters, and the mark of the next line. Marks move with their lines while the text is
+// edited. Each call replaces the former marks, and changes only those that differ.
 
 import { upTo } from "../../core/bench/numbers.js";
 
@@ -15,7 +15,7 @@ export class LineMarks {
     this.shown = new Set();
   }
 
-  /** The editor shows another text. */
+  /** Removes all marks, because the editor shows another text. */
   forget() {
     for (const gutter of this.shown) this.editor.showMarks(gutter, []);
     this.shown.clear();
@@ -38,7 +38,7 @@ export class LineMarks {
   }
 
   /**
-   * Marks the line whose instruction is next; 0 for none.
+   * Marks the line of the next instruction; 0 for no line.
    * @param {number} line
    */
   showNext(line) {

@@ -1,4 +1,4 @@
-// Greyed words after lines of a text: the changes that these lines made. They are not part of the text, and move with their lines.
+// Grey words after lines of a text: the changes that these lines made. The words are not part of the text, and move with their lines.
 
 import { wordsBehind } from "./line_layers.js";
 

@@ -1,7 +1,7 @@
-// Errors while a text is typed: after a pause the text is tried on the side, and its errors are reported. An edit makes a trial worthless:
-// it ends, and another one begins after the next pause.
+// Error checks while the user types. A check begins after a pause in typing, and its errors are shown. An edit cancels a check that is
+// under way, and another one begins after the next pause.
 
-/** The milliseconds after the last key. */
+/** The time in milliseconds from the last edit to a check. */
 const PAUSE = 300;
 
 /**
@@ -9,7 +9,8 @@ const PAUSE = 300;
  */
 export class LiveFaults {
   /**
-   * @param {(isWanted: () => boolean) => Promise<Result | undefined>} find resolves to the result; undefined if it is no longer wanted
+   * @param {(isWanted: () => boolean) => Promise<Result | undefined>} find resolves to the result, or to undefined if it is no longer
+   *   wanted
    * @param {(result: Result) => void} show
    * @param {(fault: unknown) => void} failed
    */
@@ -21,7 +22,7 @@ export class LiveFaults {
     this.timer = 0;
   }
 
-  /** The text was edited. */
+  /** Cancels a check that is under way, and begins another one after a pause. Called after each edit. */
   edited() {
     this.asked += 1;
     clearTimeout(this.timer);
@@ -29,7 +30,7 @@ export class LiveFaults {
   }
 
   /**
-   * Checks at once, and shows the result, which is also returned; undefined if the text was edited meanwhile.
+   * Checks the text at once and shows the result. Resolves to the result, or to undefined if the text was edited meanwhile.
    * @returns {Promise<Result | undefined>}
    */
   async look() {

@@ -1,5 +1,5 @@
-// The meaning of the word at the pointer or the caret, below a text: its current value, in pieces, each value a cell that can be edited;
-// then its meaning. At the pointer the value is also shown on the spot.
+// The description below a text of the word at the pointer or the caret: its present values, each in a cell that can be edited, and its
+// meaning. A tooltip at the pointer shows the values, too.
 
 import { element } from "../ui/dom.js";
 import { putBelow } from "../ui/popup_message.js";
@@ -12,11 +12,11 @@ import * as say from "../../words/text.js";
  * @typedef {(cell: HTMLElement, value: Value) => void} Offer makes a cell editable
  */
 
-/** The distance of the words below the pointer, in pixels. */
+/** The distance in pixels between the pointer and the tooltip below it. */
 const BELOW_POINTER = 16;
 
 /**
- * The pieces without the values: as long as these stay, the cells stay.
+ * Returns the pieces without their values. While this text stays the same, the cells are kept.
  * @param {Piece[]} pieces
  */
 function shapeOf(pieces) {
@@ -69,9 +69,9 @@ export class MeaningView {
   }
 
   /**
-   * Reports values at the pointer.
-   * @param {Piece[]} pieces none take them away
-   * @param {{ left: number, top: number }} point in the window
+   * Shows values in a tooltip at the pointer.
+   * @param {Piece[]} pieces an empty list hides the tooltip
+   * @param {{ left: number, top: number }} point coordinates in the window
    */
   showAt(pieces, { left, top }) {
     this.tip.textContent = textOf(pieces);

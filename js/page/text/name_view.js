@@ -1,4 +1,4 @@
-// Names in a text: go to the definition of one, find all its places, rename it; and go to a line by its number.
+// Commands for names in a text (go to the definition, find all references, rename), and the command that goes to a line.
 
 import { counted } from "../../core/bench/numbers.js";
 import { element, onClick } from "../ui/dom.js";
@@ -11,13 +11,13 @@ import * as say from "../../words/text.js";
  * @typedef {import("../../core/text/references.js").Reference} Reference
  */
 
-/** Words of a line in the list of places. */
+/** The maximum length of a line's text in the list of references. */
 const LONGEST_WORDS = 60;
 
 export class NameView {
   /**
    * @param {TextEditor} text
-   * @param {HTMLElement} parent receives the bar and the list
+   * @param {HTMLElement} parent the parent of the bar and the list
    * @param {{ isInstruction: (word: string) => boolean, showMessage: (words: string) => void }} calls
    */
   constructor(text, parent, calls) {
@@ -32,7 +32,7 @@ export class NameView {
     return this.text.text.split("\n");
   }
 
-  /** Returns the name at the caret; if there is none, that is reported. */
+  /** Returns the name at the caret, or "" after a message if there is none. */
   nameAtCaret() {
     const { line, ch } = this.text.editor.getCursor();
     const name = nameAt(this.lines, line, ch);
@@ -55,7 +55,7 @@ export class NameView {
     if (definition) this.show(definition);
   }
 
-  /** Lists all places of the name at the caret. */
+  /** Lists all references to the name at the caret. */
   find() {
     const name = this.nameAtCaret();
     if (name === "") return;
@@ -69,7 +69,7 @@ export class NameView {
   }
 
   /**
-   * @param {Reference} reference
+   * @param {string} text the text of the reference's line
    * @param {string} text of its line
    */
   row(reference, text) {
@@ -105,7 +105,7 @@ export class NameView {
     return "";
   }
 
-  /** Asks for the number of a line. */
+  /** Asks for the number of a line, and goes to that line. */
   goToLine() {
     const last = this.text.editor.lineCount();
     this.bar.open({

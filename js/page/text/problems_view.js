@@ -1,4 +1,4 @@
-// The problems of all texts in one list, with the probable bugs that were seen while time ran; and their number.
+// The list of problems in all texts, and the count of problems together with the probable bugs that were seen while time was running.
 
 import { block, element, onClick } from "../ui/dom.js";
 import * as say from "../../words/text.js";
@@ -10,8 +10,8 @@ import * as say from "../../words/text.js";
 /**
  * The calls that the list of problems makes.
  * @typedef {object} ProblemCalls
- * @property {(name: string, fault: Fault) => void} goTo Shows an error in the text with a name.
- * @property {(count: number) => void} counted Shows how many problems all texts have.
+ * @property {(name: string, fault: Fault) => void} goTo Shows an error in the text `name`.
+ * @property {(count: number) => void} counted Shows the number of problems.
  */
 
 export class ProblemsView {
@@ -22,13 +22,13 @@ export class ProblemsView {
     this.none = block("problems-none");
     /** @type {Map<string, Fault[]>} the errors of each text, by its name */
     this.faults = new Map();
-    /** The number of probable bugs in the list. */
+    /** The number of probable bugs that were seen. */
     this.bugs = 0;
   }
 
   /**
-   * @param {string} name of a text
-   * @param {Fault[]} faults its errors now
+   * @param {string} name the name of a text
+   * @param {Fault[]} faults the present errors of that text
    */
   take(name, faults) {
     if (faults.length === 0 && (this.faults.get(name) || []).length === 0) return;
@@ -37,7 +37,7 @@ export class ProblemsView {
     this.count();
   }
 
-  /** @param {number} bugs probable bugs that were seen */
+  /** @param {number} bugs the number of probable bugs that were seen */
   showBugCount(bugs) {
     if (this.bugs === bugs) return;
     this.bugs = bugs;

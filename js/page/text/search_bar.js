@@ -1,21 +1,21 @@
-// The search in a text: a bar above it, the next and the previous match, and their number; and a replacement.
+// The search bar above a text: it finds the next and the previous match, counts the matches, and replaces them.
 
 import { Cell, element, onClick } from "../ui/dom.js";
 import * as say from "../../words/text.js";
 
 /**
  * @typedef {import("./line_editor.js").LineEditor} LineEditor
- * @typedef {{ from: number, to: number }} Span of the text
+ * @typedef {{ from: number, to: number }} Span offsets in the text
  */
 
-/** The most matches that are counted. */
+/** The maximum number of matches that are counted. */
 const MOST_COUNTED = 1000;
 
 export class SearchBar {
   /**
    * @param {LineEditor} editor
-   * @param {HTMLElement} parent receives the bar, before all else
-   * @param {string} label of the text
+   * @param {HTMLElement} parent receives the bar as its first child
+   * @param {string} label the name of the text
    */
   constructor(editor, parent, label) {
     this.editor = editor;
@@ -44,8 +44,8 @@ export class SearchBar {
   }
 
   /**
-   * Begins with the selection, or the last search.
-   * @param {boolean} [replaces]
+   * Opens the bar with the selection, or with the last search.
+   * @param {boolean} [replaces] whether the field for a replacement is shown
    */
   open(replaces = false) {
     this.replacing.hidden = !replaces;
@@ -73,7 +73,7 @@ export class SearchBar {
     else act(event.shiftKey);
   }
 
-  /** Replaces the selection, if it is a match, and moves to the next. */
+  /** Replaces the selection, if it is a match, and selects the next match. */
   replace() {
     const { editor } = this;
     const wanted = this.field.value;
@@ -82,7 +82,7 @@ export class SearchBar {
     this.find(false);
   }
 
-  /** Replaces all, as one step that can be undone. */
+  /** Replaces all matches, as one undo step. */
   replaceAll() {
     const wanted = this.field.value;
     if (wanted === "") return;
@@ -93,7 +93,7 @@ export class SearchBar {
   }
 
   /**
-   * Selects the next match, ignoring case, or the one before; after the last one follows the first one.
+   * Selects the next or the previous match, ignoring case. After the last match the search continues with the first one.
    * @param {boolean} isBack
    * @param {number} from
    */

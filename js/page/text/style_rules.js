@@ -1,5 +1,5 @@
-// The rules of style that CodeMirror makes while it runs. The page's policy accepts no style but its own sheet, so they become rules of
-// that, before all others.
+// The style rules that CodeMirror creates while it runs. The content security policy of the page accepts only its own style sheet, so
+// the rules are inserted at the beginning of that sheet.
 
 import { StyleModule } from "style-mod";
 
@@ -7,7 +7,7 @@ import { StyleModule } from "style-mod";
 const taken = new Set();
 let count = 0;
 
-/** From now on rules go into the page's sheet. */
+/** Makes CodeMirror insert its rules into the page's style sheet. */
 export function keepRulesInSheet() {
   StyleModule.mount = (_, modules) => {
     const [sheet] = document.styleSheets;

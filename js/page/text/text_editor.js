@@ -1,5 +1,5 @@
-// An editor of a text, with the common features of the page's texts. An opened text has a state of its own, with its own undo history; the
-// states of the sessions are kept as long as the page lives.
+// An editor with the common features of the page's texts. Each opened text has its own state, with its undo history. The states of the
+// sessions are kept while the page is open.
 
 import { EditorView } from "@codemirror/view";
 import { upTo } from "../../core/bench/numbers.js";
@@ -18,47 +18,48 @@ import * as say from "../../words/text.js";
  * @typedef {{ container: HTMLElement, label: string, colours: import("./line_colours.js").Colours, gutters: string[], indent?: string,
  *   folds?: import("../../core/text/folding.js").Parts, keys: KeyMap, calls: TextCalls }} TextParts
  *
- * A text that is not shown, and how far it was scrolled.
+ * A text that is not shown, and its scroll position in pixels.
  * @typedef {{ state: import("@codemirror/state").EditorState, top: number }} KeptText
  */
 
 /**
  * The calls that an editor of a text makes.
  * @typedef {object} TextCalls
- * @property {(edits: Edit[]) => void} edited The text was edited, by these edits in their order.
- * @property {() => void} moved The caret was moved.
- * @property {(line: number) => void} clickedGutter A gutter was clicked at a line, from 0.
- * @property {(line: number, event: Event) => void} askedGutter A gutter was clicked by the second button at a line, from 0.
- * @property {() => void} clickedName A place was clicked with Control, and the caret is there.
- * @property {(size: number) => void} refused A text of `size` characters was not accepted, because it is too long.
+ * @property {(edits: Edit[]) => void} edited Handles the edits of the text, in their order.
+ * @property {() => void} moved Handles a move of the caret.
+ * @property {(line: number) => void} clickedGutter Handles a click on a gutter at a line, from 1.
+ * @property {(line: number, event: Event) => void} askedGutter Handles a click on a gutter with the second button at a line, from 1.
+ * @property {() => void} clickedName Handles a click with Control, after it has moved the caret.
+ * @property {(size: number) => void} refused Reports that a text of `size` characters is too long and was not accepted.
  * @property {(position: Position) => import("../../core/text/completion.js").Completion} complete Returns the possible completions of the
  * word at a position.
  */
 
-/** The number of texts that are stored. */
+/** The maximum number of texts that are kept. */
 const MOST_KEPT = 30;
-/** Keys that do nothing alone. */
+/** Modifier keys, which do nothing alone. */
 const OTHER_KEYS = ["Shift", "Control", "Alt", "Meta"];
 
 export class TextEditor {
   /** @param {TextParts} parts */
   constructor(parts) {
     this.calls = parts.calls;
-    /** @type {(line: number) => void} the caret has moved to a line */
+    /** @type {(line: number) => void} the listener to moves of the caret to a line, from 1 */
     this.caret = () => {};
-    /** The scroll position. */
+    /** The scroll position in pixels. */
     this.top = 0;
-    /** @type {number | null} the scroll position to restore once it can be measured, and the line that is to be in view then, 0 for none */
+    /** @type {number | null} the scroll position to restore when the text can be measured */
     this.due = null;
+    /** The line to reveal after that, 0 for none. */
     this.awaited = 0;
-    /** True if Tab leaves the editor: after Escape, or if Tab has reached it. */
+    /** True if Tab moves the focus out of the editor: after Escape, or after Tab moved the focus in. */
     this.tabLeaves = true;
     /** True if the user has placed the caret: the editor had the focus since its text was loaded. */
     this.hasCaret = false;
-    /** @type {Map<string, KeptText>} by the names that they were opened by */
+    /** @type {Map<string, KeptText>} by the names with which they were opened */
     this.kept = new Map();
     this.name = "";
-    /** @type {string | null} the text, if it was read since the last edit */
+    /** @type {string | null} the text, null after an edit until it is read */
     this.value = null;
     const { container, label, colours, gutters, indent, folds, keys } = parts;
     /** @type {LineEditor} */
@@ -67,7 +68,7 @@ export class TextEditor {
     this.editor.onScroll(() => {
       if (this.due === null && container.offsetHeight > 0) this.top = this.editor.getScrollInfo().top;
     });
-    // It cannot be measured while it is hidden.
+    // A hidden editor cannot be measured.
     new ResizeObserver(() => this.resized()).observe(container);
   }
 
@@ -107,7 +108,7 @@ export class TextEditor {
         if ((ctrlKey || metaKey) && button === 0) setTimeout(this.calls.clickedName);
       },
       keydown: (event) => this.typed(event),
-      // A file that is dropped is the page's.
+      // The page itself handles dropped files.
       drop: ({ dataTransfer }) => dataTransfer !== null && dataTransfer.files.length > 0,
     });
   }
@@ -116,7 +117,7 @@ export class TextEditor {
     return this.editor.container;
   }
 
-  /** Restores a text that was hidden: a browser may scroll it elsewhere before it can be measured. */
+  /** Restores the scroll position of a text that was hidden, because a browser can change it before the text is measured. */
   resized() {
     if (this.container.offsetHeight === 0) this.scrollSoon(this.due === null ? this.top : this.due);
     else if (this.due === null) this.editor.refresh();
@@ -124,7 +125,7 @@ export class TextEditor {
   }
 
   /**
-   * Scrolls to this position, once it can be measured.
+   * Scrolls to a position in pixels, as soon as the text can be measured.
    * @param {number} top
    */
   scrollSoon(top) {
@@ -132,7 +133,7 @@ export class TextEditor {
     if (this.container.offsetHeight > 0) this.editor.whenMeasured(() => this.scroll());
   }
 
-  /** Does the scrolling that waited for the text to be measured. */
+  /** Restores the scroll position, if the text can be measured now. */
   scroll() {
     if (this.due === null || this.container.offsetHeight === 0) return;
     this.editor.scrollTo(this.due);
@@ -142,7 +143,9 @@ export class TextEditor {
   }
 
   /**
-   * Tab indents once something was typed or clicked here; after Escape, or if Tab has reached the editor, it moves the focus as usual.
+   * Handles a key. Tab indents after something was typed or clicked in the editor. After Escape, or if Tab moved the focus in, Tab moves
+   * the
+   * focus as usual.
    * Returns whether the key is handled.
    * @param {KeyboardEvent} event
    */
@@ -159,7 +162,7 @@ export class TextEditor {
   }
 
   /**
-   * Shows the text of a session: in its former state, if the text is still the one in it.
+   * Shows the text of a session, in its former state if the text has not changed since.
    * @param {string} name of the session
    * @param {string} text
    */
@@ -193,7 +196,7 @@ export class TextEditor {
   }
 
   /**
-   * Replaces the whole text, as one step that can be undone.
+   * Replaces the whole text, as one undo step.
    * @param {string} text
    */
   replaceText(text) {
@@ -201,13 +204,13 @@ export class TextEditor {
     this.hasCaret = false;
   }
 
-  /** Returns the line of the caret, from 1; 0 if the user has not placed it. */
+  /** The line of the caret, from 1; 0 if the user has not placed the caret. */
   get caretLine() {
     return this.hasCaret ? this.editor.getCursor().line + 1 : 0;
   }
 
   /**
-   * Makes successive edits, as one step that can be undone.
+   * Makes successive edits, as one undo step.
    * @param {import("../../core/drawing/text_edits.js").TextEdit[]} edits
    */
   edit(edits) {
@@ -215,7 +218,7 @@ export class TextEditor {
   }
 
   /**
-   * Undoes or redoes the last step; returns false if there is none.
+   * Undoes or redoes the last step. Returns false if there is none.
    * @param {"undo" | "redo"} which
    */
   undoOrRedo(which) {
@@ -233,7 +236,7 @@ export class TextEditor {
   }
 
   /**
-   * Scrolls a line into view if it is not; neither the caret nor the page moves. A folded part that contains it unfolds.
+   * Scrolls a line into view if it is hidden, and unfolds the part that contains it. Neither the caret nor the page moves.
    * @param {number} line from 1
    */
   reveal(line) {

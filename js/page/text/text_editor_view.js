@@ -1,4 +1,4 @@
-// The texts of the board and of the program: an editor each, with its errors, its search, and words about the place of the pointer.
+// The view of a text: its editor, its errors, its search, and a description of the word at the pointer or the caret.
 
 import { Cell, below, block, element, onClick } from "../ui/dom.js";
 import { editorKeys } from "../commands/keys.js";
@@ -25,10 +25,10 @@ import * as say from "../../words/text.js";
  *
  * @typedef {import("../machine/breakpoint_row.js").BreakpointField} BreakpointField
  *
- * The kind of a text: the beginning of its comments, its colours, its gutters, the indentation of a new line, if it is not that of the line
- * before, its folding parts; whether a word (in upper case) is an instruction, if the text has names; whether it is never sent, and so
- * measured as it is; the description of a word, by its line (from 0) and its place in that, its current value, and how one of these values
- * can be edited; and its completions.
+ * The language of a text: the mark of its comments, its colours, its gutters, the indentation of a new line (by default that of the line
+ * before), and its folding parts. `isInstruction` returns whether a word in upper case is an instruction, in a text with names. `isUnsent`
+ * is true for a text that is never sent to the bench. `wordsAt` describes the word at an offset in a line, both from 0. `valuesAt` returns
+ * the present values of that word, and `offer` makes one of them editable. `complete` returns the completions of the word.
  * @typedef {{ mark: import("../../core/text/text_fault.js").CommentMark, colours: import("./line_colours.js").Colours, gutters: string[],
  *   indent?: string,
  *   folds?: import("../../core/text/folding.js").Parts, isInstruction?: (word: string) => boolean,
@@ -41,17 +41,17 @@ import * as say from "../../words/text.js";
 /**
  * The calls that an editor with its errors makes. Lines count from 1.
  * @typedef {object} EditorCalls
- * @property {(edits: Edit[]) => void} edited The text was edited, by these edits in their order.
- * @property {() => void} send The text is to be sent to the bench.
- * @property {() => void} [prove] The text is to be proved; left out if it cannot be.
- * @property {(line: number) => void} toggleBreakpoint The breakpoint of a line is to be set or removed.
- * @property {(line: number, what: BreakpointField) => void} [editBreakpoint] The words of a line's breakpoint are to be edited, from a
- * field on. Missing in texts without breakpoints.
- * @property {(line: number, point: { left: number, bottom: number }) => void} [askedMargin] The menu of a line's margin is wanted at a
- *   point of the page, in pixels. Missing in texts that have none.
+ * @property {(edits: Edit[]) => void} edited Handles the edits of the text, in their order.
+ * @property {() => void} send Sends the text to the bench.
+ * @property {() => void} [prove] Proves the text. Missing in texts that cannot be proved.
+ * @property {(line: number) => void} toggleBreakpoint Sets or removes the breakpoint of a line.
+ * @property {(line: number, what: BreakpointField) => void} [editBreakpoint] Opens a field of the breakpoint at a line. Missing in texts
+ *   without breakpoints.
+ * @property {(line: number, point: { left: number, bottom: number }) => void} [askedMargin] Opens the menu of a line's margin at a point of
+ *   the page, in pixels. Missing in texts without this menu.
  */
 
-/** The pointer or the caret rests this many milliseconds before words are shown. */
+/** The time in milliseconds that the pointer or the caret rests before its word is described. */
 const REST_TIME = 150;
 
 export class EditorView {
@@ -75,7 +75,7 @@ export class EditorView {
     const { colours, gutters, indent, folds, isInstruction = () => false } = language;
     this.editor = new TextEditor({ container, label, colours, gutters, indent, folds, keys: this.keys(), calls: this.textCalls() });
     const { editor } = this.editor;
-    /** @type {(faults: Fault[]) => void} the errors of the text have changed */
+    /** @type {(faults: Fault[]) => void} the listener to changes of the errors */
     this.listed = () => {};
     this.marks = new LineMarks(editor);
     this.counts = new CountMarks(editor, this.marks);
@@ -83,8 +83,9 @@ export class EditorView {
     this.faults = new FaultView(editor, this.marks, list, (fault) => this.goToFault(fault));
     this.search = new SearchBar(editor, paper, label);
     this.names = new NameView(this.editor, paper, { isInstruction, showMessage: (words) => this.status.set(words) });
-    /** Timers: the pointer or the caret rests, and typing does. */
+    /** The timer of the resting pointer or caret. */
     this.resting = 0;
+    /** The timer of the text's size. */
     this.counting = 0;
     this.listenToPointer(editor.getWrapperElement());
     editor.onScroll(() => this.meaning.hideTip());
@@ -93,7 +94,7 @@ export class EditorView {
 
   /** @returns {import("./text_editor.js").KeyMap} */
   keys() {
-    // Undo and redo are the editor's own.
+    // CodeMirror has its own keys for undo and redo.
     const acts = Object.entries(this.acts()).filter(([name]) => name !== "undo" && name !== "redo");
     return {
       ...editorKeys("text.assembleAndRun", () => this.calls.send()),
@@ -106,7 +107,7 @@ export class EditorView {
   }
 
   /**
-   * Returns the acts of this text, by their names in the table of commands.
+   * Returns the actions of this text, by their names in the table of commands.
    * @returns {Partial<Record<TextAct, () => void>>}
    */
   acts() {
@@ -126,7 +127,7 @@ export class EditorView {
   }
 
   /**
-   * Does something in the text, whose caret has the keyboard then.
+   * Focuses the text, and does an action in it.
    * @param {TextAct} what
    */
   act(what) {
@@ -142,7 +143,7 @@ export class EditorView {
   }
 
   /**
-   * Edits the words of the breakpoint at the line of the caret.
+   * Opens a field of the breakpoint at the line of the caret.
    * @param {BreakpointField} what
    */
   editBreakpoint(what) {
@@ -164,7 +165,7 @@ export class EditorView {
   }
 
   /**
-   * The menu of a line's margin is wanted.
+   * Opens the menu of a line's margin at the pointer.
    * @param {number} line
    * @param {Event} event
    */
@@ -202,7 +203,7 @@ export class EditorView {
   }
 
   /**
-   * Returns the current value of the word at a position; none after the end of its line.
+   * Returns the present values of the word at a position; an empty list after the end of the line.
    * @param {Position} position
    * @returns {Piece[]}
    */
@@ -211,7 +212,7 @@ export class EditorView {
     return valuesAt ? valuesAt(this.editor.editor.getLine(line) || "", ch) : [];
   }
 
-  /** Reports the position of the caret. */
+  /** Describes the word at the caret. */
   reportCaret() {
     const position = this.editor.editor.getCursor();
     this.meaning.hideTip();
@@ -226,7 +227,7 @@ export class EditorView {
     return this.faults.wordsAt(position) || this.language.wordsAt(this.lines, position.line, position.ch);
   }
 
-  /** Handles a move of the caret; its word is described once it rests, so that no key waits for it. */
+  /** Handles a move of the caret. The word at the caret is described after REST_TIME, so that typing does not wait for it. */
   moved() {
     clearTimeout(this.resting);
     this.resting = window.setTimeout(() => this.reportCaret(), REST_TIME);
@@ -245,7 +246,7 @@ export class EditorView {
     return sentText(this.text, this.language.mark);
   }
 
-  /** The text in which errors have their places. */
+  /** The text to which the positions of errors refer. */
   get aligned() {
     return alignedText(this.text, this.language.mark);
   }
@@ -256,7 +257,7 @@ export class EditorView {
 
   /**
    * Shows the text of a session.
-   * @param {string} session its name
+   * @param {string} session the name of the session
    * @param {string} text
    */
   open(session, text) {
@@ -271,7 +272,7 @@ export class EditorView {
   }
 
   /**
-   * Replaces the whole text, as one step that can be undone.
+   * Replaces the whole text, as one undo step.
    * @param {string} text
    */
   replaceText(text) {
@@ -279,7 +280,7 @@ export class EditorView {
   }
 
   /**
-   * Undoes or redoes the last step; returns false if there is none.
+   * Undoes or redoes the last step. Returns false if there is none.
    * @param {"undo" | "redo"} which
    */
   undoOrRedo(which) {
@@ -287,7 +288,7 @@ export class EditorView {
   }
 
   /**
-   * The line whose instruction is next, or 0 for none; it is scrolled into view.
+   * Marks the line of the next instruction, 0 for no line, and scrolls it into view.
    * @param {number} line
    */
   showNext(line) {
@@ -295,18 +296,18 @@ export class EditorView {
     if (line > 0) this.editor.reveal(line);
   }
 
-  /** @param {number} line to be seen */
+  /** @param {number} line from 1 */
   reveal(line) {
     this.editor.reveal(line);
   }
 
-  /** @param {Map<number, BreakpointMark>} marks of the lines that have a breakpoint */
+  /** @param {Map<number, BreakpointMark>} marks the marks of breakpoints, by line */
   showBreakpoints(marks) {
     const none = { mark: "", words: "" };
     this.marks.showAt("breakpoints", (line) => (marks.get(line) || none).mark, (line) => (marks.get(line) || none).words);
   }
 
-  /** @param {string[]} addresses of the lines, "" for a line that has none to show */
+  /** @param {string[]} addresses the address of each line, "" for a line without one */
   showAddresses(addresses) {
     this.marks.showAt("addresses", (line) => addresses[line - 1] || "");
   }
@@ -321,13 +322,13 @@ export class EditorView {
     this.moved();
   }
 
-  /** @param {Fault} fault the target of the caret */
+  /** @param {Fault} fault the error to which the caret moves */
   goToFault({ line, from }) {
     this.editor.goTo({ line: line - 1, ch: from });
   }
 
   /**
-   * Shows the result of sending it.
+   * Shows a message about the text.
    * @param {string} words
    */
   showMessage(words) {
@@ -341,7 +342,7 @@ export class EditorView {
     this.calls.edited(edits);
   }
 
-  /** Counts the text, once no key waits for it. */
+  /** Shows the size of the text after REST_TIME, so that typing does not wait for it. */
   count() {
     clearTimeout(this.counting);
     this.counting = window.setTimeout(() => {

@@ -1,4 +1,4 @@
-// The appearance of the texts: the size of their letters, and lines that wrap.
+// The appearance of the texts: the size of their letters, and whether long lines wrap.
 
 import { block, button, field, onClick } from "../ui/dom.js";
 
@@ -7,7 +7,7 @@ import { block, button, field, onClick } from "../ui/dom.js";
  * @typedef {import("./line_editor.js").LineEditor} LineEditor
  */
 
-/** In pixels. */
+/** The sizes of letters in pixels. */
 const USUAL = 13;
 const LEAST = 9;
 const MOST = 28;

@@ -1,5 +1,6 @@
-// A text that belongs to a board and a program, of tests or of properties: its editor, which completes the names of both, and its errors
-// while it is typed.
+// The editor of a text that belongs to a board and a program: its tests or its properties. The editor completes the names in both, and
+// shows
+// errors while the user types.
 
 import { Face, moreThan } from "../../core/board/face.js";
 import { button, onClick } from "../ui/dom.js";
@@ -11,30 +12,31 @@ import { COLOURS } from "../../core/text/test_colours.js";
 /**
  * @typedef {import("../../core/testing/prepared.js").TextFault} TextFault
  * @typedef {import("../../core/text/completion.js").Completion} Completion
- * @typedef {{ keys: string[], lamps: string[], labels: string[] }} Names of the board and of the program
+ * @typedef {{ keys: string[], lamps: string[], labels: string[] }} Names the names in the board and the program
  */
 
 /**
- * The calls of such a text to its own tab.
+ * The calls that the editor makes to its own tab.
  * @typedef {object} OwnCalls
- * @property {() => Promise<TextFault[]>} faults Resolves to the errors of all texts.
- * @property {(count: number) => void} counted Shows how many errors this text has.
- * @property {() => void} send Does the action of the first button of the tab.
+ * @property {() => Promise<TextFault[]>} faults Resolves to the errors of the board, the program and this text.
+ * @property {(count: number) => void} counted Shows the number of errors in this text.
+ * @property {() => void} send Does the action of the tab's first button.
  * @property {() => void} [prove] Proves the text, if it can be proved.
  */
 
 /**
- * The calls that both such texts make.
+ * The calls that the editors of tests and of properties make.
  * @typedef {object} TextCalls
- * @property {() => { boardText: string }} texts Returns the texts of its board and program.
+ * @property {() => { boardText: string }} texts Returns the text of the board.
  * @property {() => string[]} labels Returns the labels of the program in ROM.
- * @property {() => void} edited The text was edited.
+ * @property {() => void} edited Handles an edit of the text.
  * @property {(fault: unknown) => void} failed Reports an error that a call threw.
  */
 
 /**
- * The kind of a text: its name, which its editor has too; the button that inserts a first text, and that text; the forms of its lines; the
- * meaning of a word, and its completions.
+ * The kind of a text: its name, which is also in the id of its editor; the button that inserts a first text, and that text; the forms of
+ * its
+ * lines; and the functions that describe and complete a word.
  * @template Forms
  * @typedef {{ name: "tests" | "properties", firstButton: string, firstText: (names: Names) => string | Promise<string>, forms: Forms,
  *   wordsAt: (lines: string[], line: number, at: number, forms: Forms) => string,
@@ -79,7 +81,7 @@ export class TextTab {
     return { keys: face.test ? [...keys, face.test.name] : keys, lamps: [...face.lampNumbers.keys()], labels: this.calls.labels() };
   }
 
-  /** Puts the text to begin with into the editor, unless another text or board is there by then. */
+  /** Inserts the first text, unless the editor has a text or the board has changed by then. */
   async begin() {
     const { boardText } = this.calls.texts();
     const text = await this.kind.firstText(this.names());
@@ -92,23 +94,23 @@ export class TextTab {
     this.calls.edited();
   }
 
-  /** Inserts a first text, if there is none. */
+  /** Shows the button that inserts a first text only while there is no text. */
   offerFirst() {
     button(this.kind.firstButton).hidden = this.editor.text.trim() !== "";
   }
 
-  /** Handles the tab coming to the front, or changed texts: names of the board and the program may have changed. */
+  /** Checks the text, because its tab came to the front or another text has changed: the names in the board and the program can differ. */
   look() {
     this.offerFirst();
     this.faults.look().catch(this.calls.failed);
   }
 
-  /** The errors of this text; board and program have their own. Without a text there are none. */
+  /** Resolves to the errors of the board, the program and this text; an empty list if this text is empty. */
   async find() {
     return this.editor.text.trim() === "" ? [] : this.own.faults();
   }
 
-  /** @param {TextFault[]} faults of all three texts */
+  /** @param {TextFault[]} faults the errors of all three texts */
   showFaults(faults) {
     const { lines } = this.editor;
     const entries = faults.filter(({ text }) => text === this.kind.name).map(({ line, number, words }) => {

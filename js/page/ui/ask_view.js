@@ -1,4 +1,4 @@
-// A question before an action that a user may not have meant, in a dialog of its own.
+// A dialog that asks the user to confirm an action.
 
 import { element } from "./dom.js";
 import * as say from "../../words/page.js";
@@ -19,7 +19,7 @@ export class AskView {
       element("div", { className: "bar" }, this.accept, this.refuse));
     /** @type {(isAccepted: boolean) => void} */
     this.answer = () => {};
-    // A dialog that was reopened meanwhile asks something else.
+    // If the dialog is open again, this event belongs to an earlier question.
     this.dialog.addEventListener("close", () => {
       if (!this.dialog.open) this.answer(this.dialog.returnValue === ACCEPTED);
     });
@@ -28,7 +28,7 @@ export class AskView {
 
   /**
    * @param {string} word
-   * @param {string} value that the dialog closes with
+   * @param {string} value the dialog's return value
    */
   button(word, value) {
     const made = element("button", { type: "button" }, word);
@@ -37,7 +37,7 @@ export class AskView {
   }
 
   /**
-   * Resolves to whether it is accepted. The next question rejects one that is still open.
+   * Asks a question. Resolves to true if the user accepts. A question that is still open then resolves to false.
    * @param {Question} question
    * @returns {Promise<boolean>}
    */

@@ -5,7 +5,7 @@ const KEY = "fethsaim.choices";
 
 /** @typedef {Pick<Storage, "getItem" | "setItem">} ChoiceStore */
 
-/** The browser's store of words; null if it has none. */
+/** Returns the local storage of the browser, or null if the page cannot use it. */
 export function ownStore() {
   try {
     return localStorage;
@@ -28,7 +28,7 @@ function readChoices(text) {
 }
 
 export class Choices {
-  /** @param {ChoiceStore | null} store null if the browser keeps nothing */
+  /** @param {ChoiceStore | null} store null if the browser stores nothing */
   constructor(store = ownStore()) {
     this.store = store;
     this.chosen = readChoices(this.read());
@@ -55,12 +55,12 @@ export class Choices {
    * @param {string} value
    */
   set(name, value) {
-    // Another tab may have chosen something else meanwhile.
+    // Another tab can have stored other choices meanwhile.
     this.chosen = { ...this.chosen, ...readChoices(this.read()), [name]: value };
     try {
       if (this.store) this.store.setItem(KEY, JSON.stringify(this.chosen));
     } catch {
-      // It lasts for this visit.
+      // The choice lasts until the page is closed.
     }
   }
 }

@@ -1,7 +1,7 @@
-// Small helps for the views.
+// Helpers for the views: they find and create elements, and update them only if something differs.
 
 /**
- * Returns the element of this name in the page; `kind` is its required type.
+ * Returns the element with an id. Throws an error if the page has no such element of the type `kind`.
  * @template {HTMLElement} Kind
  * @param {string} id
  * @param {new () => Kind} kind
@@ -21,7 +21,7 @@ export const button = (id) => byId(id, HTMLButtonElement);
 export const field = (id) => byId(id, HTMLInputElement);
 
 /**
- * Returns a descendant of an element.
+ * Returns the first descendant of an element that matches a selector. Throws an error if none of the type `kind` does.
  * @template {HTMLElement} Kind
  * @param {HTMLElement} root
  * @param {string} selector
@@ -35,7 +35,7 @@ export function below(root, selector, kind) {
 }
 
 /**
- * Makes an element. A property that the element has is set, any other is an attribute.
+ * Creates an element. A key that is a property of the element is set as a property, any other key as an attribute.
  * @template {keyof HTMLElementTagNameMap} Name
  * @param {Name} name
  * @param {Record<string, unknown>} [properties]
@@ -53,8 +53,8 @@ export function element(name, properties = {}, ...children) {
 }
 
 /**
- * A place for a text. It changes the page only if the text differs, so that an unchanged frame costs nothing. Its text node stays: in
- * WebKit a click is lost if the pressed text is removed before the release.
+ * The text of an element. The page changes only if the text differs, so that an unchanged frame costs nothing. The text node stays:
+ * WebKit loses a click if the pressed text node is removed before the release.
  */
 export class Cell {
   /** @param {HTMLElement} node */
@@ -66,7 +66,7 @@ export class Cell {
   }
 
   /**
-   * Returns whether the text has changed.
+   * Sets the text. Returns whether it has changed.
    * @param {string} text
    */
   set(text) {
@@ -77,7 +77,7 @@ export class Cell {
   }
 }
 
-/** A switch of an element, as an attribute or a class that is changed only if it differs. */
+/** A boolean state of an element, for example an attribute or a class. `show` is called only when the state changes. */
 export class Switch {
   /** @param {(isOn: boolean) => void} show */
   constructor(show) {
@@ -95,7 +95,7 @@ export class Switch {
 }
 
 /**
- * Returns whether a button is pressed, as screen readers report it.
+ * Returns a switch that sets `aria-pressed` of a button, which screen readers report.
  * @param {HTMLElement} node
  */
 export function pressedSwitch(node) {
@@ -103,7 +103,8 @@ export function pressedSwitch(node) {
 }
 
 /**
- * A button acts on a click; after a click by pointer it releases the focus, so that Enter and the space bar are the board's again.
+ * Calls `act` on each click. After a click by pointer the button loses the focus, so that Enter and the space bar press keys of the board
+ * again.
  * @param {HTMLElement} node
  * @param {() => void} act
  */
@@ -126,15 +127,15 @@ export function buttonOf(text, act, properties = {}) {
   return made;
 }
 
-/** Returns whether a dialog is open, which then owns the keyboard. */
+/** Returns whether a dialog is open. An open dialog receives all keys. */
 export function isDialogOpen() {
   return document.querySelector("dialog[open]") !== null;
 }
 
 /**
- * A block of buttons is one stop of the Tab key; arrows go from one button to the next.
+ * Makes a block of buttons one stop of the Tab key. The arrow keys move the focus from button to button.
  * @param {HTMLElement} root
- * @param {() => number} columns
+ * @param {() => number} columns returns the number of buttons in a row
  */
 export function oneStop(root, columns) {
   /** @type {Record<string, () => number>} */
@@ -156,7 +157,7 @@ export function oneStop(root, columns) {
 }
 
 /**
- * Called after the buttons of such a block were made: makes the first one the tab stop.
+ * Makes the first button of a block the stop of the Tab key. Called after the block's buttons were created.
  * @param {HTMLElement} root
  */
 export function setStop(root) {

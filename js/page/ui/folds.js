@@ -8,7 +8,7 @@ import * as say from "../../words/page.js";
  */
 
 /**
- * Makes the heading of each panel with `data-fold` a button that folds it; the choice is stored. Returns the panels' ids.
+ * Makes the heading of each panel with `data-fold` a button that folds the panel. The choice is stored. Returns the panels' ids.
  * @param {Choices} choices
  */
 export function makeFolds(choices) {

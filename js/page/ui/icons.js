@@ -1,8 +1,8 @@
-// The icons of the page: one set, drawn by lines of one width on 16 by 16 places.
+// The icons of the page, drawn with lines of one width in a box of 16 by 16 units.
 
 import { drawn } from "./svg.js";
 
-/** Each icon as its lines (commands of SVG paths); after a bar the filled parts. */
+/** The SVG path commands of each icon: its lines, then its filled shapes after a bar. */
 const SHAPES = {
   continue: "|M4,2.5,13,8l-9,5.5z",
   pause: "|M4,3h3v10H4zM9,3h3v10H9z",
@@ -43,7 +43,7 @@ const SHAPES = {
 export const ICONS = /** @type {IconName[]} */ (Object.keys(SHAPES));
 
 /**
- * Makes an icon. Screen readers skip it: the labelled control contains it.
+ * Returns a new icon. Screen readers skip it, because the control around it has a label.
  * @param {IconName} name
  * @returns {SVGElement}
  */

@@ -1,33 +1,34 @@
-// Notices about errors, and about actions that can be undone: the newest three, visible wherever the page is scrolled to. Of a kind there
-// is one notice, the newest; it disappears when that kind is well again. Each undoable action has its own notice, and so has each session
-// that was not opened by itself. Notices of success disappear by themselves. All of them can be read again in a list.
+// Notices about errors, and about actions that can be undone. The newest three are visible, wherever the page is scrolled to. A kind has
+// one notice, its newest; undoable actions and sessions that were not opened have one each. A notice of an error disappears when its cause
+// is gone, a notice of success after some time. All notices can be read again in a list.
 
 import { block, element } from "./dom.js";
 import { NoticeList } from "./notice_list.js";
 import * as say from "../../words/page.js";
 
 /**
- * The kinds of notices: lasting errors (`kept`, `store`), rejections (`session`, `refusal`), a link that was copied (`share`), a file whose
- * texts or bytes were loaded (`file`), the session that was left for a new one (`left`), one that was not opened by itself (`unended`), any
- * other error (""), and `undo`.
+ * The kinds of notices: lasting errors (`kept`, `store`), rejections (`session`, `refusal`), a link that was copied (`share`), a file
+ * whose texts or bytes were loaded (`file`), the session that was left for a new one (`left`), a session that was not opened automatically
+ * (`unended`), an action that can be undone (`undo`), and any other error ("").
  * @typedef {"" | "kept" | "session" | "store" | "refusal" | "share" | "file" | "left" | "unended" | "undo"} NoticeKind
  * @typedef {{ word: string, act: () => void }} NoticeAction a button in the notice
  * @typedef {{ kind: NoticeKind, words: string, node: HTMLElement, message: import("./notice_list.js").Message, timer: number }} Row
  */
 
-/** Errors that are reported repeatedly while they last: a dismissed one does not appear again until it was well in between. */
+/** Errors that are reported repeatedly while they last. A dismissed one appears again only if its cause was gone in between. */
 const LASTING = new Set(["kept", "store"]);
-/** Kinds that have a notice each. */
+/** Kinds with a notice for each event. */
 const SEVERAL = new Set(["undo", "unended"]);
 /** Kinds of success. */
 const WENT_WELL = new Set(["undo", "file", "share", "left"]);
-/** A notice of success stays for this many milliseconds. */
+/** The duration in milliseconds of a notice of success. */
 const STAY_TIME = 8000;
-/** The most notices that are shown. */
+/** The maximum number of visible notices. */
 const MOST_SHOWN = 3;
 
 /**
- * Returns the notices that make room: the oldest of success, otherwise the oldest.
+ * Returns the notices to remove so that at most MAX_SHOWN remain: the oldest notices of success first, then the oldest others. The newest
+ * notice stays.
  * @template {{ kind: NoticeKind }} Each
  * @param {Each[]} rows the newest one first
  * @returns {Each[]}
@@ -46,7 +47,7 @@ export class Notice {
     this.rows = [];
     /** @type {Map<NoticeKind, string>} lasting errors that were dismissed */
     this.dismissed = new Map();
-    /** @type {HTMLElement | null} what had the focus before a notice had it */
+    /** @type {HTMLElement | null} the element that had the focus before a notice */
     this.before = null;
     this.block.addEventListener("focusin", (event) => {
       const from = event.relatedTarget;
@@ -55,6 +56,7 @@ export class Notice {
   }
 
   /**
+   * Shows a notice, unless the same lasting error is visible or was dismissed.
    * @param {string} words
    * @param {NoticeKind} kind
    * @param {NoticeAction[]} actions
@@ -76,7 +78,7 @@ export class Notice {
   }
 
   /**
-   * A notice disappears after some time, but not while the user is at it.
+   * Removes a notice after STAY_TIME, or later while the pointer or the focus is on it.
    * @param {Row} row
    */
   leaveLater(row) {
@@ -87,7 +89,7 @@ export class Notice {
   }
 
   /**
-   * That kind is well again.
+   * Removes the notices of a kind when their cause is gone.
    * @param {NoticeKind} kind
    */
   hide(kind) {
@@ -102,7 +104,7 @@ export class Notice {
   }
 
   /**
-   * Does the action of a notice, once.
+   * Runs the action of a notice and removes the notice: an action runs only once.
    * @param {import("./notice_list.js").Message} message
    * @param {NoticeAction} action
    */
@@ -122,7 +124,7 @@ export class Notice {
     if (hadFocus) this.giveFocus();
   }
 
-  /** A keyboard user continues at the next notice, or at the former focus. */
+  /** Moves the focus to the next notice, or to the element that had it before. */
   giveFocus() {
     const next = this.block.querySelector("button") || this.before;
     if (next) next.focus();
@@ -138,7 +140,7 @@ export class Notice {
     const made = element("button", { type: "button", className }, word);
     made.setAttribute("aria-label", label);
     made.addEventListener("click", (event) => {
-      // After a click by pointer the keyboard is the board's.
+      // After a click by pointer, the board receives the keys again.
       if (event.detail > 0) made.blur();
       act();
     });
@@ -146,7 +148,7 @@ export class Notice {
   }
 
   /**
-   * Moves the notices into an element, for example an open dialog: anything behind it can neither be used nor read.
+   * Moves the notices into an element, for example an open dialog. Outside an open dialog they could neither be used nor read.
    * @param {HTMLElement} host
    */
   moveTo(host) {

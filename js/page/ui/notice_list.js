@@ -1,18 +1,18 @@
-// All notices so far, the newest first, in a dialog: former ones can be read again, and their actions can still be done.
+// A dialog with all notices so far, the newest first. Earlier notices can be read again, and their actions still work.
 
 import { button, buttonOf, element } from "./dom.js";
 import * as say from "../../words/page.js";
 
 /**
  * @typedef {import("./notice.js").NoticeAction} NoticeAction
- * @typedef {{ words: string, time: Date, actions: NoticeAction[] }} Message the words of a notice, and its actions until one is done
+ * @typedef {{ words: string, time: Date, actions: NoticeAction[] }} Message the text of a notice, and its actions until one is done
  */
 
-/** The most notices that are stored. */
+/** The maximum number of stored notices. */
 const MOST_KEPT = 100;
 
 export class NoticeList {
-  /** @param {(message: Message, action: NoticeAction) => void} act does the action of a notice */
+  /** @param {(message: Message, action: NoticeAction) => void} act runs the action of a notice */
   constructor(act) {
     this.act = act;
     /** @type {Message[]} the newest one first */

@@ -1,4 +1,4 @@
-// The panels of the workbench: each one can be closed, reopened and made full size, by its own buttons and in a menu; the choice is stored.
+// The panels of the workbench. Each one can be closed, reopened and made full size, by its own buttons or in a menu. The choice is stored.
 
 import { Switch, block, button, buttonOf, element, onClick } from "./dom.js";
 import * as say from "../../words/workbench.js";
@@ -12,7 +12,7 @@ import * as say from "../../words/workbench.js";
 const FULL = "full";
 
 /**
- * The row at the top of a panel: its tabs, or its heading, which gives its name.
+ * Returns the row at the top of a panel: its row of tabs, or a new row around its heading.
  * @param {HTMLElement} panel
  */
 function headOf(panel) {
@@ -27,7 +27,7 @@ function headOf(panel) {
 export class Panels {
   /**
    * @param {Choices} choices
-   * @param {() => void} reset the rest of the arrangement is as at first, too
+   * @param {() => void} reset restores the rest of the layout
    */
   constructor(choices, reset) {
     this.choices = choices;
@@ -39,7 +39,7 @@ export class Panels {
       this.word.setAttribute("aria-expanded", String(isOpen));
     });
     this.panels = Object.entries(say.PANELS).map(([id, name]) => this.make(id, name));
-    /** The panel that is full size, "" for none. */
+    /** The id of the full-size panel, or "" if there is none. */
     this.full = "";
     this.menu.append(element("ul", {}, ...this.panels.map((panel) => this.row(panel))),
       buttonOf(say.RESET_LAYOUT, () => this.reset()));
@@ -117,7 +117,7 @@ export class Panels {
     if (panel) this.open(id, !panel.isOpen.isOn);
   }
 
-  /** Distributes the room of closed columns to the others. */
+  /** Gives the space of columns without an open panel to the other columns. */
   place() {
     const side = block("side");
     const { classList } = document.body;
@@ -131,7 +131,7 @@ export class Panels {
   }
 
   /**
-   * Makes a panel as large as the window, above all others.
+   * Makes a panel as large as the window, above all other panels.
    * @param {string} id "" for none
    */
   fill(id) {
@@ -141,7 +141,7 @@ export class Panels {
     document.body.classList.toggle("has-full", this.full !== "");
   }
 
-  /** Everything is arranged as at first. */
+  /** Restores the initial layout. */
   reset() {
     this.isMenuOpen.set(false);
     this.fill("");

@@ -2,15 +2,15 @@
 
 import { element } from "./dom.js";
 
-/** A press determines the place of a message for this many milliseconds. */
+/** The time in milliseconds for which the last press determines the position of a message. */
 const PRESS_TIME = 3000;
-/** The distance of the message below its place, in pixels. */
+/** The distance in pixels between a message and the element above it. */
 const GAP = 4;
 
 /**
- * Moves an element below a place of the page, inside the window's width.
+ * Moves an element below a point, within the width of the window.
  * @param {HTMLElement} node
- * @param {{ left: number, bottom: number }} point in the window
+ * @param {{ left: number, bottom: number }} point coordinates in the window
  * @param {number} gap
  */
 export function putBelow(node, { left, bottom }, gap) {
@@ -34,7 +34,7 @@ export class PopupMessage {
 
   /**
    * @param {string} words
-   * @param {HTMLElement} [at] by default, the place of the last press, or else the element with the focus
+   * @param {HTMLElement} [at] the element above the message; by default the position of the last press, or the focused element
    */
   show(words, at) {
     this.node.textContent = words;

@@ -1,16 +1,16 @@
-// The borders between panels: each one is dragged, or moved by the arrows of the keyboard; a double click restores the usual place.
+// The borders between panels. A border is dragged, or moved by the arrow keys. A double click restores the initial size.
 
 import { block } from "./dom.js";
 
 /** @typedef {import("./choices.js").Choices} Choices */
 
 /**
- * A border, the panel that it resizes, and the side of the panel where it is. The sizes are in pixels.
+ * A border: the panel that it resizes, the side of the panel where it is, and the CSS property and limits of the size in pixels.
  * @typedef {{ id: string, of: string, property: string, side: "left" | "right" | "top" | "bottom", least: number, most: number }} Border
  */
 
 const MOVE = 20;
-/** @type {Record<Border["side"], Record<string, number>>} how much larger the panel becomes by a key */
+/** @type {Record<Border["side"], Record<string, number>>} the change in the panel's size for each key */
 const KEYS = {
   left: { ArrowLeft: MOVE, ArrowRight: -MOVE },
   right: { ArrowLeft: -MOVE, ArrowRight: MOVE },
@@ -47,12 +47,12 @@ export class Splitter {
     this.show(Number(choices.get(this.name)) || 0);
   }
 
-  /** The name of its stored choice. */
+  /** The name of the stored choice. */
   get name() {
     return `size.${this.border.of}`;
   }
 
-  /** How large the panel is now. */
+  /** The present width or height of the panel in pixels. */
   get size() {
     const { width, height } = this.panel.getBoundingClientRect();
     return this.isUpright ? width : height;
@@ -68,7 +68,7 @@ export class Splitter {
     return side === "left" || side === "top" ? -at : at;
   }
 
-  /** @param {number} size */
+  /** @param {number} size in pixels */
   set(size) {
     const { least, most } = this.border;
     const taken = Math.round(Math.min(most, Math.max(least, size)));
@@ -76,13 +76,13 @@ export class Splitter {
     this.show(taken);
   }
 
-  /** Restores the usual size of the panel. */
+  /** Restores the initial size of the panel. */
   reset() {
     this.choices.set(this.name, "");
     this.show(0);
   }
 
-  /** @param {number} size 0 for the usual one */
+  /** @param {number} size in pixels; 0 for the initial size */
   show(size) {
     const { style } = document.documentElement;
     if (size > 0) style.setProperty(this.border.property, `${size}px`);

@@ -1,4 +1,4 @@
-// The status bar: whether time is paused, whether the source is what is in ROM, and whether the session is saved.
+// The status bar: whether time is paused, whether the source matches ROM, and whether the session is saved.
 
 import { Cell, Switch, block } from "./dom.js";
 import * as say from "../../words/page.js";
@@ -20,7 +20,7 @@ export class StatusView {
     this.rom.node.title = words;
   }
 
-  /** @param {boolean} isRunning whether time runs */
+  /** @param {boolean} isRunning whether time is running */
   showRunning(isRunning) {
     this.paused.set(!isRunning);
   }

@@ -1,9 +1,9 @@
-// Makes parts of drawings.
+// Creates elements of SVG drawings.
 
 const SVG = "http://www.w3.org/2000/svg";
 
 /**
- * Makes an element of a drawing, with its attributes and its content.
+ * Returns a new SVG element with attributes and content.
  * @param {string} name
  * @param {Record<string, string | number>} attributes
  * @param {(Node | string)[]} children

@@ -1,4 +1,4 @@
-// Tabs by the pattern of ARIA: one stop of the Tab key, arrows, Home and End go from one tab to the next and show it.
+// Tabs as ARIA describes them: the row of tabs is one stop of the Tab key; arrows, Home and End move to another tab and show it.
 
 import { block, button, onClick } from "./dom.js";
 
@@ -6,10 +6,10 @@ import { block, button, onClick } from "./dom.js";
 
 export class Tabs {
   /**
-   * The tab of a name is `NAME-tab`; its `aria-controls` names its panel.
+   * The tab `NAME` is the element with the id `NAME-tab`. Its `aria-controls` is the id of its panel.
    * @param {string[]} names
-   * @param {string} first is in front
-   * @param {(name: string) => void} chosen a user has chosen a tab
+   * @param {string} first the tab that is in front at first
+   * @param {(name: string) => void} chosen called after the user chose a tab
    */
   constructor(names, first, chosen) {
     this.chosen = chosen;
@@ -51,7 +51,7 @@ export class Tabs {
   }
 
   /**
-   * Brings a tab to the front; the first one if it is not offered.
+   * Brings a tab to the front, or the first tab if that one is hidden.
    * @param {string} name
    */
   show(name) {
@@ -67,14 +67,14 @@ export class Tabs {
 
   /**
    * @param {string} name
-   * @param {() => void} listen is called whenever the tab has come to the front: its content can be measured then
+   * @param {() => void} listen called each time the tab came to the front, when its content can be measured
    */
   whenShown(name, listen) {
     this.find(name).listeners.push(listen);
   }
 
   /**
-   * Offers a tab that was hidden until there was something to show, or hides it.
+   * Shows or hides a tab. A tab can be hidden until it has content.
    * @param {string} name
    * @param {boolean} isThere
    */
@@ -85,7 +85,7 @@ export class Tabs {
   }
 
   /**
-   * A few words on a tab about its content, "" for none.
+   * Sets a short text on a tab about its content, "" for none.
    * @param {string} name
    * @param {string} words
    * @param {boolean} isGood whether they report a success

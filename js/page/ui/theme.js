@@ -1,4 +1,4 @@
-// The colours that a user likes: those of the system, light or dark. `page/style/tokens.css` has the colours of each.
+// The user's choice of colours: as the system, light or dark. `page/style/tokens.css` has the colours of each theme.
 
 /** @typedef {"system" | "light" | "dark"} ThemeName */
 
@@ -6,7 +6,7 @@ export class Theme {
   /** @param {import("./choices.js").Choices} choices */
   constructor(choices) {
     this.choices = choices;
-    /** The theme has changed. */
+    /** The listener to a change of the theme. */
     this.changed = () => {};
     this.show();
   }

@@ -1,15 +1,17 @@
-// Tooltips: the action of a button, and its key, when the pointer rests on it, when it has the keyboard focus, and when a finger stays on
-// it. A button with a `title` gets one, too, if the browser shows none by itself: for the keyboard and for fingers.
+// Tooltips show the action of a button and its key when the pointer rests on the button, when it has the keyboard focus, and when a finger
+// stays on it. The browser shows a `title` for the pointer only, so a button with a `title` has a tooltip for the keyboard and for fingers.
 
 import { element } from "./dom.js";
 
 /** @typedef {{ words: string, key: string }} Tip */
 
-/** The pointer rests, or a finger stays, for this many milliseconds. */
+/** The time in milliseconds that a pointer rests before its tooltip opens. */
 const REST_TIME = 500;
+/** The time in milliseconds that a finger stays before its tooltip opens. */
 const TOUCH_TIME = 500;
-/** The time for which it can be read after a finger was lifted. */
+/** The time in milliseconds that a tooltip stays after its finger was lifted. */
 const READ_TIME = 2500;
+/** The distance in pixels between a tooltip and its element, and from the edge of the window. */
 const GAP = 6;
 
 export class Tooltips {
@@ -19,9 +21,9 @@ export class Tooltips {
     /** @type {Map<Element, () => Tip>} */
     this.tips = new Map();
     this.timer = 0;
-    /** @type {HTMLElement | null} whose tip is shown */
+    /** @type {HTMLElement | null} the element whose tooltip is shown */
     this.shown = null;
-    /** True if a finger has opened the tooltip, so that lifting it is not a click. */
+    /** True if a finger has opened the tooltip. Lifting that finger is not a click. */
     this.byTouch = false;
     addEventListener("pointerover", (event) => this.over(event));
     addEventListener("pointerout", (event) => event.pointerType !== "touch" && this.hide());
@@ -32,9 +34,9 @@ export class Tooltips {
     addEventListener("focusin", (event) => this.focused(event.target));
     addEventListener("focusout", () => this.hide());
     addEventListener("keydown", (event) => event.key === "Escape" && this.hide(), true);
-    // Whoever types has read it, and wants to see what is below.
+    // A tooltip would cover what the user types.
     addEventListener("input", () => this.hide(), true);
-    // Scrolling elsewhere, as of the listing while time runs, moves nothing here.
+    // Scrolling hides the tooltip only if it moves the tooltip's element. The listing scrolls while time is running.
     addEventListener("scroll", ({ target }) => target instanceof Node && target.contains(this.shown) && this.shown && this.hide(), true);
   }
 
@@ -47,9 +49,9 @@ export class Tooltips {
   }
 
   /**
-   * The nearest element with a tip.
+   * Returns the nearest element with a tooltip, or null if there is none.
    * @param {EventTarget | null} target
-   * @param {boolean} isOwn whether a tooltip of the browser itself is excluded
+   * @param {boolean} isOwn whether elements are excluded whose `title` the browser itself shows
    * @returns {HTMLElement | null}
    */
   find(target, isOwn) {
@@ -79,14 +81,14 @@ export class Tooltips {
     }, TOUCH_TIME);
   }
 
-  /** A finger was lifted: its tooltip stays for a moment. */
+  /** Hides the tooltip of a finger READ_TIME after the finger was lifted. */
   lifted() {
     clearTimeout(this.timer);
     if (this.byTouch) this.timer = window.setTimeout(() => this.hide(), READ_TIME);
   }
 
   /**
-   * The click of a finger that stayed for a tip does nothing.
+   * Ignores the click of a finger that has opened a tooltip.
    * @param {Event} event
    */
   clicked(event) {

@@ -3,7 +3,7 @@
 import { Cell, below, block, button, onClick } from "./dom.js";
 import * as say from "../../words/page.js";
 
-/** Work that is done sooner, in milliseconds, is not shown. */
+/** The delay in milliseconds before work is shown. Shorter work is not shown. */
 const SOON = 300;
 
 export class WorkView {
@@ -22,9 +22,9 @@ export class WorkView {
   }
 
   /**
-   * Does work, and shows it if it takes long.
+   * Does work, and shows its progress if it takes long. Resolves to the result of the work.
    * @template Result
-   * @param {string} words its description
+   * @param {string} words the description of the work
    * @param {(signal: AbortSignal, progress: (done: number, total: number) => void) => Promise<Result>} work
    * @returns {Promise<Result>}
    */
