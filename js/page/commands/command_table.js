@@ -1,5 +1,5 @@
-// The table of commands: all that the page can do. Toolbar, menus, palette, the list of keys in the help and the keys themselves are made
-// from it.
+// The table of all commands of the page. Toolbar, menus, palette, the list of keys in the help and the keys themselves are created from
+// this table.
 
 import { SPEEDS } from "../../core/time/speeds.js";
 import { KEYBOARD } from "../../words/help.js";
@@ -8,12 +8,13 @@ import * as say from "../../words/page_commands.js";
 
 /**
  * @typedef {import("../ui/icons.js").IconName} IconName
- * @typedef {"everywhere" | "texts" | "source" | "board" | "tests" | "properties"} KeyPlace where the keys of a command work
+ * @typedef {"everywhere" | "texts" | "source" | "board" | "tests" | "properties"} KeyPlace the part of the page in which keys work
  * @typedef {"system" | "light" | "dark"} Theme
  *
- * A command: `id` names it in the page's own modules; `words` is its name; `group` is its group in lists; `icon` is its picture, if it
- * has one; `keys` are its keys, the one that is shown first; `place` is where they work; `act` does it; `wordsNow` returns its name, if
- * that depends on whether time runs; `whyNot` returns why it cannot be done now, "" if it can.
+ * A command. `id` names it in the page's own modules; `words` is its label; `group` is its group in lists; `icon` is its icon, if it has
+ * one; `keys` are its keys, the first of which is shown; `place` is the part of the page in which these keys work; `act` executes the
+ * command; `wordsNow` returns the label, if it depends on whether time is running; `whyNot` returns the reason why the command cannot be
+ * executed now, "" if it can.
  * @typedef {{ id: string, words: string, group: keyof typeof say.GROUPS, icon?: IconName, keys: string[], place: KeyPlace,
  *   wordsNow?: (calls: CommandCalls) => string,
  *   act: (calls: CommandCalls) => void, whyNot: (calls: CommandCalls) => string }} Command
@@ -23,51 +24,51 @@ import * as say from "../../words/page_commands.js";
  */
 
 /**
- * The page's calls for commands. A call that opens or sends something reports itself if it fails.
+ * The calls that commands make to the page. A call that opens or sends something reports its own failure.
  * @typedef {object} CommandCalls
- * @property {() => boolean} isRunning Returns whether time runs.
- * @property {() => void} runOrStop Lets time run, or pauses it.
- * @property {() => void} step Serves a step of one instruction.
- * @property {(goal: import("../../core/debug/goals.js").Goal) => void} goOn Lets time pass until a goal is reached.
+ * @property {() => boolean} isRunning Returns whether time is running.
+ * @property {() => void} runOrStop Resumes or pauses time.
+ * @property {() => void} step Executes one instruction.
+ * @property {(goal: import("../../core/debug/goals.js").Goal) => void} goOn Runs until a goal is reached.
  * @property {(goal: import("../../core/engine/going_back.js").BackGoal) => void} goBack Goes back to a goal.
- * @property {() => void} goForward Returns to where the last move back began.
- * @property {() => boolean} canGoForward Returns whether there is a way forward.
- * @property {() => void} runToCursor Lets time run to the line of the caret in the source.
+ * @property {() => void} goForward Returns to the state before the last move back.
+ * @property {() => boolean} canGoForward Returns whether a move back can be undone.
+ * @property {() => void} runToCursor Runs to the line of the caret in the source.
  * @property {(line: string) => void} serve Serves one line of the bench and logs its answer.
  * @property {() => void} test Changes the level of the TEST pin.
- * @property {(id: string) => void} setSpeed Sets the speed of time, by the id of speeds.js.
+ * @property {(id: string) => void} setSpeed Sets the speed, by its id in speeds.js.
  * @property {(theme: Theme) => void} setTheme Sets the colours of the page.
  * @property {() => void} print Prints the page.
  * @property {(name: string) => void} show Brings a text or a panel to the front, by its name.
  * @property {(button: string, shown: string) => void} press Clicks a button by its id, after the text or panel `shown` has come to the
  *   front.
- * @property {(button: string) => boolean} isOffered Returns whether a button, by its id, is there and can be used.
+ * @property {(button: string) => boolean} isOffered Returns whether a button, by its id, can be used.
  * @property {(field: string, shown: string) => void} enter Puts the caret into a field by its id, after the text or panel `shown` has
  *   come to the front.
  * @property {(text: TextName) => void} send Sends a text, as its first button does.
- * @property {(box: string) => void} toggle Ticks a box by its id, or clears it.
+ * @property {(box: string) => void} toggle Toggles a check box by its id.
  * @property {(isSource: boolean) => boolean} hasText Returns whether a text is in front; with `isSource`, whether it is the source.
- * @property {(what: TextAct) => void} inText Does something in the text that is in front.
- * @property {(what?: import("../machine/breakpoint_row.js").BreakpointField) => void} breakpoint Sets or removes the breakpoint of the
- *   caret's line; with a field, opens its words there.
+ * @property {(what: TextAct) => void} inText Does an action in the text that is in front.
+ * @property {(what?: import("../machine/breakpoint_row.js").BreakpointField) => void} breakpoint Sets or removes the breakpoint at the
+ *   caret's line; with a field, opens that field of the breakpoint.
  * @property {() => void} open Asks for a file to open.
  * @property {() => void} save Saves the project to a file.
- * @property {() => void} saveSession Saves the session file alone.
+ * @property {() => void} saveSession Saves only the session file.
  * @property {() => void} exportFiles Opens the dialog that exports texts and ROM images.
  * @property {() => void} projects Opens the list of projects.
- * @property {() => void} share Opens the dialog that makes a link.
- * @property {() => void} notices Puts the keyboard on the first notice.
- * @property {() => boolean} hasNotices Returns whether a notice is shown.
- * @property {() => void} scanKeys Inserts a routine that scans the keys into the source.
+ * @property {() => void} share Makes a link to the session.
+ * @property {() => void} notices Opens the list of notices.
+ * @property {() => boolean} hasNotices Returns whether the list of notices has an entry.
+ * @property {() => void} scanKeys Inserts a key scan routine into the source.
  * @property {() => boolean} hasKeys Returns whether the board has a key matrix.
  * @property {(id: string) => void} togglePanel Shows or hides a panel by its id.
- * @property {(id: string) => void} fullPanel Makes a panel as large as the page, or as small as before.
- * @property {() => void} resetLayout Moves all panels to their initial places.
+ * @property {(id: string) => void} fullPanel Makes a panel as large as the page, or restores its size.
+ * @property {() => void} resetLayout Restores the initial layout.
  * @property {() => void} toggleHelp Opens the help at the word at the caret, or closes it.
  * @property {() => void} examples Opens the list of examples.
- * @property {() => void} welcome Opens the cards of the first visit.
+ * @property {() => void} welcome Opens the welcome cards.
  * @property {(wanted?: string) => void} help Opens the help, at an entry if it is given.
- * @property {(begin: string) => void} palette Opens the palette with a text already typed.
+ * @property {(begin: string) => void} palette Opens the palette with an initial text in its field.
  */
 
 /**
@@ -89,12 +90,12 @@ function command(id, group, act, some = {}) {
 }
 
 /**
- * A command that a button of a panel does.
+ * Returns a command that clicks a button of a panel.
  * @param {CommandId} id
  * @param {Command["group"]} group
  * @param {string} button
- * @param {string} shown the text or panel that has it
- * @param {string} [why] it cannot be used while the button is not offered
+ * @param {string} shown the text or panel that has the button
+ * @param {string} [why] the reason why the command cannot be executed while the button is not offered
  * @param {Partial<Command>} [some]
  */
 function pressing(id, group, button, shown, why = say.NOT_NOW, some = {}) {
@@ -102,11 +103,11 @@ function pressing(id, group, button, shown, why = say.NOT_NOW, some = {}) {
 }
 
 /**
- * A command of the text in front.
+ * Returns a command for the text in front.
  * @param {CommandId} id
  * @param {TextAct} what
  * @param {string[]} keys
- * @param {boolean} [isSource] whether it belongs to the source
+ * @param {boolean} [isSource] whether the command is for the source only
  */
 function inText(id, what, keys, isSource = false) {
   return command(id, "text", (calls) => calls.inText(what), { keys, place: isSource ? "source" : "texts",
@@ -230,7 +231,7 @@ const WIRING = [
 ];
 
 /**
- * A command of the waves that were recorded.
+ * Returns a command that clicks a button for the recorded waves.
  * @param {CommandId} id
  * @param {string} button
  */
@@ -269,7 +270,7 @@ const HELP = [
 ];
 
 /**
- * Returns one of several similar commands.
+ * Returns one of several similar commands, for example one for each panel.
  * @param {string} id
  * @param {string} words
  * @param {Command["group"]} group
@@ -284,7 +285,7 @@ const SHOWN = [...Object.entries(say.TEXTS), ...Object.entries(say.PANELS)].map(
   oneOf(`show.${name}`, say.showText(words), "show", (calls) => calls.show(name))));
 
 /**
- * Panels are closed, opened again and made full size.
+ * Commands that close panels, open them again and make them full size.
  * @type {Command[]}
  */
 const ARRANGED = [
@@ -302,13 +303,14 @@ const SETTINGS = [
     oneOf(`theme.${name}`, words, "settings", (calls) => calls.setTheme(/** @type {Theme} */ (name)), "theme"))),
 ];
 
-/** All commands that are there at all times, in the order of lists. */
+/** All commands that are always available, in the order of lists. */
 export const COMMANDS = [
   ...TIME, ...TEXT, ...DEBUG, ...TESTS, ...PROJECT, ...BOARD, ...SHOW, ...SHOWN, ...WIRING, ...WAVES, ...ARRANGED,
   ...SETTINGS, ...HELP,
 ];
 
 /**
+ * Returns the command with an id. Throws an error if there is none.
  * @param {string} id
  * @returns {Command}
  */

@@ -1,16 +1,16 @@
-// Empty panels say what they are for, and offer the one command that fills them.
+// Empty panels say what they are for, and offer the command that fills them.
 
 import { block, element, onClick } from "../ui/dom.js";
 import { commandOf } from "./command_table.js";
 import * as say from "../../words/page_commands.js";
 
-/** The list or picture of each panel, which its text follows, and the command that is offered. */
+/** The command that fills each panel, by the id of the panel's list or picture. */
 const FILLS = {
   "watched-list": "debug.watch", "breakpoint-list": "debug.breakpoint", "waves": "waves.record", "log": "debug.console",
 };
 
 /**
- * Puts words and a button after the list of each panel. The style sheet shows them while the list is empty.
+ * Adds a text and a button after the list of each panel. The style sheet shows them while the list is empty.
  * @param {(command: import("./command_table.js").Command) => void} act
  */
 export function fillEmptyPanels(act) {

@@ -1,4 +1,4 @@
-// The list of keys in the help: the keys of commands, from the table of commands, before other keys of the same section.
+// The list of keys in the help: the keys from the table of commands, before other keys of the same section.
 
 import { COMMANDS } from "./command_table.js";
 import { KEYBOARD } from "../../words/help.js";
@@ -19,7 +19,7 @@ export function keyRows() {
 }
 
 /**
- * Inserts the table of keys before the tables of the section of the keyboard.
+ * Returns the manual with the table of keys before the other tables in the section about the keyboard.
  * @param {ManualSection[]} manual
  * @returns {ManualSection[]}
  */

@@ -1,4 +1,4 @@
-// Keys of commands: those that work everywhere, and those of an editor.
+// Keys of commands: keys that work everywhere, and keys of an editor.
 
 import { COMMANDS, commandOf } from "./command_table.js";
 
@@ -21,7 +21,7 @@ export function keyNameOf({ key, ctrlKey, metaKey, altKey, shiftKey }) {
 const EVERYWHERE = new Map(COMMANDS.filter(({ place }) => place === "everywhere").flatMap((each) => each.keys.map((key) => [key, each])));
 
 /**
- * Returns the command of a key that works everywhere; none if another part has handled the key.
+ * Returns the command of a key that works everywhere, or undefined if another part of the page has handled the key.
  * @param {Typed & { defaultPrevented: boolean }} event
  * @returns {Command | undefined}
  */
@@ -30,7 +30,7 @@ export function commandOfKey(event) {
 }
 
 /**
- * Listens to the keys that work everywhere. While a dialog is open they do nothing, nor do their defaults in the browser.
+ * Listens to the keys that work everywhere. While a dialog is open, neither the commands nor the browser's defaults are executed.
  * @param {(command: Command) => void} act
  * @param {() => boolean} isClosed
  * @param {Pick<Window, "addEventListener">} target

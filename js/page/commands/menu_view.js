@@ -1,12 +1,12 @@
-// Menus by the pattern of ARIA, below a button or at a point: arrows go from one item to the next, Escape closes the menu.
+// Menus as ARIA describes them, below a button or at a point. Arrows move from item to item, Escape closes the menu.
 
 import { element } from "../ui/dom.js";
 import { icon } from "../ui/icons.js";
 import { putBelow } from "../ui/popup_message.js";
 
 /**
- * An item: its id, if it has one; its words, icon and key; its action. One of several alternatives says whether it is chosen; one that is
- * only for narrow windows is in the toolbar itself elsewhere.
+ * An item of a menu: its id, if it has one; its label, icon and key; and its action. `isChosen` returns whether an alternative is the
+ * chosen one. `isNarrow` is true for an item that a wide window has in the toolbar instead.
  * @typedef {{ id?: string, words: string, icon?: import("../ui/icons.js").IconName, key?: string, act: () => void,
  *   isChosen?: () => boolean, isNarrow?: boolean }} MenuItem
  */
@@ -15,8 +15,8 @@ import { putBelow } from "../ui/popup_message.js";
 class MenuList {
   /**
    * @param {string} id
-   * @param {string} label its name
-   * @param {() => void} close closes the menu, after a choice or when it is left
+   * @param {string} label the name of the menu
+   * @param {() => void} close called to close the menu, after a choice or on Escape
    */
   constructor(id, label, close) {
     this.close = close;
@@ -62,7 +62,7 @@ class MenuList {
     });
   }
 
-  /** The items that are shown in a window of this width. */
+  /** The buttons that are visible at the present width of the window. */
   get shown() {
     return this.buttons.filter((each) => each.offsetParent !== null);
   }
@@ -93,7 +93,7 @@ class MenuList {
 }
 
 /**
- * A menu is left by a press elsewhere, and by going on elsewhere.
+ * Calls `left` when the user presses outside a menu or moves the focus out of it.
  * @param {HTMLElement} node
  * @param {() => void} left
  */
@@ -108,14 +108,14 @@ function listenToLeaving(node, left) {
 export class MenuView {
   /**
    * @param {HTMLButtonElement} button
-   * @param {string} id of the menu
-   * @param {string} label its name
+   * @param {string} id the id of the menu
+   * @param {string} label the name of the menu
    * @param {MenuItem[]} items
    */
   constructor(button, id, label, items) {
     this.button = button;
     this.menu = new MenuList(id, label, () => {
-      // A keyboard user continues at the button.
+      // A keyboard user returns to the button.
       if (this.node.contains(document.activeElement)) this.button.focus();
       this.show(false);
     });
@@ -154,17 +154,17 @@ export class MenuView {
   }
 }
 
-/** Opens a menu at a point of the window, for the element there. */
+/** A menu at a point of the window, for the element at that point. */
 export class ContextMenu {
   /**
    * @param {string} id
-   * @param {string} label its name
+   * @param {string} label the name of the menu
    */
   constructor(id, label) {
     this.menu = new MenuList(id, label, () => this.close());
     const { node } = this.menu;
     document.body.append(node);
-    /** @type {Element | null} what had the keyboard before */
+    /** @type {Element | null} the element that had the focus before the menu */
     this.before = null;
     node.addEventListener("keydown", (event) => this.menu.typed(event));
     listenToLeaving(node, () => this.menu.show(false));
@@ -183,7 +183,7 @@ export class ContextMenu {
     this.menu.focus(0);
   }
 
-  /** Returns the focus to where it was. */
+  /** Closes the menu, and returns the focus to the element that had it before. */
   close() {
     if (this.before instanceof HTMLElement) this.before.focus();
     this.menu.show(false);

@@ -1,7 +1,7 @@
-// Enables a button once its text or panel is in front.
+// Decides whether a button can be used once its text or panel is in front.
 
 /**
- * Returns whether an element is a text or a panel that is only behind another one.
+ * Returns whether an element is a text or a panel. If it is hidden, another one is in front of it.
  * @param {Element} node
  */
 function isBehind(node) {
@@ -9,7 +9,8 @@ function isBehind(node) {
 }
 
 /**
- * Returns whether a button is offered: it is enabled, and neither it nor its container is hidden.
+ * Returns whether a button is enabled, and neither the button nor its container is hidden. A text or a panel behind another one counts as
+ * visible.
  * @param {HTMLButtonElement} button
  */
 export function isOffered(button) {

@@ -18,7 +18,7 @@ import * as say from "../../words/page_commands.js";
  * @property {(name: string) => void} show Brings a text to the front, by the name of its tab.
  * @property {(line: number) => void} line Shows a line of the source, from 1.
  * @property {(address: number) => void} address Shows the line of an address in source and listing.
- * @property {(name: string) => void} example Makes a new session of the example with a name.
+ * @property {(name: string) => void} example Begins a new session from the example with a name.
  * @property {(id: string) => void} project Shows the project with an id.
  */
 
@@ -28,7 +28,7 @@ const LINE = /^:\s*(\d+)$/;
 const entry = (words, hint, act, isFound = false) => ({ words, hint, why: "", keys: [], isFound, act });
 
 /**
- * Returns the place of a typed number, address or name with a number.
+ * Returns the entry of a typed line number, address, or name with an offset; an empty list for any other text.
  * @param {string} wanted
  * @param {PlaceCalls} calls
  */
@@ -42,7 +42,7 @@ function typedPlace(wanted, calls) {
 }
 
 /**
- * Returns all that one can go to.
+ * Returns the entries of all places.
  * @param {string} wanted the typed text
  * @param {PlaceCalls} calls
  * @returns {Entry[]}

@@ -1,8 +1,8 @@
-// The search of the palette: entries that have all words of the query, those that begin with them first.
+// The search of the palette: finds the entries that contain all words of the query, the best matches first.
 
 /**
- * An entry: its words; the text next to it; why it cannot be done, "" if it can; its keys and its icon; its action. If `isFound`, another
- * search has found it, so it is listed whatever its words are.
+ * An entry: its label; the text next to it; the reason why it cannot be executed, "" if it can; its keys and its icon; and its action. If
+ * `isFound`, another search has found the entry, so it is listed whatever its label is.
  * @typedef {{ words: string, hint: string, why: string, keys: string[], icon?: import("../ui/icons.js").IconName, isFound?: boolean,
  *   act: () => void }} Entry
  */
@@ -13,8 +13,8 @@ export function wordsOfQuery(query) {
 }
 
 /**
- * Returns how well an entry fits: 0 if the whole query begins it, 1 if each word begins one of its words, 2 if each is in it, 3 if each is
- * in it or in the text next to it, or -1.
+ * Returns the rank of an entry: 0 if its label begins with the query, 1 if each word of the query begins a word of the label, 2 if the
+ * label contains each word, 3 if the label, the hint and the keys together contain each word, or -1 if the entry does not match.
  * @param {Entry} entry
  * @param {string[]} wanted
  */
@@ -29,7 +29,7 @@ export function rankOf({ words, hint, keys, isFound }, wanted) {
 }
 
 /**
- * Returns the entries that a query finds, the best ones first, else in their order.
+ * Returns the entries that match a query, the best ones first. Entries of one rank keep their order.
  * @param {Entry[]} entries
  * @param {string} query
  */

@@ -1,5 +1,5 @@
-// The command palette: a field that filters commands, or places to go to, and the list of matches. It follows the pattern of a combobox
-// with a listbox (ARIA): the field keeps the focus, arrows choose, Enter does the chosen entry.
+// The command palette: a field that filters commands or places, and the list of matches. It is a combobox with a listbox, as ARIA
+// describes it: the field keeps the focus, arrows choose an entry, Enter executes it.
 
 import { element } from "../ui/dom.js";
 import { icon } from "../ui/icons.js";
@@ -8,13 +8,14 @@ import * as say from "../../words/page_commands.js";
 
 /**
  * @typedef {import("./palette_search.js").Entry} Entry
- * @typedef {{ commands: () => Entry[], places: (wanted: string) => Entry[] }} Sources its entries
+ * @typedef {{ commands: () => Entry[], places: (wanted: string) => Entry[] }} Sources return the entries
  */
 
-/** The sign at the beginning of the field if commands are wanted. */
+/** The character at the beginning of the field that asks for commands. */
 export const COMMAND_SIGN = ">";
-/** The most entries that are drawn. */
+/** The maximum number of entries that are drawn. */
 const MOST_DRAWN = 500;
+/** The number of entries by which Page Up and Page Down move. */
 const PAGE = 8;
 
 export class PaletteView {
@@ -35,7 +36,7 @@ export class PaletteView {
     this.list.addEventListener("click", (event) => this.clicked(event));
     // A press on an entry leaves the focus in the field.
     this.list.addEventListener("pointerdown", (event) => event.preventDefault());
-    // A click outside closes it.
+    // A click outside the palette closes it.
     this.dialog.addEventListener("click", (event) => event.target === this.dialog && this.dialog.close());
   }
 
@@ -50,7 +51,7 @@ export class PaletteView {
     this.field.setSelectionRange(begin.length, begin.length);
   }
 
-  /** Returns whether commands are wanted, not places. */
+  /** True if the field asks for commands, false if it asks for places. */
   get isCommands() {
     return this.field.value.startsWith(COMMAND_SIGN);
   }
@@ -80,7 +81,7 @@ export class PaletteView {
   option({ words, hint, why, keys, icon: name }, at) {
     const made = element("li", { "id": `palette-${at}`, "role": "option", "aria-selected": "false" });
     if (why) made.setAttribute("aria-disabled", "true");
-    // The words of all commands begin in one column.
+    // The labels of all commands begin in one column.
     const place = this.isCommands ? [element("span", { className: "icon" })] : [];
     made.append(...(name ? [icon(name)] : place), element("span", { className: "grow" }, words), element("small", {}, why || hint),
       ...keys.slice(0, 1).map((key) => element("kbd", {}, key)));
@@ -95,7 +96,7 @@ export class PaletteView {
     this.choose(chosen);
   }
 
-  /** @param {number} at the entry that Enter does */
+  /** @param {number} at the index of the entry that Enter executes */
   choose(at) {
     const options = this.list.children;
     if (options[this.chosen]) options[this.chosen].setAttribute("aria-selected", "false");
@@ -135,7 +136,7 @@ export class PaletteView {
   }
 
   /**
-   * Closes and does an entry. A disabled one says why, and the palette stays open.
+   * Closes the palette and executes an entry. For a disabled entry it shows the reason instead, and stays open.
    * @param {number} at
    */
   act(at) {

@@ -1,5 +1,6 @@
-// The row in which a breakpoint's condition, hit count and log message are edited: below its line of the source, or in the list of
-// breakpoints if it has no line. Enter applies them, Escape leaves them as they were.
+// The row that edits the condition, the hit count and the log message of a breakpoint. The row is below the breakpoint's line of the
+// source,
+// or in the list of breakpoints if the breakpoint has no line. Enter applies the changes, Escape discards them.
 
 import { parseCount } from "../../core/bench/numbers.js";
 import { Cell, buttonOf, element } from "../ui/dom.js";
@@ -13,16 +14,16 @@ import * as say from "../../words/machine.js";
  */
 
 /**
- * The calls that the row that edits a breakpoint makes.
+ * The calls that the row of a breakpoint makes.
  * @typedef {object} RowCalls
- * @property {(id: number, some: BreakpointWords) => void} change Changes the words of the breakpoint with an id, which the bench gets.
- * @property {(id: number, some: BreakpointWords) => void} type Shows words that are typed, without giving them to the bench.
- * @property {() => Promise<void>} settled Resolves once the bench has all that was changed.
- * @property {(breakpoint: Breakpoint, node: HTMLElement) => void} place Puts the row below the line of its breakpoint, or into the list
- *   if it has none.
- * @property {(act: () => void) => void} whenPlaced Calls `act` once the row is placed and can take the caret.
+ * @property {(id: number, some: BreakpointWords) => void} change Changes the breakpoint with an id, and sends the change to the bench.
+ * @property {(id: number, some: BreakpointWords) => void} type Shows the typed text without sending it to the bench.
+ * @property {() => Promise<void>} settled Resolves when the bench has all changes.
+ * @property {(breakpoint: Breakpoint, node: HTMLElement) => void} place Puts the row below the line of its breakpoint, or into the list of
+ *   breakpoints if the breakpoint has no line.
+ * @property {(act: () => void) => void} whenPlaced Calls `act` when the row is in the page and can receive the focus.
  * @property {(node: HTMLElement) => void} leave Removes the row.
- * @property {(breakpoint: Breakpoint) => void} left Returns the focus to the breakpoint.
+ * @property {(breakpoint: Breakpoint) => void} left Moves the focus back to the breakpoint.
  */
 
 const MOST_HITS = 999999999;
@@ -43,7 +44,7 @@ export class BreakpointRow {
   /** @param {RowCalls} calls */
   constructor(calls) {
     this.calls = calls;
-    /** @type {Breakpoint | null} the one that is edited, in its initial state */
+    /** @type {Breakpoint | null} the edited breakpoint, in its initial state */
     this.edited = null;
     const parts = {
       condition: makeField(say.CONDITION, { "placeholder": say.SUCH_AS_CONDITION, "aria-description": say.STOPS_WHERE }),
@@ -75,14 +76,14 @@ export class BreakpointRow {
       event.stopPropagation();
       this.cancel();
     });
-    // The row stays, so that nothing moves below the pointer.
+    // The row stays open, so that nothing moves below the pointer.
     node.addEventListener("focusout", ({ relatedTarget }) => {
       if (!(relatedTarget instanceof Node && node.contains(relatedTarget))) this.change();
     });
   }
 
   /**
-   * Opens it for a breakpoint, with the caret in a field.
+   * Opens the row for a breakpoint, with the caret in a field.
    * @param {Breakpoint} breakpoint
    * @param {string} fault
    * @param {BreakpointField} what
@@ -122,7 +123,7 @@ export class BreakpointRow {
     this.showFault(faults.get(now.id) || "");
   }
 
-  /** @param {string} fault in the applied words */
+  /** @param {string} fault the error in the applied condition */
   showFault(fault) {
     this.status.set(fault && say.stopsEachTime(fault));
     this.fields.condition.setAttribute("aria-invalid", String(fault !== ""));
@@ -146,7 +147,7 @@ export class BreakpointRow {
     return some !== null;
   }
 
-  /** Applies the typed text, and closes if there is no error in it. */
+  /** Applies the typed text, and closes the row if there is no error in the text. */
   async apply() {
     const { edited } = this;
     if (!edited || !this.change()) return;
@@ -154,7 +155,7 @@ export class BreakpointRow {
     if (this.edited === edited && this.status.text === "") this.finish(edited);
   }
 
-  /** Leaves the breakpoint as it was. */
+  /** Restores the initial state of the breakpoint, and closes the row. */
   cancel() {
     const { edited } = this;
     if (!edited) return;

@@ -1,5 +1,5 @@
-// The breakpoints of the session that is shown: their list, the marks in the margin and in the listing, the panel that shows them, the row
-// in which their words are edited, and the menu of the margin.
+// The breakpoints of the session that is shown: their list, their marks in the margin and in the listing, their panel, the row that edits
+// one of them, and the menu of the margin.
 
 import { BreakpointKeeper } from "../../core/debug/breakpoint_keeper.js";
 import { marksOf } from "../../core/machine/breakpoint_marks.js";
@@ -29,8 +29,8 @@ import * as say from "../../words/machine.js";
  * @typedef {object} BreakpointsCalls
  * @property {() => KeptSession | null} session Returns the session that is shown, whose record has the breakpoints; null if there is
  *   none.
- * @property {() => void} touched The user has changed breakpoints, so the session must be saved.
- * @property {() => { board: string, program: string }} texts Returns the texts of board and source as they are.
+ * @property {() => void} touched Saves the session after the user has changed breakpoints.
+ * @property {() => { board: string, program: string }} texts Returns the present texts of board and source.
  * @property {(result: ServedLines) => Promise<void>} served Saves, shows and logs the lines that set breakpoints of the bench.
  * @property {(result: ServedLines) => void} stands Shows the session after breakpoints were set without lines.
  * @property {(lines: Map<number, BreakpointMark>, addresses: Map<number, BreakpointMark>) => void} showMarks Shows marks at lines of the
@@ -38,12 +38,12 @@ import * as say from "../../words/machine.js";
  * @property {(address: number) => void} goTo Shows the line of an address in source and listing.
  * @property {(line: number) => void} reveal Scrolls the source to a line.
  * @property {(line: number, node: HTMLElement | null) => void} showBelow Shows an element below a line of the source; null removes it.
- * @property {(act: () => void) => void} whenMeasured Calls `act` once the source is laid out again.
+ * @property {(act: () => void) => void} whenMeasured Calls `act` after the source was laid out again.
  * @property {() => void} showSource Brings the source to the front.
  * @property {() => void} focusSource Moves the focus to the source.
- * @property {(line: number) => void} runTo Lets time run to a line of the source.
- * @property {() => Promise<void>} freshSource Compares the source with ROM if it was edited since; resolves once that is known.
- * @property {() => Promise<void>} checkSource Compares the source with ROM in any case; resolves once that is known.
+ * @property {(line: number) => void} runTo Runs to a line of the source.
+ * @property {() => Promise<void>} freshSource Compares the source with ROM if it was edited since the last comparison. Resolves after that.
+ * @property {() => Promise<void>} checkSource Compares the source with ROM in any case. Resolves after that.
  * @property {(words: string) => void} showMessage Shows a message near the user's last action.
  * @property {(fault: unknown) => void} failed Reports an error that a call threw.
  */
@@ -145,14 +145,14 @@ export class BreakpointsController {
     ], point);
   }
 
-  /** The texts that have the names of conditions. */
+  /** Returns the texts that define the names in conditions. */
   texts() {
     const { board, program } = this.calls.texts();
     return { board, program: this.keeper.map ? this.keeper.map.text : program, watched: this.keeper.watched };
   }
 
   /**
-   * Sends these to the bench; returns which cannot be read, and why.
+   * Sends breakpoints to the bench. Resolves to the ids of those that cannot be read, each with its error.
    * @param {Placed[]} placed
    * @returns {Promise<[number, string][]>}
    */
@@ -173,7 +173,7 @@ export class BreakpointsController {
     this.row.show((id) => list.get(id), faults);
   }
 
-  /** @param {SessionRecord} record of another session, which is shown */
+  /** @param {SessionRecord} record the record of the session to show */
   open(record) {
     this.row.close();
     this.view.forget();
@@ -188,7 +188,7 @@ export class BreakpointsController {
   }
 
   /**
-   * Edits the words of a line's breakpoint; sets it if there is none.
+   * Opens a field of the breakpoint at a line. Sets the breakpoint if there is none.
    * @param {number} line
    * @param {BreakpointField} what
    */
@@ -199,7 +199,7 @@ export class BreakpointsController {
   }
 
   /**
-   * The source was loaded into ROM: breakpoints are at their lines, once this resolves.
+   * Handles a source that was loaded into ROM. Resolves when the breakpoints are at their lines.
    * @param {boolean} isBegun whether hit counts are reset
    */
   async assembled(isBegun) {
@@ -208,7 +208,7 @@ export class BreakpointsController {
     await this.keeper.settled;
   }
 
-  /** @param {Tally} tally the work of breakpoints */
+  /** @param {Tally} tally the hits and the notes of breakpoints */
   count(tally) {
     this.keeper.count(tally);
     this.view.log(tally, this.keeper);

@@ -1,4 +1,4 @@
-// The list of breakpoints: each with its place, whether it is on, its action and its hit count; and the log.
+// The list of breakpoints, each with its switch, its place, its action and its hit count, and the log below the list.
 
 import { wordsOfCycles } from "../../core/time/cycles.js";
 import { wordsOfAddress, wordsOfLine } from "../../words/stops.js";
@@ -24,16 +24,16 @@ import * as say from "../../words/machine.js";
  * @typedef {object} BreakpointCalls
  * @property {(id: number, some: Partial<KeptBreakpoint>) => void} change Changes properties of the breakpoint with an id, such as whether
  * it is on.
- * @property {(breakpoint: Breakpoint) => void} edit Opens the words of a breakpoint.
+ * @property {(breakpoint: Breakpoint) => void} edit Opens the row that edits a breakpoint.
  * @property {(id: number) => void} remove Removes the breakpoint with an id.
  * @property {(isOn: boolean) => void} switchAll Switches all breakpoints on or off.
  * @property {() => void} removeAll Removes all breakpoints.
- * @property {() => void} forgetHits Counts all hits from 0 again.
+ * @property {() => void} forgetHits Sets all hit counts to 0.
  * @property {(breakpoint: Breakpoint) => void} goTo Shows the line of a breakpoint, or its address if it has none.
  */
 
 /**
- * Returns the place of a breakpoint, in words.
+ * Returns a text with the place of a breakpoint.
  * @param {Breakpoint} breakpoint
  * @param {SourceMap | null} map
  */
@@ -148,7 +148,7 @@ export class BreakpointsView {
   }
 
   /**
-   * The row of the list that has a breakpoint.
+   * Returns the row of a breakpoint in the list.
    * @param {number} id
    */
   rootOf(id) {
@@ -156,13 +156,13 @@ export class BreakpointsView {
     return row && row.root;
   }
 
-  /** @param {number} id of the breakpoint whose row gets the keyboard */
+  /** @param {number} id the breakpoint whose row receives the focus */
   focus(id) {
     const row = this.rows.get(id);
     if (row) row.edit.focus();
   }
 
-  /** Another session is shown. */
+  /** Clears the log, because another session is shown. */
   forget() {
     this.notes.replaceChildren();
     this.notes.hidden = true;

@@ -1,25 +1,27 @@
-// Cells that can be edited in place: a double click, or Enter or F2 on a cell, opens a small field over it; Enter pokes, Escape leaves.
+// Cells that can be edited in place. A double click, or Enter or F2 on a cell, opens a small field over it. Enter sets the value, Escape
+// closes
+// the field.
 
 import { element } from "../ui/dom.js";
 import { putBelow } from "../ui/popup_message.js";
 import * as say from "../../words/machine.js";
 
 /**
- * A cell that can be poked: the place of `poke`, how it is called, and how many digits it has.
+ * A cell that can be edited: its place in a `poke` line, its name, and its number of digits.
  * @typedef {{ place: string, name: string, digits: number }} Poked
  */
 
 /**
- * The calls of the cell editor.
+ * The calls that the cell editor makes.
  * @typedef {object} EditorCalls
- * @property {(place: string, value: string) => Promise<string>} poke Sets a place of the machine to a value, both as `poke` has them.
- * Resolves to "" or to why it was rejected.
+ * @property {(place: string, value: string) => Promise<string>} poke Sets a place to a value, both as in a `poke` line. Resolves to "", or
+ *   to the reason why the bench rejects it.
  * @property {(words: string, at: HTMLElement) => void} showMessage Shows a message at a cell that cannot be edited now.
  */
 
 
 /**
- * Returns a value as a line accepts it; "" if a text has none.
+ * Returns the value in a text as a `poke` line accepts it, or "" if the text is not a hexadecimal number.
  * @param {string} text
  */
 export function valueOf(text) {
@@ -33,7 +35,7 @@ export class CellEditor {
     this.calls = calls;
     /** @type {WeakMap<HTMLElement, Poked>} */
     this.poked = new WeakMap();
-    /** @type {WeakMap<HTMLElement, string>} why a cell cannot be poked */
+    /** @type {WeakMap<HTMLElement, string>} the reason why a cell cannot be edited */
     this.fixed = new WeakMap();
     /** @type {HTMLElement | null} the cell that is edited */
     this.cell = null;
@@ -49,6 +51,7 @@ export class CellEditor {
   }
 
   /**
+   * Makes a cell editable.
    * @param {HTMLElement} cell
    * @param {Poked} poked
    */
@@ -58,7 +61,7 @@ export class CellEditor {
   }
 
   /**
-   * A cell that has no line to poke it.
+   * Makes a cell say why it cannot be edited.
    * @param {HTMLElement} cell
    * @param {string} why
    */
@@ -126,7 +129,7 @@ export class CellEditor {
     if (!poked) return;
     const value = valueOf(this.field.value);
     const refusal = value === "" ? say.NOT_HEXADECIMAL : await this.calls.poke(poked.place, value);
-    // It may have been left meanwhile.
+    // The user can have left the field meanwhile.
     if (this.cell !== cell) return;
     if (refusal === "") this.close(true);
     else this.showMessage(refusal);

@@ -1,17 +1,17 @@
-// The values that differ from those at the stop before. While time runs nothing is marked, so that nothing flickers.
+// Marks the values that differ from those at the previous stop. While time is running nothing is marked, so that nothing flickers.
 
 /** @typedef {import("../ui/dom.js").Cell} Cell */
 
 export class Changes {
   constructor() {
-    /** @type {Map<Cell, string>} what each cell showed at the last stop */
+    /** @type {Map<Cell, string>} the text of each cell at the last stop */
     this.before = new Map();
     /** @type {Set<Cell>} */
     this.marked = new Set();
   }
 
   /**
-   * Shows a value. The first one of a cell is not a change.
+   * Shows a value. The first value of a cell is not a change.
    * @param {Cell} cell
    * @param {string} text
    */
@@ -20,12 +20,14 @@ export class Changes {
     cell.set(text);
   }
 
-  /** Handles a snapshot while time runs. */
+  /** Clears the marks. Called for each snapshot while time is running. */
   runs() {
     if (this.marked.size > 0) this.clear();
   }
 
-  /** Handles a snapshot while time is paused: marks the differences. If there are none, nothing has happened, and the marks stay. */
+  /**
+   * Marks the differences. Called for each snapshot while time is paused. Without a difference nothing has happened, and the marks stay.
+   */
   stops() {
     const changed = [...this.before].filter(([cell, before]) => cell.text !== before).map(([cell]) => cell);
     if (changed.length === 0) return;
@@ -42,7 +44,7 @@ export class Changes {
     this.marked.clear();
   }
 
-  /** The cells are replaced. */
+  /** Forgets all cells, because the page replaces them. */
   forget() {
     this.clear();
     this.before.clear();

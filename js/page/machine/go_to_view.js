@@ -12,7 +12,7 @@ export class GoToView {
   /**
    * @param {Goes} listing
    * @param {(address: number) => void} toggleBreakpoint
-   * @param {(address: number) => void} went it went to an address
+   * @param {(address: number) => void} went called after the listing went to an address
    */
   constructor(listing, toggleBreakpoint, went) {
     this.listing = listing;
@@ -23,7 +23,7 @@ export class GoToView {
     /** @type {SourceMap | null} */
     this.map = null;
     this.field.addEventListener("change", () => this.go());
-    // Also if the text is unchanged.
+    // Enter works even if the text is unchanged.
     this.field.addEventListener("keydown", (event) => event.key === "Enter" && this.go());
     const there = button("break-there");
     onClick(there, () => {
@@ -32,14 +32,14 @@ export class GoToView {
     });
   }
 
-  /** @param {SourceMap | null} map the program whose names are known */
+  /** @param {SourceMap | null} map the map of the program in ROM, whose names are offered */
   takeNames(map) {
     this.map = map;
     const names = map ? [...map.names.keys()].sort() : [];
     this.names.replaceChildren(...names.map((name) => element("option", { value: name })));
   }
 
-  /** Goes there; returns the address, or null if the field has none. */
+  /** Goes to the address in the field. Returns the address, or null if the field has none. */
   go() {
     const { address, words } = goalOf(this.field.value, this.map);
     this.status.set(words);

@@ -1,5 +1,5 @@
-// The heat map of RAM nibbles: cells are coloured by how often or how recently they changed. While time is paused the past is searched for
-// this, and nothing of it is undone; while time runs the changes are reported.
+// The heat map of RAM nibbles: the colour of a cell shows how often or how recently its value changed. While time is paused, the changes
+// are counted in the past, which stays as it is. While time is running, the bench reports the changes.
 
 import { block, byId, field } from "../ui/dom.js";
 import { parseCount } from "../../core/bench/numbers.js";
@@ -17,19 +17,20 @@ import * as say from "../../words/machine.js";
 /**
  * The calls that the heat map of RAM makes.
  * @typedef {object} HeatCalls
- * @property {() => boolean} isRunning Returns whether time runs.
- * @property {(cycles: number, signal: AbortSignal) => Promise<Heat | null>} count Counts the changes in the last `cycles` cycles.
- *   Resolves to null if `signal` cancelled it or it failed, which is then reported.
- * @property {(isOn: boolean) => void} watch Asks the bench to report changes of RAM while time runs, or not.
- * @property {(warm: Map<string, Warm>) => void} show Shows the heat level of each cell, by its place; others have none.
+ * @property {() => boolean} isRunning Returns whether time is running.
+ * @property {(cycles: number, signal: AbortSignal) => Promise<Heat | null>} count Counts the changes in the last `cycles` cycles. Resolves
+ *   to null if `signal` is aborted, or after a failure that was reported.
+ * @property {(isOn: boolean) => void} watch Switches the bench's reports of RAM changes on or off.
+ * @property {(warm: Map<string, Warm>) => void} show Shows the heat level of each cell, by its place; other cells have none.
  * @property {(place: string) => string} nameOf Returns the name of a place in the program.
  * @property {() => SourceMap | null} map Returns the map of the program in ROM; null if the source is not in ROM.
  */
 
-/** Time must be paused for this many milliseconds, without input, before changes are counted. */
+/** The time in milliseconds without input, while time is paused, before changes are counted. */
 const REST_TIME = 300;
+/** The maximum number of cycles in which changes are counted. */
 const MOST_CYCLES = 10000000;
-/** While time runs cells are drawn once in this many milliseconds. */
+/** The interval in milliseconds at which cells are drawn while time is running. */
 const DRAWN_TIME = 200;
 
 export class HeatView {
@@ -45,18 +46,18 @@ export class HeatView {
     this.status = block("heat-status");
     this.resting = 0;
     this.asked = new AbortController();
-    /** True if the display is of another moment, or empty. */
+    /** True if the heat map does not show the present state. */
     this.isOld = true;
-    /** @type {Heat | null} what was counted last */
+    /** @type {Heat | null} the last counts */
     this.heat = null;
     this.passing = new PassingHeat();
-    /** The time at which cells were drawn last while time runs. */
+    /** The time of the last drawing while time was running, in milliseconds. */
     this.drawn = 0;
     this.kind.value = choices.get("heat");
     this.cycles.value = choices.get("heat-cycles") || this.cycles.value;
     this.kind.addEventListener("change", () => this.choose());
     this.cycles.addEventListener("change", () => this.choose());
-    // Whatever is done next does not wait for it.
+    // The user's next action does not wait for a count.
     for (const kind of ["keydown", "pointerdown"]) addEventListener(kind, () => this.wait(), true);
     this.showReach();
   }
@@ -72,7 +73,7 @@ export class HeatView {
     this.wait();
   }
 
-  /** Returns the requested number of cycles; 0 if it is not a number, which is reported. */
+  /** Returns the number of cycles in the field, or 0 after a message if the field has no such number. */
   wanted() {
     const cycles = parseCount(this.cycles.value, MOST_CYCLES);
     this.cycles.setAttribute("aria-invalid", String(cycles === 0));
@@ -83,7 +84,7 @@ export class HeatView {
     return cycles;
   }
 
-  /** A new board is wired, or other views want to know. */
+  /** Switches the bench's reports of RAM changes on or off, as the chosen heat map needs them. Called when a board is in use. */
   wired() {
     this.calls.watch(this.kind.value !== "");
   }
@@ -93,12 +94,12 @@ export class HeatView {
   }
 
   /**
-   * Time has done something.
+   * Handles a frame of running time.
    * @param {{ warmed: PassedHeat | null, cycles: number }} frame
    */
   ran({ warmed, cycles }) {
     if (this.kind.value === "") return;
-    // The words for the past do not apply to running time; a board without RAM has no others.
+    // The message about the past does not apply to running time. A board without RAM has no other message.
     if (!warmed) this.showStatus("");
     const most = parseCount(this.cycles.value, MOST_CYCLES);
     if (!warmed || most === 0) return;
@@ -131,7 +132,7 @@ export class HeatView {
     if (this.status.textContent !== words) this.status.textContent = words;
   }
 
-  /** It is counted once nothing else is done. */
+  /** Cancels a count, and begins another one after REST_TIME if it is needed. */
   wait() {
     clearTimeout(this.resting);
     this.asked.abort();

@@ -1,5 +1,5 @@
-// The last change of a cell: while time is paused, the cell at the pointer or with the focus shows when its value changed last, and by
-// which line. The remembered past is searched for it.
+// The tooltip about the last change of a cell. While time is paused, it says when the value of the cell at the pointer or with the focus
+// changed last, and which line changed it. The bench searches the past for this change.
 
 import { element } from "../ui/dom.js";
 import { putBelow } from "../ui/popup_message.js";
@@ -11,14 +11,15 @@ import { putBelow } from "../ui/popup_message.js";
 /**
  * The calls that the message about a cell's last change makes.
  * @typedef {object} LastChangeCalls
- * @property {() => boolean} isRunning Returns whether time runs; then there is no message.
- * @property {(poked: Poked, signal: AbortSignal) => Promise<string>} wordsOf Resolves to words about the last change of a place. Rejects
- *   if `signal` is aborted.
+ * @property {() => boolean} isRunning Returns whether time is running. There is no tooltip then.
+ * @property {(poked: Poked, signal: AbortSignal) => Promise<string>} wordsOf Resolves to a text about the last change of a place; to "" if
+ *   `signal` is aborted.
  * @property {(cell: HTMLElement) => Poked | undefined} pokedAt Returns the place whose value a cell shows; undefined if it shows none.
  */
 
-/** A pointer that rests this many milliseconds on a cell asks. */
+/** The time in milliseconds that the pointer or the focus stays on a cell before the tooltip opens. */
 const REST_TIME = 400;
+/** The distance in pixels between a cell and the tooltip below it. */
 const BELOW_CELL = 4;
 
 export class LastChangeView {
@@ -37,7 +38,7 @@ export class LastChangeView {
       for (const kind of ["pointerover", "focusin"]) panel.addEventListener(kind, ({ target }) => this.point(target));
       for (const kind of ["pointerout", "focusout"]) panel.addEventListener(kind, () => this.leave());
     }
-    // Whatever is done next does not wait for it.
+    // The user's next action does not wait for the search.
     for (const kind of ["keydown", "pointerdown"]) addEventListener(kind, () => this.leave(), true);
   }
 

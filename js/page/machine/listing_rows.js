@@ -1,4 +1,4 @@
-// The rows of the listing that are seen: as many buttons as have room, each for the line that it shows.
+// The visible rows of the listing: one button for each line that has room.
 
 import { Cell, Switch, element, onClick, pressedSwitch } from "../ui/dom.js";
 import * as say from "../../words/machine.js";
@@ -8,13 +8,13 @@ import * as say from "../../words/machine.js";
  *
  * @typedef {import("../../core/machine/breakpoint_marks.js").BreakpointMark} BreakpointMark
  *
- * A row; `marked` is the address in its line that has a breakpoint, otherwise its own.
+ * A row. `marked` is the address of the breakpoint in its line, or the address of the line if there is no breakpoint.
  * @typedef {{ button: HTMLButtonElement, address: number, marked: number, mark: Cell, bytes: Cell, labels: Cell,
  *   instruction: Cell, breakpoint: Switch, next: Switch }} Row
  */
 
 /**
- * The mark of a breakpoint inside an instruction, if the source is unknown and the bench has it there.
+ * Returns the mark of a breakpoint at the second byte of an instruction, if there is one.
  * @param {string} address
  * @param {Map<string, BreakpointMark>} breakpoints
  * @returns {BreakpointMark | undefined}
@@ -72,7 +72,7 @@ export class ListingRows {
   }
 
   /**
-   * The Tab key stops at one row.
+   * Makes one row the listing's only stop of the Tab key.
    * @param {EventTarget | null} stop
    */
   setStop(stop) {
@@ -82,7 +82,7 @@ export class ListingRows {
   /**
    * @param {NamedLine[]} lines
    * @param {number} counter
-   * @param {Map<string, BreakpointMark>} breakpoints by their addresses
+   * @param {Map<string, BreakpointMark>} breakpoints the marks of breakpoints, by address
    */
   show(lines, counter, breakpoints) {
     this.used = Math.min(lines.length, this.rows.length);
@@ -106,7 +106,7 @@ export class ListingRows {
   }
 
   /**
-   * Returns the address of the line that a part of the page belongs to; null if there is none.
+   * Returns the address of the row that contains a node, or null if none does.
    * @param {Node} node
    */
   addressAt(node) {
@@ -124,7 +124,7 @@ export class ListingRows {
     this.rows[Math.max(0, Math.min(at, this.used - 1))].button.focus({ preventScroll: true });
   }
 
-  /** Moves the first row to the end, so that a place is another element, and a screen reader announces the focus there. */
+  /** Moves the first row to the end. The focus then moves to another element, so that a screen reader announces it. */
   turn() {
     const [first] = this.rows.splice(0, 1);
     this.rows.push(first);

@@ -1,24 +1,24 @@
-// The scrolling of the listing: a box as high as all 4,096 bytes together, in which only the visible rows exist. The scroll bar, the wheel
-// and a finger move it as the browser does; keys move from row to row and from page to page.
+// The scrolling of the listing: a box with the height of all 4,096 bytes, in which only the visible rows exist. The browser handles the
+// scroll bar, the wheel and fingers. Keys move from row to row and from page to page.
 
 import { ADDRESSES } from "../../core/bench/rom_bytes.js";
 import { element } from "../ui/dom.js";
 
 /**
- * The calls that the scroll bar of the listing makes.
+ * The calls that the scrolling of the listing makes.
  * @typedef {object} ScrollCalls
- * @property {(rows: number) => void} resized There is room for this many rows.
- * @property {(address: number) => void} scrolled The user has scrolled to an address, which becomes the first one.
- * @property {(rows: number) => void} went A key moves the listing by rows, back if they are negative.
- * @property {(end: "first" | "last") => void} wentTo A key moves the listing to its first or last row.
+ * @property {(rows: number) => void} resized Handles a box that now has room for `rows` rows.
+ * @property {(address: number) => void} scrolled Shows the listing from an address on, to which the user has scrolled.
+ * @property {(rows: number) => void} went Moves the focus by rows, up if `rows` is negative.
+ * @property {(end: "first" | "last") => void} wentTo Moves the focus to the first or the last row of the listing.
  */
 
-/** The height of a row if none has been laid out, in pixels. */
+/** The height in pixels of a row before one has been laid out. */
 const USUAL_HEIGHT = 24;
 
 export class ListingScroll {
   /**
-   * @param {HTMLElement} root is scrolled
+   * @param {HTMLElement} root the box that scrolls
    * @param {ScrollCalls} calls
    */
   constructor(root, calls) {
@@ -27,12 +27,12 @@ export class ListingScroll {
     this.rows = element("div", { className: "rows" });
     this.length = element("div", { className: "length" }, this.rows);
     this.rowHeight = USUAL_HEIGHT;
-    /** The place to which this page itself scrolled the box. */
+    /** The scroll position that this module itself has set. */
     this.placed = 0;
     root.append(this.length);
     root.addEventListener("scroll", () => this.scrolled(), { passive: true });
     root.addEventListener("keydown", (event) => this.typed(event));
-    // An observer must not change sizes itself.
+    // A ResizeObserver must not change sizes itself.
     new ResizeObserver(() => requestAnimationFrame(() => this.measure())).observe(root);
   }
 
@@ -46,7 +46,7 @@ export class ListingScroll {
   }
 
   /**
-   * The first row shows this address.
+   * Scrolls the box so that its first row shows an address.
    * @param {number} address
    */
   beginAt(address) {

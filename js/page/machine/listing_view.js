@@ -1,4 +1,4 @@
-// The disassembly: the stretch around the counter or around a chosen address, with its breakpoints.
+// The disassembly around the program counter, or from a chosen address on, with its breakpoints.
 
 import { block, field } from "../ui/dom.js";
 import { namedLine, widthOfLabels } from "../../core/machine/listing_names.js";
@@ -15,42 +15,42 @@ import { LAST_ADDRESS } from "../../core/bench/numbers.js";
  * @typedef {import("../../core/machine/source_map.js").SourceMap} SourceMap
  */
 
-/** Until the page has been laid out. */
+/** The number of rows before the page has been laid out. */
 const USUAL_ROWS = 18;
-/** The stretch around the counter begins this many bytes before it, or fewer if few rows have room. */
+/** The number of bytes before the program counter, if there is room for them. */
 const BYTES_BEFORE = 10;
-/** While time runs the listing follows the counter so often, in milliseconds, that it can be read. */
+/** The interval in milliseconds at which the listing follows the program counter while time is running: slow enough to read. */
 const FOLLOW_TIME = 300;
 
 export class ListingView {
   /**
    * @param {(lines: string) => Promise<string[]>} ask returns the answers to queries
    * @param {(address: number) => void} toggleBreakpoint
-   * @param {() => void} moved another stretch is wanted
+   * @param {() => void} moved called when the listing must show other lines
    */
   constructor(ask, toggleBreakpoint, moved) {
     this.reader = new ListingReader(ask);
     this.moved = moved;
     this.block = block("lines-of-program");
     this.follows = true;
-    /** The counter at the time the user went elsewhere: the listing follows again once it has moved; -1 for never. */
+    /** The program counter when the user went to another address. When the counter changes, the listing follows it again; -1 for never. */
     this.leftAt = -1;
-    /** The address where the stretch begins if it does not follow the counter. */
+    /** The first address of a listing that does not follow the program counter. */
     this.from = 0;
     this.counter = 0;
-    /** @type {Map<string, import("../../core/machine/breakpoint_marks.js").BreakpointMark>} by their addresses */
+    /** @type {Map<string, import("../../core/machine/breakpoint_marks.js").BreakpointMark>} the marks of breakpoints, by address */
     this.breakpoints = new Map();
     /** @type {Listed[]} */
     this.lines = [];
-    /** @type {NamedLine[]} the same, as they are shown */
+    /** @type {NamedLine[]} the lines with their names */
     this.named = [];
     /** @type {SourceMap | null} the program in ROM */
     this.map = null;
-    // A listing that arrives after a newer request is not shown.
+    // The number of requests. A listing that arrives after a newer request is not shown.
     this.asked = 0;
-    /** True if time ran when it was shown last. */
+    /** True if time was running when the listing was last shown. */
     this.isRunning = false;
-    /** The time at which it followed the counter last. */
+    /** The time at which the listing last followed the program counter, in milliseconds. */
     this.followed = 0;
     this.scroll = new ListingScroll(this.block, {
       resized: (rows) => this.resize(rows),
@@ -73,14 +73,14 @@ export class ListingView {
     });
   }
 
-  /** Reads the same stretch again. */
+  /** Reads the lines again, from the same address on. */
   anew() {
     if (!this.follows && this.lines.length > 0) this.from = this.lines[0].address;
     this.forget();
     this.moved();
   }
 
-  /** @param {number} rows as many as have room */
+  /** @param {number} rows the number of rows that have room */
   resize(rows) {
     if (rows === this.rows.count) return;
     this.rows.resize(rows);
@@ -88,7 +88,7 @@ export class ListingView {
   }
 
   /**
-   * From here on the stretch begins at an address, wherever the counter is.
+   * Makes the listing begin at an address and no longer follow the program counter.
    * @param {number} address
    */
   stayAt(address) {
@@ -97,7 +97,8 @@ export class ListingView {
   }
 
   /**
-   * Shows the stretch from an address on. If the listing followed a paused counter, it does so again once that moves.
+   * Shows the listing from an address on. A listing that followed the counter while time was paused follows it again when the counter
+   * changes.
    * @param {number} address
    */
   goTo(address) {
@@ -113,7 +114,7 @@ export class ListingView {
     this.take(this.lines);
   }
 
-  /** The bytes of ROM may have changed. */
+  /** Discards all lines, because the bytes of ROM can have changed. */
   forget() {
     this.take([]);
     this.asked += 1;
@@ -130,7 +131,7 @@ export class ListingView {
   }
 
   /**
-   * Shows the position of the counter, and reads another stretch if needed.
+   * Shows the position of the program counter, and reads other lines if needed.
    * @param {boolean} isRunning
    */
   async show(isRunning) {
@@ -152,8 +153,8 @@ export class ListingView {
   }
 
   /**
-   * Returns whether the listing must move. A listing that does not follow stays, but reads lines again that the counter shows to be out of
-   * step.
+   * Returns whether other lines must be read. A listing that does not follow the counter reads its lines again if the counter is inside
+   * one of them.
    * @param {boolean} isRunning
    */
   hasToMove(isRunning) {
@@ -162,7 +163,10 @@ export class ListingView {
     return !isRunning || performance.now() - this.followed > FOLLOW_TIME;
   }
 
-  /** @param {number} counter */
+  /**
+   * Returns whether the line of the program counter is shown, with some lines around it.
+   * @param {number} counter
+   */
   hasInside(counter) {
     const at = this.lines.findIndex((line) => line.address === counter);
     if (at < 0) return false;
@@ -171,9 +175,9 @@ export class ListingView {
   }
 
   /**
-   * Reads a stretch and shows it; resolves to false if another one was requested meanwhile.
+   * Reads lines and shows them. Resolves to false if other lines were requested meanwhile.
    * @param {Goal} goal
-   * @param {boolean} isScrolled whether a user has scrolled there: then the box stays where it is
+   * @param {boolean} isScrolled whether the user has scrolled to the lines; then the scroll position stays
    */
   async read(goal, isScrolled = false) {
     this.asked += 1;
@@ -188,19 +192,19 @@ export class ListingView {
     return true;
   }
 
-  // --- going through it ---
+  // --- moving through the listing ---
 
   /** @param {number} address */
   scrolledTo(address) {
     this.stayAt(Math.max(0, Math.min(address, LAST_ADDRESS)));
-    // In step with what is shown, if that is near.
+    // If the address is near, the lines that are shown determine where its instructions begin.
     const known = this.lines.find((line) => line.address >= this.from);
     const isNear = known && Math.abs(this.lines[0].address - this.from) <= this.rows.count;
     this.read({ from: this.from, anchor: known && isNear ? known.address : null }, true);
   }
 
   /**
-   * A key moves the focus by some rows, and scrolls if it leaves the visible part.
+   * Moves the focus by rows, and scrolls if the focus leaves the visible lines.
    * @param {number} rows
    */
   async go(rows) {
@@ -216,7 +220,7 @@ export class ListingView {
   }
 
   /**
-   * Moves by this many lines.
+   * Moves the listing by lines, up if `count` is negative. Resolves to false if other lines were requested meanwhile.
    * @param {number} count
    */
   async goBy(count) {
@@ -238,7 +242,10 @@ export class ListingView {
     if (await this.read({ from: this.from, anchor: null })) this.focusAnew(end === "first" ? 0 : this.lines.length - 1);
   }
 
-  /** @param {number} at */
+  /**
+   * Focuses a row after the listing has moved, so that a screen reader announces it.
+   * @param {number} at the index of the row
+   */
   focusAnew(at) {
     this.rows.turn();
     this.showRows();

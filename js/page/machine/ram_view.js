@@ -1,4 +1,4 @@
-// The RAM of a board, bank by bank: each character with its address; a click watches it, and it is edited in place.
+// The RAM of a board, with a table for each bank. A click on a nibble watches it, and nibbles can be edited in place.
 
 import { Cell, block, byId, element, oneStop, pressedSwitch, setStop } from "../ui/dom.js";
 import { hex, upTo } from "../../core/bench/numbers.js";
@@ -22,8 +22,8 @@ function wordsOf({ bank, chip, register }) {
 }
 
 /**
- * The names of a register's characters, each after the character's number.
- * @param {string} register its name here
+ * Returns the names of a register's nibbles, each after the number of its nibble.
+ * @param {string} register the register as `bank.chip.register`
  * @param {ReadonlyMap<string, string[]>} names
  */
 function namesIn(register, names) {
@@ -37,7 +37,7 @@ function namesIn(register, names) {
   ];
 }
 
-/** The nibbles that stay together in a line. */
+/** The number of nibbles that stay together in a line. */
 const HALF = CHARACTERS / 2;
 
 /** @param {Cell[]} some */
@@ -55,20 +55,20 @@ export class RamView {
     this.changes = changes;
     this.editor = editor;
     this.toggleWatch = toggleWatch;
-    /** @type {Map<string, Switch>} whether a character is watched, by its name in answers */
+    /** @type {Map<string, Switch>} the watch mark of each nibble, by its name in answers */
     this.watched = new Map();
     /** @type {Map<string, ShownRegister>} */
     this.registers = new Map();
-    /** @type {Map<string, { node: HTMLElement, title: string }>} characters, by their places for `poke` */
+    /** @type {Map<string, { node: HTMLElement, title: string }>} the nibbles, by their places in `poke` lines */
     this.characters = new Map();
-    /** @type {ReadonlyMap<string, string[]>} what they are called */
+    /** @type {ReadonlyMap<string, string[]>} the names of nibbles, by their places */
     this.names = new Map();
-    /** @type {ReadonlyMap<string, Warm>} those that have changed lately */
+    /** @type {ReadonlyMap<string, Warm>} the nibbles that changed recently, by their places */
     this.warm = new Map();
     /** @type {Map<string, Cell>} */
     this.ports = new Map();
     this.block = block("banks");
-    /** @type {HTMLElement[]} one for each bank */
+    /** @type {HTMLElement[]} the table of each bank */
     this.tables = [];
     this.chooser = byId("bank", HTMLSelectElement);
     this.chooser.addEventListener("change", () => this.showBank());
@@ -93,7 +93,7 @@ export class RamView {
     setStop(this.block);
   }
 
-  /** @param {number[]} banks those that have chips */
+  /** @param {number[]} banks the banks that have chips */
   offerBanks(banks) {
     this.chooser.replaceChildren(...banks.map((bank, at) => element("option", { value: String(at) }, say.bankOf(bank))));
     block("bank-chooser").hidden = banks.length < 2;
@@ -162,8 +162,8 @@ export class RamView {
   }
 
   /**
-   * A RAM character, edited in place.
-   * @param {string} place its name for `poke`
+   * Makes a nibble editable.
+   * @param {string} place the nibble's place in a `poke` line
    * @param {HTMLButtonElement} node
    */
   offer(place, node) {
@@ -199,7 +199,7 @@ export class RamView {
 
   /**
    * Returns the name of a RAM nibble, or its place if it has none.
-   * @param {string} place its name for `poke`
+   * @param {string} place the nibble's place in a `poke` line
    */
   nameOf(place) {
     const [name] = this.names.get(place) || [];
@@ -207,7 +207,7 @@ export class RamView {
     return name || (found ? found.title : place);
   }
 
-  /** @param {ReadonlyMap<string, string[]>} names the names of characters */
+  /** @param {ReadonlyMap<string, string[]>} names the names of nibbles, by their places */
   showNames(names) {
     this.names = names;
     for (const place of this.characters.keys()) this.titleOf(place);
@@ -217,7 +217,7 @@ export class RamView {
     }
   }
 
-  /** @param {ReadonlyMap<string, Warm>} warm those that have changed recently */
+  /** @param {ReadonlyMap<string, Warm>} warm the nibbles that changed recently, by their places */
   showWarm(warm) {
     const before = this.warm;
     this.warm = warm;

@@ -1,12 +1,13 @@
-// Run to here: to a line of the listing by Control and a click, by the second button, or by Control and Enter; to the line of the source
-// that the caret is in by Control and F10.
+// Runs to a line: to a line of the listing by Control and a click, the second button, or Control and Enter; to the caret's line in the
+// source
+// by Control and F10.
 
 import { commandOf } from "../commands/command_table.js";
 import { keyNameOf } from "../commands/keys.js";
 
 /**
  * @param {HTMLElement} root the listing
- * @param {(node: Node) => number | null} addressAt the address of a line that a node belongs to
+ * @param {(node: Node) => number | null} addressAt returns the address of the line that contains a node, or null
  * @param {(address: number) => void} runTo
  */
 export function listenToHere(root, addressAt, runTo) {

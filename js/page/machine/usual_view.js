@@ -1,5 +1,5 @@
-// Common mistakes, as they happen: a row for each that was reported since time began to run, with its line, and a switch that stops time at
-// the next one of its kind.
+// The list of common mistakes that the bench has reported since time began to run. Each row has the line of the mistake, and a switch that
+// stops time at the next mistake of its kind.
 
 import { block, element, onClick } from "../ui/dom.js";
 import { KINDS } from "../../words/debug.js";
@@ -13,12 +13,12 @@ import * as say from "../../words/machine.js";
 /**
  * The calls that the list of common mistakes makes.
  * @typedef {object} UsualCalls
- * @property {(address: number) => string} wordsOf Returns an address with its name and its line, as words.
+ * @property {(address: number) => string} wordsOf Returns a text with an address, its name and its line.
  * @property {(address: number) => void} goTo Shows the line of an address in source and listing.
- * @property {(kinds: Kind[]) => void} stopAt Lets time stop at these kinds of mistakes from now on.
- * @property {(count: number) => void} counted Reports how many mistakes are listed.
- * @property {() => string} chosen Returns the kinds that were chosen before, as `choose` kept them; "" if nothing was.
- * @property {(kinds: string) => void} choose Stores the chosen kinds, in one text.
+ * @property {(kinds: Kind[]) => void} stopAt Makes time stop at these kinds of mistakes.
+ * @property {(count: number) => void} counted Reports the number of mistakes in the list.
+ * @property {() => string} chosen Returns the kinds that `choose` stored, "" for none.
+ * @property {(kinds: string) => void} choose Stores the chosen kinds as one text.
  */
 
 export class UsualView {
@@ -32,7 +32,9 @@ export class UsualView {
     this.stops = new Set(/** @type {Kind[]} */ (Object.keys(KINDS)).filter((kind) => chosen.includes(kind)));
   }
 
-  /** Time begins to run, or another session is shown, perhaps in another worker. */
+  /**
+   * Clears the list, because time begins to run or another session is shown. The worker can be a new one, so it receives the kinds again.
+   */
   clear() {
     this.calls.stopAt([...this.stops]);
     this.block.hidden = true;

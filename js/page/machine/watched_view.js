@@ -1,4 +1,4 @@
-// The list of watched expressions: each with its name and its current value, edited in place.
+// The list of watched expressions, each with its name and its present value. Values can be edited in place.
 
 import { Cell, block, element, field, onClick } from "../ui/dom.js";
 import { MOST_WATCHED, readAllWatched, readWatched } from "../../core/debug/watched.js";
@@ -12,12 +12,12 @@ import * as say from "../../words/machine.js";
  */
 
 /**
- * The calls that the watched values make.
+ * The calls that the watch list makes.
  * @typedef {object} WatchedCalls
  * @property {import("../text/meaning_view.js").Offer} offer Makes a cell that shows a value editable.
- * @property {() => Standing | null} standing Returns the values of the machine; null while time runs.
- * @property {() => Names} names Returns the names that a watched value may have.
- * @property {() => void} listed The list has changed.
+ * @property {() => Standing | null} standing Returns the state with the values; null while time is running.
+ * @property {() => Names} names Returns the names that an expression can use.
+ * @property {() => void} listed Handles a changed list.
  * @property {(texts: string[]) => void} keep Saves the texts of the list.
  */
 
@@ -37,7 +37,7 @@ export class WatchedView {
     });
   }
 
-  /** @param {unknown} texts saved with a session */
+  /** @param {unknown} texts the expressions that were saved with a session */
   open(texts) {
     const { all, fault } = readAllWatched(texts);
     this.status.textContent = fault;
@@ -85,7 +85,7 @@ export class WatchedView {
     return { root, value, shape: "", cells: [] };
   }
 
-  /** Shows the current values; while time runs, the last ones. */
+  /** Shows the present values. While time is running, the last values stay. */
   show() {
     const standing = this.calls.standing();
     if (!standing) return;
@@ -96,7 +96,7 @@ export class WatchedView {
   /**
    * @param {Row} row
    * @param {Watched} watched
-   * @param {import("../../core/debug/value_words.js").Piece[]} pieces its current value
+   * @param {import("../../core/debug/value_words.js").Piece[]} pieces the present value of the expression
    */
   showRow(row, watched, pieces) {
     const shape = pieces.map((piece) => (typeof piece === "string" ? piece : piece.place)).join("\n");

@@ -1,5 +1,5 @@
-// The parts of the page's address after its `#`: a saved session, an example, or the texts of a link; and after its `?` the story of an
-// example.
+// The page's address. The part after its `#` names a saved session, an example, or the texts of a link. The part after its `?` names the
+// example whose story is shown.
 
 /** @typedef {"session" | "example" | "link"} AddressKind */
 
@@ -13,26 +13,26 @@ function decoded(text) {
 }
 
 /**
- * The example whose story is to be shown, "" for none; by its name, or by that of its folder.
+ * Returns the example whose story is to be shown, by its name or by the name of its folder; "" for none.
  * @param {string} search
  */
 export function storyOf(search) {
   return new URLSearchParams(search).get("story")?.replace(/_/g, " ") || "";
 }
 
-/** The address of this page, without the story. */
+/** Removes the story from the page's address. */
 export function forgetStory() {
   const address = new URL(location.href);
   address.search = "";
   try {
     history.replaceState(null, "", address);
   } catch {
-    // Some browsers do not change a file's address: then a reload shows the story again.
+    // Some browsers do not change the address of a file. A reload then shows the story again.
   }
 }
 
 /**
- * Returns the target of an address, without trailing blanks from copying.
+ * Returns the target in an address, without trailing blanks that were copied with it.
  * @param {string} hash
  * @returns {{ kind: AddressKind | "", value: string }}
  */

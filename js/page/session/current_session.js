@@ -1,4 +1,4 @@
-// The session that is shown: it is replaced, it is saved, and its name is displayed.
+// The session that is shown: replaces it, saves it, and displays its name.
 
 import { field, block } from "../ui/dom.js";
 import { wordsOfBroken } from "../../words/stops.js";
@@ -23,21 +23,21 @@ import * as say from "../../words/session.js";
 /**
  * The calls that the current session makes to the page.
  * @typedef {object} CurrentCalls
- * @property {(record: SessionRecord) => void} begin Another session is shown from now on; its texts and choices are in the record.
- * @property {(shown: Shown) => void} show Shows the session as it is now.
- * @property {() => Promise<void>} checkSource Compares the source with ROM; resolves once the names of the program are shown.
- * @property {() => void} run Lets time run, as it did when the session was left.
+ * @property {(record: SessionRecord) => void} begin Shows the texts and the choices of another session, from its record.
+ * @property {(shown: Shown) => void} show Shows the present state of the session.
+ * @property {() => Promise<void>} checkSource Compares the source with ROM. Resolves when the names of the program are shown.
+ * @property {() => void} run Resumes time, which was running when the session was left.
  * @property {(words: string) => void} halted Shows that time is paused, and why.
- * @property {() => Promise<void>} standStill Lets no more time pass; resolves once the worker has stopped.
- * @property {() => string} where Returns the counter with its name and its line, as words.
- * @property {() => void} touched The user has done something in the session for the first time.
- * @property {() => RanEntry[]} ran Returns the work of time since the last call, and forgets it.
- * @property {(ran: RanEntry[], fault: string) => void} showRan Logs the work of time, and why the session could not be saved, "" if it was.
- * @property {(words: string) => void} notKept Shows why the session is not saved; "" hides that message.
+ * @property {() => Promise<void>} standStill Stops time. Resolves when the worker has stopped.
+ * @property {() => string} where Returns a text with the program counter, its name and its line.
+ * @property {() => void} touched Handles a change of the session by the user.
+ * @property {() => RanEntry[]} ran Returns the entries of the runs since the last call, and removes them.
+ * @property {(ran: RanEntry[], fault: string) => void} showRan Logs runs, and why the session could not be saved, "" if it was saved.
+ * @property {(words: string) => void} notKept Shows the reason why the session is not saved; "" hides the message.
  * @property {(state: "example" | "saved" | "failed") => void} saved Shows in the status line whether the session is saved.
  */
 
-/** The parts that are hidden until there is a session to show. */
+/** The parts of the page that are hidden until a session is shown. */
 const SHOWN_WITH_SESSION = ["bench", "session-bar", "clock", "tools", "statusbar"];
 
 export class CurrentSession {
@@ -56,15 +56,15 @@ export class CurrentSession {
     this.session = null;
     /** The time of the last save. */
     this.kept = 0;
-    /** True if the session that is being opened runs on: no line of its source is the current one. */
+    /** True while a session is opened whose time will run. No line of its source is marked as the next one. */
     this.willRun = false;
   }
 
   /**
-   * Replaces the session, which stays if the new one is rejected.
+   * Replaces the session. If the new session is rejected, the present one stays.
    * @param {SessionRecord} record
    * @param {Release} release
-   * @param {string} example its name if nothing was done yet in a session of an example
+   * @param {string} example the name of the example, if nothing has changed in the session since; otherwise ""
    */
   async use(record, release, example) {
     const { bench, store, calls } = this;
@@ -88,7 +88,7 @@ export class CurrentSession {
   }
 
   /**
-   * Shows the page's parts, invisible at first: otherwise they would move when the names of the source arrive.
+   * Shows the parts of the page. They stay invisible until the names of the source arrive, which would move them.
    */
   async showParts() {
     const isFirst = block("bench").hidden;
@@ -98,7 +98,7 @@ export class CurrentSession {
     document.body.classList.remove("settling");
   }
 
-  /** Restores the past from before the page was reloaded, for going back to it. */
+  /** Restores the past from before a reload of the page, so that the user can go back to it. */
   async remember() {
     const { bench, past } = this;
     const recalled = past.recalled();
@@ -106,7 +106,10 @@ export class CurrentSession {
     if (count >= 0) past.goOn(recalled, count);
   }
 
-  /** Saves the session that is left. Whether its time runs stays in its record, so that it continues when the user returns. */
+  /**
+   * Stops the session that is left, and saves it. Its record still says whether time was running, so that time resumes on the user's
+   * return.
+   */
   async leave() {
     await this.calls.standStill();
     await this.keep();
@@ -143,7 +146,9 @@ export class CurrentSession {
   }
 
   /**
-   * Its name is in its field and in the title of the tab; its address is the one of this session, or of the example that it still equals.
+   * Shows the session's name in its field and in the title of the tab. The address becomes that of the session, or of the example while
+   * nothing
+   * has changed in it.
    */
   showName() {
     if (!this.session) return;
@@ -154,7 +159,7 @@ export class CurrentSession {
   }
 
   /**
-   * An unnamed session is called by its title, once it has one.
+   * Names the session after the title in its texts, if the user has not named it.
    * @param {string} title
    */
   takeTitle(title) {
@@ -174,7 +179,7 @@ export class CurrentSession {
     await this.keep();
   }
 
-  /** Something is done in it: from now on it is saved. */
+  /** Notes that the user has changed the session. From then on it is saved. */
   touch() {
     if (!this.session) return;
     this.calls.touched();
@@ -183,13 +188,13 @@ export class CurrentSession {
     this.keep();
   }
 
-  /** Does the same, and saves it now; resolves to why it was not saved, "" if it was. */
+  /** Notes a change, and saves the session at once. Resolves to the reason why it was not saved, or to "". */
   touchAndKeep() {
     this.touch();
     return this.keep();
   }
 
-  /** Writes it to the store; the work of time is in the log once that is done. */
+  /** Writes the session to the store, and then logs the runs before. Resolves to the reason why it was not saved, or to "". */
   async keep() {
     if (!this.session) return "";
     const { calls } = this;
@@ -202,7 +207,7 @@ export class CurrentSession {
     return fault;
   }
 
-  /** The same for a page that is just going away. */
+  /** Saves the session of a page that is being left. */
   keepNow() {
     if (!this.session) return;
     this.session.keepNow();

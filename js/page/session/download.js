@@ -2,12 +2,12 @@
 
 import { element } from "../ui/dom.js";
 
-/** The milliseconds for which the bytes of a file are held for the browser. */
+/** The time in milliseconds for which the bytes of a file are held for the browser. */
 const HELD_TIME = 10000;
 
 /**
  * @param {string} name
- * @param {string} ending of the file's name
+ * @param {string} ending the extension of the file's name
  * @param {Blob} bytes
  */
 export function download(name, ending, bytes) {

@@ -1,11 +1,11 @@
-// The dialog that exports a part of the session into a file of its own: a text, or ROM.
+// The dialog that exports a part of the session as a file: a text, or the bytes of ROM.
 
 import { element, onClick } from "../ui/dom.js";
 import { download } from "./download.js";
 import * as say from "../../words/session.js";
 
 /**
- * A file: its extension, its content, and whether there is anything to export now.
+ * A file to export: its extension, its description, and the function that returns its content.
  * @typedef {{ ending: string, what: string, make: () => string | Uint8Array | Promise<string | Uint8Array> }} ExportedFile
  */
 

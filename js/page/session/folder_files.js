@@ -1,10 +1,10 @@
-// The files of a dropped folder, and those of several files, one of which is a project file.
+// Reads the files of a dropped folder, or of several files that include a project file.
 
 import { PROJECT_FILE } from "../../core/project/project_toml.js";
 
-/** @typedef {{ name: string, files: Map<string, File> }} Folder its files by their paths in it */
+/** @typedef {{ name: string, files: Map<string, File> }} Folder its files, by their paths in the folder */
 
-/** A project has fewer, and its folders are not as deep. */
+/** The maximum number of files in a folder that is read, and the maximum depth of its folders. A project has less. */
 const MOST_FILES = 400;
 const MOST_DEPTH = 6;
 
@@ -20,7 +20,7 @@ export function foldersOf(data) {
 }
 
 /**
- * Returns the whole contents of a folder, which a browser reports in parts.
+ * Resolves to all entries of a folder, which the browser reports in parts.
  * @param {FileSystemDirectoryEntry} folder
  * @returns {Promise<FileSystemEntry[]>}
  */
@@ -38,7 +38,7 @@ async function entriesIn(folder) {
 
 /**
  * @param {FileSystemDirectoryEntry} folder
- * @param {string} before its path in the dropped folder
+ * @param {string} before the path of the folder in the dropped folder
  * @param {Map<string, File>} files
  * @param {number} depth
  */
@@ -67,7 +67,7 @@ export async function readFolder(entry) {
 }
 
 /**
- * Returns several files as a folder, if one of them is a project file; null for any others.
+ * Returns several files as a folder if one of them is a project file, otherwise null.
  * @param {File[]} files
  * @returns {Folder | null}
  */

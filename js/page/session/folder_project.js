@@ -1,4 +1,4 @@
-// The texts of a folder with a project file, from which the page begins a new session.
+// The texts of a folder with a project file, for a new session.
 
 import { ProjectFault, readProject } from "../../core/project/project_folder.js";
 import { LONGEST_PROJECT_FILE, PROJECT_FILE } from "../../core/project/project_toml.js";
@@ -11,11 +11,12 @@ import * as say from "../../words/session.js";
  * @typedef {import("../../core/engine/examples.js").Example} Example
  * @typedef {import("../../core/session/opened_file.js").FileTexts} FileTexts
  *
- * The texts, the requested speed ("" for none), and words about what the page has no room for.
+ * The texts, the requested speed ("" for none), and a message about files that were left out.
  * @typedef {{ texts: Example, speed: string, words: string }} FolderTexts
  */
 
 /**
+ * Resolves to the bytes of a file, and to one byte more than `most` if it is too long.
  * @param {File} file
  * @param {number} most
  */
@@ -24,7 +25,7 @@ async function bytesOf(file, most) {
 }
 
 /**
- * Returns a text of a kind in a file of a folder; "" if none is named.
+ * Resolves to the text of one kind in a file of a folder, or to "" if there is no such file.
  * @param {Map<string, File>} files
  * @param {string} path
  * @param {"board" | "program" | "tests" | "properties"} kind
@@ -39,7 +40,7 @@ async function textIn(files, path, kind) {
 }
 
 /**
- * The page has one text of each kind; those that it leaves out are named.
+ * Returns a message about the files that were left out, "" for none. The page has one text of each kind.
  * @param {string[][]} lists
  */
 function leftOut(lists) {
@@ -48,7 +49,7 @@ function leftOut(lists) {
 }
 
 /**
- * Throws if the folder is not a project, or a file of it is not what it must be.
+ * Resolves to the texts of a folder. Throws an error if the folder is not a project, or if one of its files has the wrong content.
  * @param {Folder} folder
  * @returns {Promise<FolderTexts>}
  */

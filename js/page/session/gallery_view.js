@@ -1,4 +1,4 @@
-// Draws the picture of an example.
+// Draws the pictures of examples.
 
 import { galleryPicture } from "../../core/session/gallery_picture.js";
 import { icon } from "../ui/icons.js";
@@ -23,7 +23,7 @@ function nodesOf(shape) {
     drawn("text", { class: `digits ${shape.colour}`, x: x + width - 5, y: base + 6 }, shape.digits)];
 }
 
-/** The picture of a board with an empty front panel: a chip. */
+/** Returns the picture of a board with an empty front panel: a chip. */
 function emptyPicture() {
   const made = icon("chip");
   made.classList.add("picture", "empty-picture");
@@ -31,7 +31,7 @@ function emptyPicture() {
 }
 
 /**
- * A picture of a board's front panel; for screen readers the example's words are next to it.
+ * Returns a picture of a board's front panel. Screen readers skip it, because the words of the example are next to it.
  * @param {string} boardText
  */
 export function pictureOf(boardText) {

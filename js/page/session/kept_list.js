@@ -1,4 +1,4 @@
-// The list of the saved sessions: opened and copied one by one, deleted one by one or several at once, and restored.
+// The list of the saved sessions. Sessions are opened and copied one by one, deleted one by one or several at once, and restored.
 
 import { block, button, element, field } from "../ui/dom.js";
 import { pictureOf } from "./gallery_view.js";
@@ -12,11 +12,11 @@ import * as say from "../../words/session.js";
  * The calls that the list of projects makes. A session is named by its id.
  * @typedef {object} ListCalls
  * @property {(id: string) => boolean} isShown Returns whether a session is the one that is shown.
- * @property {(id: string) => Promise<boolean>} open Shows a session. Resolves to false if that failed, which is then reported.
+ * @property {(id: string) => Promise<boolean>} open Shows a session. Resolves to false after a failure that was reported.
  * @property {(id: string) => Promise<boolean>} copy Makes a copy of a session and shows it. Resolves to false if that failed.
- * @property {(records: SessionRecord[]) => Promise<void>} remove Moves sessions to the deleted ones.
+ * @property {(records: SessionRecord[]) => Promise<void>} remove Deletes sessions, which can then be restored.
  * @property {() => SessionRecord[]} deleted Returns the sessions that can be restored.
- * @property {(records: SessionRecord[]) => Promise<void>} bringBack Brings deleted sessions back.
+ * @property {(records: SessionRecord[]) => Promise<void>} bringBack Restores deleted sessions.
  * @property {(act: () => Promise<boolean>) => void} choose Does `act`, and closes the dialog unless that resolves to false.
  * @property {(word: string, label: string, act: () => void) => HTMLButtonElement} button Returns a button with a word, a label for screen
  * readers, and its action.
@@ -30,13 +30,13 @@ export class KeptList {
     this.bin = block("deleted");
     /** @type {SessionRecord[]} */
     this.records = [];
-    /** The sessions that are ticked, by their ids. */
+    /** The ids of the sessions that are ticked. */
     this.chosen = new Set();
     field("choose-all").addEventListener("change", () => this.chooseAll(field("choose-all").checked));
     button("delete-chosen").addEventListener("click", () => this.removeChosen());
   }
 
-  /** Returns the sessions that can be deleted: all but the one that is shown. */
+  /** The sessions that can be deleted: all but the one that is shown. */
   get removable() {
     return this.records.filter((record) => !this.calls.isShown(record.id));
   }
@@ -108,7 +108,7 @@ export class KeptList {
   }
 
   /**
-   * A keyboard user continues at the line that has taken the place of the first one.
+   * Deletes sessions. The focus then moves to the line that has taken the place of the first one.
    * @param {SessionRecord[]} records
    */
   async remove(records) {
@@ -127,7 +127,7 @@ export class KeptList {
 }
 
 /**
- * Its name, when it was changed last, and how many cycles it has counted.
+ * Returns the name of a session, with the time of its last change and its cycle count.
  * @param {SessionRecord} record
  */
 function nameAndTime({ name, changed, cycles }) {

@@ -1,5 +1,6 @@
-// The recent past of the session that is shown, for going back after a reload: its file at a moment, and the commands since then. It is
-// gathered from the worker's reports, and written when the page is left, in the browser's store for the tab.
+// The recent past of the session that is shown, for going back after a reload. A segment of the past is the session's file at one moment,
+// and the commands since then. The past comes from the worker's reports. When the page is left, it is written to the browser's storage for
+// the tab.
 
 import { fromBase64, toBase64 } from "../../core/session/base64.js";
 import * as say from "../../words/session.js";
@@ -12,15 +13,16 @@ import * as say from "../../words/session.js";
  */
 
 const KEY = "fethsaim.past";
-/** A new file is stored after this many cycles, commands, or letters in these. */
+/** The maximum numbers of cycles, of commands, and of characters in commands after which a new segment begins. */
 const MOST_CYCLES = 4000000;
 const MOST_ENTRIES = 4000;
 const MOST_LETTERS = 200000;
-/** The most characters of one report; a longer one is not stored. */
+/** The maximum number of cycles in one report. After a longer report the past begins with the present state. */
 const MOST_AT_ONCE = 16000000;
+/** The number of segments that are kept. */
 const SEGMENTS = 2;
 
-/** The browser's store of words for this tab; null if it has none. */
+/** Returns the browser's storage for this tab, or null if the page cannot use it. */
 function tabStore() {
   try {
     return sessionStorage;
@@ -34,7 +36,10 @@ function cyclesOf(entries) {
   return entries.reduce((sum, { cycles }) => sum + cycles, 0);
 }
 
-/** @param {any} entry that was stored */
+/**
+ * Returns whether a stored value is an entry.
+ * @param {any} entry
+ */
 function isEntry(entry) {
   return entry && typeof entry.line === "string" && typeof entry.cycles === "number" && typeof entry.resets === "boolean"
     && typeof entry.isStop === "boolean";
@@ -56,21 +61,22 @@ export class KeptPast {
     this.session = "";
     /** @type {Recalled[]} */
     this.segments = [];
-    /** The cycles and the letters of the last segment. */
+    /** The number of cycles in the last segment. */
     this.cycles = 0;
+    /** The number of characters in the commands of the last segment. */
     this.letters = 0;
   }
 
-  /** @param {string} session that is shown from now on, by its name */
+  /** @param {string} session the id of the session that is shown from then on */
   begin(session) {
     this.session = session;
     this.segments = [];
   }
 
   /**
-   * Stores what was done.
+   * Adds the entries of a report to the past.
    * @param {News} news
-   * @param {{ file: Uint8Array, total: number, reset: number }} present the session after it
+   * @param {{ file: Uint8Array, total: number, reset: number }} present the session after these entries
    */
   take({ isAnew, entries }, present) {
     const cycles = cyclesOf(entries);
@@ -93,13 +99,13 @@ export class KeptPast {
     this.letters = 0;
   }
 
-  /** Handles the page being left. */
+  /** Writes the past to the storage, because the page is left. */
   leave() {
     const segments = this.segments.map(({ file, ...more }) => ({ file: toBase64(file), ...more }));
     this.change((store) => store.setItem(KEY, JSON.stringify({ session: this.session, segments })));
   }
 
-  /** Returns the past of the session that is shown, as it was stored when the page was left. It is read once. */
+  /** Returns the past of the session, as it was written when the page was left, and removes it from the storage. */
   recalled() {
     /** @type {Recalled[]} */
     let found = [];
@@ -112,9 +118,9 @@ export class KeptPast {
   }
 
   /**
-   * It is remembered again: later work follows it.
+   * Continues a past that the bench has restored. The entries since then follow it.
    * @param {Recalled[]} recalled
-   * @param {number} count of the last one's entries
+   * @param {number} count the number of restored entries in the last segment
    */
   goOn(recalled, count) {
     const [{ entries }, ...more] = this.segments;
@@ -131,7 +137,7 @@ export class KeptPast {
     try {
       if (this.store) act(this.store);
     } catch {
-      // If there is no room, or it cannot be read, going back reaches to the reload.
+      // Without a stored past, the user can only go back to the reload.
     }
   }
 }

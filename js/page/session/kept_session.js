@@ -1,4 +1,4 @@
-// A session that is open in this tab: its record, which is the bench's last report, and how it is saved.
+// A session that is open in this tab: its record with the last state that the bench has reported, and how the record is saved.
 
 import { shortName } from "../../core/session/names.js";
 import { inTime, wordsOfStoreFault } from "./store.js";
@@ -12,6 +12,7 @@ import { inTime, wordsOfStoreFault } from "./store.js";
 let made = 0;
 
 /**
+ * Returns a new record of a session, with an id of its own.
  * @param {string} name
  * @param {Uint8Array} file
  * @param {{ boardText: string, programText: string, testText?: string, propertiesText?: string,
@@ -33,7 +34,7 @@ export class KeptSession {
    * @param {SessionStore} store
    * @param {SessionRecord} record
    * @param {Release} release releases the lock of the session
-   * @param {string} example its name if nothing was done yet in a session of an example; such a session is not saved
+   * @param {string} example the name of the example, if nothing has changed in the session since; such a session is not saved
    */
   constructor(store, record, release, example = "") {
     this.store = store;
@@ -42,12 +43,12 @@ export class KeptSession {
     this.example = example;
     /** @type {Promise<string>} the present write */
     this.writing = Promise.resolve("");
-    /** @type {Promise<string> | null} the write after it */
+    /** @type {Promise<string> | null} the write after that one */
     this.waiting = null;
   }
 
   /**
-   * Stores the new bytes of the file; returns the array of the old ones, which is free then.
+   * Stores the new bytes of the file. Returns the buffer of the old bytes, which is then free.
    * @param {ArrayBuffer} file
    * @returns {ArrayBuffer}
    */
@@ -58,8 +59,8 @@ export class KeptSession {
   }
 
   /**
-   * Writes the present session. Resolves to "" once it is on the disk, and to an error message otherwise. Calls during a write share the
-   * next write. A store that does not answer is reported, and written to again once it does.
+   * Writes the session. Resolves to "" when it is on the disk, otherwise to an error message. Calls during a write share the next write. A
+   * store that does not answer counts as failed, and is written to again when it answers.
    * @returns {Promise<string>}
    */
   keep() {
@@ -79,8 +80,8 @@ export class KeptSession {
   }
 
   /**
-   * Does the same for a page that is being left and cannot wait. A store whose writes need an answer in between is not asked: the answer
-   * would not arrive any more, and the begun write would block other pages.
+   * Writes the session of a page that is being left and cannot wait. Nothing is written if the store would have to answer first: the answer
+   * would not arrive any more, and the unfinished write would block other pages.
    */
   keepNow() {
     return this.store.isWhole && !this.isUntouched ? this.write() : Promise.resolve("");
@@ -90,7 +91,7 @@ export class KeptSession {
     return this.example !== "";
   }
 
-  /** Notes that something is done in the session: from now on it is saved. Returns whether this is the first time. */
+  /** Notes that the user has changed the session. From then on it is saved. Returns whether this is the first change. */
   touch() {
     const { isUntouched } = this;
     this.example = "";

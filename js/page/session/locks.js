@@ -1,16 +1,17 @@
-// One tab for each session.
+// Locks of sessions: only one tab can open a session.
 
 import { inTime } from "./store.js";
 
-/** A browser that blocks the data of sites has the call for locks, and rejects them all. */
+/** The number of attempts to acquire a lock, and the milliseconds between them. */
 const TRIES = 6;
 const WAIT = 150;
+/** The name of a lock that tests whether locks work. A browser that blocks the data of sites rejects all requests for locks. */
 const PROBE = "fethsaim probe";
 
 /** @typedef {() => void} Release releases a lock */
 
 export class Locks {
-  /** Finds out whether the browser has locks, and returns them. */
+  /** Resolves to the browser's locks. If it has none that work, each lock is free. */
   static async find() {
     if (!navigator.locks) return new Locks(null);
     try {
@@ -21,15 +22,16 @@ export class Locks {
     }
   }
 
-  /** @param {LockManager | null} manager null if the browser has none: then each lock is free */
+  /** @param {LockManager | null} manager null if the browser has no locks: then each lock is free */
   constructor(manager) {
     this.manager = manager;
     this.areThere = manager !== null;
   }
 
   /**
-   * Acquires the lock of a session for this tab: resolves to a call that releases it, or null if another tab has it. A page that is just
-   * being reloaded may still hold it for a moment, so it is requested more than once.
+   * Acquires the lock of a session for this tab. Resolves to a function that releases the lock, or to null if another tab has it. A page
+   * that
+   * is being reloaded can still have the lock for a moment, so the lock is requested more than once.
    * @param {string} id
    * @returns {Promise<Release | null>}
    */

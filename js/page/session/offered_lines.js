@@ -1,4 +1,4 @@
-// The lines of an example or of a file, put where they can be sent. The user's own text there is not lost.
+// Puts the lines of an example or of a file into the input of the console. A notice offers to restore the user's own text there.
 
 import { byId } from "../ui/dom.js";
 import * as say from "../../words/session.js";
@@ -10,7 +10,7 @@ export class OfferedLines {
   constructor(notice) {
     this.notice = notice;
     this.area = byId("lines", HTMLTextAreaElement);
-    /** The last offer. */
+    /** The lines that were offered last. */
     this.offered = "";
   }
 

@@ -1,31 +1,36 @@
-// The openings of sessions that succeeded. A session may hang the page, by a text that takes too long or an error of the page's own: it
-// must not do so at each start. So a flag is set before a session is opened, and cleared once the page has shown it and still responds.
+// Remembers the openings of sessions that have not succeeded. A session can hang the page, for example by a text that takes too long, and
+// must not do so at each start. So a flag is set before a session is opened, and cleared after the page has shown it and still responds.
 
 import { ownStore } from "../ui/choices.js";
 
 /** @typedef {Pick<Storage, "getItem" | "setItem" | "removeItem">} FlagStore */
 
 const KEY = "fethsaim.opening.";
-/** The milliseconds after which an opening has succeeded: a hang would have happened by then. */
+/** The time in milliseconds after which an opening has succeeded, because a hang would have happened by then. */
 const SETTLE_TIME = 1000;
-/** A page that is left this soon has not hung; and an opening that began this recently may be under way in another tab. */
+/**
+ * The time in milliseconds for which an opening is recent. A page that is left by then has not hung, and another tab can still be opening
+ * the
+ * session.
+ */
 const SOON = 2000;
-/** The events of a window whose page is left: a browser that lacks one of them has the other. */
+/** The events of a window whose page is left. Each browser has one of them. */
 const LEAVING = ["beforeunload", "pagehide"];
 
 export class Openings {
   /**
-   * @param {FlagStore | null} store null if the browser keeps nothing
+   * @param {FlagStore | null} store null if the browser stores nothing
    * @param {(act: () => void, time: number) => void} later
-   * @param {() => number} now in milliseconds
+   * @param {() => number} now returns the time in milliseconds
    */
   constructor(store = ownStore(), later = (act, time) => { setTimeout(act, time); }, now = () => Date.now()) {
     this.store = store;
     this.later = later;
     this.now = now;
     /**
-     * @type {Map<string, { time: number, isEnded: boolean }>} those with a flag of this page: the time of the beginning, and whether it is
-     * shown
+     * @type {Map<string, { time: number, isEnded: boolean }>} the openings with a flag of this page: the time of their beginning, and
+     *   whether
+     *   they have ended
      */
     this.begun = new Map();
   }
@@ -33,7 +38,7 @@ export class Openings {
   /**
    * Opens a session.
    * @param {string} id
-   * @param {() => Promise<void>} open a rejected session has also come to an end
+   * @param {() => Promise<void>} open opens the session; a rejection ends the opening, too
    */
   async during(id, open) {
     const opening = { time: this.now(), isEnded: false };
@@ -43,13 +48,13 @@ export class Openings {
       await open();
     } finally {
       opening.isEnded = true;
-      // It may be opened again meanwhile.
+      // The session can be opened again meanwhile.
       this.later(() => (this.begun.get(id) === opening ? this.forget(id) : undefined), SETTLE_TIME);
     }
   }
 
   /**
-   * Its last opening did not end, as far as can be known so soon.
+   * Returns whether the last opening of a session has not ended. A recent opening does not count.
    * @param {string} id
    */
   isUnended(id) {
@@ -61,13 +66,13 @@ export class Openings {
     return found !== null && !this.isRecent(Number(found));
   }
 
-  /** @param {number} time when something was begun */
+  /** @param {number} time the time of a beginning */
   isRecent(time) {
     const age = this.now() - time;
     return age >= 0 && age < SOON;
   }
 
-  /** @param {string} id of a session whose opening ended, or that is deleted */
+  /** @param {string} id the id of a session whose opening has ended, or which is deleted */
   forget(id) {
     this.begun.delete(id);
     this.change((store) => store.removeItem(KEY + id));
@@ -75,13 +80,13 @@ export class Openings {
 
   /** @param {Pick<Window, "addEventListener">} target the window of the page */
   listen(target) {
-    // As a page is left Firefox 153 often runs no function that has not run before, so all that is needed then runs once now.
+    // When a page is left, Firefox 153 often runs no function that has not run before. So all functions that are needed then run once now.
     this.begun.set("", { time: this.now(), isEnded: false });
     this.leave();
     for (const name of LEAVING) target.addEventListener(name, () => this.leave());
   }
 
-  /** The page is left, and can still record that: neither the shown session nor the one just begun has hung it. */
+  /** Clears the flags of openings that have ended or are recent: a page that can still run this has not hung. */
   leave() {
     for (const [id, { time, isEnded }] of this.begun) if (isEnded || this.isRecent(time)) this.forget(id);
   }
@@ -91,7 +96,7 @@ export class Openings {
     try {
       if (this.store) act(this.store);
     } catch {
-      // Without storage in the browser no session is opened by itself either.
+      // Without storage, no session is opened automatically either.
     }
   }
 }

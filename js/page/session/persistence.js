@@ -1,8 +1,8 @@
-// Asks the browser to keep the page's data even if space is short. Some browsers then ask their user, so it is asked once, and not before
-// there is something to lose.
+// Asks the browser to keep the page's data even if space is short. Some browsers then ask the user, so the page asks only once, and only
+// when there is something to lose.
 
 /**
- * Who is asked, and an answer.
+ * The browser's storage manager, or a substitute in tests.
  * @typedef {{ persist: () => Promise<boolean> }} Keeper
  */
 
@@ -17,7 +17,7 @@ export class Persistence {
   constructor(keeper = ownKeeper()) {
     this.keeper = keeper;
     this.isAsked = false;
-    /** True if the browser has promised it. */
+    /** True if the browser has promised to keep the data. */
     this.isPromised = false;
   }
 
@@ -27,7 +27,7 @@ export class Persistence {
     try {
       this.isPromised = await this.keeper.persist();
     } catch {
-      // A browser that blocks the data of sites may reject the question, too.
+      // A browser that blocks the data of sites can reject the request.
     }
   }
 }

@@ -1,4 +1,4 @@
-// Sessions and files: opening, making, copying, saving. A session that cannot be opened leaves the current one unchanged.
+// Opens, creates, copies and saves sessions and files. If a session cannot be opened, the present one stays unchanged.
 
 import { download } from "./download.js";
 import { runsAtOnce } from "../../core/engine/examples.js";
@@ -26,16 +26,16 @@ import * as say from "../../words/session.js";
  * The calls that the manager of sessions makes to the page.
  * @typedef {object} ManagerCalls
  * @property {() => KeptSession | null} session Returns the session that is shown; null if there is none.
- * @property {() => Promise<string>} keep Saves the session. Resolves to why it could not be saved, "" if it was.
+ * @property {() => Promise<string>} keep Saves the session. Resolves to the reason why it could not be saved, or to "".
  * @property {(words: string, ...actions: NoticeAction[]) => void} refuse Shows why something was not done, with buttons.
- * @property {(id: string) => void} speed Sets the speed of time that a project names, by its id.
- * @property {(record: SessionRecord) => void} left A session was left for a new one, which is reported so that it can be found.
- * @property {(name: string, texts: import("../../core/session/opened_file.js").FileTexts) => Promise<void>} texts Loads texts of a file
- * with a name into the editors.
- * @property {(name: string, bytes: Int16Array) => Promise<void>} image Loads bytes of a file with a name into ROM; -1 leaves a byte
- * unchanged.
+ * @property {(id: string) => void} speed Sets the speed that a project names, by its id.
+ * @property {(record: SessionRecord) => void} left Reports a session that was left for a new one, so that the user can return to it.
+ * @property {(name: string, texts: import("../../core/session/opened_file.js").FileTexts) => Promise<void>} texts Loads the texts of the
+ *   file `name` into the editors.
+ * @property {(name: string, bytes: Int16Array) => Promise<void>} image Loads the bytes of the file `name` into ROM; -1 leaves a byte
+ *   unchanged.
  * @property {(record: SessionRecord, release: Release, example: string) => Promise<void>} use Shows another session, whose lock `release`
- *   frees. `example` is the name of its example if nothing was done in it yet, else "".
+ *   frees. `example` is the name of its example if nothing has changed in the session since, otherwise "".
  */
 
 
@@ -55,7 +55,7 @@ export class SessionManager {
     this.calls = calls;
   }
 
-  /** Returns the saved sessions, the one that was changed last first. */
+  /** Resolves to the saved sessions, the last changed one first. */
   async kept() {
     try {
       return (await this.store.all()).sort((a, b) => b.changed - a.changed);
@@ -74,7 +74,7 @@ export class SessionManager {
 
   /**
    * @param {string} words
-   * @param {NoticeAction[]} actions the alternatives
+   * @param {NoticeAction[]} actions the buttons for alternatives
    * @returns {false}
    */
   refuse(words, ...actions) {
@@ -83,7 +83,7 @@ export class SessionManager {
   }
 
   /**
-   * Opens a saved session; resolves to false if it is in use elsewhere, deleted or damaged, which is reported.
+   * Opens a saved session. Resolves to false after a report if the session is in use in another tab, deleted or damaged.
    * @param {string} id
    */
   async open(id) {
@@ -99,7 +99,7 @@ export class SessionManager {
   }
 
   /**
-   * Makes a record, takes its lock and shows it.
+   * Creates a session, acquires its lock and shows it. Resolves to whether the session was created.
    * @param {() => Promise<SessionRecord>} make
    * @param {string} example
    */
@@ -116,7 +116,7 @@ export class SessionManager {
   }
 
   /**
-   * A new session from an example.
+   * Begins a new session from an example.
    * @param {Example} example
    */
   begin(example) {
@@ -132,7 +132,7 @@ export class SessionManager {
   }
 
   /**
-   * Opens an example that is a project, with its properties.
+   * Resolves to a new record of an example that is a project, with the properties of the example.
    * @param {Example} example
    */
   async ofProjectOf({ project, properties }) {
@@ -150,8 +150,8 @@ export class SessionManager {
   }
 
   /**
-   * Opens a file: a project or a session becomes a new session; texts are loaded into the editors of the current one, and an image into its
-   * ROM.
+   * Opens a file. A project or a session becomes a new session. Texts are loaded into the editors of the present session, and an image into
+   * its ROM.
    * @param {File} file
    */
   async openFile(file) {
@@ -168,7 +168,7 @@ export class SessionManager {
   }
 
   /**
-   * A folder with a project file becomes a new session.
+   * Opens a folder with a project file as a new session.
    * @param {() => Promise<import("./folder_files.js").Folder>} read
    */
   async openFolder(read) {
@@ -186,13 +186,13 @@ export class SessionManager {
     }
   }
 
-  /** @param {SessionRecord} record that was read from a file */
+  /** @param {SessionRecord} record a record that was read from a file */
   openSession(record) {
     return this.useNew(async () => record);
   }
 
   /**
-   * A project's session is unchanged, to the byte.
+   * Resolves to a new record of a project. The bytes of its session stay unchanged.
    * @param {Uint8Array} bytes
    */
   async ofProject(bytes) {
@@ -202,7 +202,7 @@ export class SessionManager {
   }
 
   /**
-   * Only the bench decides whether bytes are a session.
+   * Resolves to a new record of a session file. Only the bench decides whether bytes are a session.
    * @param {string} fileName
    * @param {Uint8Array} bytes
    */
@@ -213,7 +213,7 @@ export class SessionManager {
     return newRecord(fileName.replace(/\.mcs$/i, ""), settled, texts);
   }
 
-  /** Saves the current session with its texts, as a project; but not one that could not be opened. */
+  /** Saves the session with its texts as a project file, unless the file would be too long to be opened again. */
   save() {
     const session = this.calls.session();
     if (!session) return;
@@ -222,7 +222,7 @@ export class SessionManager {
     else download(session.record.name, ".mcsp", new Blob([projectText(session.record)], { type: "application/octet-stream" }));
   }
 
-  /** Saves the session alone, for the program. */
+  /** Saves only the session file, for the command-line program. */
   saveSession() {
     const session = this.calls.session();
     if (session) download(session.record.name, ".mcs", new Blob([session.record.file], { type: "application/octet-stream" }));

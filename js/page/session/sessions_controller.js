@@ -1,4 +1,4 @@
-// Sessions on the page: the first one, the actions of the dialog of sessions, and the target of an address.
+// Controls the sessions on the page: opens the first one, handles the dialog of sessions, and follows the page's address.
 
 import { readAddress } from "./address.js";
 import { Trash, namesOf } from "./trash.js";
@@ -25,15 +25,15 @@ import * as say from "../../words/session.js";
  * The calls that the list of projects and the opening of sessions make to the page.
  * @typedef {object} ControllerCalls
  * @property {() => KeptSession | null} session Returns the session that is shown; null if there is none.
- * @property {() => Promise<string>} keep Saves the session. Resolves to why it could not be saved, "" if it was.
+ * @property {() => Promise<string>} keep Saves the session. Resolves to the reason why it could not be saved, or to "".
  * @property {(name: string) => void} rename Renames the session that is shown.
- * @property {(id: string) => void} speed Sets the speed of time that a project names, by its id.
- * @property {(name: string, texts: import("../../core/session/opened_file.js").FileTexts) => Promise<void>} texts Loads texts of a file
- * with a name into the editors.
- * @property {(name: string, bytes: Int16Array) => Promise<void>} image Loads bytes of a file with a name into ROM; -1 leaves a byte
- * unchanged.
+ * @property {(id: string) => void} speed Sets the speed that a project names, by its id.
+ * @property {(name: string, texts: import("../../core/session/opened_file.js").FileTexts) => Promise<void>} texts Loads the texts of the
+ *   file `name` into the editors.
+ * @property {(name: string, bytes: Int16Array) => Promise<void>} image Loads the bytes of the file `name` into ROM; -1 leaves a byte
+ *   unchanged.
  * @property {(record: SessionRecord, release: Release, example: string) => Promise<void>} use Shows another session, whose lock `release`
- *   frees. `example` is the name of its example if nothing was done in it yet, else "".
+ *   frees. `example` is the name of its example if nothing has changed in the session since, otherwise "".
  * @property {() => void} showLines Brings the console to the front, for an example that has only lines.
  * @property {(text: string) => Promise<void>} link Opens the session of a link by the text after its `#`.
  */
@@ -49,9 +49,9 @@ export class SessionsController {
     this.locks = locks;
     this.notice = notice;
     this.examples = examples;
-    /** @type {(example: Example) => void} an example's story is shown */
+    /** @type {(example: Example) => void} called to show the story of an example */
     this.showExample = () => {};
-    /** Another session is shown. */
+    /** Called after another session was shown. */
     this.used = () => {};
     this.persistence = new Persistence();
     this.openings = new Openings();
@@ -104,14 +104,14 @@ export class SessionsController {
   }
 
   /**
-   * A session was left for a new one, perhaps by accident.
+   * Reports that a session was left for a new one, perhaps by accident, with a button that returns to it.
    * @param {SessionRecord} record
    */
   reportLeft({ id, name }) {
     this.notice.show(say.sessionLeft(name, this.store.keeps), "left", { word: say.BACK_TO_IT, act: () => this.open(id) });
   }
 
-  /** Handles the first action in the current session: from now on there is something to lose, and the user meant this session. */
+  /** Handles a change of the session by the user: there is something to lose now, and the user has accepted this session. */
   touched() {
     this.notice.hide("left");
     if (this.store.keeps) this.persistence.ask();
@@ -123,7 +123,7 @@ export class SessionsController {
   }
 
   /**
-   * Makes a new session from an example. Its other lines are put where they can be sent.
+   * Begins a new session from an example. The example's lines are put into the input of the console.
    * @param {Example} example
    */
   async begin(example) {
@@ -143,7 +143,7 @@ export class SessionsController {
   }
 
   /**
-   * Deletes sessions, which can be undone.
+   * Deletes sessions, with a notice that can undo it.
    * @param {SessionRecord[]} records
    */
   async remove(records) {
@@ -160,9 +160,9 @@ export class SessionsController {
   }
 
   /**
-   * Opens the target of the address, or the example whose story is shown, or the session that was used last and is not open in another tab,
-   * or the first example.
-   * @param {string} story the example of it, "" for none
+   * Opens the first session: the target of the address, or the example whose story is shown, or the last used session that is not open in
+   * another tab, or the first example.
+   * @param {string} story the name of the example whose story is shown, "" for none
    */
   async openFirst(story) {
     const { hash } = location;
@@ -175,7 +175,7 @@ export class SessionsController {
     if (kind === "") this.refuseAddress(hash);
   }
 
-  /** @param {string} hash which names nothing that the page has */
+  /** @param {string} hash a part of the address that names nothing on the page */
   refuseAddress(hash) {
     if (hash.length > 1) this.notice.show(say.namesNothing(shortName(hash)), "session");
   }
@@ -202,7 +202,9 @@ export class SessionsController {
   }
 
   /**
-   * A session has perhaps hung the page at its last opening, so it is not opened by itself. Another tab may be just opening it.
+   * Reports a session that has perhaps hung the page at its last opening, and so is not opened automatically. Reports nothing if another
+   * tab has
+   * the session's lock.
    * @param {SessionRecord} record
    */
   async reportUnended(record) {
@@ -214,7 +216,7 @@ export class SessionsController {
     this.notice.show(words, "unended", { word: say.OPEN_IT, act: () => this.open(record.id) }, { word: say.DELETE_IT, act: remove });
   }
 
-  /** Handles a new address: shows its target, if it is not here already. */
+  /** Shows the target of a new address, unless it is already shown. */
   async follow() {
     const { kind, value } = readAddress(location.hash);
     const session = this.calls.session();

@@ -1,4 +1,4 @@
-// The dialog of sessions: saved sessions, the examples, and files; and the session's own bar.
+// The dialog of sessions, with the saved sessions, the examples and the deleted sessions, and the fields for a file and the session's name.
 
 import { pictureOf } from "./gallery_view.js";
 import { block, button, byId, element, field, onClick } from "../ui/dom.js";
@@ -14,26 +14,26 @@ import * as say from "../../words/session.js";
  */
 
 /**
- * The calls of the dialog of projects. A call that opens something resolves to false if that failed.
+ * The calls that the dialog of sessions makes. A call that opens something resolves to false if that failed.
  * @typedef {object} SessionsCalls
  * @property {() => Promise<SessionRecord[]>} kept Resolves to the saved sessions.
  * @property {(id: string) => boolean} isShown Returns whether a session is the one that is shown, by its id.
  * @property {(id: string) => Promise<boolean>} open Shows a session, by its id.
  * @property {(id: string) => Promise<boolean>} copy Makes a copy of a session, by its id, and shows it.
- * @property {(records: SessionRecord[]) => Promise<void>} remove Moves sessions to the deleted ones.
+ * @property {(records: SessionRecord[]) => Promise<void>} remove Deletes sessions, which can then be restored.
  * @property {() => SessionRecord[]} deleted Returns the sessions that can be restored.
- * @property {(records: SessionRecord[]) => Promise<void>} bringBack Brings deleted sessions back.
- * @property {(example: Example) => Promise<boolean>} begin Makes a new session of an example and shows it.
- * @property {(example: Example) => Promise<boolean>} beginStory Makes a new session of an example and shows its story.
+ * @property {(records: SessionRecord[]) => Promise<void>} bringBack Restores deleted sessions.
+ * @property {(example: Example) => Promise<boolean>} begin Begins a new session from an example.
+ * @property {(example: Example) => Promise<boolean>} beginStory Begins a new session from an example, and shows its story.
  * @property {(file: File) => Promise<boolean>} openFile Opens a file: a project, a session or a text.
  * @property {(read: () => Promise<import("./folder_files.js").Folder>) => Promise<boolean>} openFolder Opens a project in a folder, which
  *   `read` reads.
  * @property {(name: string) => void} rename Renames the session that is shown.
- * @property {() => string} keptWhere Returns where the browser keeps sessions, as words.
+ * @property {() => string} keptWhere Returns a text that says where the browser stores sessions.
  */
 
 /**
- * The examples, the short ones first; before them the empty bench, with which a board of one's own begins.
+ * Returns the examples in their order on the page: the empty bench, with which a board of one's own begins, and then the short ones first.
  * @param {Example[]} examples
  */
 function inOrder(examples) {
@@ -47,7 +47,7 @@ function inOrder(examples) {
 export class SessionsView {
   /**
    * @param {Example[]} examples
-   * @param {Notice} notice is in the dialog while that is open
+   * @param {Notice} notice the notices, which are inside the dialog while it is open
    * @param {SessionsCalls} calls
    */
   constructor(examples, notice, calls) {
@@ -83,7 +83,7 @@ export class SessionsView {
     this.notice.moveTo(this.dialog);
   }
 
-  /** The dialog, with the examples in view. */
+  /** Opens the dialog with the examples in view. */
   async openExamples() {
     await this.open();
     block("examples").scrollIntoView();
@@ -95,7 +95,7 @@ export class SessionsView {
 
   closed() {
     this.notice.moveTo(document.body);
-    // The browser returns the focus to the button that opened the dialog; after a click by pointer the keyboard is the board's.
+    // The browser returns the focus to the button that opened the dialog. After a click by pointer, the board must receive the keys.
     if (this.byPointer && document.activeElement instanceof HTMLElement) document.activeElement.blur();
   }
 
@@ -105,7 +105,7 @@ export class SessionsView {
   }
 
   /**
-   * Changes the saved sessions, and shows them.
+   * Changes the saved sessions, and draws their list.
    * @param {() => Promise<void>} act
    */
   async changeKept(act) {
@@ -140,7 +140,7 @@ export class SessionsView {
   }
 
   /**
-   * Does the action, and closes unless it failed.
+   * Does an action. Closes the dialog, or draws it again if the action failed.
    * @param {() => Promise<boolean>} act
    */
   async choose(act) {
@@ -151,11 +151,11 @@ export class SessionsView {
   /** @param {HTMLInputElement} input */
   async take(input) {
     await this.openAll(input.files ? [...input.files] : []);
-    // The same file may be chosen again.
+    // The user can choose the same file again.
     input.value = "";
   }
 
-  /** @param {File[]} files one after the other */
+  /** @param {File[]} files the files to open one after the other */
   async openAll(files) {
     const folder = folderOfFiles(files);
     if (folder) return this.openFolder(async () => folder);
@@ -169,7 +169,7 @@ export class SessionsView {
     if (await this.calls.openFolder(read)) this.close();
   }
 
-  /** Files and folders that are dropped anywhere on the page are opened; a text that is dragged is the editors'. */
+  /** Opens files and folders that are dropped anywhere on the page. The editors handle a dragged text. */
   listenToDrops() {
     /** @type {(event: DragEvent) => boolean} */
     const hasFiles = (event) => event.dataTransfer !== null && event.dataTransfer.types.includes("Files");

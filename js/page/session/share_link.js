@@ -1,5 +1,6 @@
-// A link: a name, the board's text and the program's, compressed into the part of an address that browsers do not send. It begins with its
-// compression, 1 for deflate and 0 for none. It contains the lines of a project up to its session, after their checksum.
+// A link contains the name and the texts of a session, in the part of an address that browsers do not send. The link begins with its kind
+// of
+// compression, 1 for deflate and 0 for none. Its content is a checksum, and then the lines of a project file up to the session.
 
 import { fromBase64, toBase64 } from "../../core/session/base64.js";
 import { checksum } from "../../core/session/checksum.js";
@@ -12,16 +13,16 @@ import * as say from "../../words/session.js";
  */
 
 /**
- * The limit of a link: Chromium shows no address of more than 32,768 characters (it stays empty in its bar), and there one is copied and
- * pasted. All that the bench can assemble fits, unless it hardly compresses.
+ * The maximum length of a link. Chromium leaves its address bar empty if an address has more than 32,768 characters, and users copy and
+ * paste links there. Every program that the bench can assemble fits, unless it hardly compresses.
  */
 export const LONGEST_LINK = 32000;
 /** The length of an address that all programs should accept (RFC 9110, 4.1); some programs cut longer ones. */
 export const SAFE_LINK = 8000;
-/** The most bytes that are unpacked, whatever a link says. */
+/** The maximum number of bytes that are unpacked from a link. */
 const MOST_BYTES = 1 << 20;
 
-/** Why a link cannot be opened, in words. */
+/** The reason why a link cannot be opened. */
 export class NotALink extends Error {}
 
 
@@ -56,13 +57,13 @@ function fromLetters(letters) {
 }
 
 /**
- * Sends bytes through a stream; returns at most this many.
+ * Resolves to the output of a stream for bytes. Throws an error if the output is longer than the maximum.
  * @param {Uint8Array} bytes
  * @param {Through} stream
  */
 async function through(bytes, { readable, writable }) {
   const writer = writable.getWriter();
-  // An error in the bytes is reported where they are read.
+  // The reader reports an error in the bytes.
   writer.write(bytes).catch(() => {});
   writer.close().catch(() => {});
   const reader = readable.getReader();
@@ -86,7 +87,7 @@ async function through(bytes, { readable, writable }) {
 }
 
 /**
- * Resolves to the address of a link.
+ * Resolves to the link of a session: the part of the address after `#link=`.
  * @param {Texts} texts
  */
 export async function linkOf({ name, boardText, programText, testText, propertiesText }) {
@@ -111,7 +112,7 @@ async function unpacked(bytes) {
 }
 
 /**
- * Returns the name and the texts of a link; throws if there are none.
+ * Resolves to the name and the texts in a link. Throws an error if the link is damaged or newer than this page.
  * @param {string} link
  * @returns {Promise<Texts>}
  */

@@ -1,5 +1,5 @@
-// Links: the texts of a session in an address. Nothing is sent anywhere: a link is copied, and its recipient opens it in a page of their
-// own.
+// Links: the texts of a session in an address. Nothing is sent anywhere: the user copies a link, and its recipient opens it in a page of
+// their own.
 
 import { addressOf } from "./address.js";
 import { readBoard, refusalOf } from "../../core/bench/answers.js";
@@ -21,17 +21,17 @@ import * as say from "../../words/session.js";
  */
 
 /**
- * The calls of links to sessions.
+ * The calls that links to sessions make.
  * @typedef {object} SharingCalls
  * @property {() => Texts | null} shown Returns the name and the texts of the session that is shown; null if there is none.
  * @property {() => void} address Puts the session's own address into the address bar.
- * @property {(texts: Texts, file: Uint8Array, runs: boolean) => Promise<boolean>} begin Makes a new session of texts and their file; time
- *   runs in it if `runs`. Resolves to whether it was made.
- * @property {() => void} save Saves the project to a file, if it is too long for a link.
+ * @property {(texts: Texts, file: Uint8Array, runs: boolean) => Promise<boolean>} begin Begins a new session with texts and a file. Time is
+ *   running in it if `runs`. Resolves to whether the session was created.
+ * @property {() => void} save Saves the project as a file, because its link would be too long.
  */
 
 /**
- * Returns the content of a link, in words.
+ * Returns a sentence that lists the contents of a link.
  * @param {Texts} texts
  */
 function whatOf({ testText, propertiesText }) {
@@ -55,7 +55,7 @@ export class Sharing {
     this.calls = calls;
   }
 
-  /** Copies a link to the session that is shown. */
+  /** Copies a link to the session that is shown. Offers a file instead if the link is too long. */
   async share() {
     const texts = this.calls.shown();
     if (!texts) return;
@@ -80,7 +80,7 @@ export class Sharing {
     }
   }
 
-  /** @param {string} size of the link that would be needed */
+  /** @param {string} size the length of the link, as a text */
   async offerFile(size) {
     const isSaved = await this.ask.ask({
       title: say.TOO_LONG_LINK,
@@ -111,7 +111,7 @@ export class Sharing {
   }
 
   /**
-   * Shows the contents of a link, and opens it as a new session on request.
+   * Shows the contents of a link, and opens the link as a new session if the user agrees.
    * @param {string} link
    */
   async open(link) {

@@ -1,14 +1,15 @@
-// The browser's store: sessions with their names, in IndexedDB. The page writes to it and not the worker: requests of a page that is being
-// left are completed, and a worker is ended at once.
+// The store of sessions in the browser's IndexedDB. The page writes to it, not the worker: the browser completes the requests of a page
+// that
+// is being left, but ends a worker at once.
 
 import * as say from "../../words/session.js";
 
 /**
- * A session as the store keeps it: its file, its name, and the texts of the editors, which a file does not hold; older ones have no text of
- * tests, nor one of properties. `runs` says whether time runs, so that a reload continues; `cycles` are the counts, and `breakpoints` those
- * of the source, which a file does not hold either; `watched`, the watch list; `isTitled`, whether its name is the title in its texts,
- * because it was given none; `goal`, that of a move under way; `places`, the positions of dragged parts; `printed`, what was sent to the
- * board's printer; `wired`, the texts of the last wired boards, the present one first; `rows`, the arrangement of the rows of waves.
+ * A session in the store: its file, its name, and the texts of the editors, which the file does not contain. Older sessions have no text of
+ * tests or of properties. `runs`: whether time is running, so that a reload continues. `cycles`: the cycle counts. `breakpoints`: the
+ * breakpoints of the source. `watched`: the watch list. `isTitled`: whether the name is the title in the texts, because the user has given
+ * none. `goal`: the goal of a move under way. `places`: the positions of dragged parts. `printed`: the codes that were sent to the board's
+ * printer. `wired`: the texts of the last boards, the one in use first. `rows`: the arrangement of the rows of waves.
  * @typedef {{ id: string, name: string, file: Uint8Array, boardText: string, programText: string, testText?: string,
  *   propertiesText?: string, runs: boolean, revision: number, changed: number, cycles?: import("../../core/time/cycles.js").KeptCycles,
  *   isTitled?: boolean, breakpoints?: import("../../core/debug/breakpoints.js").KeptBreakpoint[], watched?: string[],
@@ -18,17 +19,18 @@ import * as say from "../../words/session.js";
  *
  * @typedef {{ keeps: boolean, isWhole: boolean, all: () => Promise<SessionRecord[]>, get: (id: string) => Promise<SessionRecord |
  * undefined>, put: (record: SessionRecord) => Promise<void>, remove: (id: string) => Promise<void> }} SessionStore `isWhole`: `put`
- * completes without further calls
+ * makes all its requests at once
  */
 
-/** An error, in words: a session was not saved. */
+/** The error of a session that was not saved. Its message is a text for the user. */
 export class NotKept extends Error {}
 
-/** A store that does not answer in this many milliseconds counts as failed; its requests may still succeed. */
+/** The time in milliseconds after which a store without an answer counts as failed. Its requests can still succeed. */
 const TIME_OF_STORE = 10000;
 
 /**
- * Waits for an answer of the browser's store or of its other services, which must not block the page for ever.
+ * Resolves to an answer of the browser's store or of another of its services. Rejects after some time, so that the page never waits for
+ * ever.
  * @template Result
  * @param {Promise<Result>} answer
  * @returns {Promise<Result>}
@@ -55,7 +57,7 @@ function resultOf(asked) {
 /** @implements {SessionStore} */
 export class Store {
   /**
-   * @param {boolean} hasLocks whether only one tab has a session open
+   * @param {boolean} hasLocks whether locks keep a session from being open in two tabs
    * @returns {Promise<Store>}
    */
   static open(hasLocks) {
@@ -76,7 +78,7 @@ export class Store {
     this.base = base;
     this.keeps = true;
     this.isWhole = hasLocks;
-    // Without this a newer page in another tab would wait for ever.
+    // Without this handler a newer page in another tab would wait for ever.
     base.onversionchange = () => base.close();
   }
 
@@ -98,8 +100,9 @@ export class Store {
   }
 
   /**
-   * Stores a record; it is on the disk when the promise resolves. All requests are made at once, so that they complete even if the page is
-   * being closed: nothing has to return to it.
+   * Stores a record. Resolves when the record is on the disk. All requests are made at once, so that they complete even if the page is
+   * being
+   * closed.
    * @param {SessionRecord} record
    * @returns {Promise<void>}
    */
@@ -114,8 +117,8 @@ export class Store {
   }
 
   /**
-   * Stores a record without the browser's locks: rejects one that does not succeed the stored one, so that two tabs never overwrite each
-   * other.
+   * Stores a record in a browser without locks. Rejects a record that does not follow the stored one, so that two tabs never overwrite each
+   * other's changes.
    * @param {SessionRecord} record
    * @returns {Promise<void>}
    */
@@ -123,7 +126,7 @@ export class Store {
     return new Promise((done, fail) => {
       /** @type {Error | null} */
       let fault = null;
-      // The bytes of the record may have changed by the time that the answer arrives.
+      // The bytes of the record can change before the answer arrives.
       const written = { ...record, file: record.file.slice(), revision: record.revision + 1 };
       const keep = () => {
         record.revision = written.revision;
@@ -143,7 +146,7 @@ export class Store {
   }
 
   /**
-   * A change that is answered once it is on the disk.
+   * Returns a transaction. Calls `done` when the transaction is on the disk, or `fail` if it is not completed.
    * @param {() => void} done
    * @param {(fault: Error) => void} fail
    */
@@ -166,7 +169,7 @@ export class Store {
 }
 
 /**
- * Returns why a session could not be saved, in words.
+ * Returns a text with the reason why a session could not be saved.
  * @param {unknown} error
  */
 export function wordsOfStoreFault(error) {
@@ -177,7 +180,7 @@ export function wordsOfStoreFault(error) {
 }
 
 /**
- * Replaces the store if the browser has none: it forgets all when the page is closed.
+ * A store in memory, for a browser without a store of its own. It forgets all sessions when the page is closed.
  * @implements {SessionStore}
  */
 export class MemoryStore {

@@ -1,4 +1,4 @@
-// The texts of the editors, as the current session has them: they are saved, and a replaced one can be restored.
+// The texts of the present session in the editors: saves them, and restores replaced ones.
 
 import { counted } from "../../core/bench/numbers.js";
 import * as say from "../../words/session.js";
@@ -15,29 +15,33 @@ import * as say from "../../words/session.js";
  * The calls that the texts of a session make.
  * @typedef {object} TextsCalls
  * @property {() => KeptSession | null} session Returns the session that is shown; null if there is none.
- * @property {() => void} touch The user has done something in the session.
- * @property {() => Promise<string>} keep Saves the session. Resolves to why it could not be saved, "" if it was.
- * @property {() => void} edited A text was edited.
- * @property {(boardText: string) => void} named The names in the board's text may have changed.
- * @property {() => Promise<string>} source Resolves to a source text of the bytes in ROM. Rejects if the bench fails.
- * @property {(text: string) => Promise<boolean>} isNoProgram Resolves to whether each line of a text has an error, so that it is no
+ * @property {() => void} touch Notes that the user has changed the session.
+ * @property {() => Promise<string>} keep Saves the session. Resolves to the reason why it could not be saved, or to "".
+ * @property {() => void} edited Handles an edit of a text.
+ * @property {(boardText: string) => void} named Updates the names from the board's text, which can have changed.
+ * @property {() => Promise<string>} source Resolves to a source text for the bytes in ROM. Rejects if the bench fails.
+ * @property {(text: string) => Promise<boolean>} isNoProgram Resolves to whether each line of a text has an error, so that the text is not
+ *   a
  *   program.
- * @property {(seen: TextName, lines: string) => void} took Texts of a file were loaded into the editors; `seen` is to be shown, and `lines`
- * are to be put into the box for lines.
+ * @property {(seen: TextName, lines: string) => void} took Handles texts that were loaded from a file: shows the text `seen`, and puts
+ *   `lines` into the input of the console.
  * @property {(fault: unknown) => void} failed Reports an error that a call threw.
  */
 
 /**
- * @typedef {keyof typeof say.WHICH_TEXT} TextName A text that was replaced: the old text, the new one, and the step of the editor that
- * restores the old one while nothing else was done.
+ * @typedef {keyof typeof say.WHICH_TEXT} TextName
+ *
+ * A text that was replaced: its name, the old text, the new one, and the step of the editor that restores the old one if nothing has
+ * changed
+ * since.
  * @typedef {{ name: TextName, old: string, now: string, way: "undo" | "redo" }} Replaced
  */
 
-/** The texts are saved this many milliseconds after the last change. */
+/** The time in milliseconds from the last edit until the texts are saved. */
 const EDIT_TIME = 600;
 
 /**
- * Returns how many lines a text has, in words.
+ * Returns the number of a text's lines, for example "12 lines".
  * @param {string} text
  */
 export function wordsOfLines(text) {
@@ -63,7 +67,7 @@ export class TextsController {
     this.ask = ask;
     this.notice = notice;
     this.calls = calls;
-    /** The timer of an edit that is to be saved. */
+    /** The timer that saves the last edit. */
     this.editing = 0;
   }
 
@@ -79,7 +83,7 @@ export class TextsController {
     this.properties.open(id, propertiesText);
   }
 
-  /** Saves them a moment after the last change; the names of the keys are updated from the board's text then. */
+  /** Saves the texts EDIT_TIME after the last edit, and then updates the names from the board's text. */
   edited() {
     const session = this.calls.session();
     if (!session) return;
@@ -98,8 +102,8 @@ export class TextsController {
   }
 
   /**
-   * Opens the texts of a file. Asks first about a text that is perhaps not a program.
-   * @param {string} name of the file
+   * Loads the texts of a file. Asks first about a text that is perhaps not a program.
+   * @param {string} name the name of the file
    * @param {import("../../core/session/opened_file.js").FileTexts} texts
    */
   async open(name, texts) {
@@ -112,8 +116,8 @@ export class TextsController {
   }
 
   /**
-   * Loads texts of a file into the editors; the former ones can be restored, and the bench has none of the new ones yet.
-   * @param {string} name of the file
+   * Loads the texts of a file into the editors. The former texts can be restored. The bench has none of the new texts yet.
+   * @param {string} name the name of the file
    * @param {import("../../core/session/opened_file.js").FileTexts} texts
    */
   take(name, { board, program, tests, properties, lines }) {
@@ -128,8 +132,9 @@ export class TextsController {
   }
 
   /**
+   * Loads a text of tests or of properties from a file into its editor.
    * @param {"tests" | "properties"} where
-   * @param {string} name of the file
+   * @param {string} name the name of the file
    * @param {string} text
    */
   takeBeside(where, name, text) {
@@ -139,7 +144,7 @@ export class TextsController {
   }
 
   /**
-   * Shows one notice for the effect of a file, with undo.
+   * Shows one notice about all texts of a file, with undo.
    * @param {Replaced[]} replaced
    * @param {string} words
    */
@@ -185,7 +190,7 @@ export class TextsController {
   }
 
   /**
-   * Replaces a text; the former one can be restored.
+   * Replaces a text. A notice offers to restore the former one.
    * @param {TextName} name
    * @param {string} text
    * @param {string} words the message
@@ -197,7 +202,7 @@ export class TextsController {
   }
 
   /**
-   * Replaces a text. Returns the old one, if it can be restored.
+   * Replaces a text. Returns the former one, if it can be restored.
    * @param {TextName} name
    * @param {string} text
    * @returns {Replaced[]}
@@ -211,9 +216,9 @@ export class TextsController {
   }
 
   /**
-   * Restores a text as Ctrl Z does, by the editor's own history; if the text was edited since, as another edit.
+   * Restores a text by the editor's own undo or redo. If the text was edited since, restoring it is another edit.
    * @param {Replaced} replaced
-   * @returns {Replaced[]} what this has replaced in its turn
+   * @returns {Replaced[]} the texts that were replaced in turn
    */
   back({ name, old, now, way }) {
     const editor = this[name];
@@ -232,7 +237,7 @@ export class TextsController {
   }
 
   /**
-   * Restores texts; those that they replace can be restored in turn.
+   * Restores texts. The texts that they replace can be restored in turn.
    * @param {KeptSession} session
    * @param {Replaced[]} replaced
    * @param {string} words

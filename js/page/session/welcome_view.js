@@ -1,4 +1,4 @@
-// The first visit: six cards, each of which begins something.
+// The dialog of the first visit: six cards, each of which begins something.
 
 import { pictureOf } from "./gallery_view.js";
 import { buttonOf, element } from "../ui/dom.js";
@@ -11,12 +11,13 @@ import * as say from "../../words/example_notes.js";
  */
 
 /**
- * The calls that the cards of the first visit make.
+ * The calls that the cards make.
  * @typedef {object} WelcomeCalls
- * @property {() => void} beginTour Begins the first program.
- * @property {(name: string) => Promise<boolean>} begin Makes a new session of the example with a name. Resolves to whether it was made.
+ * @property {() => void} beginTour Begins the tour with the first program.
+ * @property {(name: string) => Promise<boolean>} begin Begins a new session from the example with a name. Resolves to whether it was
+ *   created.
  * @property {() => void} draw Brings the picture of the wiring to the front.
- * @property {() => void} seen Remembers that the cards were closed.
+ * @property {() => void} seen Stores that the cards were shown.
  */
 
 export class WelcomeView {
@@ -55,7 +56,7 @@ export class WelcomeView {
   }
 
   /**
-   * @param {string} name of an example
+   * @param {string} name the name of an example
    * @param {boolean} draws
    */
   async begin(name, draws) {

@@ -1,6 +1,7 @@
-// The clock: in real time, or slower, each frame of the browser runs the cycles that are due; at full speed the worker continues by itself.
-// Except at full speed, a page that is hidden is paused, and so it is while the browser or the machine does not run the page at all. In
-// real time a key does not wait for the next frame: its cycles are simulated early.
+// The clock. In real time, or slower, each frame of the browser runs the cycles that are due. At full speed the worker continues on its
+// own.
+// Below full speed, time stands still while the page is hidden, and while the browser or the computer does not run the page at all. In real
+// time a key press does not wait for the next frame: its cycles are simulated early.
 
 import { CYCLES_PER_SECOND } from "../../core/time/mcs4_time.js";
 import { LONG_GAP, MOST_AHEAD, RealTime } from "../../core/time/real_time.js";
@@ -12,14 +13,14 @@ import { REAL, isFollowed, keepsKeys } from "../../core/time/speeds.js";
  */
 
 /**
- * The calls that the clock makes as time becomes due.
+ * The calls that the clock makes.
  * @typedef {object} ClockCalls
- * @property {(cycles: number, key: Key | null) => Promise<void>} advance Lets cycles pass, with a key that goes down before them if it is
- *   not null. Resolves once they are done.
- * @property {() => Promise<void>} instruct Lets one instruction pass, at the speed of one a second.
- * @property {() => Promise<void>} runFull Begins full speed, at which the worker continues by itself.
- * @property {(time: number, wasHidden: boolean) => void} stoodStill Time was paused for this many milliseconds, which are left out;
- * `wasHidden` if the page was hidden.
+ * @property {(cycles: number, key: Key | null) => Promise<void>} advance Runs cycles, and presses `key` before them if it is not null.
+ *   Resolves when they are done.
+ * @property {() => Promise<void>} instruct Runs one instruction, at the speed of one instruction a second.
+ * @property {() => Promise<void>} runFull Begins full speed, at which the worker continues on its own.
+ * @property {(time: number, wasHidden: boolean) => void} stoodStill Reports that time stood still for `time` milliseconds, which are left
+ *   out. `wasHidden` is true if the page was hidden.
  * @property {(fault: unknown) => void} failed Reports an error that a call threw.
  */
 
@@ -29,11 +30,11 @@ export class Clock {
     this.calls = calls;
     this.isRunning = false;
     this.speed = REAL;
-    /** True if a call is under way. */
+    /** True while a call is under way. */
     this.isBusy = false;
-    /** True if a key was pressed since that call began. */
+    /** True if a key was pressed since the present call began. */
     this.followsAtOnce = false;
-    /** The requested frame. */
+    /** The id of the requested animation frame. */
     this.next = 0;
     this.time = new RealTime(0, 0);
   }
@@ -42,24 +43,25 @@ export class Clock {
     return this.speed.isFull;
   }
 
-  /** Returns whether time runs so slowly that the line which runs is followed. */
+  /** True if time is running so slowly that the page shows each line that runs. */
   get isSlow() {
     return this.isRunning && isFollowed(this.speed);
   }
 
-  /** Returns whether keys wait for their time; if not, they are as fingers put them. */
+  /** True if key presses are queued until their time. Otherwise a press toggles the key. */
   get movesKeys() {
     return this.isRunning && !keepsKeys(this.speed);
   }
 
-  /** The time up to which cycles are done, in milliseconds. */
+  /** The time up to which cycles are simulated, in milliseconds. */
   get now() {
     return this.isFull ? performance.now() : this.time.reached;
   }
 
   /**
-   * Returns how many milliseconds this many cycles take at this speed; at full speed, or if an instruction takes a second, all that
-   * perception needs.
+   * Returns the duration of cycles in milliseconds at the present speed. At full speed, and at one instruction a second, returns Infinity,
+   * so
+   * that lamps are shown as perceived after a long time.
    * @param {number} cycles
    */
   timeOf(cycles) {
@@ -77,7 +79,7 @@ export class Clock {
   }
 
   /**
-   * Running time continues at the new speed.
+   * Sets the speed. Running time continues at this speed.
    * @param {Speed} speed
    */
   setSpeed(speed) {
@@ -97,7 +99,7 @@ export class Clock {
     this.again();
   }
 
-  /** The page is hidden. */
+  /** Notes that the page is hidden. */
   hide() {
     this.time.hide();
   }
@@ -110,8 +112,8 @@ export class Clock {
   }
 
   /**
-   * Handles a key press, which does not wait for the next frame. Returns whether it was sent with the cycles; if not, it is yet to be
-   * reported, and if a call is under way, cycles follow at its end.
+   * Runs the cycles that are due at a key press, without waiting for the next frame. Returns whether the key was sent with these cycles. If
+   * not, the caller must send it. If a call is under way, cycles follow at its end.
    * @param {Key} key
    */
   pressNow(key) {
@@ -120,19 +122,19 @@ export class Clock {
     return this.frame(performance.now(), this.ahead, key);
   }
 
-  /** Returns the milliseconds by which a key may be simulated early. */
+  /** The milliseconds by which a key press can be simulated early. */
   get ahead() {
     return this.speed === REAL ? MOST_AHEAD : 0;
   }
 
   /**
-   * Runs the cycles that are due; returns whether there are any.
+   * Runs the cycles that are due. Returns whether there are any.
    * @param {number} now
-   * @param {number} [ahead] milliseconds are simulated early
-   * @param {Key | null} [key] goes down before them
+   * @param {number} [ahead] the number of milliseconds to simulate early
+   * @param {Key | null} [key] the key to press before the cycles
    */
   frame(now, ahead = 0, key = null) {
-    // Some browsers call a hidden page now and then. Cycles that become due during a call are done in the next frame.
+    // Some browsers still request frames of a hidden page. Cycles that become due during a call run in the next frame.
     if (document.hidden || this.isBusy) return false;
     const skipped = this.time.skipGap(now, Date.now());
     if (skipped && skipped.gap >= LONG_GAP) this.calls.stoodStill(skipped.gap, skipped.wasHidden);

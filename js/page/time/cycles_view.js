@@ -6,11 +6,11 @@ import * as say from "../../words/time.js";
 
 /** @typedef {import("../../core/time/cycles.js").KeptCycles} KeptCycles */
 
-/** The milliseconds between updates while time runs. */
+/** The interval in milliseconds between updates while time is running. */
 const SHOWN_TIME = 250;
 
 export class CyclesView {
-  /** @param {() => void} marked there is another mark */
+  /** @param {() => void} marked called after another mark was set */
   constructor(marked) {
     this.cycles = new Cycles();
     this.shown = 0;
@@ -35,7 +35,7 @@ export class CyclesView {
   }
 
   /**
-   * Takes over the counts of another session.
+   * Shows the counts of another session.
    * @param {KeptCycles | undefined} kept
    */
   open(kept) {
@@ -45,7 +45,7 @@ export class CyclesView {
 
   /**
    * @param {{ total: number, reset: number }} counts
-   * @param {boolean} isRunning whether time runs
+   * @param {boolean} isRunning whether time is running
    */
   take(counts, isRunning) {
     this.cycles.take(counts);

@@ -1,4 +1,4 @@
-// The bar of steps and of the past: back and forward, by instructions, and to the next or previous change.
+// The bar for moves in time: back and forward, by instructions, and to the next or previous change.
 
 import { button, byId, element, field, onClick } from "../ui/dom.js";
 import { goalOfText } from "../../core/debug/becoming.js";
@@ -12,21 +12,21 @@ import * as say from "../../words/time.js";
  */
 
 /**
- * The calls that the buttons of time make.
+ * The calls that the bar for moves in time makes.
  * @typedef {object} HistoryCalls
- * @property {(goal: Goal) => void} goOn Lets time pass until a goal is reached.
+ * @property {(goal: Goal) => void} goOn Runs until a goal is reached.
  * @property {(goal: BackGoal) => void} goBack Goes back to a goal.
- * @property {() => void} goForward Returns to where the last move back began.
- * @property {() => import("../../core/conditions/condition_language.js").Names} names Returns the names that a condition may have.
+ * @property {() => void} goForward Returns to the state before the last move back.
+ * @property {() => import("../../core/conditions/condition_language.js").Names} names Returns the names that a condition can use.
  * @property {(words: string) => void} showMessage Shows a message in the status line.
  */
 
 const MOST_INSTRUCTIONS = 10000000;
-/** An error is shown up to this length, as it quotes the typed text. */
+/** The maximum length of an error message, which quotes the typed text. */
 const LONGEST_FAULT = 200;
 
 /**
- * The names of places on a board, the most useful ones first; others can be typed.
+ * Returns the names of places on a board, the most useful ones first. The user can type others.
  * @param {Board} board
  * @param {string[]} lampNames "" for a lamp without one
  */
@@ -66,7 +66,7 @@ export class HistoryView {
     });
   }
 
-  /** Another session is shown: its fields are as they are at first. */
+  /** Restores the initial contents of the fields, because another session is shown. */
   begin() {
     for (const input of [this.count, this.place]) {
       input.value = input.defaultValue;
@@ -74,7 +74,7 @@ export class HistoryView {
     }
   }
 
-  /** @param {number} future how many times forward is possible */
+  /** @param {number} future the number of moves back that can be undone */
   showFuture(future) {
     const isNone = future === 0;
     if (this.forward.disabled !== isNone) this.forward.disabled = isNone;

@@ -1,4 +1,4 @@
-// Running time: by the clock or at full speed, up to a stop, and its reports.
+// Runs time, by the clock or at full speed, until it stops. Handles the frames that the worker reports.
 
 import { isStop, readRun, refusalOf } from "../../core/bench/answers.js";
 import { wordsOfHalt, wordsOfMove, wordsOfStop } from "../../words/stops.js";
@@ -28,24 +28,24 @@ import * as say from "../../words/time.js";
 /**
  * The calls that running time makes to the page.
  * @typedef {object} RunningCalls
- * @property {() => void} began Time begins to run.
- * @property {() => void} stood Time is paused, after all of it is shown.
- * @property {(frame: Frame) => void} took Shows, logs and counts the work of a frame.
- * @property {() => void} drawRest Draws the parts that are drawn less often while time runs.
+ * @property {() => void} began Handles the start of a run.
+ * @property {() => void} stood Handles a pause of time, after the whole run is shown.
+ * @property {(frame: Frame) => void} took Shows, logs and counts the contents of a frame.
+ * @property {() => void} drawRest Draws the parts that are drawn less often while time is running.
  * @property {() => void} drawListing Draws the listing, which follows the counter or stays, depending on the speed.
  * @property {() => boolean} isOwed Returns whether the counter is inside an instruction, whose second cycle is pending.
- * @property {() => number} cycles Returns the cycles that the session has counted in all.
- * @property {() => string} where Returns the counter with its name and its line, as words.
- * @property {(id: number) => string} when Returns when the breakpoint with an id stops, as words.
- * @property {() => number} unreadable Returns how many breakpoints have an error and stop each time.
+ * @property {() => number} cycles Returns the total number of cycles in the session.
+ * @property {() => string} where Returns a text with the program counter, its name and its line.
+ * @property {(id: number) => string} when Returns a text with the condition of the breakpoint with an id.
+ * @property {() => number} unreadable Returns the number of breakpoints that have an error and stop each time.
  * @property {(number: number) => string} wordsOfRefusal Returns the message of a refusal.
- * @property {() => Promise<string | null>} step Serves a step. Resolves to its answer, null if the call failed.
+ * @property {() => Promise<string | null>} step Serves a step. Resolves to its answer, or to null if the call failed.
  * @property {(fault: unknown) => void} failed Reports an error that a call threw.
  */
 
-/** The interval at which the session is saved while time runs. */
+/** The interval in milliseconds at which the session is saved while time is running. */
 const KEEP_TIME = 1000;
-/** The milliseconds for which a pause of time is reported. */
+/** The time in milliseconds for which a standstill of time is reported. */
 const MESSAGE_TIME = 8000;
 
 export class Running {
@@ -58,13 +58,13 @@ export class Running {
     this.bench = bench;
     this.current = current;
     this.calls = calls;
-    /** @type {(why: string) => void} time has stopped by itself */
+    /** @type {(why: string) => void} called when a run has stopped on its own, with the reason */
     this.ended = () => {};
-    /** @type {(isRunning: boolean) => void} time runs from now on, or is paused */
+    /** @type {(isRunning: boolean) => void} called when time starts or is paused */
     this.showRunning = () => {};
-    /** @type {Goal | null} the goal of running time */
+    /** @type {Goal | null} the goal of the run */
     this.goal = null;
-    /** The cycle count when time began to run. */
+    /** The cycle count at the beginning of the run. */
     this.begun = 0;
     this.rate = new Rate(0);
     this.clock = this.makeClock();
@@ -90,18 +90,18 @@ export class Running {
     });
   }
 
-  /** Returns whether time runs so fast that single lines cannot be followed. */
+  /** True if time is running so fast that the page cannot show single lines. */
   get isFast() {
     return this.clock.isRunning && !this.clock.isSlow;
   }
 
-  /** @param {string} words of the status */
+  /** @param {string} words the text of the status line */
   showMessage(words) {
-    // A narrow bar cuts them off.
+    // A narrow status bar cuts off long texts.
     if (this.status.set(words)) this.status.node.title = words;
   }
 
-  /** The rate is measured from now on. */
+  /** Begins a new measurement of the rate. */
   beginRate() {
     this.rate = new Rate(this.clock.now);
     this.showRate();
@@ -112,7 +112,7 @@ export class Running {
     this.rateStatus.set(this.clock.isRunning && rate > 0 ? say.cyclesASecond(rate.toLocaleString("en")) : "");
   }
 
-  /** @param {Goal | null} [goal] of running time; the bench knows it */
+  /** @param {Goal | null} [goal] the goal of the run, which the bench already has */
   run(goal = null) {
     const { bench, current, calls } = this;
     if (!current.session || this.clock.isRunning) return;
@@ -130,7 +130,7 @@ export class Running {
     current.keep();
   }
 
-  /** @param {Goal | null} goal of a move; it is saved with the session, for a message if the move does not reach it */
+  /** @param {Goal | null} goal the goal of a move, saved with the session for the message about a move that did not reach it */
   aim(goal) {
     const { session } = this.current;
     if (!session) return;
@@ -138,12 +138,12 @@ export class Running {
     else delete session.record.goal;
   }
 
-  /** A reset: no subroutine returns after it. */
+  /** Forgets the goal. After a reset no subroutine can return. */
   forgetGoal() {
     this.goal = null;
   }
 
-  /** By the button. */
+  /** Resumes or pauses time at the user's request. */
   runOrStop() {
     this.current.touch();
     if (this.clock.isRunning) this.stop();
@@ -163,7 +163,7 @@ export class Running {
 
   /**
    * @param {number} cycles
-   * @param {Key | null} key goes down before them
+   * @param {Key | null} key the key to press before the cycles
    */
   async advance(cycles, key) {
     const arrived = key ? this.asked.send({ word: "press", key }) : () => {};
@@ -171,7 +171,7 @@ export class Running {
     this.ran(frame);
   }
 
-  /** One instruction of the time that runs: breakpoints and watches stop it, as any run. */
+  /** Runs one instruction. Breakpoints and watches stop it as they stop any run. */
   async instruct() {
     const { bench, calls } = this;
     this.ran(await bench.call("advance", [1]));
@@ -187,8 +187,8 @@ export class Running {
   }
 
   /**
-   * Reports that time was paused for this many milliseconds, and resumes.
-   * @param {number} time
+   * Reports for MESSAGE_TIME that time stood still, and measures the rate anew.
+   * @param {number} time the duration in milliseconds
    * @param {boolean} wasHidden
    */
   stoodStill(time, wasHidden) {
@@ -200,7 +200,7 @@ export class Running {
   }
 
   /**
-   * Pauses time; the words say why.
+   * Ends the run, and shows why time is paused.
    * @param {string} words
    */
   halted(words) {
@@ -218,7 +218,7 @@ export class Running {
     calls.stood();
   }
 
-  /** Stops the passing of time, and handles its work. */
+  /** Stops the clock and the worker, and handles the last frame. */
   async standStill() {
     if (!this.clock.isRunning) return;
     this.clock.stop();
@@ -226,7 +226,7 @@ export class Running {
     this.ran(await this.bench.call("halt", []));
   }
 
-  /** Stops time, and saves its work. */
+  /** Pauses time, shows where, and saves the session. */
   async stop() {
     const { current, calls } = this;
     try {
@@ -235,7 +235,7 @@ export class Running {
       calls.failed(fault);
       return;
     }
-    // A breakpoint may have stopped it earlier.
+    // A breakpoint can have stopped the run before.
     if (current.session && current.session.record.runs) {
       calls.drawRest();
       this.halted(wordsOfHalt(this.goal, calls.cycles() - this.begun, this.where));
@@ -243,13 +243,13 @@ export class Running {
     await current.keep();
   }
 
-  /** Stops time if it runs. */
+  /** Pauses time if it is running. */
   async stand() {
     if (this.clock.isRunning) await this.stop();
   }
 
   /**
-   * Time has done something.
+   * Handles a frame that the worker reports.
    * @param {Frame} frame
    */
   ran(frame) {
@@ -265,11 +265,11 @@ export class Running {
       return;
     }
     if (isNewRate || !this.clock.isRunning) this.showRate();
-    // A pressed key is saved at once. A hidden page gets a report once a second.
+    // A key press is saved at once. A hidden page receives a frame once a second.
     if (frame.changesKeys || document.hidden || performance.now() - current.kept >= KEEP_TIME) current.keep();
   }
 
-  /** Returns the place where time is paused, with its name and its line. */
+  /** A text with the program counter at which time is paused, its name and its line. */
   get where() {
     return this.calls.where();
   }
@@ -295,7 +295,7 @@ export class Running {
   }
 
   /**
-   * A change of a key for the time that runs.
+   * Queues a change of a key while time is running.
    * @param {"press" | "release" | "forget"} word
    * @param {Key} key
    */
@@ -310,7 +310,7 @@ export class Running {
   }
 
   /**
-   * Returns whether a key will be down after all requests; while keys are as fingers put them, whether it is.
+   * Returns whether a key will be down after all queued changes. If changes are not queued, returns whether it is down now.
    * @param {Key} key
    * @param {boolean} isDown whether the bench reports it as down
    */
