@@ -1,4 +1,4 @@
-// The drawn board: its text is in the editor Board, and its picture in Wiring.
+// Controls the picture in the Wiring tab, which is drawn from the board's text in the Board tab.
 
 import { wantsKey } from "../board/pressing.js";
 import { button, isDialogOpen, onClick } from "../ui/dom.js";
@@ -19,20 +19,20 @@ import { PictureZoom } from "./picture_zoom.js";
 /**
  * The calls that the picture makes to the page.
  * @typedef {object} PictureOwnCalls
- * @property {() => boolean} isInFront Returns whether the picture is in front; behind, it is drawn later.
+ * @property {() => boolean} isInFront Returns whether the picture is in front. Another picture is drawn later.
  * @property {() => void} putInFront Brings the picture to the front.
- * @property {() => Promise<string>} wire Sends the text as the board. Resolves to the message about that.
- * @property {(board: Board) => void} scanKeys Inserts a routine that scans the keys of a board into the source.
- * @property {(part: string) => void} find Shows the lines of a part in the text; the part is named as in the picture: `rom 1`.
+ * @property {() => Promise<string>} wire Applies the text as the board. Resolves to the message about that.
+ * @property {(board: Board) => void} scanKeys Inserts a key scan routine for a board into the source.
+ * @property {(part: string) => void} find Shows the lines of a part in the text. The part is named as in the picture, for example `rom 1`.
  * @property {() => KeptSession | null} session Returns the session that is shown, whose record has the moved parts; null if there is
  *   none.
- * @property {() => void} touched The user has moved parts, so the session must be saved.
+ * @property {() => void} touched Saves the session after the user has moved parts.
  * @property {(fault: unknown) => void} failed Reports an error that a call threw.
  */
 
 /** @typedef {DrawingCalls & PictureOwnCalls} PictureCalls */
 
-/** The milliseconds after the last edit when the picture follows the text. */
+/** The time in milliseconds from the last edit until the picture follows the text. */
 const PAUSE = 300;
 
 export class DrawingController {
@@ -88,7 +88,7 @@ export class DrawingController {
   }
 
   /**
-   * While the picture is in front, Ctrl Z belongs to it unless a text has the focus.
+   * Handles a key with Control while the picture is in front, unless a text has the focus.
    * @param {KeyboardEvent} event
    */
   typed(event) {
@@ -109,26 +109,26 @@ export class DrawingController {
     this.input.take(shown.begun, shown.ends);
   }
 
-  /** Follows the board's text, once the picture is in front. */
+  /** Draws the board's text, if the picture is in front. */
   look() {
     if (this.calls.isInFront()) this.tried(this.drawing.look());
   }
 
-  /** A text was edited. */
+  /** Draws the picture after a pause, because a text was edited. */
   edited() {
     clearTimeout(this.editing);
     this.editing = window.setTimeout(() => this.drawing.text !== this.calls.text() && this.look(), PAUSE);
   }
 
-  /** The texts of another session are shown. */
+  /** Forgets the drawing, because the texts of another session are shown. */
   begin() {
     this.drawing.forget();
     this.drawing.movedParts.begin(this.kept);
   }
 
   /**
-   * Another board is wired.
-   * @param {string[]} answers
+   * Handles a board that was applied.
+   * @param {string[]} answers the answers to `board`
    */
   wired(answers) {
     this.drawing.takeWired(answers);
@@ -136,8 +136,9 @@ export class DrawingController {
   }
 
   /**
-   * Adds a part from the shelf with its head at a point of the sheet. A part that joins an existing one, as a lamp joins others, stays
-   * there.
+   * Adds a part from the shelf, with its head at a point of the sheet. A part that joins an existing one, as a lamp joins other lamps, is
+   * not
+   * moved to the point.
    * @param {import("../../core/drawing/acts.js").Act} act
    * @param {import("../../core/board/wiring.js").Point | null} point
    */
@@ -160,7 +161,7 @@ export class DrawingController {
     this.drawing.say(await this.calls.wire());
   }
 
-  /** Returns the positions of dragged parts, which are saved with the session in the browser. */
+  /** The positions of dragged parts, which the browser saves with the session. */
   get kept() {
     const session = this.calls.session();
     return (session && session.record.places) || [];

@@ -1,4 +1,4 @@
-// The surroundings of a board's picture: the shelf of parts, the fields of the selected part, and the last action.
+// The controls around the picture of a board: the shelf of parts, the fields of the selected part, and the message about the last action.
 
 import { Cell, block, button, element, field, onClick } from "../ui/dom.js";
 import { buzzerOf, lampColours } from "../../core/board/face_board.js";
@@ -18,17 +18,18 @@ import * as say from "../../words/drawing.js";
 /**
  * The calls that the shelf, the buttons and the fields of the drawing make.
  * @typedef {object} ViewCalls
- * @property {(act: Act) => void} act Does an act on the board's text, if the bench accepts it.
- * @property {(which: "undo" | "redo") => void} undoOrRedo Undoes the last step, or repeats it.
- * @property {() => void} wire Sends the text as the board, which becomes a new one.
- * @property {(part: string) => void} find Shows the lines of a part in the text; the part is named as in the picture: `rom 1`.
- * @property {() => void} tidy Forgets how parts were moved, so each is at its default position.
- * @property {() => void} scanKeys Inserts a routine that scans the keys into the source.
- * @property {(act: Act, point: Point | null) => void} drop Adds a part at a point of the sheet, or at its usual place, and goes to it.
+ * @property {(act: Act) => void} act Does an action on the board's text, if the bench accepts it.
+ * @property {(which: "undo" | "redo") => void} undoOrRedo Undoes or redoes the last step.
+ * @property {() => void} wire Applies the text as the board.
+ * @property {(part: string) => void} find Shows the lines of a part in the text. The part is named as in the picture, for example `rom 1`.
+ * @property {() => void} tidy Moves all parts to their default positions.
+ * @property {() => void} scanKeys Inserts a key scan routine into the source.
+ * @property {(act: Act, point: Point | null) => void} drop Adds a part at a point of the sheet, or at its default position, and focuses it.
  */
 
+/** Parts that have a number of digits. */
 const WITH_DIGITS = new Set(["digit", "segments", "scanned"]);
-/** Parts that are wired to a line that they are dropped on. */
+/** Parts that are wired to the line on which they are dropped. */
 const AT_LINES = new Set(["lamp", "buzzer"]);
 
 export class DrawingView {
@@ -43,17 +44,17 @@ export class DrawingView {
     this.state = new Cell(block("drawing-state"));
     /** @type {Map<Shelved, HTMLButtonElement>} */
     this.shelf = new Map();
-    /** A text of the drawing, for comparison. */
+    /** The description of the last drawing, to detect changes. */
     this.drawn = "";
     /** @type {import("../../core/board/wiring.js").Moved} */
     this.moved = new Map();
     /** @type {Shown | null} */
     this.shown = null;
-    /** The drawn fields, and the key by which they are compared. */
+    /** The description of the last fields, to detect changes. */
     this.form = "";
     /** @type {(HTMLInputElement | HTMLSelectElement)[]} */
     this.fields = [];
-    /** @type {WeakMap<HTMLElement, string>} the values that were shown last */
+    /** @type {WeakMap<HTMLElement, string>} the last value that each field has shown */
     this.values = new WeakMap();
     this.makeShelf();
     onClick(button("drawing-undo"), () => calls.undoOrRedo("undo"));
@@ -97,7 +98,7 @@ export class DrawingView {
 
   /**
    * @param {Shelved} part
-   * @param {string} [line] for it, "" for the next free one
+   * @param {string} [line] the line of the part, "" for the next free one
    * @returns {Act}
    */
   actOf(part, line = "") {
@@ -144,7 +145,7 @@ export class DrawingView {
   }
 
   /**
-   * Shows the fields of the selection. If they are the same, they stay, with their present values, so that typing is not interrupted.
+   * Shows the fields of the selection. Unchanged fields stay, with their present values, so that typing is not interrupted.
    * @param {Shown} shown
    */
   showFields({ fields: { title, part, fields, buttons }, fault }) {
@@ -155,7 +156,7 @@ export class DrawingView {
   }
 
   /**
-   * Text that is being typed stays, also if it was rejected.
+   * Sets the value of a field. Text that the user is typing stays, even if it was rejected.
    * @param {HTMLInputElement | HTMLSelectElement} node
    * @param {string} value
    */
@@ -166,7 +167,7 @@ export class DrawingView {
   }
 
   /**
-   * Draws other fields; the focus stays if there is a field of the same name.
+   * Draws other fields. The focus stays if there is a field with the same label.
    * @param {string} title
    * @param {string} part
    * @param {Field[]} fields
@@ -202,7 +203,7 @@ export class DrawingView {
 
   /**
    * @param {Field} what
-   * @param {number} at its index among the fields
+   * @param {number} at the index of the field
    * @param {boolean} disabled
    */
   fieldNode({ label, options }, at, disabled) {

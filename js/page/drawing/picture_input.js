@@ -1,29 +1,30 @@
-// Mouse, fingers and keys on the picture of a board: a wire is drawn from pin to pin, by dragging or by two clicks; a part is dragged;
-// arrows move from part to part and from pin to pin.
+// Mouse, fingers and keys on the picture of a board. A wire is drawn from pin to pin, by dragging or by two clicks. A part is dragged.
+// Arrow
+// keys move the focus from part to part and from pin to pin.
 
 /**
  * @typedef {import("../board/wiring_view.js").WiringView} WiringView
  *
- * What the pointer holds: a part or a pin, where it went down, and the position of the part.
+ * The part or the pin that the pointer holds: its name, the point where the pointer went down, and the initial position of the part.
  * @typedef {import("../../core/board/wiring.js").Point} Point
  * @typedef {{ name: string, isPart: boolean, at: Point, stood: Point, isDragged: boolean }} Held
  */
 
 /**
- * The calls for mouse, fingers and keys on the picture. Parts and pins are named as in the picture.
+ * The calls that mouse, fingers and keys on the picture make. Parts and pins are named as in the picture.
  * @typedef {object} InputCalls
- * @property {(name: string) => void} pressed A part or a pin was pressed.
- * @property {(from: string, to: string) => void} wired A wire was dragged from one pin to another.
- * @property {(part: string, point: Point) => void} moved A part is dragged to a point of the picture, in its units.
- * @property {() => void} dropped The dragged part stays where it is.
- * @property {(name: string) => void} deleted The part or the wire is to be deleted.
- * @property {() => void} left The begun wire or the selection is given up.
- * @property {(which: "undo" | "redo") => void} undoOrRedo Undoes the last step, or repeats it.
+ * @property {(name: string) => void} pressed Handles a press on a part or a pin.
+ * @property {(from: string, to: string) => void} wired Draws a wire that was dragged from one pin to another.
+ * @property {(part: string, point: Point) => void} moved Moves a part to a point of the picture, in its units.
+ * @property {() => void} dropped Handles the end of a drag.
+ * @property {(name: string) => void} deleted Deletes a part or a wire.
+ * @property {() => void} left Cancels the begun wire or the selection.
+ * @property {(which: "undo" | "redo") => void} undoOrRedo Undoes or redoes the last step.
  */
 
-/** So far the pointer moves until something is dragged. */
+/** The distance that the pointer moves before it drags anything, in units of the picture. */
 const SLACK = 4;
-/** The distance that a key moves a part. */
+/** The distance that a key moves a part, in units of the picture. */
 const STEP = 12;
 /** @type {Record<string, { x: number, y: number }>} */
 const ARROWS = { ArrowLeft: { x: -1, y: 0 }, ArrowRight: { x: 1, y: 0 }, ArrowUp: { x: 0, y: -1 }, ArrowDown: { x: 0, y: 1 } };
@@ -47,7 +48,7 @@ export class PictureInput {
     root.addEventListener("pointerup", (event) => this.up(event));
     root.addEventListener("pointercancel", () => this.cancel());
     root.addEventListener("keydown", (event) => this.typed(event));
-    // A reader of the screen clicks without a pointer.
+    // A screen reader clicks without a pointer.
     root.addEventListener("click", (event) => event.detail === 0 && this.press(view.nameAt(/** @type {Element} */ (event.target))));
   }
 
@@ -72,7 +73,7 @@ export class PictureInput {
     const name = this.view.nameAt(/** @type {Element} */ (event.target));
     const part = this.view.parts.get(name);
     this.held = { name, isPart: part !== undefined, at: this.view.pointOf(event), stood: part || { x: 0, y: 0 }, isDragged: false };
-    // Events outside the picture are reported here, too.
+    // The picture also receives events of the pointer outside of it.
     if (event.pointerType !== "touch") this.view.root.setPointerCapture(event.pointerId);
     if (name) this.view.focus(name);
   }
@@ -86,11 +87,11 @@ export class PictureInput {
     }
     const now = view.pointOf(event);
     if (!held.isDragged && Math.hypot(now.x - held.at.x, now.y - held.at.y) < SLACK) return;
-    // A finger scrolls; it draws wires only from pins.
+    // A finger on a part scrolls the picture. On a pin it draws a wire.
     if (held.name === "" || (held.isPart && event.pointerType === "touch")) return;
     if (!held.isDragged && !held.isPart && this.begun !== held.name) this.calls.pressed(held.name);
     held.isDragged = true;
-    // The picture keeps its size until the part is dropped: the pointer determines its position.
+    // The picture keeps its size until the part is dropped, because the pointer determines the part's position.
     view.isHeld = held.isPart;
     if (held.isPart) this.calls.moved(held.name, { x: held.stood.x + now.x - held.at.x, y: held.stood.y + now.y - held.at.y });
     else view.drawPencil(held.name, now);
@@ -114,7 +115,7 @@ export class PictureInput {
     else this.calls.left();
   }
 
-  /** The browser takes over the pointer, for example to scroll: the part stays where it is. */
+  /** Ends a drag when the browser takes over the pointer, for example to scroll. The part stays at its present position. */
   cancel() {
     const { held } = this;
     this.release();
@@ -135,7 +136,7 @@ export class PictureInput {
   }
 
   /**
-   * Returns whether a key does something here.
+   * Does the action of a key. Returns whether the key has one.
    * @param {KeyboardEvent} event
    */
   does(event) {
@@ -159,8 +160,8 @@ export class PictureInput {
   }
 
   /**
-   * An arrow moves to the next part or pin; while a wire is drawn, to the next pin where it can end, and around; with Shift it moves the
-   * part.
+   * Handles an arrow key. It moves the focus to the next part or pin. While a wire is drawn, it moves the focus to the next pin where the
+   * wire can end, and from the last such pin to the first. With Shift it moves the part.
    * @param {KeyboardEvent} event
    * @param {string} name
    */

@@ -4,14 +4,15 @@ import { button, onClick } from "../ui/dom.js";
 
 /** The zoom factor of a button, a key or a turn of the wheel. */
 const STEP = 1.25;
-/** Relative to its natural size; if it does not fit, the picture is smaller until it does. */
+/** The minimum size, relative to the natural size. A picture that does not fit can be made smaller, until it fits. */
 const SMALLEST = 0.35;
+/** The maximum size, relative to the natural size. */
 const LARGEST = 4;
-/** Sizes that differ by less are the same. */
+/** Sizes that differ by less count as equal. */
 const NEARLY = 0.001;
 
 export class PictureZoom {
-  /** @param {HTMLElement} root the picture scrolls in it */
+  /** @param {HTMLElement} root the panel in which the picture scrolls */
   constructor(root) {
     this.root = root;
     this.larger = button("picture-larger");
@@ -29,13 +30,13 @@ export class PictureZoom {
     return picture ? picture.getBoundingClientRect() : new DOMRect();
   }
 
-  /** Returns its present size, relative to the natural one. */
+  /** The present size, relative to the natural size. */
   get scale() {
     const width = parseFloat(this.root.style.getPropertyValue("--picture-width"));
     return width > 0 ? this.box.width / width : 0;
   }
 
-  /** Returns the smallest and the largest size of a step; the present size is between them. */
+  /** The minimum and the maximum size. The present size is between them. */
   get bounds() {
     const { root, scale, box } = this;
     const height = parseFloat(getComputedStyle(root).maxHeight) || root.clientHeight;
@@ -44,9 +45,9 @@ export class PictureZoom {
   }
 
   /**
-   * Zooms; the point at a place of the panel stays there.
+   * Zooms the picture. The part of the picture at a point of the panel stays there.
    * @param {number} factor
-   * @param {{ x: number, y: number }} [at] by default, its middle
+   * @param {{ x: number, y: number }} [at] the point, by default the middle of the panel
    */
   zoom(factor, at = { x: this.root.clientWidth / 2, y: this.root.clientHeight / 2 }) {
     const { root, scale } = this;
@@ -65,7 +66,7 @@ export class PictureZoom {
     this.showBounds();
   }
 
-  /** A button at its limit says so, and keeps the focus. */
+  /** Marks a button as disabled at its limit. The button keeps the focus. */
   showBounds() {
     const { scale, bounds: { least, most } } = this;
     this.smaller.setAttribute("aria-disabled", String(scale <= least + NEARLY));

@@ -1,5 +1,7 @@
-// Dragging a part from the shelf onto the sheet, by mouse, pen or finger: it is added where it is dropped; a lamp or a buzzer dropped on a
-// line is wired to it. A click adds a part at its usual place. Shift and Enter move the focus to it on the sheet, where arrows move it.
+// Drags parts from the shelf onto the sheet, by mouse, pen or finger. A part is added where it is dropped. A lamp or a buzzer that is
+// dropped
+// on a line is wired to it. A click adds a part at its default position. Shift and Enter add a part and focus it on the sheet, where arrow
+// keys move it.
 
 import { element } from "../ui/dom.js";
 
@@ -7,17 +9,18 @@ import { element } from "../ui/dom.js";
  * @typedef {import("../../core/drawing/acts.js").Shelved} Shelved
  * @typedef {{ clientX: number, clientY: number }} Place
  *
- * What the pointer holds: the part with its button, where it went down, and whether it has been dragged since.
+ * The part that the pointer holds, with its button, the point where the pointer went down, and whether it has been dragged since.
  * @typedef {{ part: Shelved, node: HTMLElement, from: Place, isDragged: boolean }} Held
  *
+ * The calls that the shelf makes.
  * @typedef {object} ShelfCalls
- * @property {(place: Place) => boolean} isSheet whether the sheet is there
- * @property {(part: Shelved, place: Place) => void} dropped a part was dropped on the sheet
- * @property {(part: Shelved) => void} goTo a part is added, and gets the focus on the sheet
- * @property {(isOver: boolean) => void} over whether a dragged part is over the sheet
+ * @property {(place: Place) => boolean} isSheet Returns whether the sheet is at a point.
+ * @property {(part: Shelved, place: Place) => void} dropped Adds a part that was dropped on the sheet.
+ * @property {(part: Shelved) => void} goTo Adds a part and focuses it on the sheet.
+ * @property {(isOver: boolean) => void} over Shows whether a dragged part is over the sheet.
  */
 
-/** The distance that the pointer moves until a part is dragged. */
+/** The distance in pixels that the pointer moves before it drags a part. */
 const SLACK = 6;
 
 export class ShelfDrag {
@@ -27,7 +30,7 @@ export class ShelfDrag {
     /** @type {Held | null} */
     this.held = null;
     this.wasDragged = false;
-    /** The picture that follows the pointer. */
+    /** The image of a part that follows the pointer. */
     this.ghost = element("div", { id: "shelf-ghost", hidden: true });
     document.body.append(this.ghost);
     addEventListener("keydown", (event) => {
@@ -42,7 +45,7 @@ export class ShelfDrag {
    * @param {Shelved} part
    */
   listen(node, part) {
-    // The click that a browser makes of a drag is none, also after Escape.
+    // A browser sends a click after a drag, even if Escape has ended the drag. It does not count.
     node.addEventListener("click", (event) => {
       if (this.wasDragged && event.detail > 0) event.stopImmediatePropagation();
       this.wasDragged = false;

@@ -1,4 +1,4 @@
-// Properties on the page: their text with its errors, a button that searches for counterexamples, in a worker of its own, and the results.
+// The tab of properties: their text with its errors, a button that searches for counterexamples in a worker of its own, and the results.
 
 import { countOfFaults } from "../../core/bench/words.js";
 import { Cell, button, field, onClick } from "../ui/dom.js";
@@ -19,29 +19,29 @@ import * as say from "../../words/explore.js";
  * @typedef {import("../../core/bench/own_worker.js").Ended} Ended
  * @typedef {import("../prove/proofs.js").ProofsCalls} ProofsCalls
  *
- * The results of a session: the texts, the progress, and the session of each counterexample, by its property.
+ * The results of a search: its texts, its report, and the session file of each counterexample, by the number of its property.
  * @typedef {{ texts: ExploredTexts, report: Report | null, files: Map<number, Uint8Array>, isStopped: boolean }} Explored
  */
 
 /**
- * The calls that the tab of the search makes to the page. `labels`, `texts`, `edited` and `failed` also serve its text.
+ * The calls that the tab of properties makes to the page. Its text also uses `labels`, `texts`, `edited` and `failed`.
  * @typedef {object} ExploreCalls
- * @property {() => Omit<ExploredTexts, "propertiesText">} texts Returns the texts of board, source and tests as they are.
+ * @property {() => Omit<ExploredTexts, "propertiesText">} texts Returns the present texts of board, source and tests.
  * @property {() => string[]} labels Returns the labels of the program in ROM.
  * @property {(texts: ExploredTexts) => Promise<TextFault[]>} faults Resolves to the errors of all texts.
  * @property {(texts: ExploredTexts, asked: Asked, signal: AbortSignal, showProgress: (progress: Progress) => void)
  *   => Promise<Ended>} explore
- *   Searches until the time is over, all is found, or `signal` is aborted; `showProgress` receives how far it is. Resolves to the report,
- *   or to errors of texts.
+ *   Searches until the time is over, everything is found, or `signal` is aborted. Calls `showProgress` with the progress. Resolves to the
+ *   errors in texts, and to whether the search was stopped.
  * @property {(number: number) => string} wordsOfRefusal Returns the message of a refusal.
  * @property {(line: number) => void} goToSource Shows a line of the source, from 1.
- * @property {(name: string, file: Uint8Array, texts: ExploredTexts) => void} open Opens a session by its file as a new one, with the
- *   texts of the search.
+ * @property {(name: string, file: Uint8Array, texts: ExploredTexts) => void} open Opens a new session from a file, with the texts of the
+ *   search.
  * @property {ProofsCalls["prove"]} prove Proves properties.
- * @property {ProofsCalls["open"]} openAfter Opens a session of the texts after lines.
- * @property {(test: string) => string} addTest Adds a test to those of the program. Returns the message about that.
- * @property {(words: string, isGood?: boolean) => void} mark Shows a few words on the tab, which may report a success; "" for none.
- * @property {() => void} edited The text of properties was edited.
+ * @property {ProofsCalls["open"]} openAfter Opens a new session with the texts, and executes lines in it.
+ * @property {(test: string) => string} addTest Adds a test to the tests of the program. Returns the message about that.
+ * @property {(words: string, isGood?: boolean) => void} mark Shows a short text on the tab, which can report a success; "" for none.
+ * @property {() => void} edited Handles an edit of the properties.
  * @property {(fault: unknown) => void} failed Reports an error that a call threw.
  */
 
@@ -77,13 +77,13 @@ export class ExploreTab {
       open: (property) => this.open(property),
       add: (property) => this.add(property),
     });
-    /** The counterexamples of each session, by its name, as long as the page is open. */
+    /** The results of each session, by its id, while the page is open. */
     this.explored = /** @type {Map<string, Explored>} */ (new Map());
-    /** The name of the session that is shown. */
+    /** The id of the session that is shown. */
     this.session = "";
     /** The last message about the search. */
     this.lastMessage = "";
-    /** @type {AbortController | null} ends the present search */
+    /** @type {AbortController | null} stops the present search */
     this.controller = null;
     this.exploreButton = new Cell(button("explore"));
     this.exploreButton.set(say.EXPLORE);
@@ -114,17 +114,17 @@ export class ExploreTab {
     return { ...this.calls.texts(), propertiesText: this.editor.text };
   }
 
-  /** Returns the results of the session that is shown. */
+  /** The results of the session that is shown. */
   get shown() {
     return this.explored.get(this.session) || null;
   }
 
-  /** Handles the tab coming to the front. */
+  /** Checks the text, because the tab came to the front. */
   look() {
     this.beside.look();
   }
 
-  /** @param {number} count of errors in the text */
+  /** @param {number} count the number of errors in the text */
   mark(count) {
     const { shown } = this;
     this.faultCount = count;
@@ -134,8 +134,8 @@ export class ExploreTab {
   }
 
   /**
-   * Handles another session being shown: the search ends, and the former results of that session are restored.
-   * @param {string} session its name
+   * Stops the search, and shows another session with its former results.
+   * @param {string} session the id of the session
    */
   begin(session) {
     this.stop();
@@ -155,19 +155,19 @@ export class ExploreTab {
     this.show();
   }
 
-  /** Shows what depends on proofs: the mark of the tab, and whether something can be cleared. */
+  /** Updates the mark of the tab, and the button that clears results. */
   showProofs() {
     this.mark(this.faultCount);
     this.offerClear();
   }
 
-  /** Offers to clear the results, if nothing is at work. */
+  /** Shows the button that clears results, if there are any and nothing is running. */
   offerClear() {
     const { proofs } = this;
     button("clear-finds").hidden = this.controller !== null || proofs.controller !== null || !(this.shown || proofs.shown);
   }
 
-  /** Shows the results so far of the session that is shown. */
+  /** Shows the results of the session so far. */
   show() {
     const { shown } = this;
     const goesOn = this.controller !== null;
@@ -179,7 +179,7 @@ export class ExploreTab {
   }
 
   /**
-   * Reports a change, and leaves reports on other things as they are.
+   * Shows a message if it has changed. Otherwise messages about other actions stay.
    * @param {string} words
    */
   showMessage(words) {
@@ -206,7 +206,7 @@ export class ExploreTab {
   }
 
   /**
-   * Returns the duration of the search, and its seed; null if a field has no such number, which is reported.
+   * Returns the duration of the search and its seed, or null after a message if a field has no valid number.
    * @returns {Asked | null}
    */
   asked() {
@@ -245,7 +245,7 @@ export class ExploreTab {
     else if (!explored.report) this.editor.showMessage(say.STOPPED_EARLY);
   }
 
-  /** @param {TextFault[]} faults that prevented the search */
+  /** @param {TextFault[]} faults the errors that prevented the search */
   refuse(faults) {
     this.beside.showFaults(faults);
     this.editor.showMessage(wordsOfFaults(faults, this.calls.wordsOfRefusal));

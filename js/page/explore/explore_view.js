@@ -12,18 +12,18 @@ import { wordsOfLine } from "../../words/stops.js";
  */
 
 /**
- * The calls that the results of a search make. A property is named by its number from 0.
+ * The calls that the results of a search make. Properties are numbered from 0.
  * @typedef {object} FindCalls
  * @property {(line: number) => void} goTo Shows a line of the text of properties, from 1.
  * @property {(line: number) => void} goToSource Shows a line of the source, from 1.
  * @property {(property: number) => void} open Opens the session of a counterexample as a new one.
- * @property {(property: number) => void} add Adds the test of a counterexample to those of the program.
+ * @property {(property: number) => void} add Adds the test of a counterexample to the tests of the program.
  */
 
-/** The most lines that never ran which are shown. */
+/** The maximum number of lines in the list of lines that never ran. */
 const MOST_LINES = 60;
 
-/** The row of a property. A result is inserted once, so that controls in use do not disappear. */
+/** The row of a property. Its counterexample is inserted once, so that controls in use do not disappear. */
 class Row {
   /**
    * @param {PropertyResult} property
@@ -78,7 +78,7 @@ export class ExploreView {
       return { name, root, bar: below(root, "progress", HTMLProgressElement), words: new Cell(below(root, "span", HTMLElement)) };
     });
     this.left = block("never-run");
-    /** The lines that are shown as never run. */
+    /** The lines that never ran, as they are shown, to detect changes. */
     this.leftLines = "";
     /** @type {Row[]} */
     this.rows = [];
@@ -94,7 +94,7 @@ export class ExploreView {
 
   /**
    * @param {Report} report
-   * @param {boolean} goesOn whether it continues to search
+   * @param {boolean} goesOn whether the search is running
    */
   show(report, goesOn) {
     if (this.rows.length === 0) {
@@ -102,7 +102,7 @@ export class ExploreView {
       this.list.replaceChildren(...this.rows.map(({ node }) => node));
     }
     this.rows.forEach((row, at) => row.show(report.properties[at], report, goesOn));
-    // Where proofs settle all properties there is nothing to search.
+    // If proofs settle all properties, there is nothing to search.
     const isSearched = goesOn || report.steps > 0;
     this.figures.set(isSearched ? wordsOfFigures(report) : say.NO_STEPS);
     this.showCoverage(report, goesOn, isSearched);
@@ -123,11 +123,11 @@ export class ExploreView {
       bar.value = part;
       words.set(label);
     }
-    // During a search they change all the time.
+    // During a search this list changes all the time.
     this.showLeft(goesOn || !isSearched ? [] : covered.left);
   }
 
-  /** @param {number[]} lines that were never run */
+  /** @param {number[]} lines the lines that never ran */
   showLeft(lines) {
     const key = lines.join(" ");
     if (key === this.leftLines) return;

@@ -1,4 +1,4 @@
-// The guides: the help, the first program, stories of examples, and the box for lines.
+// The guides: the help, the tour with the first program, the stories of examples, and the input of the console.
 
 import { withKeys } from "../commands/key_list.js";
 import { HelpView } from "./help_view.js";
@@ -20,15 +20,15 @@ import * as say from "../../words/help.js";
 /**
  * The calls that the guide makes to the page.
  * @typedef {object} GuideOwnCalls
- * @property {(example: Example) => Promise<boolean>} begin Makes a new session of an example. Resolves to whether it was made.
+ * @property {(example: Example) => Promise<boolean>} begin Begins a new session from an example. Resolves to whether it was created.
  * @property {() => void} showSource Brings the source to the front.
  * @property {() => string} program Returns the text of the source.
- * @property {(program: string) => void} edit Puts a program into the source, as one edit.
+ * @property {(program: string) => void} edit Replaces the source by a program, as one edit.
  * @property {(target: import("../../core/help/tour.js").Target) => void} reveal Scrolls the target of a step into view.
  * @property {(program: string, words: string) => void} replace Replaces the source by a program, with a message that offers undo.
  * @property {import("../../core/help/story_acts.js").ActCalls} acts The actions of the links in stories.
- * @property {() => void} left The first program or a story was closed.
- * @property {(words: string) => void} refuse Shows why a story cannot be shown.
+ * @property {() => void} left Handles the end of the tour or of a story.
+ * @property {(words: string) => void} refuse Shows the reason why a story cannot be shown.
  */
 
 /** @typedef {Omit<LinesCalls, "help"> & GuideOwnCalls} GuideCalls */
@@ -68,7 +68,7 @@ export class Guide {
 
   /**
    * Opens the story of an example next to the session that is shown.
-   * @param {string} name of the example
+   * @param {string} name the name of the example
    * @param {Example[]} examples
    */
   showStory(name, examples) {
@@ -78,7 +78,7 @@ export class Guide {
     else this.calls.refuse(say.noSuchStory(shortName(name)));
   }
 
-  /** Another session is shown: the story is not of it. */
+  /** Closes the story, because another session is shown. */
   endStory() {
     if (this.tour.isOn && this.tour.isStory) this.tour.close();
   }

@@ -16,7 +16,7 @@ function nodesOf(cell) {
 
 /**
  * @param {ManualTable} table
- * @param {string} title of its section
+ * @param {string} title the title of the table's section
  */
 function tableOf({ caption, head, rows }, title) {
   const heads = head.map((cell) => element("th", { scope: "col" }, ...nodesOf(cell)));
@@ -34,7 +34,7 @@ export class HelpView {
     this.search = field("help-search");
     this.sections = below(this.root, "#help-sections", HTMLElement);
     this.status = new Cell(below(this.root, "#help-status", HTMLElement));
-    /** @type {string | null} what was searched when the sections were drawn; null before that */
+    /** @type {string | null} the search text of the drawn sections; null before the first drawing */
     this.drawn = null;
     this.isOpen = false;
     onClick(button("help-close"), () => this.close());
@@ -59,7 +59,7 @@ export class HelpView {
     this.search.focus();
   }
 
-  /** @param {string} wanted the search text at first, "" for the last one */
+  /** @param {string} wanted the initial search text, "" for the last one */
   toggle(wanted) {
     if (this.isOpen) this.close();
     else this.open(wanted || undefined);
@@ -69,11 +69,11 @@ export class HelpView {
     this.isOpen = false;
     this.root.hidden = true;
     this.switch.setAttribute("aria-expanded", "false");
-    // On a phone it is in the menu, which is closed.
+    // On a phone the help button is in the menu, which is closed.
     (this.switch.offsetParent ? this.switch : button("menu-button")).focus();
   }
 
-  /** Draws the sections that match the search: all are folded without a search text. */
+  /** Draws the sections that match the search. Without a search text all sections are folded. */
   draw() {
     const wanted = this.search.value.trim();
     if (wanted === this.drawn) return;

@@ -1,10 +1,10 @@
-// A ring around the target of a step of the first program. It follows its target while that moves, and scrolls it into view.
+// A ring around the target of a step of the tour. It follows a moving target, and scrolls it into view.
 
 import { element } from "../ui/dom.js";
 
-/** The interval at which it finds its target, in milliseconds. */
+/** The interval in milliseconds at which the ring moves to its target. */
 const LOOK_TIME = 200;
-/** The distance from its target, in pixels. */
+/** The distance in pixels between the ring and its target. */
 const GAP = 4;
 
 export class PointerRing {
@@ -13,12 +13,12 @@ export class PointerRing {
     document.body.append(this.node);
     /** @type {() => Element | null} */
     this.target = () => null;
-    /** @type {Element | null} the target that was scrolled into view last */
+    /** @type {Element | null} the last target that was scrolled into view */
     this.seen = null;
     this.timer = 0;
   }
 
-  /** @param {() => Element | null} target the element to surround from now on */
+  /** @param {() => Element | null} target returns the element to surround */
   point(target) {
     this.target = target;
     this.seen = null;

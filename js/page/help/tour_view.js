@@ -1,4 +1,4 @@
-// A tour, step by step, next to the bench: the first program, or the story of an example.
+// A tour next to the bench, step by step: the first program, or the story of an example.
 
 import { PointerRing } from "./pointer_ring.js";
 import { Cell, block, button, element, onClick } from "../ui/dom.js";
@@ -13,19 +13,20 @@ import * as say from "../../words/help.js";
  */
 
 /**
- * The calls that the panel of the first program and of stories makes.
+ * The calls that the panel of a tour makes.
  * @typedef {object} TourCalls
- * @property {(example: Example) => Promise<boolean>} begin Makes a new session of an example. Resolves to whether it was made.
+ * @property {(example: Example) => Promise<boolean>} begin Begins a new session from an example. Resolves to whether it was created.
  * @property {(program: string) => void} put Puts a program into the source.
- * @property {(act: import("../../core/help/story.js").Act) => Promise<string>} act Does the action of a story's link. Resolves to why it
- * could not, "" if it did.
- * @property {(program: string) => boolean} isPut Returns whether the source is this program.
+ * @property {(act: import("../../core/help/story.js").Act) => Promise<string>} act Does the action of a story's link. Resolves to the
+ *   reason
+ *   why it failed, or to "".
+ * @property {(program: string) => boolean} isPut Returns whether the source is `program`.
  * @property {(target: Target) => void} reveal Scrolls the target of a step into view.
- * @property {() => void} left The panel was closed.
+ * @property {() => void} left Handles the end of the tour.
  */
 
 /**
- * The target of a step.
+ * The element of each target.
  * @type {Record<Target, () => Element | null>}
  */
 const TARGETS = {
@@ -76,7 +77,7 @@ export class TourView {
     this.calls.left();
   }
 
-  /** Returns whether it is the story of an example. */
+  /** True for the story of an example. */
   get isStory() {
     return this.watch.steps !== TOUR;
   }
@@ -85,7 +86,7 @@ export class TourView {
     return this.watch.at === this.watch.steps.length - 1;
   }
 
-  /** @param {number} at the step */
+  /** @param {number} at the index of the step */
   show(at) {
     this.watch.begin(at);
     const { title, words, program } = this.watch.step;
@@ -100,8 +101,8 @@ export class TourView {
   }
 
   /**
-   * Scrolls the step's target into view, with a ring around it: first the button that inserts its program; after that, the one that
-   * continues.
+   * Scrolls the target of the step into view, and puts a ring around the element that the user needs next: the button that inserts the
+   * program, then the target, then the button that continues.
    */
   pointOut() {
     const { program, target } = this.watch.step;
@@ -145,7 +146,7 @@ export class TourView {
     this.showDone();
   }
 
-  /** @param {string} end why a run ended */
+  /** @param {string} end the reason why a run ended */
   noteEnd(end) {
     if (!this.isOn || this.watch.isDone) return;
     this.watch.noteEnd(end);

@@ -1,21 +1,21 @@
-// The box for lines: Enter sends, the arrows bring back former lines, and below it are the possible continuations of a line.
+// The input of the console: Enter sends lines, the arrow keys recall earlier ones, and the text below it shows how a line can continue.
 
 import { Cell, block, button, byId, onClick } from "../ui/dom.js";
 import { fittingLines } from "../../core/help/manual.js";
 import * as say from "../../words/page.js";
 
 /**
- * The calls that the box for lines makes.
+ * The calls that the input of the console makes.
  * @typedef {object} LinesCalls
- * @property {(lines: string) => Promise<string | null>} send Serves lines. Resolves to the first answer, null if the call failed, which
- *   is then reported.
- * @property {(answer: string) => string} wordsOf Returns an answer with its meaning, as words.
+ * @property {(lines: string) => Promise<string | null>} send Serves lines. Resolves to the first answer, or to null after a failure that
+ *   was reported.
+ * @property {(answer: string) => string} wordsOf Returns an answer, with its message if it is a refusal.
  * @property {(wanted: string) => void} help Opens the help at an entry.
  */
 
-/** The most sent lines that can be brought back. */
+/** The maximum number of sent lines that can be recalled. */
 const MOST_LINES = 200;
-/** The most lines of the bench that are shown below the box. */
+/** The maximum number of lines of the bench that are explained below the input. */
 const MOST_HINTS = 4;
 
 export class LinesView {
@@ -31,11 +31,11 @@ export class LinesView {
     this.hint.set(say.LINES_HINT);
     /** The answer to the last line, for screen readers. */
     this.status = new Cell(block("answer-status"));
-    /** @type {string[]} what was sent, the newest last */
+    /** @type {string[]} the sent lines, the newest last */
     this.sent = [];
-    /** The index of the line that is shown; their count if none is. */
+    /** The index of the recalled line; the number of sent lines if none is recalled. */
     this.at = 0;
-    /** The text that was being typed before one of them was brought back. */
+    /** The typed text before a sent line was recalled. */
     this.typed = "";
     onClick(button("send"), () => this.send());
     this.area.addEventListener("keydown", (event) => this.pressed(event));
@@ -76,9 +76,9 @@ export class LinesView {
   }
 
   /**
-   * Brings back the line before, or after, the one that is shown.
+   * Recalls the previous or the next sent line.
    * @param {KeyboardEvent} event
-   * @param {number} by
+   * @param {number} by -1 or 1
    */
   bring(event, by) {
     const next = this.at + by;
@@ -90,7 +90,7 @@ export class LinesView {
     this.area.setSelectionRange(this.text.length, this.text.length);
   }
 
-  /** Returns the last line of the typed text. */
+  /** The last line of the typed text. */
   get lastLine() {
     return this.text.slice(this.text.lastIndexOf("\n") + 1);
   }

@@ -1,4 +1,4 @@
-// The lines that were sent and their answers. They are shown only once they are saved.
+// The log of the console: the lines that were sent, and their answers. Lines are shown after they have been saved.
 
 import { refusalOf } from "../../core/bench/answers.js";
 import { block, element } from "../ui/dom.js";
@@ -11,7 +11,7 @@ import * as say from "../../words/page.js";
  * @typedef {import("../../core/bench/words.js").Words} Words
  */
 
-/** Older entries go. */
+/** The maximum number of entries. Older ones are removed. */
 const MOST_ENTRIES = 400;
 
 export class LogView {
@@ -19,28 +19,28 @@ export class LogView {
   constructor(words) {
     this.words = words;
     this.block = block("log");
-    /** The work of running time since the last save. */
+    /** The runs since the last save, which are not shown yet. */
     this.waiting = new RunLog();
     /** @type {{ entry: RanEntry, node: HTMLElement } | null} the runs at the end of the log, to which further ones are added */
     this.runs = null;
   }
 
   /**
-   * Collects the work of running time, to be shown after the next save.
+   * Collects runs, which are shown after the next save.
    * @param {RanEntry[]} entries
    */
   collect(entries) {
     this.waiting.add(entries);
   }
 
-  /** Returns what waits for the save, and forgets it. */
+  /** Returns the collected runs, and removes them. */
   take() {
     return this.waiting.take();
   }
 
   /**
    * @param {RanEntry[]} entries
-   * @param {string} fault why they are not saved, "" if they are
+   * @param {string} fault the reason why the runs could not be saved, "" if they were saved
    */
   showRan(entries, fault) {
     if (entries.length === 0) return;
@@ -60,9 +60,9 @@ export class LogView {
   }
 
   /**
-   * Lines that were typed, or sent by a button.
+   * Shows lines that the user or a button has sent, with their answers.
    * @param {Answered[]} entries
-   * @param {string} fault
+   * @param {string} fault the reason why the lines could not be saved, "" if they were saved
    */
   show(entries, fault) {
     this.add(entries.map(({ line, textLines, answers }) => (
@@ -95,7 +95,7 @@ export class LogView {
   }
 
   /**
-   * Shows an answer, and the meaning of a refusal.
+   * Returns an answer, with its message if it is a refusal.
    * @param {string} answer
    */
   wordsOf(answer) {

@@ -1,4 +1,4 @@
-// Lines that change the session: they are served and saved, and then their answers are shown.
+// Serves lines that change the session: the lines are served and saved, and then their answers are shown.
 
 import { refusalOf } from "../../core/bench/answers.js";
 import { Cancelled } from "../../core/bench/faults.js";
@@ -23,19 +23,19 @@ import { stoppedAt } from "../../words/stops.js";
 /**
  * The calls that serving lines makes to the page.
  * @typedef {object} ServingCalls
- * @property {() => SourceMap | null} map Returns the map of the program in ROM, whose names `@NAME` may have; null if the source is not
- *   in ROM.
- * @property {<Result>(words: string, work: (ways: Ways) => Promise<Result>) => Promise<Result>} work Does work of some length, named by
- *   `words`, and shows its progress. Rejects with `Cancelled` if the user cancels it.
- * @property {() => string} counter Returns the counter that is shown, as three hexadecimal digits.
- * @property {(result: ServedLines) => void} show Shows the session as it is after the lines.
+ * @property {() => SourceMap | null} map Returns the map of the program in ROM, with the names for `@NAME`; null if the source is not in
+ *   ROM.
+ * @property {<Result>(words: string, work: (ways: Ways) => Promise<Result>) => Promise<Result>} work Does long work, described by `words`,
+ *   and shows its progress. Rejects with `Cancelled` if the user cancels it.
+ * @property {() => string} counter Returns the program counter that is shown, as three hexadecimal digits.
+ * @property {(result: ServedLines) => void} show Shows the session after the lines.
  * @property {() => void} checkSource Compares the source with ROM again.
- * @property {() => Promise<string>} keep Saves the session. Resolves to why it could not be saved, "" if it was.
+ * @property {() => Promise<string>} keep Saves the session. Resolves to the reason why it could not be saved, or to "".
  * @property {(entries: Answered[], fault: string) => void} log Logs lines with their answers, and why the session could not be saved.
- * @property {(tally: Tally) => void} counted Reports the work of breakpoints.
- * @property {() => boolean} isRunning Returns whether time runs.
- * @property {() => void} forgetGoal Drops the goal that time runs to, because the bench was reset.
- * @property {(stop: Stop) => string} reasonOf Returns the message about why a run stopped.
+ * @property {(tally: Tally) => void} counted Shows the hits and the notes of breakpoints.
+ * @property {() => boolean} isRunning Returns whether time is running.
+ * @property {() => void} forgetGoal Forgets the goal of the run, because the bench was reset.
+ * @property {(stop: Stop) => string} reasonOf Returns the message with the reason why a run stopped.
  * @property {(words: string) => void} showMessage Shows a message in the status line.
  * @property {(fault: unknown) => void} failed Reports an error that a call threw.
  */
@@ -55,7 +55,7 @@ export class Serving {
   }
 
   /**
-   * Serves lines that change the session, and saves it; then shows their answers. Resolves to the first answer, or null if they failed.
+   * Serves lines that change the session, saves it, and shows their answers. Resolves to the first answer, or to null after a failure.
    * @param {string} lines
    * @returns {Promise<string | null>}
    */
@@ -86,9 +86,9 @@ export class Serving {
   }
 
   /**
-   * Does work that changes the session, in the same way; returns its report.
+   * Does other work that changes the session, saves it, and shows the result. Resolves to the result, or to null after a failure.
    * @template {ServedLines} Result
-   * @param {string} words its description
+   * @param {string} words the description of the work
    * @param {(ways: Ways) => Promise<Result>} work
    * @returns {Promise<Result | null>}
    */
@@ -97,7 +97,7 @@ export class Serving {
     try {
       result = await this.calls.work(words, work);
     } catch (fault) {
-      // Running time resumes if lines were cancelled.
+      // After a cancellation, running time resumes.
       if (fault instanceof Cancelled) this.notice.show(this.words.ofFailure(fault));
       else this.calls.failed(fault);
       return null;
@@ -119,8 +119,8 @@ export class Serving {
   }
 
   /**
-   * Updates the status after lines, because it must not outlive the stop that it is about.
-   * @param {string} before the counter before lines were served
+   * Updates the status line after lines. Its message about the last stop must not stay when the program counter has moved.
+   * @param {string} before the program counter before the lines
    * @param {Answered[]} entries
    */
   showCounter(before, entries) {

@@ -1,5 +1,6 @@
-// Proofs on the page: a button that proves the properties for all inputs, in a worker of its own, and the verdicts, which stay as long as
-// the texts are unchanged.
+// Proofs of properties: a button that proves them for all inputs in a worker of its own, and the verdicts. A verdict is shown while its
+// texts
+// are unchanged.
 
 import { Cell, button, field, onClick } from "../ui/dom.js";
 import { lineNow, stillStands } from "../../core/prove/still_valid.js";
@@ -14,20 +15,24 @@ import { ProofsView } from "./proofs_view.js";
  * @typedef {import("../../core/prove/bounded_proof.js").JudgedLine} JudgedLine
  * @typedef {import("../../core/testing/prepared.js").TextFault} TextFault
  *
- * The proofs of a session: the texts, the bound on states, the progress.
+ * The proof of a session's properties: its texts, the maximum number of states for a question, and its progress.
  * @typedef {{ texts: ExploredTexts, most: number, progress: Progress }} Proved
  *
+ * The calls that proofs make to the page.
  * @typedef {object} ProofsCalls
- * @property {() => ExploredTexts} texts returns the texts as they are
+ * @property {() => ExploredTexts} texts Returns the present texts.
  * @property {(texts: ExploredTexts, most: number, signal: AbortSignal, report: (progress: Progress) => void) => Promise<Ended>} prove
- * @property {(line: number) => void} goTo shows a line of the properties
- * @property {(words: string) => void} showMessage shows a message next to the buttons
- * @property {(faults: TextFault[]) => void} refuse shows the errors that prevented the proof
- * @property {(name: string, lines: string, texts: ExploredTexts, words: string) => Promise<void>} open opens a session of the texts after
- * lines, and shows a message
- * @property {(test: string) => string} addTest adds a test to those of the program; returns a message
- * @property {() => void} changed handles changed verdicts, and so a new mark of the tab and new things to clear
- * @property {(fault: unknown) => void} failed a call failed
+ *   Proves properties, with at most `most` states for a question, and calls `report` with the progress. Resolves to the errors in texts,
+ * and
+ *   to whether `signal` has cancelled the proof.
+ * @property {(line: number) => void} goTo Shows a line of the properties, from 1.
+ * @property {(words: string) => void} showMessage Shows a message next to the buttons.
+ * @property {(faults: TextFault[]) => void} refuse Shows the errors that prevented the proof.
+ * @property {(name: string, lines: string, texts: ExploredTexts, words: string) => Promise<void>} open Opens a new session with the texts,
+ *   executes lines in it, and shows a message.
+ * @property {(test: string) => string} addTest Adds a test to the tests of the program. Returns the message about that.
+ * @property {() => void} changed Handles changed verdicts, for example by a new mark of the tab.
+ * @property {(fault: unknown) => void} failed Reports an error that a call threw.
  */
 
 const MOST = 999999999;
@@ -48,25 +53,25 @@ export class Proofs {
       },
       add: (found) => calls.showMessage(calls.addTest(found.text)),
     });
-    /** The results of each session's properties, by its name, as long as the page is open. */
+    /** The results of each session, by its id, while the page is open. */
     this.proved = /** @type {Map<string, Proved>} */ (new Map());
-    /** The name of the session that is shown. */
+    /** The id of the session that is shown. */
     this.session = "";
-    /** @type {AbortController | null} what cancels the work */
+    /** @type {AbortController | null} cancels the present proof */
     this.controller = null;
     this.button = new Cell(button("prove"));
     this.button.set(say.PROVE);
     onClick(button("prove"), () => this.proveOrCancel());
   }
 
-  /** Returns the results of the session that is shown. */
+  /** The results of the session that is shown. */
   get shown() {
     return this.proved.get(this.session) || null;
   }
 
   /**
-   * Another session is shown: the work is cancelled, and the results of that session are shown again.
-   * @param {string} session its name
+   * Cancels the proof, and shows another session with its results.
+   * @param {string} session the id of the session
    */
   begin(session) {
     this.cancel();
@@ -75,7 +80,7 @@ export class Proofs {
     this.show();
   }
 
-  /** Verdicts are cleared. */
+  /** Cancels the proof, and clears the verdicts. */
   clear() {
     this.cancel();
     this.proved.delete(this.session);
@@ -83,29 +88,29 @@ export class Proofs {
     this.show();
   }
 
-  /** A text has changed: verdicts on other texts are hidden, and return with them. */
+  /** Updates the verdicts after an edit. A verdict about other texts is hidden, and appears again if these texts are restored. */
   edited() {
     if (this.shown) this.show();
   }
 
-  /** The verdicts that are about the texts as they are. */
+  /** The verdicts about the present texts. */
   get standing() {
     const { shown } = this;
     return shown ? shown.progress.judged.filter(this.standsNow(shown)) : [];
   }
 
-  /** Returns those verdicts, in a few words. */
+  /** A short text about these verdicts. */
   get mark() {
     return this.shown ? markOfTab(this.standing) : "";
   }
 
-  /** Returns whether none of them is a counterexample. */
+  /** True if none of these verdicts is a counterexample. */
   get isGood() {
     return this.standing.every((judged) => judged.verdict.kind === "open" || isRight(judged));
   }
 
   /**
-   * Returns whether a verdict is about the texts as they are.
+   * Returns a function that returns whether a verdict is about the present texts.
    * @param {Proved} shown
    * @returns {(judged: JudgedLine) => boolean}
    */
@@ -131,7 +136,7 @@ export class Proofs {
     else this.prove().catch(this.calls.failed);
   }
 
-  /** Returns the bound on the states of a question; 0 if the field has no such number, which is reported. */
+  /** Returns the maximum number of states for a question, or 0 after a message if the field has no valid number. */
   asked() {
     const { value } = field("prove-states");
     const isNumber = /^\d{1,9}$/.test(value.trim()) && Number(value) >= 1 && Number(value) <= MOST;

@@ -1,4 +1,4 @@
-// The results of proving properties: a row for each of them, with its verdict, and how far the search is.
+// The results of proofs: a row for each property with its verdict, and the progress.
 
 import { Cell, Switch, below, block, buttonOf, element } from "../ui/dom.js";
 import { isRight, markOf, wordsOfVerdict, wordsSoFar } from "../../words/proved.js";
@@ -10,10 +10,11 @@ import { wordsOfLine } from "../../words/stops.js";
  * @typedef {import("../../core/prove/prover.js").Progress} Progress
  * @typedef {import("../../core/prove/bounded_proof.js").JudgedLine} JudgedLine
  *
+ * The calls that the results of proofs make.
  * @typedef {object} ProofCalls
- * @property {(judged: JudgedLine) => void} goTo shows the line of a property in the text
- * @property {(judged: JudgedLine, found: Counterexample) => void} open opens a counterexample in the debugger
- * @property {(found: Counterexample) => void} add adds the test of a counterexample to those of the program
+ * @property {(judged: JudgedLine) => void} goTo Shows the line of a property in the text.
+ * @property {(judged: JudgedLine, found: Counterexample) => void} open Opens a counterexample in the debugger.
+ * @property {(found: Counterexample) => void} add Adds the test of a counterexample to the tests of the program.
  */
 
 /** The row of a property. Its verdict is inserted once, so that controls in use do not disappear. */
@@ -27,7 +28,7 @@ class Row {
     const { text, line, isGoal, verdict } = judged;
     const mark = element("b", {});
     const words = element("span", { className: "time" });
-    // A mistake that every program is checked for has no line in the text.
+    // A common mistake, for which every program is checked, has no line in the text.
     const name = line === 0 ? element("span", { className: "name" }, text)
       : buttonOf(text, () => calls.goTo(judged), { className: "name", title: wordsOfLine(line) });
     this.node = element("li", {}, element("p", {}, mark, " ", name, " ", words));
@@ -54,7 +55,7 @@ class Row {
     ];
   }
 
-  /** @param {boolean} stands whether the verdict is about the texts as they are */
+  /** @param {boolean} stands whether the verdict is about the present texts */
   show(stands) {
     const { judged } = this;
     this.mark.set(stands ? markOf(judged) : "");
@@ -85,9 +86,9 @@ export class ProofsView {
 
   /**
    * @param {Progress} progress
-   * @param {number} most states that a question searches
+   * @param {number} most the maximum number of states for a question
    * @param {boolean} goesOn whether properties are being judged
-   * @param {(judged: JudgedLine) => boolean} stands whether a verdict is about the texts as they are
+   * @param {(judged: JudgedLine) => boolean} stands returns whether a verdict is about the present texts
    */
   show(progress, most, goesOn, stands) {
     const more = progress.judged.slice(this.rows.length).map((judged) => new Row(judged, this.calls));

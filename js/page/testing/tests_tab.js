@@ -1,4 +1,4 @@
-// The tests on the page: their text with its errors, a button that runs them in the worker, and the results.
+// The tab of tests: their text with its errors, a button that runs them in the worker, and the results.
 
 import { Cancelled } from "../../core/bench/faults.js";
 import { countOfFaults } from "../../core/bench/words.js";
@@ -18,22 +18,22 @@ import * as say from "../../words/testing.js";
  */
 
 /**
- * The calls that the tab of tests makes to the page. `labels`, `edited` and `failed` also serve its text.
+ * The calls that the tab of tests makes to the page. Its text also uses `labels`, `edited` and `failed`.
  * @typedef {object} TestsCalls
- * @property {() => { boardText: string, programText: string }} texts Returns the texts of board and source as they are.
+ * @property {() => { boardText: string, programText: string }} texts Returns the present texts of board and source.
  * @property {() => string[]} labels Returns the labels of the program in ROM.
  * @property {(texts: TestedTexts) => Promise<TextFault[]>} faults Resolves to the errors of all texts.
- * @property {(texts: Texts) => Promise<string>} sample Resolves to the sample test of board and source.
- * @property {(texts: TestedTexts) => Promise<Report>} run Runs the tests. Resolves to their results; rejects with `Cancelled` if the user
+ * @property {(texts: Texts) => Promise<string>} sample Resolves to a sample test for board and source.
+ * @property {(texts: TestedTexts) => Promise<Report>} run Runs the tests. Resolves to their results. Rejects with `Cancelled` if the user
  *   cancels them.
  * @property {(number: number) => string} wordsOfRefusal Returns the message of a refusal.
- * @property {(report: Report | null, programText: string) => void} showCounts Shows next to the lines of a program how often each was run;
- * null shows no counts.
+ * @property {(report: Report | null, programText: string) => void} showCounts Shows the counts of a program's lines in the margin; null
+ *   removes them.
  * @property {(address: number) => void} goTo Shows the line of an address in source and listing.
- * @property {(name: string, file: Uint8Array, texts: TestedTexts) => void} open Opens a session by its file as a new one, with the texts
- *   of the tests.
- * @property {(words: string, isGood?: boolean) => void} mark Shows a few words on the tab, which may report a success; "" for none.
- * @property {() => void} edited The text of tests was edited.
+ * @property {(name: string, file: Uint8Array, texts: TestedTexts) => void} open Opens a new session from a file, with the texts of the
+ *   tests.
+ * @property {(words: string, isGood?: boolean) => void} mark Shows a short text on the tab, which can report a success; "" for none.
+ * @property {() => void} edited Handles an edit of the tests.
  * @property {(fault: unknown) => void} failed Reports an error that a call threw.
  */
 
@@ -62,10 +62,10 @@ export class TestsTab {
       goToAddress: (address) => calls.goTo(address),
       open: (outcome) => this.open(outcome),
     });
-    /** @type {TestedTexts | null} what was run last */
+    /** @type {TestedTexts | null} the texts of the last run */
     this.tested = null;
     this.isRunning = false;
-    /** A counter of the sessions shown: results of an earlier one are dropped. */
+    /** The number of sessions shown so far. The results of an earlier session are dropped. */
     this.round = 0;
     onClick(button("clear-tests"), () => this.clear());
   }
@@ -75,18 +75,18 @@ export class TestsTab {
     return { ...this.calls.texts(), testText: this.editor.text };
   }
 
-  /** Handles the tab coming to the front. */
+  /** Checks the text, because the tab came to the front. */
   look() {
     this.beside.look();
   }
 
-  /** @param {number} count of errors in the text */
+  /** @param {number} count the number of errors in the text */
   mark(count) {
     if (count > 0) this.calls.mark(countOfFaults(count));
     else if (!this.tested) this.calls.mark("");
   }
 
-  /** Another session's texts are shown: former results are not about them. */
+  /** Clears the results, because the texts of another session are shown. */
   forget() {
     this.round += 1;
     this.clear();

@@ -1,4 +1,4 @@
-// The results of tests on the page: a row for each, with its error; the coverage of the program; and its cycles.
+// The results of tests: a row for each test with its error, the coverage of the program, and its cycles.
 
 import { Cell, below, block, buttonOf, element } from "../ui/dom.js";
 import { hex } from "../../core/bench/numbers.js";
@@ -15,7 +15,7 @@ import * as say from "../../words/testing.js";
  */
 
 /**
- * The calls of the results of tests.
+ * The calls that the results of tests make.
  * @typedef {object} ResultCalls
  * @property {(line: number) => void} goTo Shows a line of the text of tests, from 1.
  * @property {(address: number) => void} goToAddress Shows the line of an address in source and listing.

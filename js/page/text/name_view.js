@@ -69,8 +69,8 @@ export class NameView {
   }
 
   /**
+   * @param {Reference} reference
    * @param {string} text the text of the reference's line
-   * @param {string} text of its line
    */
   row(reference, text) {
     const made = element("button", { type: "button" }, say.lineOfName(reference.line, reference.isDefinition));

@@ -1,4 +1,4 @@
-// The menu of a row of the waves: its name, its group, its position, its colour; and that of a group.
+// The menu of a row of the waves, for its name, its group, its position and its colour, and the menu of a group.
 
 import { ContextMenu } from "../commands/menu_view.js";
 import { FieldBar } from "../text/field_bar.js";
@@ -11,10 +11,11 @@ import * as say from "../../words/waves.js";
  * @typedef {import("../../core/waves/wave_rows.js").WaveRow} WaveRow
  */
 
+/** The maximum length of a name. */
 const LONGEST_NAME = 40;
 
 export class RowMenu {
-  /** @param {import("./wave_view.js").WaveView} view for whose marked row it is */
+  /** @param {import("./wave_view.js").WaveView} view the view with the selected row */
   constructor(view) {
     this.view = view;
     this.menu = new ContextMenu("row-menu", say.ROW);

@@ -26,21 +26,21 @@ import * as say from "../../words/waves.js";
  * The calls that the logic analyser makes.
  * @typedef {object} ScopeCalls
  * @property {(cycles: number, isBefore: boolean, values: string[]) => Promise<Recorded | null>} record Records `cycles` cycles up to now
- *   (`isBefore`) or from now on, with values by their names. Resolves to null if it failed, which is then reported.
+ *   (`isBefore`) or from now on, with values by their names. Resolves to null after a failure that was reported.
  * @property {(wanted: { trigger: string } & LiveWanted, values: string[]) => Promise<{ recorded: Recorded | null, fault: string } | null>}
- * begin Records from now on until `end`. Resolves to the first part, or to why the trigger cannot be read; null if the call failed.
- * @property {() => Promise<LivePart | null>} end Ends the recording. Resolves to the rest of it; null if there is none.
- * @property {() => WaveLine[]} offered Returns all lines of the present board.
+ * begin Records from now on until `end`. Resolves to the first part, or to the error in the trigger; to null if the call failed.
+ * @property {() => Promise<LivePart | null>} end Ends the recording. Resolves to its last part, or to null if there is none.
+ * @property {() => WaveLine[]} offered Returns all lines of the board.
  * @property {() => string} name Returns the name of the session, from which file names are made.
  * @property {(address: number) => void} goTo Shows the line of an address in source and listing.
- * @property {(isOn: boolean) => void} isOn Shows on the tab whether it records.
+ * @property {(isOn: boolean) => void} isOn Shows on the tab whether a recording is under way.
  * @property {(rows: import("../../core/waves/wave_rows.js").KeptRows) => void} keep Stores the arrangement of the rows.
  */
 
-/** A growing picture is drawn once in this many milliseconds. */
+/** The interval in milliseconds at which a growing picture is drawn. */
 const PICTURE_TIME = 100;
 
-/** At most one panel below the row of controls is open; Escape closes it, and so does a press elsewhere. */
+/** Lets at most one panel below the row of controls be open. Escape and a press outside the panel close it. */
 function listenToPops() {
   const pops = [.../** @type {NodeListOf<HTMLDetailsElement>} */ (block("wave-bar").querySelectorAll(".pop"))];
   const closeBut = (/** @type {EventTarget | null} */ target) => {
@@ -61,7 +61,7 @@ function listenToPops() {
   }
 }
 
-/** What opens below the controls begins where they end, in one row or more. */
+/** Stores the height of the controls in a CSS property, because panels open below them. */
 function followHeight() {
   const bar = block("wave-bar");
   new ResizeObserver(() => block("scope").style.setProperty("--wave-bar-height", `${bar.offsetHeight}px`)).observe(bar);
@@ -83,8 +83,9 @@ export class Scope {
       offered: calls.offered, choose: (chosen) => this.view.choose(chosen), wants: () => this.wantOthers(),
     });
     this.isBusy = false;
-    /** @type {LiveWaves | null} the recording that is made while time runs, or was made so */
+    /** @type {LiveWaves | null} the last recording of running time */
     this.live = null;
+    /** True if the picture shows the last part of the recording. */
     this.isDrawn = true;
     this.where = byId("record-where", HTMLSelectElement);
     this.listen();
@@ -118,13 +119,13 @@ export class Scope {
     return this.live !== null && this.live.isOn;
   }
 
-  /** A trigger belongs to a recording of running time. */
+  /** Shows the trigger only for a recording of running time. */
   showTrigger() {
     block("trigger-bar").hidden = this.where.value !== "live";
   }
 
   /**
-   * Returns the number of cycles in a field, 0 if there is none, which is reported at the field.
+   * Returns the number of cycles in a field, or -1 after a message if it has no valid number.
    * @param {string} id
    * @param {number} least
    */
@@ -143,7 +144,7 @@ export class Scope {
   async record() {
     if (this.isBusy) return;
     this.isBusy = true;
-    // Reports the same words again.
+    // The same message is announced again.
     this.status.set("");
     try {
       if (this.isLive) await this.end();
@@ -172,10 +173,10 @@ export class Scope {
     this.choice.begin(waves);
   }
 
-  // --- while time runs ---
+  // --- recordings of running time ---
 
   /**
-   * Returns the limits of the recording, or null if a field cannot be read, and reports that.
+   * Returns the limits of the recording, or null after a message if a field has no valid number.
    * @returns {LiveChoice | null}
    */
   chosen() {
@@ -205,7 +206,7 @@ export class Scope {
   }
 
   /**
-   * A register or a character whose change is waited for is recorded, too.
+   * Chooses the register or the nibble in a trigger, so that it is recorded, too.
    * @param {string} trigger
    */
   chooseNamed(trigger) {
@@ -219,7 +220,7 @@ export class Scope {
     if (part) this.take(part);
   }
 
-  /** Values are chosen that are not recorded: a recording in progress restarts with them. */
+  /** Restarts a recording under way, because values were chosen that it does not record. */
   async wantOthers() {
     if (!this.isLive || this.isBusy) return;
     this.isBusy = true;
@@ -231,7 +232,7 @@ export class Scope {
   }
 
   /**
-   * Handles a further part; null if recording has ended.
+   * Handles another part of the recording; null if the recording has ended.
    * @param {LivePart | null} part
    */
   take(part) {
@@ -256,11 +257,11 @@ export class Scope {
     this.choice.grown();
     this.showLive(live);
     const { over } = live;
-    // A user who runs a new program waits for the same again.
+    // A user who changes the program or the board wants the same recording again.
     if (over === "board" || over === "program") this.begin();
   }
 
-  /** Time is paused: the recording so far is shown as a whole. */
+  /** Shows the whole recording so far, because time is paused. */
   stands() {
     const { live } = this;
     if (!live || !live.isOn) return;
@@ -276,7 +277,10 @@ export class Scope {
     this.calls.isOn(live.isOn);
   }
 
-  /** @param {boolean} isForward searches for the text of the field, from the cursor on */
+  /**
+   * Searches for the text of the field, from the cursor on.
+   * @param {boolean} isForward
+   */
   find(isForward) {
     const { waves, line, view } = this.view;
     if (!waves) return;
@@ -296,7 +300,7 @@ export class Scope {
     else this.found.set(say.notFound(text.trim(), isForward, grouped(view.moment)));
   }
 
-  /** Another session is shown, to which the recording does not belong. */
+  /** Forgets the recording, because another session is shown. */
   forget() {
     this.live = null;
     this.view.waves = null;
@@ -309,7 +313,7 @@ export class Scope {
   }
 
   /**
-   * Returns the recording, if a row is shown; null if not, which is reported.
+   * The recording to save, or null after a message if no row is shown.
    * @returns {Waves | null}
    */
   get saved() {

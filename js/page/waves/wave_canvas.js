@@ -13,22 +13,23 @@ import { ticksOf } from "../../core/waves/wave_window.js";
  * @typedef {CanvasRenderingContext2D | import("../../core/waves/svg_context.js").SvgContext} Context
  * @typedef {{ ink: string, faint: string, grid: string, sheet: string, chosen: string, first: string, second: string, measured: string }
  *   & Record<RowColour, string>} Colours
- * @typedef {{ row: number, from: number, to: number }} Stretch of a row, by two moments
+ * @typedef {{ row: number, from: number, to: number }} Stretch the part of a row between two moments
  * @typedef {{ waves: Waves, rows: WaveRow[], selected: number, view: WaveWindow, top: number, gutter: number, height: number, trigger:
- * number, measured: Stretch | null, colours: Colours, font: string }} Picture the drawing: `top` is how many pixels of the rows are
+ * number, measured: Stretch | null, colours: Colours, font: string }} Picture the drawing: `top` is the number of pixels that are
  * scrolled away above, `trigger` the moment of the trigger, -1 for none, `measured` the measurement at the pointer
  */
 
-/** The height of the moments above, and of a line. */
+/** The height in pixels of the axis with the moments. */
 export const AXIS = 26;
+/** The height in pixels of a row. */
 export const ROW = 26;
-/** A number of a moment has so much room. */
+/** The width in pixels of the number of a moment. */
 const TICK_ROOM = 92;
-/** The width of a cursor's letter. */
+/** The width in pixels of the flag with a cursor's letter. */
 const FLAG = 14;
-/** The names of a group's rows begin here. */
+/** The indentation in pixels of the names in a group. */
 const INDENT = 14;
-/** From a line's edge to its high level. */
+/** The distance in pixels from the edge of a row to its high or low level. */
 const MARGIN = 5;
 
 /**
@@ -84,7 +85,7 @@ function drawTicks(context, { view, gutter, height, colours }) {
     context.fillStyle = colours.faint;
     const text = tick.toLocaleString("en");
     const { width } = context.measureText(text);
-    // A cursor at the moment does not cover its number.
+    // The number is next to its moment, so that a cursor at the moment does not cover it.
     const right = x + FLAG / 2 + 2;
     const begin = right + width > gutter + view.width ? x - 3 - width : right;
     if (begin < free) continue;
@@ -97,7 +98,7 @@ function drawTicks(context, { view, gutter, height, colours }) {
 
 /**
  * @param {Context} context
- * @param {number[]} points x and y in turn
+ * @param {number[]} points the coordinates, x and y in turn
  */
 function strokeLine(context, ...points) {
   context.beginPath();
@@ -143,7 +144,7 @@ function drawRow(context, picture, row, y) {
 }
 
 /**
- * Draws the measurement of a row, underlined.
+ * Underlines the measurement in a row.
  * @param {Context} context
  * @param {Picture} picture
  * @param {Stretch} measured
@@ -156,7 +157,7 @@ function drawMeasured(context, { view, gutter, colours }, { from, to }, y) {
 }
 
 /**
- * Returns the name of a line next to its picture: a port by its name in the board's text, a decoder by its function.
+ * Returns the name of a line in the gutter: a port with its name in the board's text, a decoder by its function.
  * @param {import("../../core/waves/wave_lines.js").WaveLine} line
  */
 function nameInGutter(line) {
@@ -166,7 +167,7 @@ function nameInGutter(line) {
 }
 
 /**
- * Returns the value at the active cursor; that of a label or a decoder is in its row.
+ * Returns the value at the active cursor in the gutter. Labels and decoders have their values in their rows.
  * @param {Picture} picture
  * @param {number} line
  */
@@ -175,7 +176,7 @@ function valueInGutter({ waves, view }, line) {
 }
 
 /**
- * Draws one bit: high and low levels, and a block if edges are closer than pixels.
+ * Draws a line of one bit: high and low levels, and a block if edges are closer than pixels.
  * @param {Context} context
  * @param {Picture} picture
  * @param {number} line
@@ -194,7 +195,7 @@ function drawLevels(context, { waves, view, gutter }, line, y) {
     const x = view.xOf(changes[seen]);
     const next = countUpTo(changes, view.cyclesAt(x + 1));
     if (next > seen + 1) {
-      // A pixel with several edges.
+      // Several edges in one pixel.
       context.lineTo(gutter + x, level ? high : low);
       context.fillRect(gutter + x, high, 1, low - high);
       level ^= (next - seen) & 1;
@@ -213,7 +214,7 @@ function drawLevels(context, { waves, view, gutter }, line, y) {
 }
 
 /**
- * Draws the counter or the label: a box for each value, with the value in it if it has room.
+ * Draws a line of texts, for example the program counter: a box for each value, with the value in it if it has room.
  * @param {Context} context
  * @param {Picture} picture
  * @param {number} line
@@ -254,7 +255,7 @@ function drawValue(context, value, from, to, y) {
 /**
  * @param {Context} context
  * @param {Picture} picture
- * @param {number} at 0 for A, 1 for B
+ * @param {number} at 0 for cursor A, 1 for cursor B
  * @param {string} colour
  */
 function drawCursor(context, picture, at, colour) {
@@ -266,16 +267,16 @@ function drawCursor(context, picture, at, colour) {
 }
 
 /**
- * Returns where the flag of a mark begins: the mark is in its middle, but the flag does not cross the right edge.
- * @param {number} x of the mark
- * @param {number} right the edge
+ * Returns the left edge of a mark's flag. The mark is in the middle of the flag, but the flag does not cross the right edge of the picture.
+ * @param {number} x the position of the mark
+ * @param {number} right the right edge
  */
 export function flagAt(x, right) {
   return Math.min(x - FLAG / 2, right - FLAG);
 }
 
 /**
- * A marked moment: a line with a letter on a flag.
+ * Draws a marked moment: a line with a letter on a flag.
  * @param {Context} context
  * @param {Picture} picture
  * @param {{ moment: number, letter: string, y: number, colour: string, dash: number[] }} mark

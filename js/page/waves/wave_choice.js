@@ -1,4 +1,4 @@
-// The choice of a recording's lines and values: a box to tick for each of them, by the parts of the board, and a search among them.
+// The choice of lines and values to show: a check box for each of them, grouped by the parts of the board, and a search.
 
 import { Cell, block, button, element, field, onClick } from "../ui/dom.js";
 import { firstChoice, found, titleOf, valuesAmong } from "../../core/waves/wave_catalog.js";
@@ -12,9 +12,9 @@ import * as say from "../../words/waves.js";
 /**
  * The calls that the choice of lines makes.
  * @typedef {object} ChoiceCalls
- * @property {() => WaveLine[]} offered Returns all lines of the present board, recorded or not.
- * @property {(chosen: number[]) => void} choose Shows these lines of the recording, by their numbers, in this order.
- * @property {() => void} wants Values are chosen that the recording lacks.
+ * @property {() => WaveLine[]} offered Returns all lines of the board, recorded or not.
+ * @property {(chosen: number[]) => void} choose Shows lines of the recording, by their numbers, in this order.
+ * @property {() => void} wants Handles a choice of values that the recording lacks.
  */
 
 export class WaveChoice {
@@ -23,12 +23,12 @@ export class WaveChoice {
     this.calls = calls;
     /** @type {Waves | null} */
     this.waves = null;
-    /** @type {Set<string>} names */
+    /** @type {Set<string>} the names of the chosen lines and values */
     this.chosen = new Set();
-    /** True if the lines are those that change, because the user chose none. */
+    /** True if the user has chosen the lines. Otherwise the lines that change are chosen. */
     this.isOwn = false;
     this.status = new Cell(block("signals-status"));
-    /** @type {Map<string, HTMLInputElement>} the boxes by the names of their lines */
+    /** @type {Map<string, HTMLInputElement>} the check boxes, by the names of their lines */
     this.boxes = new Map();
     onClick(button("waves-changing"), () => this.chooseChanging());
     onClick(button("waves-all"), () => this.waves && this.set(this.waves.lines.map(({ name }) => name), true));
@@ -37,12 +37,12 @@ export class WaveChoice {
     block("wave-choice").addEventListener("toggle", () => this.draw());
   }
 
-  /** The names of registers and characters that are to be recorded. */
+  /** The names of the registers and the nibbles to record. */
   get values() {
     return valuesAmong(this.calls.offered(), this.chosen);
   }
 
-  /** @param {Waves} waves another recording; lines that were chosen by name stay chosen */
+  /** @param {Waves} waves a new recording; lines that the user has chosen stay chosen, by their names */
   begin(waves) {
     this.waves = waves;
     const isLineChosen = waves.lines.some(({ name, kind }) => kind !== "value" && this.chosen.has(name));
@@ -52,14 +52,14 @@ export class WaveChoice {
     this.showCount();
   }
 
-  /** Takes a longer recording: shows lines that change, unless lines were chosen manually. */
+  /** Handles a longer recording: chooses the lines that change, unless the user has chosen lines. */
   grown() {
     if (this.isOwn || !this.waves) return;
     if (this.addChanging(this.waves)) this.showCount();
   }
 
   /**
-   * Chooses the lines that change in place of others; returns whether the choice has changed.
+   * Chooses the lines that change. Returns whether the choice has changed.
    * @param {Waves} waves
    */
   addChanging(waves) {
@@ -77,7 +77,7 @@ export class WaveChoice {
     if (this.waves && this.addChanging(this.waves)) this.showCount();
   }
 
-  /** The recording is closed; the user's choice also applies to the next board, if it has lines of these names. */
+  /** Forgets the recording and the choice. */
   forget() {
     this.waves = null;
     this.chosen.clear();
@@ -86,7 +86,7 @@ export class WaveChoice {
     this.draw();
   }
 
-  /** The boxes of the matches; they are made while they are visible. */
+  /** Draws the check boxes of the lines that match the search, if the boxes are visible. */
   draw() {
     if (!block("wave-choice").hasAttribute("open")) return;
     const { lines, more } = found(this.calls.offered(), field("signal-search").value, this.chosen);
@@ -138,7 +138,7 @@ export class WaveChoice {
     if (this.lacking.length > 0) this.calls.wants();
   }
 
-  /** The values that are chosen, and that the recording has not. */
+  /** The chosen values that the recording lacks. */
   get lacking() {
     const { waves } = this;
     return waves ? this.values.filter((name) => waves.lines.every((line) => line.name !== name)) : [];

@@ -6,7 +6,7 @@ import { drawWaves } from "./wave_canvas.js";
 
 /** @typedef {import("./wave_canvas.js").Picture} Picture */
 
-/** The pixels of the file for each pixel of the page. */
+/** The number of pixels of the PNG file for each pixel of the page. */
 const RATIO = 2;
 
 /** @param {Picture} picture */

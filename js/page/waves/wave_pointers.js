@@ -1,4 +1,5 @@
-// Fingers, mouse and wheel on the waves: a click puts the cursor, a drag moves the visible part, or a row by its name, two fingers and the
+// Fingers, mouse and wheel on the waves. A click places the cursor. A drag moves the visible part, or a row at its name. Two fingers and
+// the
 // wheel zoom.
 
 /**
@@ -8,17 +9,17 @@
 /**
  * The calls that fingers, mouse and wheel on the waves make. Points are in pixels from the top left corner.
  * @typedef {object} PointerCalls
- * @property {(point: Point, isOther: boolean) => void} click Puts the cursor at a point; with Shift (`isOther`) the other cursor.
+ * @property {(point: Point, isOther: boolean) => void} click Places the cursor at a point; with Shift (`isOther`) the other cursor.
  * @property {(point: Point) => boolean} holdsCursor Returns whether a drag from a point moves the cursor.
- * @property {(point: Point) => void} drag Moves the cursor that is dragged to a point.
- * @property {(point: Point) => boolean} isName Returns whether names of rows are at a point.
+ * @property {(point: Point) => void} drag Moves the dragged cursor to a point.
+ * @property {(point: Point) => boolean} isName Returns whether a point is on the names of rows.
  * @property {(from: Point, to: Point) => void} dragRow Moves the row whose name is at one point to the other point.
- * @property {(point: Point | null) => void} hover The pointer is at a point and nothing is pressed; null: it has left.
+ * @property {(point: Point | null) => void} hover Handles a pointer at a point without a press; null if the pointer has left or is pressed.
  * @property {(pixels: number) => void} pan Moves the visible part, to later moments if `pixels` is positive.
- * @property {(factor: number, x: number) => void} zoom Shows `factor` times as many pixels for each cycle, around the moment at `x`.
+ * @property {(factor: number, x: number) => void} zoom Shows `factor` times as many pixels per cycle, around the moment at `x`.
  */
 
-/** A pointer that has moved less, in pixels, has clicked. */
+/** The maximum distance in pixels that a pointer moves in a click. */
 const STILL = 5;
 /** The zoom factor of a turn of the wheel. */
 const WHEEL = 1.25;
@@ -104,7 +105,7 @@ export class WavePointers {
   }
 
   /**
-   * The wheel zooms at the pointer, pans if it is turned sideways or with Shift, and scrolls the rows at their names.
+   * Handles a turn of the wheel. It zooms at the pointer, pans if the turn is sideways or with Shift, and scrolls the rows at their names.
    * @param {WheelEvent} event
    */
   turn(event) {

@@ -1,14 +1,14 @@
-// The values of the lines at the cursors, as a table. It is filled while it is open.
+// The table of values at the cursors. It is filled while it is open.
 
 import { Cell, block, byId, element } from "../ui/dom.js";
 
 /** @typedef {import("../../core/waves/wave_recording.js").Waves} Waves */
 
 export class WaveValues {
-  /** @param {() => void} opened it was opened: its values are wanted */
+  /** @param {() => void} opened called when the table is opened or closed */
   constructor(opened) {
     this.node = byId("wave-values", HTMLDetailsElement);
-    /** @type {number[]} the lines of its rows */
+    /** @type {number[]} the line of each row */
     this.rows = [];
     /** @type {Cell[][]} */
     this.cells = [];

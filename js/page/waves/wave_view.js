@@ -1,4 +1,4 @@
-// The view of the waves: the canvas, the cursors, and their values in words.
+// The view of the waves: the canvas, the cursors, and texts with their values.
 
 import { Cell, block, button, byId, field, onClick, pressedSwitch } from "../ui/dom.js";
 import { AXIS, ROW, drawWaves } from "./wave_canvas.js";
@@ -23,29 +23,31 @@ import * as say from "../../words/waves.js";
  */
 
 /**
- * The calls that the waves make.
+ * The calls that the view of the waves makes.
  * @typedef {object} WaveViewCalls
  * @property {(address: number) => void} goTo Shows the line of an address in source and listing.
- * @property {(name: string) => void} hide Shows a line no longer, by its name.
+ * @property {(name: string) => void} hide Hides a line, by its name.
  * @property {(rows: KeptRows) => void} keep Stores the arrangement of the rows.
  */
 
 /** The zoom factor of a button or a key. */
 const ZOOM = 2;
-/** The names of lines have so much room, and less on a narrow page. */
+/** The width in pixels of the names of lines. */
 const GUTTER = 150;
+/** The width in pixels of the names of lines in a narrow view. */
 const NARROW_GUTTER = 112;
+/** A view of fewer pixels is narrow. */
 const NARROW = 600;
-/** The most lines that are visible without scrolling. */
+/** The maximum number of rows that are visible without scrolling. */
 const MOST_ROWS = 20;
 
-/** The names of colours in the style sheet. */
+/** The CSS property of each colour. */
 const COLOURS = {
   ink: "--wave-ink", faint: "--wave-faint", grid: "--wave-grid", sheet: "--wave-sheet", chosen: "--wave-chosen", first: "--wave-first",
   second: "--wave-second", measured: "--wave-measured",
   ...Object.fromEntries(ROW_COLOURS.map((colour) => [colour, `--wave-${colour}`])),
 };
-/** From the pointer to the measurement there. */
+/** The distance in pixels between the pointer and the measurement next to it. */
 const NEAR = 12;
 
 export class WaveView {
@@ -64,16 +66,17 @@ export class WaveView {
     this.rows = [];
     /** @type {WaveRow | null} the row that is dragged by its name */
     this.dragged = null;
-    /** @type {Point | null} where the pointer is, if nothing is pressed */
+    /** @type {Point | null} the position of the pointer, if nothing is pressed */
     this.pointer = null;
     this.measure = block("wave-measure");
     this.measured = new Cell(this.measure);
     this.menu = new RowMenu(this);
-    /** The row in which edges are searched, -1 for none. */
+    /** The index of the selected row, in which edges are searched; -1 for none. */
     this.selected = -1;
     this.view = new WaveWindow(0);
+    /** True if a drawing is requested. */
     this.isAsked = false;
-    /** @type {Base} how numbers are written */
+    /** @type {Base} the base of numbers */
     this.base = "hex";
     /** The moment of the trigger, -1 for none. */
     this.trigger = -1;
@@ -138,7 +141,7 @@ export class WaveView {
     return names.map((name) => numbers.get(name) || 0);
   }
 
-  /** @param {Waves} waves another recording */
+  /** @param {Waves} waves the recording to show */
   begin(waves) {
     this.waves = waves;
     this.trigger = -1;
@@ -147,7 +150,7 @@ export class WaveView {
   }
 
   /**
-   * The recording has become more at its end, or less at its beginning.
+   * Handles a recording that has become longer at its end, or shorter at its beginning.
    * @param {number} trigger the moment of its trigger, -1 for none
    */
   grow(trigger) {
@@ -157,7 +160,7 @@ export class WaveView {
     this.ask();
   }
 
-  /** Shows a finished recording whole, with the cursors at the first two edges of the first row that has some. */
+  /** Shows the whole of a finished recording, with the cursors at the first two edges of the first row that has edges. */
   fit() {
     const { waves, view, rows } = this;
     const row = rows.find(({ line }) => waves !== null && line >= 0 && waves.changesOf(line).length > 0);
@@ -166,27 +169,30 @@ export class WaveView {
     this.see(() => view.fit());
   }
 
-  /** @param {number} moment is shown, with its surroundings */
+  /**
+   * Shows a moment and its surroundings.
+   * @param {number} moment
+   */
   showAround(moment) {
     this.see(() => this.view.showAround(moment));
   }
 
-  /** @param {Base} base how numbers are written */
+  /** @param {Base} base the base of numbers */
   setBase(base) {
     this.base = base;
     if (this.waves) this.waves.base = base;
     this.ask();
   }
 
-  /** @param {number[]} lines that are shown, in the order of the board */
+  /** @param {number[]} lines the lines to show, in the order of the board */
   choose(lines) {
     this.chosen = lines;
     this.arrange(this.rows[this.selected]);
   }
 
   /**
-   * The rows have changed or moved.
-   * @param {WaveRow | undefined} marked the row that is marked
+   * Arranges the rows again, because they have changed or moved.
+   * @param {WaveRow | undefined} marked the row to select
    */
   arrange(marked) {
     const { waves } = this;
@@ -199,7 +205,10 @@ export class WaveView {
     this.ask();
   }
 
-  /** @param {WaveRow} row the former one */
+  /**
+   * Returns the index of a row after a change, or -1 if the row is no longer shown.
+   * @param {WaveRow} row
+   */
   rowOf({ line, group }) {
     return this.rows.findIndex((each) => each.line === line && (line >= 0 || each.group === group));
   }
@@ -209,16 +218,16 @@ export class WaveView {
     return y < AXIS ? -1 : Math.floor((y - AXIS + this.scroll.scrollTop) / ROW);
   }
 
-  // --- how rows are arranged ---
+  // --- the arrangement of rows ---
 
-  /** @param {KeptRows | undefined} kept of a session */
+  /** @param {KeptRows | undefined} kept the arrangement of a session */
   open(kept) {
     this.arrangement = new WaveRows(kept);
     this.arrange(undefined);
   }
 
   /**
-   * Stores a change of the rows.
+   * Changes the arrangement of rows, and stores it.
    * @param {() => void} act
    */
   rearrange(act) {
@@ -259,12 +268,18 @@ export class WaveView {
     this.rearrange(() => names.forEach((name) => this.arrangement.change(name, look)));
   }
 
-  /** @param {string} group folds or unfolds */
+  /**
+   * Folds or unfolds a group.
+   * @param {string} group
+   */
   fold(group) {
     this.rearrange(() => this.arrangement.fold(group));
   }
 
-  /** @param {MouseEvent} event the menu of the row there is wanted, of the marked one if there is none there, as by a key */
+  /**
+   * Opens the menu of the row at the pointer, or of the selected row if a key has asked for the menu.
+   * @param {MouseEvent} event
+   */
   openMenu(event) {
     event.preventDefault();
     const { left, top } = this.canvas.getBoundingClientRect();
@@ -278,7 +293,7 @@ export class WaveView {
 
   // --- measurements ---
 
-  /** @param {Point | null} point the position of the pointer; null if it presses, or is gone */
+  /** @param {Point | null} point the position of the pointer; null if the pointer is pressed or has left */
   hover(point) {
     this.pointer = point;
     if (!point) this.dragged = null;
@@ -286,7 +301,7 @@ export class WaveView {
   }
 
   /**
-   * Shows the measurement at the pointer: in words next to it, and underlined in the picture.
+   * Shows the measurement at the pointer as a text next to it. Returns the part of the row to underline.
    * @param {Waves} waves
    * @returns {import("./wave_canvas.js").Stretch | null}
    */
@@ -328,14 +343,20 @@ export class WaveView {
     });
   }
 
-  /** @param {number} factor about the cursor if it is visible, otherwise about the middle */
+  /**
+   * Zooms around the cursor if it is visible, otherwise around the middle.
+   * @param {number} factor
+   */
   zoom(factor) {
     const { view } = this;
     const isSeen = view.moment >= view.from && view.moment <= view.to;
     this.see(() => view.zoom(factor, isSeen ? view.moment : view.from + view.span / 2));
   }
 
-  /** @param {boolean} isForward */
+  /**
+   * Moves the cursor to the next or the previous edge in the selected row.
+   * @param {boolean} isForward
+   */
   toEdge(isForward) {
     if (!this.waves || this.line < 0) return;
     const { moment } = this.view;
@@ -348,14 +369,17 @@ export class WaveView {
     if (this.waves) this.calls.goTo(this.waves.counterAt(this.view.moment));
   }
 
-  /** By Enter: the instruction at the cursor, or the group that is marked. */
+  /** Handles Enter: shows the instruction at the cursor, or folds the selected group. */
   enter() {
     const row = this.rows[this.selected];
     if (row && row.line < 0) this.fold(row.group);
     else this.showInstruction();
   }
 
-  /** @param {number} line is marked, if it is shown */
+  /**
+   * Selects the row of a line, if it is shown.
+   * @param {number} line
+   */
   mark(line) {
     const row = this.rows.findIndex((each) => each.line === line);
     if (row >= 0) this.select(row);
@@ -408,7 +432,7 @@ export class WaveView {
       p: () => this.toEdge(false), n: () => this.toEdge(true), a: () => this.activate(0), b: () => this.activate(1),
     };
     const act = acts[event.key] || acts[event.key.toLowerCase()];
-    // The keyboard does not press the board's keys from here.
+    // Keys that are pressed here must not press keys of the board.
     if (event.key.length === 1 || act) event.stopPropagation();
     if (!act) return;
     event.preventDefault();
@@ -417,7 +441,7 @@ export class WaveView {
 
   // --- drawing ---
 
-  /** Requests a drawing, once, when the browser draws next. */
+  /** Requests one drawing, at the next frame of the browser. */
   ask() {
     if (this.isAsked || !this.waves) return;
     this.isAsked = true;

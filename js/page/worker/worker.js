@@ -1,4 +1,4 @@
-// The worker: it does one request after the other, and between them it lets time run at full speed.
+// The worker of the bench: it serves one request after the other, and between requests it lets time run at full speed.
 
 import { BenchCalls } from "../../core/engine/bench_calls.js";
 import { earlySender } from "../bench/early_replies.js";
@@ -13,14 +13,14 @@ import { packFault } from "../../core/bench/faults.js";
  *   addEventListener: (kind: "message", listen: (event: { data: ToWorker }) => void) => void }} Scope
  */
 
-/** The milliseconds between two reports of progress. */
+/** The interval in milliseconds between reports of progress. */
 const PROGRESS_TIME = 100;
 
-/** @type {Record<string, true>} calls that change the session in addition to running time */
+/** @type {Record<string, true>} calls that change the session, also while time is running */
 const CHANGES = { serve: true, serveTyped: true, goOn: true, goBack: true, goForward: true };
 
 /**
- * Returns whether a call lets time pass from a key on, whose lamps are waited for.
+ * Returns whether a call runs time after a key press. The user waits for the lamps of such a run.
  * @param {string} call
  * @param {any[]} words
  */
@@ -36,8 +36,9 @@ class BenchWorker {
     this.calls = new BenchCalls((done, total) => this.goesOn(done, total));
     /** @type {Request[]} */
     this.requests = [];
-    /** The request under way, and the one to cancel, by their numbers. */
+    /** The number of the request under way. */
     this.current = 0;
+    /** The number of the request to cancel. */
     this.cancelled = 0;
     /** The time of the last report of progress. */
     this.status = 0;
@@ -69,7 +70,7 @@ class BenchWorker {
     this.scope.postMessage(message, transfer);
   }
 
-  /** Lets the messages in that have arrived meanwhile. */
+  /** Resolves after the messages that have arrived meanwhile are handled. */
   yieldToMessages() {
     return new Promise((done) => {
       this.breathed = () => done(undefined);
@@ -97,7 +98,7 @@ class BenchWorker {
   async answer({ number, call, words }) {
     this.current = number;
     this.status = performance.now();
-    // The work of time before lines is reported before them.
+    // The run before a call is reported before the call.
     if (CHANGES[call] && this.calls.bench.fullSpeed.isOn) this.postFrame(this.calls.bench.takeUnreported());
     try {
       const result = await (/** @type {any} */ (this.calls))[call](...words);
@@ -125,7 +126,7 @@ class BenchWorker {
   }
 
   /**
-   * Between the pieces of long work: reports the progress, and returns whether to continue.
+   * Reports progress between the pieces of long work. Resolves to whether the work continues.
    * @param {number} done
    * @param {number} total
    */
