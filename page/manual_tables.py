@@ -1,17 +1,17 @@
-"""The tables that the page shows: those of docs/MANUAL.md, so that each is written once, and those of page/help.md, about the page itself."""
+"""The tables in the help of the page: from docs/MANUAL.md, so that each is written once, and from page/help.md, about the page itself."""
 
 import pathlib
 import re
 
 PAGE = pathlib.Path(__file__).resolve().parent
-# The sections whose tables the page shows, in the order of its help.
+# The titles of the sections with these tables, in the order of the help.
 SECTIONS = ("The 45 instructions", "The form of a program", "The sixteen conditions of JCN", "The keys of the text", "The names of lines",
             "The front panel of a board", "Commands", "Places", "Queries", "The keyboard", "What the cells show",
             "Conditions", "The lines of a test", "Inputs", "Properties")
 
 
 def section_of(manual, title):
-    """The text below a heading, up to the next one."""
+    """Returns the text below a heading, up to the next heading."""
     found = re.search(rf"^#+ {re.escape(title)}\n(.*?)(?=^#|\Z)", manual, re.M | re.S)
     if found is None:
         raise ValueError(f"neither docs/MANUAL.md nor page/help.md has a section '{title}'")
@@ -19,12 +19,12 @@ def section_of(manual, title):
 
 
 def cells_of(line):
-    """The cells of a row. A bar inside a cell is written as a backslash and a bar."""
+    """Returns the cells of a row. A bar inside a cell is written as a backslash and a bar."""
     return [cell.strip().replace("\\|", "|") for cell in re.split(r"(?<!\\)\|", line.strip()[1:-1])]
 
 
 def tables_of(section):
-    """The tables of a section: of each the line in bold type before it, if there is one, its head and its rows."""
+    """Returns the tables of a section: each with its caption (the bold line before it, "" if there is none), its head and its rows."""
     tables = []
     caption = ""
     rows = []
@@ -41,6 +41,6 @@ def tables_of(section):
 
 
 def manual_tables():
-    """The sections, each with its tables."""
+    """Returns the sections, each with its tables."""
     manual = (PAGE.parent / "docs/MANUAL.md").read_text() + (PAGE / "help.md").read_text()
     return [{"title": title, "tables": tables_of(section_of(manual, title))} for title in SECTIONS]

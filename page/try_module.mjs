@@ -1,7 +1,9 @@
-// Tries a module of the bench that page/wasm made: `node try_module.mjs MODULE SHORT`. SHORT is the same module with a stack that is too
-// short for any call. It checks what no compiler reports: MODULE has one memory, of 32-bit addresses and at most 256 MiB; if that cannot
-// grow, calls answer `no 90` and leave the file as it was, and work again once there is memory; the prover answers, and also a question
-// with more states than there is memory for; and the stack of SHORT ends in a trap.
+// Checks a module of the bench that page/wasm has made: `node try_module.mjs MODULE SHORT`. SHORT is the same module with a stack that is
+// too short for any call. The checks are those that no compiler does:
+// - MODULE has one memory, with 32-bit addresses and at most 256 MiB.
+// - If that memory cannot grow, calls answer `no 90` and leave the file unchanged. They work again when there is memory.
+// - The prover answers, also a question with more states than the memory has room for.
+// - The stack of SHORT ends in a trap.
 import { readFileSync } from "node:fs";
 
 const MEMORY_SECTION = 5;
@@ -11,7 +13,7 @@ const BLOCK = 16n << 20n;
 const REPORT_SIZE = 16;
 const NO_MEMORY = 90;
 
-// Reads an unsigned number in LEB128; returns it with the index after it.
+// Returns an unsigned number in LEB128, and the index after it.
 function numberAt(bytes, at) {
   let value = 0;
   let shift = 0;
@@ -25,7 +27,7 @@ function numberAt(bytes, at) {
   }
 }
 
-// The limits of the module's memories: their flags, and the greatest count of pages.
+// Returns the number of the module's memories, and the flags and the maximum number of pages of the first one.
 function memories(bytes) {
   let at = 8;
   while (at < bytes.length) {
@@ -46,7 +48,7 @@ function start(path) {
   return new WebAssembly.Instance(new WebAssembly.Module(readFileSync(path)), {}).exports;
 }
 
-// The buffers of a call: a file, an input, answers, and the report.
+// Returns the buffers of a call: the file, the input, the answers and the report.
 function desk(calls, input) {
   const size = calls.bench_file_size();
   const file = calls.bench_buffer(size);
@@ -61,7 +63,7 @@ function fileOf(calls, { file, size }) {
   return Buffer.from(new Uint8Array(calls.memory.buffer, Number(file), Number(size)).slice());
 }
 
-// Serves the input: returns 0 if it was served, otherwise the number of the refusal.
+// Serves the input. Returns 0 if it was served, otherwise the number of the refusal.
 function serve(calls, name, { file, size, lines, count, answers, report }) {
   const served = calls[name](file, size, lines, count, answers, 4096n, report);
   return served ? 0 : new DataView(calls.memory.buffer, Number(report)).getUint32(0, true);
@@ -82,7 +84,7 @@ function tryMemory(bytes) {
 function tryWithoutMemory(calls) {
   const own = desk(calls, Buffer.from("poke r5 9\nregs\n"));
   expect("begin", calls.bench_begin(own.file, own.size) !== 0, true);
-  // The blocks that a call takes are lent to no one from then on, and can be lent again.
+  // The blocks that this call has used are free afterwards. The loop takes them, too.
   expect("serve", serve(calls, "bench_serve_and_settle", own), 0);
   const blocks = [];
   for (let size = BLOCK; size >= 16n; size /= 2n) {
@@ -100,14 +102,15 @@ function tryWithoutMemory(calls) {
   expect("the file has changed then", fileOf(calls, own).equals(before), false);
 }
 
-// A program that counts in some registers, and turns the lamp on while TEST is 0; the comparisons of the second RAM line never hold.
+// Returns a question about a program that counts in `registers` registers and turns its lamp on while TEST is 0. Line 1 of its port is
+// never on.
 function question(most, registers, never) {
   const counts = [...Array(registers).keys()].map((register) => `ISZ R${register}, look\n`).join("");
   return `most ${most}\nwire\n[[rom]]\nchip = 0\nport = "0000"\n[[ram]]\nbank = 0\nchips = 1\n.\nasm\n`
     + `look: JCN 1, on\nLDM 0\nWMP\n${counts}JUN look\non: LDM 1\nWMP\n${counts}JUN look\n.\nnever\nin ramport 0 ${never}\nprove\n`;
 }
 
-// The line of the answer; if there is none, the number and the count that the call returns.
+// Returns the line of the answer; without an answer, the number and the count that the call returns.
 function prove(calls, text, room = 4096n) {
   const input = Buffer.from(text);
   const [lines, answers, report] = [BigInt(input.length), room, BigInt(REPORT_SIZE)].map((size) => calls.bench_buffer(size));
