@@ -7,8 +7,8 @@
 import { readFileSync } from "node:fs";
 
 const MEMORY_SECTION = 5;
-const HAS_MOST = 1;
-const MOST_PAGES = 4096;
+const HAS_MAX = 1;
+const MAX_PAGES = 4096;
 const BLOCK = 16n << 20n;
 const REPORT_SIZE = 16;
 const NO_MEMORY = 90;
@@ -77,8 +77,8 @@ function expect(name, found, wanted) {
 function tryMemory(bytes) {
   const { count, flags, most } = memories(bytes);
   expect("memories", count, 1);
-  expect("flags of the memory", flags, HAS_MOST);
-  expect("pages of the memory at most", most, MOST_PAGES);
+  expect("flags of the memory", flags, HAS_MAX);
+  expect("pages of the memory at most", most, MAX_PAGES);
 }
 
 function tryWithoutMemory(calls) {

@@ -53,7 +53,7 @@ import * as say from "../words/page.js";
 /** @typedef {{ seeLamps: (lamps: string) => void, seeKeys: (keysDown: number) => void }} Watcher */
 
 /** The interval in milliseconds at which values that change too fast to read are drawn while time is running. */
-const DRAWN_TIME = 100;
+const DRAW_INTERVAL = 100;
 
 export class SnapshotView {
   /** @param {SnapshotCalls} calls */
@@ -63,7 +63,7 @@ export class SnapshotView {
     this.face = new Face("");
     this.reader = new SnapshotReader();
     /** The time of the last complete drawing, in milliseconds. */
-    this.drawn = 0;
+    this.lastDrawn = 0;
     this.changes = new Changes();
     this.front = new FrontView(calls.listen, calls.watchLamps);
     this.strip = new PrinterView(calls);
@@ -173,7 +173,7 @@ export class SnapshotView {
     const changed = this.reader.take(snapshot);
     this.showLamps(changed.lamps, isPassing && this.calls.isRunning() ? litShares : null);
     this.showFront(changed);
-    if (isPassing && this.calls.isFast() && performance.now() - this.drawn < DRAWN_TIME) return;
+    if (isPassing && this.calls.isFast() && performance.now() - this.lastDrawn < DRAW_INTERVAL) return;
     this.showRest();
     if (this.calls.isRunning()) this.changes.runs();
     else this.changes.stops();
@@ -181,7 +181,7 @@ export class SnapshotView {
 
   /** Draws the views of the last snapshot that `show` can delay. */
   showRest() {
-    this.drawn = performance.now();
+    this.lastDrawn = performance.now();
     this.showChanged(this.reader.readRest());
   }
 

@@ -19,7 +19,7 @@ import * as say from "../../words/board.js";
  */
 
 /** The maximum number of errors that are shown. */
-const MOST_FAULTS = 20;
+const MAX_FAULTS = 20;
 
 /**
  * Returns whether a board has neither chips nor lamps. The page then offers ways to begin.
@@ -32,7 +32,7 @@ function isBare({ roms, banks, chains, lamps }) {
 const AS_SEEN = say.asSeen(EYE_MS);
 
 /** The maximum length of a legend in large letters. */
-const SHORT_LEGEND = 4;
+const MAX_LARGE_LEGEND = 4;
 
 export class FrontView {
   /**
@@ -115,8 +115,8 @@ export class FrontView {
   drawFaults(board, face) {
     const faults = byLine([...face.faults, ...missingOf(face, board)]);
     const root = block("face-faults");
-    const messages = faults.slice(0, MOST_FAULTS).map(({ line, words }) => say.lineOfBoard(line, words));
-    root.replaceChildren(...[...messages, moreThan(faults, MOST_FAULTS)].filter(Boolean).map((words) => element("li", {}, words)));
+    const messages = faults.slice(0, MAX_FAULTS).map(({ line, words }) => say.lineOfBoard(line, words));
+    root.replaceChildren(...[...messages, moreThan(faults, MAX_FAULTS)].filter(Boolean).map((words) => element("li", {}, words)));
     root.hidden = faults.length === 0;
   }
 
@@ -147,8 +147,8 @@ export class FrontView {
     const node = element("button", { type: "button", className: "key", disabled: boardKey.legend === "" },
       element("b", {}, boardKey.legend));
     node.classList.toggle("unnamed", !boardKey.isNamed);
-    node.classList.toggle("long", boardKey.legend.length > SHORT_LEGEND);
-    node.title = boardKey.legend.length > SHORT_LEGEND ? boardKey.legend : "";
+    node.classList.toggle("long", boardKey.legend.length > MAX_LARGE_LEGEND);
+    node.title = boardKey.legend.length > MAX_LARGE_LEGEND ? boardKey.legend : "";
     node.classList.toggle("at-test", boardKey.key.kind === "pin");
     node.classList.toggle("switch", boardKey.isSwitch);
     if (boardKey.letter && boardKey.letter !== boardKey.legend) node.append(element("kbd", {}, boardKey.letter));

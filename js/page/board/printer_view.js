@@ -20,9 +20,9 @@ import { linesOf } from "../../core/board/strip.js";
  */
 
 /** The maximum number of lines that are shown: the last ones. */
-const MOST_LINES = 400;
+const MAX_LINES = 400;
 /** The maximum number of pixels below the visible part at which the end of the printout stays in view. */
-const NEAR_END = 24;
+const END_DISTANCE = 24;
 
 export class PrinterView {
   /** @param {PrinterCalls} calls */
@@ -93,7 +93,7 @@ export class PrinterView {
 
   /** Shows the lines of the printout. Elements of unchanged lines stay. */
   show() {
-    const lines = this.printer ? linesOf(this.codes, this.printer.words).slice(-MOST_LINES) : [];
+    const lines = this.printer ? linesOf(this.codes, this.printer.words).slice(-MAX_LINES) : [];
     if (lines[lines.length - 1] === "") lines.pop();
     let same = 0;
     while (same < lines.length && lines[same] === this.lines[same]) same += 1;
@@ -107,7 +107,7 @@ export class PrinterView {
 
   scrolled() {
     const { scrollHeight, scrollTop, clientHeight } = this.paper;
-    this.follows = scrollHeight - scrollTop - clientHeight <= NEAR_END;
+    this.follows = scrollHeight - scrollTop - clientHeight <= END_DISTANCE;
   }
 
   toEnd() {

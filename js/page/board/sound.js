@@ -17,40 +17,40 @@ import * as say from "../../words/board.js";
  */
 
 /** The number of cycles in one block of samples: 45 ms. */
-const PIECE_CYCLES = 4200;
+const BLOCK_CYCLES = 4200;
 /** The seconds from a cycle to its sound. */
-const AHEAD = 0.09;
+const DELAY = 0.09;
 /** The maximum of these seconds. Later blocks are left out. */
-const MOST_AHEAD = 0.4;
+const MAX_DELAY = 0.4;
 /** The gain of the sound. */
-const LOUDNESS = 0.12;
+const VOLUME = 0.12;
 /** The lowest audible pitch in hertz. A line that stays at 1 is silent. */
-const LEAST_PITCH = 30;
+const MIN_PITCH = 30;
 
 /** Plays samples, one block after the other. */
 class Player {
   constructor() {
     this.context = new AudioContext();
-    this.pieces = new SoundPieces(PIECE_CYCLES);
+    this.pieces = new SoundPieces(BLOCK_CYCLES);
     /** The end of the last block, in seconds of the audio context. */
     this.end = 0;
-    const loudness = new GainNode(this.context, { gain: LOUDNESS });
-    const filter = new BiquadFilterNode(this.context, { type: "highpass", frequency: LEAST_PITCH });
-    this.into = loudness;
-    loudness.connect(filter).connect(this.context.destination);
+    const volume = new GainNode(this.context, { gain: VOLUME });
+    const filter = new BiquadFilterNode(this.context, { type: "highpass", frequency: MIN_PITCH });
+    this.input = volume;
+    volume.connect(filter).connect(this.context.destination);
   }
 
   /** @param {Heard} heard */
   play(heard) {
     const samples = this.pieces.add(heard);
     const now = this.context.currentTime;
-    if (!samples || this.end > now + MOST_AHEAD) return;
+    if (!samples || this.end > now + MAX_DELAY) return;
     // The time of an audio context is 0 until it runs.
-    if (this.end <= now) this.end = now + AHEAD;
+    if (this.end <= now) this.end = now + DELAY;
     const buffer = this.context.createBuffer(1, samples.length, CYCLES_PER_SECOND);
     buffer.copyToChannel(samples, 0);
     const source = new AudioBufferSourceNode(this.context, { buffer });
-    source.connect(this.into);
+    source.connect(this.input);
     source.start(this.end);
     this.end += samples.length / CYCLES_PER_SECOND;
   }

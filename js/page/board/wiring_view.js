@@ -25,8 +25,8 @@ const LEG = 7;
 /** Half the width of a chip's notch. */
 const NOTCH = 6;
 /** The minimum size of the picture: a small board has space around it, for parts that are dropped there. */
-const LEAST_WIDTH = 560;
-const LEAST_HEIGHT = 240;
+const MIN_WIDTH = 560;
+const MIN_HEIGHT = 240;
 
 export class WiringView {
   /** @param {() => boolean} isShown whether the picture is in front */
@@ -93,7 +93,7 @@ export class WiringView {
    */
   draw(board, look, { moved, isWired }) {
     const { parts, wires, ...size } = drawBoard(board, look, moved);
-    const [width, height] = [Math.max(LEAST_WIDTH, size.width), Math.max(LEAST_HEIGHT, size.height)];
+    const [width, height] = [Math.max(MIN_WIDTH, size.width), Math.max(MIN_HEIGHT, size.height)];
     const focused = document.activeElement instanceof Element ? this.nameAt(document.activeElement) : "";
     this.items.clear();
     this.levels.clear();

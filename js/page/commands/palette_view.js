@@ -14,7 +14,7 @@ import * as say from "../../words/page_commands.js";
 /** The character at the beginning of the field that asks for commands. */
 export const COMMAND_SIGN = ">";
 /** The maximum number of entries that are drawn. */
-const MOST_DRAWN = 500;
+const MAX_DRAWN = 500;
 /** The number of entries by which Page Up and Page Down move. */
 const PAGE = 8;
 
@@ -65,7 +65,7 @@ export class PaletteView {
     field.setAttribute("aria-label", isCommands ? say.TYPE_COMMAND : say.TYPE_PLACE);
     field.placeholder = isCommands ? say.TYPE_COMMAND : say.TYPE_PLACE;
     const all = isCommands ? this.sources.commands() : this.sources.places(wanted.trim());
-    this.entries = found(all, wanted).slice(0, MOST_DRAWN);
+    this.entries = found(all, wanted).slice(0, MAX_DRAWN);
     this.list.replaceChildren(...this.entries.map((entry, at) => this.option(entry, at)));
     const { length } = this.entries;
     const none = wordsOfQuery(wanted).length > 0 && length === 0 ? say.noneHas(wanted.trim()) : "";

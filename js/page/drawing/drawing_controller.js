@@ -33,7 +33,7 @@ import { PictureZoom } from "./picture_zoom.js";
 /** @typedef {DrawingCalls & PictureOwnCalls} PictureCalls */
 
 /** The time in milliseconds from the last edit until the picture follows the text. */
-const PAUSE = 300;
+const DRAW_DELAY = 300;
 
 export class DrawingController {
   /**
@@ -117,7 +117,7 @@ export class DrawingController {
   /** Draws the picture after a pause, because a text was edited. */
   edited() {
     clearTimeout(this.editing);
-    this.editing = window.setTimeout(() => this.drawing.text !== this.calls.text() && this.look(), PAUSE);
+    this.editing = window.setTimeout(() => this.drawing.text !== this.calls.text() && this.look(), DRAW_DELAY);
   }
 
   /** Forgets the drawing, because the texts of another session are shown. */

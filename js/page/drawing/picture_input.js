@@ -23,7 +23,7 @@
  */
 
 /** The distance that the pointer moves before it drags anything, in units of the picture. */
-const SLACK = 4;
+const DRAG_DISTANCE = 4;
 /** The distance that a key moves a part, in units of the picture. */
 const STEP = 12;
 /** @type {Record<string, { x: number, y: number }>} */
@@ -86,7 +86,7 @@ export class PictureInput {
       return;
     }
     const now = view.pointOf(event);
-    if (!held.isDragged && Math.hypot(now.x - held.at.x, now.y - held.at.y) < SLACK) return;
+    if (!held.isDragged && Math.hypot(now.x - held.at.x, now.y - held.at.y) < DRAG_DISTANCE) return;
     // A finger on a part scrolls the picture. On a pin it draws a wire.
     if (held.name === "" || (held.isPart && event.pointerType === "touch")) return;
     if (!held.isDragged && !held.isPart && this.begun !== held.name) this.calls.pressed(held.name);

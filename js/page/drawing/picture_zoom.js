@@ -5,11 +5,11 @@ import { button, onClick } from "../ui/dom.js";
 /** The zoom factor of a button, a key or a turn of the wheel. */
 const STEP = 1.25;
 /** The minimum size, relative to the natural size. A picture that does not fit can be made smaller, until it fits. */
-const SMALLEST = 0.35;
+const MIN_SCALE = 0.35;
 /** The maximum size, relative to the natural size. */
-const LARGEST = 4;
+const MAX_SCALE = 4;
 /** Sizes that differ by less count as equal. */
-const NEARLY = 0.001;
+const TOLERANCE = 0.001;
 
 export class PictureZoom {
   /** @param {HTMLElement} root the panel in which the picture scrolls */
@@ -41,7 +41,7 @@ export class PictureZoom {
     const { root, scale, box } = this;
     const height = parseFloat(getComputedStyle(root).maxHeight) || root.clientHeight;
     const whole = scale * Math.min(root.clientWidth / box.width, height / box.height);
-    return { least: Math.min(SMALLEST, whole, scale), most: Math.max(LARGEST, scale) };
+    return { min: Math.min(MIN_SCALE, whole, scale), max: Math.max(MAX_SCALE, scale) };
   }
 
   /**
@@ -53,8 +53,8 @@ export class PictureZoom {
     const { root, scale } = this;
     if (scale === 0) return;
     const { scrollLeft, scrollTop } = root;
-    const { least, most } = this.bounds;
-    root.style.setProperty("--picture-zoom", String(Math.min(most, Math.max(least, scale * factor))));
+    const { min, max } = this.bounds;
+    root.style.setProperty("--picture-zoom", String(Math.min(max, Math.max(min, scale * factor))));
     root.classList.add("zoomed");
     const grown = this.scale / scale;
     root.scrollTo((scrollLeft + at.x) * grown - at.x, (scrollTop + at.y) * grown - at.y);
@@ -68,9 +68,9 @@ export class PictureZoom {
 
   /** Marks a button as disabled at its limit. The button keeps the focus. */
   showBounds() {
-    const { scale, bounds: { least, most } } = this;
-    this.smaller.setAttribute("aria-disabled", String(scale <= least + NEARLY));
-    this.larger.setAttribute("aria-disabled", String(scale >= most - NEARLY));
+    const { scale, bounds: { min, max } } = this;
+    this.smaller.setAttribute("aria-disabled", String(scale <= min + TOLERANCE));
+    this.larger.setAttribute("aria-disabled", String(scale >= max - TOLERANCE));
   }
 
   /** @param {KeyboardEvent} event */

@@ -21,7 +21,7 @@ import { element } from "../ui/dom.js";
  */
 
 /** The distance in pixels that the pointer moves before it drags a part. */
-const SLACK = 6;
+const DRAG_DISTANCE = 6;
 
 export class ShelfDrag {
   /** @param {ShelfCalls} calls */
@@ -71,7 +71,7 @@ export class ShelfDrag {
     const { held, ghost } = this;
     if (!held) return;
     const { clientX, clientY } = event;
-    if (!held.isDragged && Math.hypot(clientX - held.from.clientX, clientY - held.from.clientY) < SLACK) return;
+    if (!held.isDragged && Math.hypot(clientX - held.from.clientX, clientY - held.from.clientY) < DRAG_DISTANCE) return;
     if (!held.isDragged) ghost.textContent = held.node.textContent;
     held.isDragged = this.wasDragged = true;
     ghost.hidden = false;

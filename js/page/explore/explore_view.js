@@ -21,7 +21,7 @@ import { wordsOfLine } from "../../words/stops.js";
  */
 
 /** The maximum number of lines in the list of lines that never ran. */
-const MOST_LINES = 60;
+const MAX_LINES = 60;
 
 /** The row of a property. Its counterexample is inserted once, so that controls in use do not disappear. */
 class Row {
@@ -132,8 +132,8 @@ export class ExploreView {
     const key = lines.join(" ");
     if (key === this.leftLines) return;
     this.leftLines = key;
-    const more = lines.length > MOST_LINES ? andMore(lines.length - MOST_LINES) : "";
-    const buttons = lines.slice(0, MOST_LINES).flatMap((line) => [
+    const more = lines.length > MAX_LINES ? andMore(lines.length - MAX_LINES) : "";
+    const buttons = lines.slice(0, MAX_LINES).flatMap((line) => [
       " ", buttonOf(String(line), () => this.calls.goToSource(line), { className: "name", ariaLabel: say.lineOfSource(line) })]);
     this.left.replaceChildren(...(lines.length === 0 ? [] : [say.NEVER_RUN, ...buttons, more]));
   }

@@ -3,7 +3,7 @@
 import { element } from "../ui/dom.js";
 
 /** The interval in milliseconds at which the ring moves to its target. */
-const LOOK_TIME = 200;
+const MOVE_INTERVAL = 200;
 /** The distance in pixels between the ring and its target. */
 const GAP = 4;
 
@@ -23,7 +23,7 @@ export class PointerRing {
     this.target = target;
     this.seen = null;
     clearInterval(this.timer);
-    this.timer = window.setInterval(() => this.put(), LOOK_TIME);
+    this.timer = window.setInterval(() => this.put(), MOVE_INTERVAL);
     this.put();
   }
 

@@ -14,9 +14,9 @@ import * as say from "../../words/page.js";
  */
 
 /** The maximum number of sent lines that can be recalled. */
-const MOST_LINES = 200;
+const MAX_LINES = 200;
 /** The maximum number of lines of the bench that are explained below the input. */
-const MOST_HINTS = 4;
+const MAX_HINTS = 4;
 
 export class LinesView {
   /**
@@ -58,9 +58,9 @@ export class LinesView {
       event.preventDefault();
       this.send();
     } else if (event.key === "ArrowUp" && this.isInFirstLine()) {
-      this.bring(event, -1);
+      this.recall(event, -1);
     } else if (event.key === "ArrowDown" && this.isInLastLine()) {
-      this.bring(event, 1);
+      this.recall(event, 1);
     } else if (event.key === " " && event.ctrlKey) {
       event.preventDefault();
       this.complete();
@@ -80,7 +80,7 @@ export class LinesView {
    * @param {KeyboardEvent} event
    * @param {number} by -1 or 1
    */
-  bring(event, by) {
+  recall(event, by) {
     const next = this.at + by;
     if (next < 0 || next > this.sent.length) return;
     event.preventDefault();
@@ -105,8 +105,8 @@ export class LinesView {
 
   showHint() {
     const found = fittingLines(this.lines, this.lastLine);
-    const shown = found.slice(0, MOST_HINTS).map(({ form, does }) => `${form}: ${does}`);
-    if (found.length > MOST_HINTS) shown.push(found.slice(MOST_HINTS).map(({ form }) => form).join(", "));
+    const shown = found.slice(0, MAX_HINTS).map(({ form, does }) => `${form}: ${does}`);
+    if (found.length > MAX_HINTS) shown.push(found.slice(MAX_HINTS).map(({ form }) => form).join(", "));
     this.hint.set(shown.length > 0 ? shown.join("\n") : say.LINES_HINT);
   }
 
@@ -129,7 +129,7 @@ export class LinesView {
   /** @param {string} lines */
   remember(lines) {
     if (this.sent[this.sent.length - 1] !== lines) this.sent.push(lines);
-    if (this.sent.length > MOST_LINES) this.sent.shift();
+    if (this.sent.length > MAX_LINES) this.sent.shift();
     this.at = this.sent.length;
   }
 }

@@ -12,7 +12,7 @@ import * as say from "../../words/page.js";
  */
 
 /** The maximum number of entries. Older ones are removed. */
-const MOST_ENTRIES = 400;
+const MAX_ENTRIES = 400;
 
 export class LogView {
   /** @param {Words} words */
@@ -74,7 +74,7 @@ export class LogView {
     if (entries.length === 0) return;
     const isAtEnd = this.block.scrollTop + this.block.clientHeight > this.block.scrollHeight - 30;
     this.block.append(...entries);
-    while (this.block.children.length > MOST_ENTRIES) this.block.children[0].remove();
+    while (this.block.children.length > MAX_ENTRIES) this.block.children[0].remove();
     if (isAtEnd) this.block.scrollTop = this.block.scrollHeight;
   }
 

@@ -26,7 +26,7 @@ import * as say from "../../words/machine.js";
  * @property {(breakpoint: Breakpoint) => void} left Moves the focus back to the breakpoint.
  */
 
-const MOST_HITS = 999999999;
+const MAX_HITS = 999999999;
 
 /**
  * @param {string} label
@@ -135,7 +135,7 @@ export class BreakpointRow {
    */
   read() {
     const { condition, from, note } = this.fields;
-    const count = from.value.trim() === "" ? 1 : parseCount(from.value, MOST_HITS);
+    const count = from.value.trim() === "" ? 1 : parseCount(from.value, MAX_HITS);
     from.setAttribute("aria-invalid", String(count < 1));
     return count < 1 ? null : { condition: condition.value.trim(), from: count, note: note.value.trim() };
   }

@@ -29,9 +29,9 @@ import * as say from "../../words/machine.js";
 /** The time in milliseconds without input, while time is paused, before changes are counted. */
 const REST_TIME = 300;
 /** The maximum number of cycles in which changes are counted. */
-const MOST_CYCLES = 10000000;
+const MAX_CYCLES = 10000000;
 /** The interval in milliseconds at which cells are drawn while time is running. */
-const DRAWN_TIME = 200;
+const DRAW_INTERVAL = 200;
 
 export class HeatView {
   /**
@@ -75,11 +75,11 @@ export class HeatView {
 
   /** Returns the number of cycles in the field, or 0 after a message if the field has no such number. */
   wanted() {
-    const cycles = parseCount(this.cycles.value, MOST_CYCLES);
+    const cycles = parseCount(this.cycles.value, MAX_CYCLES);
     this.cycles.setAttribute("aria-invalid", String(cycles === 0));
     if (cycles === 0) {
       this.clear();
-      this.showStatus(say.howManyCycles(MOST_CYCLES.toLocaleString("en")));
+      this.showStatus(say.howManyCycles(MAX_CYCLES.toLocaleString("en")));
     }
     return cycles;
   }
@@ -101,10 +101,10 @@ export class HeatView {
     if (this.kind.value === "") return;
     // The message about the past does not apply to running time. A board without RAM has no other message.
     if (!warmed) this.showStatus("");
-    const most = parseCount(this.cycles.value, MOST_CYCLES);
+    const most = parseCount(this.cycles.value, MAX_CYCLES);
     if (!warmed || most === 0) return;
     this.passing.add(warmed, cycles, most);
-    if (performance.now() - this.drawn < DRAWN_TIME) return;
+    if (performance.now() - this.drawn < DRAW_INTERVAL) return;
     this.drawn = performance.now();
     this.heat = null;
     this.showCells(this.passing.heat, wordsOfSeen);

@@ -14,7 +14,7 @@ import { element } from "../ui/dom.js";
  */
 
 /** The height in pixels of a row before one has been laid out. */
-const USUAL_HEIGHT = 24;
+const DEFAULT_HEIGHT = 24;
 
 export class ListingScroll {
   /**
@@ -26,7 +26,7 @@ export class ListingScroll {
     this.calls = calls;
     this.rows = element("div", { className: "rows" });
     this.length = element("div", { className: "length" }, this.rows);
-    this.rowHeight = USUAL_HEIGHT;
+    this.rowHeight = DEFAULT_HEIGHT;
     /** The scroll position that this module itself has set. */
     this.placed = 0;
     root.append(this.length);
@@ -40,7 +40,7 @@ export class ListingScroll {
     const { clientHeight } = this.root;
     if (clientHeight === 0) return;
     const row = this.rows.firstElementChild;
-    this.rowHeight = (row instanceof HTMLElement && row.offsetHeight) || USUAL_HEIGHT;
+    this.rowHeight = (row instanceof HTMLElement && row.offsetHeight) || DEFAULT_HEIGHT;
     this.length.style.setProperty("height", `${ADDRESSES * this.rowHeight}px`);
     this.calls.resized(Math.max(1, Math.floor(clientHeight / this.rowHeight)));
   }
@@ -66,7 +66,7 @@ export class ListingScroll {
     if (event.ctrlKey || event.altKey || event.metaKey) return;
     const screenful = Math.max(1, Math.floor(this.root.clientHeight / this.rowHeight) - 1);
     /** @type {Record<string, () => void>} */
-    const ways = {
+    const actions = {
       ArrowUp: () => this.calls.went(-1),
       ArrowDown: () => this.calls.went(1),
       PageUp: () => this.calls.went(-screenful),
@@ -74,8 +74,8 @@ export class ListingScroll {
       Home: () => this.calls.wentTo("first"),
       End: () => this.calls.wentTo("last"),
     };
-    if (!Object.prototype.hasOwnProperty.call(ways, event.key)) return;
+    if (!Object.prototype.hasOwnProperty.call(actions, event.key)) return;
     event.preventDefault();
-    ways[event.key]();
+    actions[event.key]();
   }
 }

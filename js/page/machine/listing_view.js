@@ -16,11 +16,11 @@ import { LAST_ADDRESS } from "../../core/bench/numbers.js";
  */
 
 /** The number of rows before the page has been laid out. */
-const USUAL_ROWS = 18;
+const DEFAULT_ROWS = 18;
 /** The number of bytes before the program counter, if there is room for them. */
 const BYTES_BEFORE = 10;
 /** The interval in milliseconds at which the listing follows the program counter while time is running: slow enough to read. */
-const FOLLOW_TIME = 300;
+const FOLLOW_INTERVAL = 300;
 
 export class ListingView {
   /**
@@ -59,7 +59,7 @@ export class ListingView {
       wentTo: (end) => this.goToEnd(end),
     });
     this.rows = new ListingRows(this.scroll.rows, toggleBreakpoint);
-    this.rows.resize(USUAL_ROWS);
+    this.rows.resize(DEFAULT_ROWS);
     this.listen();
   }
 
@@ -69,12 +69,12 @@ export class ListingView {
     follow.addEventListener("change", () => {
       this.follows = follow.checked;
       this.leftAt = -1;
-      this.anew();
+      this.readAgain();
     });
   }
 
   /** Reads the lines again, from the same address on. */
-  anew() {
+  readAgain() {
     if (!this.follows && this.lines.length > 0) this.from = this.lines[0].address;
     this.forget();
     this.moved();
@@ -84,7 +84,7 @@ export class ListingView {
   resize(rows) {
     if (rows === this.rows.count) return;
     this.rows.resize(rows);
-    if (this.lines.length > 0) this.anew();
+    if (this.lines.length > 0) this.readAgain();
   }
 
   /**
@@ -141,7 +141,7 @@ export class ListingView {
       this.leftAt = -1;
       this.follows = field("follow").checked = true;
     }
-    if (this.lines.length > 0 && !this.hasToMove(isRunning)) {
+    if (this.lines.length > 0 && !this.mustMove(isRunning)) {
       this.showRows();
     } else if (this.follows) {
       this.followed = performance.now();
@@ -157,10 +157,10 @@ export class ListingView {
    * one of them.
    * @param {boolean} isRunning
    */
-  hasToMove(isRunning) {
+  mustMove(isRunning) {
     if (!this.follows) return !isRunning && isInsideLine(this.lines, this.counter);
     if (this.hasInside(this.counter)) return false;
-    return !isRunning || performance.now() - this.followed > FOLLOW_TIME;
+    return !isRunning || performance.now() - this.followed > FOLLOW_INTERVAL;
   }
 
   /**
@@ -216,7 +216,7 @@ export class ListingView {
       this.rows.focus(goal);
       return;
     }
-    if (await this.goBy(goal < 0 ? goal : goal - last)) this.focusAnew(rows < 0 ? 0 : last);
+    if (await this.goBy(goal < 0 ? goal : goal - last)) this.focusRow(rows < 0 ? 0 : last);
   }
 
   /**
@@ -239,14 +239,14 @@ export class ListingView {
   /** @param {"first" | "last"} end */
   async goToEnd(end) {
     this.stayAt(end === "first" ? 0 : LAST_ADDRESS);
-    if (await this.read({ from: this.from, anchor: null })) this.focusAnew(end === "first" ? 0 : this.lines.length - 1);
+    if (await this.read({ from: this.from, anchor: null })) this.focusRow(end === "first" ? 0 : this.lines.length - 1);
   }
 
   /**
    * Focuses a row after the listing has moved, so that a screen reader announces it.
    * @param {number} at the index of the row
    */
-  focusAnew(at) {
+  focusRow(at) {
     this.rows.turn();
     this.showRows();
     this.rows.focus(at);

@@ -35,7 +35,7 @@ import { ProofsView } from "./proofs_view.js";
  * @property {(fault: unknown) => void} failed Reports an error that a call threw.
  */
 
-const MOST = 999999999;
+const MAX_STATES = 999999999;
 
 export class Proofs {
   /** @param {ProofsCalls} calls */
@@ -139,7 +139,7 @@ export class Proofs {
   /** Returns the maximum number of states for a question, or 0 after a message if the field has no valid number. */
   asked() {
     const { value } = field("prove-states");
-    const isNumber = /^\d{1,9}$/.test(value.trim()) && Number(value) >= 1 && Number(value) <= MOST;
+    const isNumber = /^\d{1,9}$/.test(value.trim()) && Number(value) >= 1 && Number(value) <= MAX_STATES;
     field("prove-states").setAttribute("aria-invalid", String(!isNumber));
     this.calls.showMessage(isNumber ? "" : say.STATES_FORM);
     return isNumber ? Number(value) : 0;

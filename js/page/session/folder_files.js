@@ -5,8 +5,8 @@ import { PROJECT_FILE } from "../../core/project/project_toml.js";
 /** @typedef {{ name: string, files: Map<string, File> }} Folder its files, by their paths in the folder */
 
 /** The maximum number of files in a folder that is read, and the maximum depth of its folders. A project has less. */
-const MOST_FILES = 400;
-const MOST_DEPTH = 6;
+const MAX_FILES = 400;
+const MAX_DEPTH = 6;
 
 /**
  * Returns the folders among dropped items. They must be read during the event.
@@ -31,7 +31,7 @@ async function entriesIn(folder) {
   for (;;) {
     /** @type {FileSystemEntry[]} */
     const some = await new Promise((resolve, reject) => { reader.readEntries(resolve, reject); });
-    if (some.length === 0 || all.length > MOST_FILES) return all;
+    if (some.length === 0 || all.length > MAX_FILES) return all;
     all.push(...some);
   }
 }
@@ -44,12 +44,12 @@ async function entriesIn(folder) {
  */
 async function readInto(folder, before, files, depth) {
   for (const entry of await entriesIn(folder)) {
-    if (files.size >= MOST_FILES) return;
+    if (files.size >= MAX_FILES) return;
     const path = before + entry.name;
     if (entry.isFile) {
       const own = /** @type {FileSystemFileEntry} */ (entry);
       files.set(path, await new Promise((resolve, reject) => { own.file(resolve, reject); }));
-    } else if (depth < MOST_DEPTH && !entry.name.startsWith(".")) {
+    } else if (depth < MAX_DEPTH && !entry.name.startsWith(".")) {
       await readInto(/** @type {FileSystemDirectoryEntry} */ (entry), `${path}/`, files, depth + 1);
     }
   }

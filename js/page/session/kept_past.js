@@ -14,11 +14,11 @@ import * as say from "../../words/session.js";
 
 const KEY = "fethsaim.past";
 /** The maximum numbers of cycles, of commands, and of characters in commands after which a new segment begins. */
-const MOST_CYCLES = 4000000;
-const MOST_ENTRIES = 4000;
-const MOST_LETTERS = 200000;
+const MAX_CYCLES = 4000000;
+const MAX_ENTRIES = 4000;
+const MAX_CHARACTERS = 200000;
 /** The maximum number of cycles in one report. After a longer report the past begins with the present state. */
-const MOST_AT_ONCE = 16000000;
+const MAX_REPORT_CYCLES = 16000000;
 /** The number of segments that are kept. */
 const SEGMENTS = 2;
 
@@ -64,7 +64,7 @@ export class KeptPast {
     /** The number of cycles in the last segment. */
     this.cycles = 0;
     /** The number of characters in the commands of the last segment. */
-    this.letters = 0;
+    this.characters = 0;
   }
 
   /** @param {string} session the id of the session that is shown from then on */
@@ -81,22 +81,22 @@ export class KeptPast {
   take({ isAnew, entries }, present) {
     const cycles = cyclesOf(entries);
     const last = this.segments[this.segments.length - 1];
-    if (isAnew || !last || cycles > MOST_AT_ONCE) {
+    if (isAnew || !last || cycles > MAX_REPORT_CYCLES) {
       this.segments = [];
       this.add(present);
       return;
     }
     last.entries.push(...entries);
     this.cycles += cycles;
-    this.letters += entries.reduce((sum, { line }) => sum + line.length, 0);
-    if (this.cycles >= MOST_CYCLES || last.entries.length >= MOST_ENTRIES || this.letters >= MOST_LETTERS) this.add(present);
+    this.characters += entries.reduce((sum, { line }) => sum + line.length, 0);
+    if (this.cycles >= MAX_CYCLES || last.entries.length >= MAX_ENTRIES || this.characters >= MAX_CHARACTERS) this.add(present);
   }
 
   /** @param {{ file: Uint8Array, total: number, reset: number }} present */
   add({ file, total, reset }) {
     this.segments = [...this.segments, { file: file.slice(), total, reset, entries: [] }].slice(-SEGMENTS);
     this.cycles = 0;
-    this.letters = 0;
+    this.characters = 0;
   }
 
   /** Writes the past to the storage, because the page is left. */
@@ -129,7 +129,7 @@ export class KeptPast {
     this.segments = [...recalled, ...more].slice(-SEGMENTS);
     if (more.length > 0) return;
     this.cycles = cyclesOf(last.entries);
-    this.letters = last.entries.reduce((sum, { line }) => sum + line.length, 0);
+    this.characters = last.entries.reduce((sum, { line }) => sum + line.length, 0);
   }
 
   /** @param {(store: TabStore) => void} act */

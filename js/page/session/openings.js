@@ -13,7 +13,7 @@ const SETTLE_TIME = 1000;
  * the
  * session.
  */
-const SOON = 2000;
+const RECENT_TIME = 2000;
 /** The events of a window whose page is left. Each browser has one of them. */
 const LEAVING = ["beforeunload", "pagehide"];
 
@@ -69,7 +69,7 @@ export class Openings {
   /** @param {number} time the time of a beginning */
   isRecent(time) {
     const age = this.now() - time;
-    return age >= 0 && age < SOON;
+    return age >= 0 && age < RECENT_TIME;
   }
 
   /** @param {string} id the id of a session whose opening has ended, or which is deleted */

@@ -20,7 +20,7 @@ export const LONGEST_LINK = 32000;
 /** The length of an address that all programs should accept (RFC 9110, 4.1); some programs cut longer ones. */
 export const SAFE_LINK = 8000;
 /** The maximum number of bytes that are unpacked from a link. */
-const MOST_BYTES = 1 << 20;
+const MAX_BYTES = 1 << 20;
 
 /** The reason why a link cannot be opened. */
 export class NotALink extends Error {}
@@ -73,7 +73,7 @@ async function through(bytes, { readable, writable }) {
   for (let next = await reader.read(); !next.done; next = await reader.read()) {
     parts.push(next.value);
     count += next.value.length;
-    if (count > MOST_BYTES) {
+    if (count > MAX_BYTES) {
       reader.cancel().catch(() => {});
       throw new NotALink(say.HOLDS_MORE);
     }

@@ -26,7 +26,7 @@ import * as say from "../../words/session.js";
 export class NotKept extends Error {}
 
 /** The time in milliseconds after which a store without an answer counts as failed. Its requests can still succeed. */
-const TIME_OF_STORE = 10000;
+const STORE_TIMEOUT = 10000;
 
 /**
  * Resolves to an answer of the browser's store or of another of its services. Rejects after some time, so that the page never waits for
@@ -37,20 +37,20 @@ const TIME_OF_STORE = 10000;
  */
 export function inTime(answer) {
   return new Promise((done, fail) => {
-    const late = setTimeout(() => fail(new NotKept(say.STORE_SILENT)), TIME_OF_STORE);
+    const late = setTimeout(() => fail(new NotKept(say.STORE_SILENT)), STORE_TIMEOUT);
     answer.then(done, fail).finally(() => clearTimeout(late));
   });
 }
 
 /**
  * @template Result
- * @param {IDBRequest<Result>} asked
+ * @param {IDBRequest<Result>} request
  * @returns {Promise<Result>}
  */
-function resultOf(asked) {
+function resultOf(request) {
   return new Promise((done, fail) => {
-    asked.onsuccess = () => done(asked.result);
-    asked.onerror = () => fail(asked.error);
+    request.onsuccess = () => done(request.result);
+    request.onerror = () => fail(request.error);
   });
 }
 
@@ -62,28 +62,28 @@ export class Store {
    */
   static open(hasLocks) {
     return new Promise((done, fail) => {
-      const asked = indexedDB.open("fethsaim", 1);
-      asked.onupgradeneeded = () => asked.result.createObjectStore("sessions", { keyPath: "id" });
-      asked.onsuccess = () => done(new Store(asked.result, hasLocks));
-      asked.onerror = () => fail(asked.error);
-      asked.onblocked = () => fail(new Error(say.OLDER_STORE));
+      const request = indexedDB.open("fethsaim", 1);
+      request.onupgradeneeded = () => request.result.createObjectStore("sessions", { keyPath: "id" });
+      request.onsuccess = () => done(new Store(request.result, hasLocks));
+      request.onerror = () => fail(request.error);
+      request.onblocked = () => fail(new Error(say.OLDER_STORE));
     });
   }
 
   /**
-   * @param {IDBDatabase} base
+   * @param {IDBDatabase} database
    * @param {boolean} hasLocks
    */
-  constructor(base, hasLocks) {
-    this.base = base;
+  constructor(database, hasLocks) {
+    this.database = database;
     this.keeps = true;
     this.isWhole = hasLocks;
     // Without this handler a newer page in another tab would wait for ever.
-    base.onversionchange = () => base.close();
+    database.onversionchange = () => database.close();
   }
 
   get sessions() {
-    return this.base.transaction("sessions").objectStore("sessions");
+    return this.database.transaction("sessions").objectStore("sessions");
   }
 
   /** @returns {Promise<SessionRecord[]>} */
@@ -133,9 +133,9 @@ export class Store {
         done();
       };
       const change = this.change(keep, (error) => fail(fault || error));
-      const asked = change.objectStore("sessions").get(record.id);
-      asked.onsuccess = () => {
-        if ((asked.result ? asked.result.revision : 0) === record.revision) {
+      const request = change.objectStore("sessions").get(record.id);
+      request.onsuccess = () => {
+        if ((request.result ? request.result.revision : 0) === record.revision) {
           change.objectStore("sessions").put(written);
         } else {
           fault = new NotKept(say.CHANGED_ELSEWHERE);
@@ -151,7 +151,7 @@ export class Store {
    * @param {(fault: Error) => void} fail
    */
   change(done, fail) {
-    const change = this.base.transaction("sessions", "readwrite", { durability: "strict" });
+    const change = this.database.transaction("sessions", "readwrite", { durability: "strict" });
     change.oncomplete = () => done();
     change.onabort = () => fail(new NotKept(wordsOfStoreFault(change.error)));
     return change;

@@ -57,7 +57,7 @@ import * as say from "../../words/text.js";
  */
 
 /** The maximum number of errors in the list below a text. */
-const MOST_FAULTS = 20;
+const MAX_FAULTS = 20;
 
 export class Editors {
   /**
@@ -178,7 +178,7 @@ export class Editors {
   show(name, { faults, areAll }) {
     const shownFaults = name === "board" ? [...faults, ...faultsOfFace(this.board.text)] : faults;
     const more = areAll || faults.length < 2 ? "" : say.MAY_BE_MORE;
-    this[name].showFaults(shownFaults.slice(0, MOST_FAULTS), moreThan(shownFaults, MOST_FAULTS) || more);
+    this[name].showFaults(shownFaults.slice(0, MAX_FAULTS), moreThan(shownFaults, MAX_FAULTS) || more);
     this.calls.hasFaults(name, shownFaults.length);
   }
 

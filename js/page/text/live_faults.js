@@ -2,7 +2,7 @@
 // under way, and another one begins after the next pause.
 
 /** The time in milliseconds from the last edit to a check. */
-const PAUSE = 300;
+const CHECK_DELAY = 300;
 
 /**
  * @template Result
@@ -26,7 +26,7 @@ export class LiveFaults {
   edited() {
     this.asked += 1;
     clearTimeout(this.timer);
-    this.timer = window.setTimeout(() => this.look().catch(this.failed), PAUSE);
+    this.timer = window.setTimeout(() => this.look().catch(this.failed), CHECK_DELAY);
   }
 
   /**

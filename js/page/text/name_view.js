@@ -12,7 +12,7 @@ import * as say from "../../words/text.js";
  */
 
 /** The maximum length of a line's text in the list of references. */
-const LONGEST_WORDS = 60;
+const MAX_LENGTH = 60;
 
 export class NameView {
   /**
@@ -75,7 +75,7 @@ export class NameView {
   row(reference, text) {
     const made = element("button", { type: "button" }, say.lineOfName(reference.line, reference.isDefinition));
     onClick(made, () => this.show(reference));
-    return element("li", {}, made, " ", element("code", {}, text.trim().slice(0, LONGEST_WORDS)));
+    return element("li", {}, made, " ", element("code", {}, text.trim().slice(0, MAX_LENGTH)));
   }
 
   close() {

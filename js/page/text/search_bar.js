@@ -9,7 +9,7 @@ import * as say from "../../words/text.js";
  */
 
 /** The maximum number of matches that are counted. */
-const MOST_COUNTED = 1000;
+const MAX_COUNTED = 1000;
 
 export class SearchBar {
   /**
@@ -107,7 +107,7 @@ export class SearchBar {
     const spans = this.spansOf(wanted);
     const before = spans.filter((span) => span.to <= from).pop();
     const found = (isBack ? before : spans.find((span) => span.from >= from)) || spans[isBack ? spans.length - 1 : 0];
-    this.status.set(found ? say.foundOf(spans.indexOf(found) + 1, Math.min(MOST_COUNTED, spans.length)) : say.NOT_FOUND);
+    this.status.set(found ? say.foundOf(spans.indexOf(found) + 1, Math.min(MAX_COUNTED, spans.length)) : say.NOT_FOUND);
     if (!found) return;
     editor.setSelection(editor.position(found.from), editor.position(found.to));
     editor.scrollIntoView(editor.position(found.to), 60);

@@ -36,9 +36,9 @@ import * as say from "../../words/text.js";
  */
 
 /** The maximum number of texts that are kept. */
-const MOST_KEPT = 30;
+const MAX_KEPT = 30;
 /** Modifier keys, which do nothing alone. */
-const OTHER_KEYS = ["Shift", "Control", "Alt", "Meta"];
+const MODIFIERS = ["Shift", "Control", "Alt", "Meta"];
 
 export class TextEditor {
   /** @param {TextParts} parts */
@@ -152,7 +152,7 @@ export class TextEditor {
   typed({ key, shiftKey, ctrlKey, altKey, metaKey }) {
     if (key === "Tab") return !this.tabLeaves && !ctrlKey && !altKey && !metaKey && this.editor.indent(shiftKey);
     if (key === "Escape") this.tabLeaves = true;
-    else if (!OTHER_KEYS.includes(key)) this.tabLeaves = false;
+    else if (!MODIFIERS.includes(key)) this.tabLeaves = false;
     return false;
   }
 
@@ -179,7 +179,7 @@ export class TextEditor {
     this.scrollSoon(isSame ? old.top : 0);
     this.name = name;
     this.value = null;
-    for (const oldest of [...kept.keys()].slice(0, -MOST_KEPT)) kept.delete(oldest);
+    for (const oldest of [...kept.keys()].slice(0, -MAX_KEPT)) kept.delete(oldest);
   }
 
   /**

@@ -8,9 +8,9 @@ import { block, button, field, onClick } from "../ui/dom.js";
  */
 
 /** The sizes of letters in pixels. */
-const USUAL = 13;
-const LEAST = 9;
-const MOST = 28;
+const DEFAULT_SIZE = 13;
+const MIN_SIZE = 9;
+const MAX_SIZE = 28;
 
 export class TextLooks {
   /**
@@ -32,12 +32,12 @@ export class TextLooks {
   }
 
   get size() {
-    return Math.min(MOST, Math.max(LEAST, Number(this.choices.get("size")) || USUAL));
+    return Math.min(MAX_SIZE, Math.max(MIN_SIZE, Number(this.choices.get("size")) || DEFAULT_SIZE));
   }
 
   /** @param {number} size */
   resize(size) {
-    this.choices.set("size", String(Math.min(MOST, Math.max(LEAST, size))));
+    this.choices.set("size", String(Math.min(MAX_SIZE, Math.max(MIN_SIZE, size))));
     this.show();
   }
 

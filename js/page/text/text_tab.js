@@ -43,7 +43,7 @@ import { COLOURS } from "../../core/text/test_colours.js";
  *   complete: (lines: string[], line: number, at: number, names: Names, forms: Forms) => Completion }} Kind
  */
 
-const MOST_FAULTS = 20;
+const MAX_FAULTS = 20;
 
 /** @template Forms */
 export class TextTab {
@@ -117,7 +117,7 @@ export class TextTab {
       const text = lines[line - 1] || "";
       return { number, line, from: text.length - text.trimStart().length, to: text.length, words };
     });
-    this.editor.showFaults(entries.slice(0, MOST_FAULTS), moreThan(entries, MOST_FAULTS));
+    this.editor.showFaults(entries.slice(0, MAX_FAULTS), moreThan(entries, MAX_FAULTS));
     this.own.counted(entries.length);
   }
 }

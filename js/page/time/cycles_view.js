@@ -7,7 +7,7 @@ import * as say from "../../words/time.js";
 /** @typedef {import("../../core/time/cycles.js").KeptCycles} KeptCycles */
 
 /** The interval in milliseconds between updates while time is running. */
-const SHOWN_TIME = 250;
+const SHOW_INTERVAL = 250;
 
 export class CyclesView {
   /** @param {() => void} marked called after another mark was set */
@@ -49,7 +49,7 @@ export class CyclesView {
    */
   take(counts, isRunning) {
     this.cycles.take(counts);
-    if (isRunning && performance.now() - this.shown < SHOWN_TIME) return;
+    if (isRunning && performance.now() - this.shown < SHOW_INTERVAL) return;
     if (!isRunning) this.cycles.stop();
     this.show();
   }

@@ -21,9 +21,9 @@ import * as say from "../../words/time.js";
  * @property {(words: string) => void} showMessage Shows a message in the status line.
  */
 
-const MOST_INSTRUCTIONS = 10000000;
+const MAX_INSTRUCTIONS = 10000000;
 /** The maximum length of an error message, which quotes the typed text. */
-const LONGEST_FAULT = 200;
+const MAX_MESSAGE_LENGTH = 200;
 
 /**
  * Returns the names of places on a board, the most useful ones first. The user can type others.
@@ -90,10 +90,10 @@ export class HistoryView {
   }
 
   stepMany() {
-    const count = parseCount(this.count.value, MOST_INSTRUCTIONS);
+    const count = parseCount(this.count.value, MAX_INSTRUCTIONS);
     this.count.setAttribute("aria-invalid", String(count === 0));
     if (count > 0) this.calls.goOn({ kind: "count", count });
-    else this.calls.showMessage(say.giveCount(MOST_INSTRUCTIONS.toLocaleString("en")));
+    else this.calls.showMessage(say.giveCount(MAX_INSTRUCTIONS.toLocaleString("en")));
   }
 
   /** @param {(goal: NonNullable<ReturnType<typeof goalOfText>["goal"]>) => void} act */
@@ -102,6 +102,6 @@ export class HistoryView {
     const { goal, fault } = text.trim() === "" ? { goal: null, fault: "" } : goalOfText(text, this.calls.names());
     this.place.setAttribute("aria-invalid", String(goal === null));
     if (goal) act(goal);
-    else this.calls.showMessage(fault === "" ? say.GIVE_CHANGE : say.cannotBeSought(fault.slice(0, LONGEST_FAULT)));
+    else this.calls.showMessage(fault === "" ? say.GIVE_CHANGE : say.cannotBeSought(fault.slice(0, MAX_MESSAGE_LENGTH)));
   }
 }

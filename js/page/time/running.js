@@ -44,7 +44,7 @@ import * as say from "../../words/time.js";
  */
 
 /** The interval in milliseconds at which the session is saved while time is running. */
-const KEEP_TIME = 1000;
+const SAVE_INTERVAL = 1000;
 /** The time in milliseconds for which a standstill of time is reported. */
 const MESSAGE_TIME = 8000;
 
@@ -266,7 +266,7 @@ export class Running {
     }
     if (isNewRate || !this.clock.isRunning) this.showRate();
     // A key press is saved at once. A hidden page receives a frame once a second.
-    if (frame.changesKeys || document.hidden || performance.now() - current.kept >= KEEP_TIME) current.keep();
+    if (frame.changesKeys || document.hidden || performance.now() - current.kept >= SAVE_INTERVAL) current.keep();
   }
 
   /** A text with the program counter at which time is paused, its name and its line. */

@@ -20,11 +20,11 @@ const LASTING = new Set(["kept", "store"]);
 /** Kinds with a notice for each event. */
 const SEVERAL = new Set(["undo", "unended"]);
 /** Kinds of success. */
-const WENT_WELL = new Set(["undo", "file", "share", "left"]);
+const SUCCESSES = new Set(["undo", "file", "share", "left"]);
 /** The duration in milliseconds of a notice of success. */
 const STAY_TIME = 8000;
 /** The maximum number of visible notices. */
-const MOST_SHOWN = 3;
+const MAX_SHOWN = 3;
 
 /**
  * Returns the notices to remove so that at most MAX_SHOWN remain: the oldest notices of success first, then the oldest others. The newest
@@ -35,8 +35,8 @@ const MOST_SHOWN = 3;
  */
 export function pushedOut(rows) {
   const older = rows.slice(1).reverse();
-  const order = [...older.filter(({ kind }) => WENT_WELL.has(kind)), ...older.filter(({ kind }) => !WENT_WELL.has(kind))];
-  return order.slice(0, Math.max(0, rows.length - MOST_SHOWN));
+  const order = [...older.filter(({ kind }) => SUCCESSES.has(kind)), ...older.filter(({ kind }) => !SUCCESSES.has(kind))];
+  return order.slice(0, Math.max(0, rows.length - MAX_SHOWN));
 }
 
 export class Notice {
@@ -74,7 +74,7 @@ export class Notice {
     this.block.prepend(row.node);
     this.block.hidden = false;
     for (const each of pushedOut(this.rows)) this.remove(each);
-    if (WENT_WELL.has(kind)) this.leaveLater(row);
+    if (SUCCESSES.has(kind)) this.leaveLater(row);
   }
 
   /**

@@ -9,7 +9,7 @@ import * as say from "../../words/page.js";
  */
 
 /** The maximum number of stored notices. */
-const MOST_KEPT = 100;
+const MAX_KEPT = 100;
 
 export class NoticeList {
   /** @param {(message: Message, action: NoticeAction) => void} act runs the action of a notice */
@@ -26,7 +26,7 @@ export class NoticeList {
 
   /** @param {Message} message */
   add(message) {
-    this.all = [message, ...this.all].slice(0, MOST_KEPT);
+    this.all = [message, ...this.all].slice(0, MAX_KEPT);
     button("notices-button").hidden = false;
   }
 

@@ -4,7 +4,7 @@ import { Cell, below, block, button, onClick } from "./dom.js";
 import * as say from "../../words/page.js";
 
 /** The delay in milliseconds before work is shown. Shorter work is not shown. */
-const SOON = 300;
+const SHOW_DELAY = 300;
 
 export class WorkView {
   constructor() {
@@ -30,7 +30,7 @@ export class WorkView {
    */
   async show(words, work) {
     const controller = new AbortController();
-    const shown = setTimeout(() => this.begin(words, controller), SOON);
+    const shown = setTimeout(() => this.begin(words, controller), SHOW_DELAY);
     try {
       return await work(controller.signal, (done, total) => {
         if (this.controller === controller) this.bar.value = done / total;

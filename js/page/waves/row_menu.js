@@ -12,7 +12,7 @@ import * as say from "../../words/waves.js";
  */
 
 /** The maximum length of a name. */
-const LONGEST_NAME = 40;
+const MAX_NAME_LENGTH = 40;
 
 export class RowMenu {
   /** @param {import("./wave_view.js").WaveView} view the view with the selected row */
@@ -83,7 +83,7 @@ export class RowMenu {
    */
   ask(label, value, act) {
     this.naming.open({ label, value, word: say.NAME, act: (typed) => {
-      act(typed.slice(0, LONGEST_NAME));
+      act(typed.slice(0, MAX_NAME_LENGTH));
       return "";
     } });
   }

@@ -38,7 +38,7 @@ import * as say from "../../words/waves.js";
  */
 
 /** The interval in milliseconds at which a growing picture is drawn. */
-const PICTURE_TIME = 100;
+const DRAW_INTERVAL = 100;
 
 /** Lets at most one panel below the row of controls be open. Escape and a press outside the panel close it. */
 function listenToPops() {
@@ -243,7 +243,7 @@ export class Scope {
     if (!live.isOn) this.drawLive(live);
     else if (this.isDrawn) {
       this.isDrawn = false;
-      setTimeout(() => this.drawLive(live), PICTURE_TIME);
+      setTimeout(() => this.drawLive(live), DRAW_INTERVAL);
     }
   }
 

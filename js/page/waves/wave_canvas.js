@@ -24,9 +24,9 @@ export const AXIS = 26;
 /** The height in pixels of a row. */
 export const ROW = 26;
 /** The width in pixels of the number of a moment. */
-const TICK_ROOM = 92;
+const TICK_WIDTH = 92;
 /** The width in pixels of the flag with a cursor's letter. */
-const FLAG = 14;
+const FLAG_WIDTH = 14;
 /** The indentation in pixels of the names in a group. */
 const INDENT = 14;
 /** The distance in pixels from the edge of a row to its high or low level. */
@@ -49,7 +49,7 @@ export function drawWaves(context, picture) {
   clipped(context, [0, AXIS, width, height - AXIS], () => {
     for (let row = first; row < last; row++) drawRow(context, picture, row, AXIS + row * ROW - top);
   });
-  clipped(context, [gutter - FLAG, 0, view.width + FLAG, height], () => {
+  clipped(context, [gutter - FLAG_WIDTH, 0, view.width + FLAG_WIDTH, height], () => {
     if (picture.trigger >= view.begin) {
       drawMark(context, picture, { moment: picture.trigger, letter: "T", y: 7, colour: colours.ink, dash: [2, 2] });
     }
@@ -78,7 +78,7 @@ function clipped(context, box, draw) {
  */
 function drawTicks(context, { view, gutter, height, colours }) {
   let free = 0;
-  for (const tick of ticksOf(view, TICK_ROOM)) {
+  for (const tick of ticksOf(view, TICK_WIDTH)) {
     const x = Math.round(gutter + view.xOf(tick)) + 0.5;
     context.strokeStyle = colours.grid;
     strokeLine(context, x, 18, x, height);
@@ -86,7 +86,7 @@ function drawTicks(context, { view, gutter, height, colours }) {
     const text = tick.toLocaleString("en");
     const { width } = context.measureText(text);
     // The number is next to its moment, so that a cursor at the moment does not cover it.
-    const right = x + FLAG / 2 + 2;
+    const right = x + FLAG_WIDTH / 2 + 2;
     const begin = right + width > gutter + view.width ? x - 3 - width : right;
     if (begin < free) continue;
     context.fillText(text, begin, 10);
@@ -272,7 +272,7 @@ function drawCursor(context, picture, at, colour) {
  * @param {number} right the right edge
  */
 export function flagAt(x, right) {
-  return Math.min(x - FLAG / 2, right - FLAG);
+  return Math.min(x - FLAG_WIDTH / 2, right - FLAG_WIDTH);
 }
 
 /**
@@ -291,8 +291,8 @@ function drawMark(context, { view, gutter, height, colours }, { moment, letter, 
   context.lineWidth = 1;
   context.textAlign = "center";
   const flag = flagAt(x, gutter + view.width);
-  context.fillRect(flag, y, FLAG, 12);
+  context.fillRect(flag, y, FLAG_WIDTH, 12);
   context.fillStyle = colours.sheet;
-  context.fillText(letter, flag + FLAG / 2, y + 6.5);
+  context.fillText(letter, flag + FLAG_WIDTH / 2, y + 6.5);
   context.textAlign = "left";
 }

@@ -20,9 +20,9 @@
  */
 
 /** The maximum distance in pixels that a pointer moves in a click. */
-const STILL = 5;
+const CLICK_DISTANCE = 5;
 /** The zoom factor of a turn of the wheel. */
-const WHEEL = 1.25;
+const WHEEL_FACTOR = 1.25;
 
 export class WavePointers {
   /**
@@ -76,7 +76,7 @@ export class WavePointers {
       if (event.pointerType === "mouse") this.calls.hover(point);
       return;
     }
-    if (Math.abs(point.x - this.begun.x) + Math.abs(point.y - this.begun.y) > STILL) this.hasMoved = true;
+    if (Math.abs(point.x - this.begun.x) + Math.abs(point.y - this.begun.y) > CLICK_DISTANCE) this.hasMoved = true;
     if (!this.hasMoved) return;
     if (this.down.size === 2) this.pinch(event.pointerId, before, point);
     else if (this.holdsCursor) this.calls.drag(point);
@@ -115,6 +115,6 @@ export class WavePointers {
     if (!ctrlKey && !metaKey && !isSideways && this.calls.isName(point)) return;
     event.preventDefault();
     if (isSideways) this.calls.pan(deltaX || deltaY);
-    else if (deltaY !== 0) this.calls.zoom(deltaY < 0 ? WHEEL : 1 / WHEEL, point.x);
+    else if (deltaY !== 0) this.calls.zoom(deltaY < 0 ? WHEEL_FACTOR : 1 / WHEEL_FACTOR, point.x);
   }
 }

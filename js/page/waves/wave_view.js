@@ -39,7 +39,7 @@ const NARROW_GUTTER = 112;
 /** A view of fewer pixels is narrow. */
 const NARROW = 600;
 /** The maximum number of rows that are visible without scrolling. */
-const MOST_ROWS = 20;
+const MAX_ROWS = 20;
 
 /** The CSS property of each colour. */
 const COLOURS = {
@@ -200,7 +200,7 @@ export class WaveView {
     const { length } = this.rows;
     this.selected = Math.max(marked ? this.rowOf(marked) : -1, length > 0 ? 0 : -1);
     this.room.style.setProperty("height", `${AXIS + length * ROW}px`);
-    this.scroll.style.setProperty("height", `${AXIS + Math.max(1, Math.min(MOST_ROWS, length)) * ROW}px`);
+    this.scroll.style.setProperty("height", `${AXIS + Math.max(1, Math.min(MAX_ROWS, length)) * ROW}px`);
     if (waves) this.values.draw(waves, this.rows.filter(({ line }) => line >= 0));
     this.ask();
   }

@@ -14,7 +14,7 @@ import { packFault } from "../../core/bench/faults.js";
  */
 
 /** The interval in milliseconds between reports of progress. */
-const PROGRESS_TIME = 100;
+const PROGRESS_INTERVAL = 100;
 
 /** @type {Record<string, true>} calls that change the session, also while time is running */
 const CHANGES = { serve: true, serveTyped: true, goOn: true, goBack: true, goForward: true };
@@ -133,7 +133,7 @@ class BenchWorker {
   async goesOn(done, total) {
     await this.yieldToMessages();
     if (this.cancelled === this.current) return false;
-    if (performance.now() - this.status > PROGRESS_TIME) {
+    if (performance.now() - this.status > PROGRESS_INTERVAL) {
       this.status = performance.now();
       this.post({ kind: "progress", number: this.current, done, total });
     }
