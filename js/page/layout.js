@@ -22,11 +22,11 @@ const DOCKED = { listing: "disassembly", scope: "waves", talk: "console", proble
 
 /** @type {Border[]} */
 const BORDERS = [
-  { id: "front-splitter", of: "front", property: "--front-width", side: "right", least: 160, most: 700 },
-  { id: "dock-splitter", of: "dock", property: "--dock-height", side: "top", least: 60, most: 1200 },
-  { id: "side-splitter", of: "side", property: "--side-width", side: "left", least: 240, most: 900 },
-  ...["processor", "calls", "watched", "breakpoints", "memory", "ports"].map((of) => /** @type {Border} */ (
-    { id: `${of}-splitter`, of, property: `--height-${of}`, side: "bottom", least: 28, most: 900 })),
+  { id: "front-splitter", panel: "front", property: "--front-width", side: "right", min: 160, max: 700 },
+  { id: "dock-splitter", panel: "dock", property: "--dock-height", side: "top", min: 60, max: 1200 },
+  { id: "side-splitter", panel: "side", property: "--side-width", side: "left", min: 240, max: 900 },
+  ...["processor", "calls", "watched", "breakpoints", "memory", "ports"].map((panel) => /** @type {Border} */ (
+    { id: `${panel}-splitter`, panel, property: `--height-${panel}`, side: "bottom", min: 28, max: 900 })),
 ];
 
 export class Layout {

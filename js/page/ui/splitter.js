@@ -6,16 +6,17 @@ import { block } from "./dom.js";
 
 /**
  * A border: the panel that it resizes, the side of the panel where it is, and the CSS property and limits of the size in pixels.
- * @typedef {{ id: string, of: string, property: string, side: "left" | "right" | "top" | "bottom", least: number, most: number }} Border
+ * @typedef {{ id: string, panel: string, property: string, side: "left" | "right" | "top" | "bottom", min: number, max: number }} Border
  */
 
-const MOVE = 20;
+/** The number of pixels that an arrow key moves a border. */
+const KEY_STEP = 20;
 /** @type {Record<Border["side"], Record<string, number>>} the change in the panel's size for each key */
 const KEYS = {
-  left: { ArrowLeft: MOVE, ArrowRight: -MOVE },
-  right: { ArrowLeft: -MOVE, ArrowRight: MOVE },
-  top: { ArrowUp: MOVE, ArrowDown: -MOVE },
-  bottom: { ArrowUp: -MOVE, ArrowDown: MOVE },
+  left: { ArrowLeft: KEY_STEP, ArrowRight: -KEY_STEP },
+  right: { ArrowLeft: -KEY_STEP, ArrowRight: KEY_STEP },
+  top: { ArrowUp: KEY_STEP, ArrowDown: -KEY_STEP },
+  bottom: { ArrowUp: -KEY_STEP, ArrowDown: KEY_STEP },
 };
 
 export class Splitter {
@@ -27,10 +28,10 @@ export class Splitter {
     this.choices = choices;
     this.border = border;
     this.node = block(border.id);
-    this.panel = block(border.of);
+    this.panel = block(border.panel);
     this.isUpright = border.side === "left" || border.side === "right";
-    this.node.setAttribute("aria-valuemin", String(border.least));
-    this.node.setAttribute("aria-valuemax", String(border.most));
+    this.node.setAttribute("aria-valuemin", String(border.min));
+    this.node.setAttribute("aria-valuemax", String(border.max));
     /** The panel's size minus the position of the pointer that holds the border. */
     this.held = 0;
     this.node.addEventListener("pointerdown", (event) => {
@@ -49,7 +50,7 @@ export class Splitter {
 
   /** The name of the stored choice. */
   get name() {
-    return `size.${this.border.of}`;
+    return `size.${this.border.panel}`;
   }
 
   /** The present width or height of the panel in pixels. */
@@ -70,10 +71,10 @@ export class Splitter {
 
   /** @param {number} size in pixels */
   set(size) {
-    const { least, most } = this.border;
-    const taken = Math.round(Math.min(most, Math.max(least, size)));
-    this.choices.set(this.name, String(taken));
-    this.show(taken);
+    const { min, max } = this.border;
+    const clamped = Math.round(Math.min(max, Math.max(min, size)));
+    this.choices.set(this.name, String(clamped));
+    this.show(clamped);
   }
 
   /** Restores the initial size of the panel. */
@@ -91,7 +92,7 @@ export class Splitter {
   }
 
   showValue() {
-    this.node.setAttribute("aria-valuenow", String(Math.round(this.size) || this.border.least));
+    this.node.setAttribute("aria-valuenow", String(Math.round(this.size) || this.border.min));
   }
 
   /** @param {KeyboardEvent} event */
