@@ -23,7 +23,7 @@ import * as say from "../words/page.js";
  * @param {Page} page
  * @returns {SnapshotView}
  */
-export function snapshotViewOf(page) {
+export function makeSnapshotView(page) {
   const { running } = page;
   return new SnapshotView({
     listen: (node, key) => page.pressing.listen(node, key),
@@ -57,7 +57,7 @@ export function snapshotViewOf(page) {
  * @param {Page} page
  * @returns {Pressing}
  */
-export function pressingOf(page) {
+export function makePressing(page) {
   const { running } = page;
   return new Pressing({
     isRunning: () => running.clock.movesKeys,
@@ -69,7 +69,7 @@ export function pressingOf(page) {
       page.serving.act(`${lineOfKey(word, key)}\n`);
     },
     meant: (event) => {
-      if (event.ctrlKey || event.metaKey || event.altKey || !page.types || isDialogOpen()) return undefined;
+      if (event.ctrlKey || event.metaKey || event.altKey || !page.isTyping || isDialogOpen()) return undefined;
       return wantsKey(event.target, event.key) ? undefined : keyOfKeyboard(page.snapshotView.front.keys, event.key);
     },
   });
@@ -89,7 +89,7 @@ export function drawSound({ running, snapshotView }, boardText) {
  * @param {Page} page
  * @returns {DrawingController}
  */
-export function drawingOf(page) {
+export function makeDrawing(page) {
   const scanKeys = (/** @type {import("../core/bench/answers.js").Board} */ board) => insertKeyScan(page, board);
   const { bench, boardEditor, current, snapshotView: { wiring } } = page;
   const { editor } = boardEditor;
@@ -130,7 +130,7 @@ export function drawingOf(page) {
  * @param {Page} page
  * @returns {Scope}
  */
-export function scopeOf(page) {
+export function makeScope(page) {
   /** @type {(values: string[]) => { board: string, program: string, values: string[], watched: string[] }} */
   const textsWith = (values) => ({ board: page.boardEditor.text, program: page.programEditor.text, values,
     watched: page.breakpoints.keeper.watched });

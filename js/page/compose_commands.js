@@ -48,7 +48,7 @@ function show({ layout }, name) {
  * @typedef {{ theme: Theme, tips: Tooltips, toolbar: ToolbarView }} Shell
  * @returns {Shell}
  */
-export function shellOf() {
+export function makeShell() {
   const theme = new Theme(new Choices());
   const tips = new Tooltips();
   return { theme, tips, toolbar: new ToolbarView(tips, theme) };

@@ -10,7 +10,7 @@ import { LastChangeView } from "./machine/last_change_view.js";
 import { listenToCaret, listenToHere } from "./machine/run_to.js";
 import { SourceValues } from "../core/machine/source_values.js";
 import { namesOfWatched } from "../core/debug/watched.js";
-import { UsualView } from "./machine/usual_view.js";
+import { MistakesView } from "./machine/usual_view.js";
 import { WatchedView } from "./machine/watched_view.js";
 import { nameCharacters } from "./compose_texts.js";
 import { HistoryView } from "./time/history_view.js";
@@ -34,7 +34,7 @@ export function runToLine({ source, running, travel }, line) {
  * @param {Page} page
  * @returns {BreakpointsController}
  */
-export function breakpointsOf(page) {
+export function makeBreakpoints(page) {
   return new BreakpointsController(page.bench, {
     session: () => page.current.session,
     touched: () => page.current.touchAndKeep(),
@@ -60,7 +60,7 @@ export function breakpointsOf(page) {
 }
 
 /** @param {Page} page */
-export function travelOf(page) {
+export function makeTravel(page) {
   const { running } = page;
   return new Travel(page.bench, {
     stand: () => running.stand(),
@@ -77,7 +77,7 @@ export function travelOf(page) {
 }
 
 /** @param {Page} page */
-export function historyOf(page) {
+export function makeHistory(page) {
   const { travel, snapshotView, programEditor, running } = page;
   listenToHere(snapshotView.listing.block, (node) => snapshotView.listing.rows.addressAt(node), (address) => {
     travel.goOn({ kind: "here", address });
@@ -113,7 +113,7 @@ function makeLastChanges({ bench, snapshotView, source, running, recovery }) {
  * @param {Page} page
  * @returns {SourceValues}
  */
-export function valuesOf(page) {
+export function makeValues(page) {
   const { snapshotView, running, source, editors } = page;
   return new SourceValues({
     snapshot: () => snapshotView.reader.snapshot,
@@ -134,7 +134,7 @@ export function valuesOf(page) {
  * @param {Page} page
  * @returns {HeatView}
  */
-export function heatOf(page) {
+export function makeHeat(page) {
   const { bench, snapshotView, running, recovery } = page;
   return new HeatView(page.layout.choices, {
     isRunning: () => running.clock.isRunning,
@@ -163,7 +163,7 @@ function namesOfPage({ snapshotView, source, breakpoints }) {
  * @param {Page} page
  * @returns {WatchedView}
  */
-export function watchedOf(page) {
+export function makeWatched(page) {
   const { current, snapshotView } = page;
   return new WatchedView({
     offer: (cell, { place, name }) => snapshotView.editor.offer(cell, { place, name, digits: 1 }),
@@ -182,11 +182,11 @@ export function watchedOf(page) {
 /**
  * @param {Page} page
  * @param {import("./text/problems_view.js").ProblemsView} problems
- * @returns {UsualView}
+ * @returns {MistakesView}
  */
-export function usualOf(page, problems) {
+export function makeMistakes(page, problems) {
   const { choices } = page.layout;
-  return new UsualView({
+  return new MistakesView({
     wordsOf: (address) => wordsOfAddress(hex(address, 3), page.source.map),
     goTo: (address) => page.snapshotView.goTo.show(address),
     stopAt: (kinds) => {

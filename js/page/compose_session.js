@@ -20,7 +20,7 @@ import * as say from "../words/page.js";
  * @param {Page} page
  * @param {Parts} parts
  */
-export function sessionsControllerOf(page, parts) {
+export function makeSessionsController(page, parts) {
   const { current } = page;
   return new SessionsController(parts, {
     session: () => current.session,
@@ -46,7 +46,7 @@ export function sessionsControllerOf(page, parts) {
  * @param {Page} page
  * @returns {RomFiles}
  */
-export function romFilesOf(page) {
+export function makeRomFiles(page) {
   const { running } = page;
   return new RomFiles({
     ask: async (lines) => page.bench.call("ask", [lines]),
@@ -56,7 +56,7 @@ export function romFilesOf(page) {
 }
 
 /** @param {Page} page */
-export function exportOf(page) {
+export function makeExport(page) {
   return new ExportView({
     name: () => page.current.name,
     board: () => page.boardEditor.text,
@@ -71,7 +71,7 @@ export function exportOf(page) {
  * @param {Page} page
  * @returns {Sharing}
  */
-export function sharingOf(page) {
+export function makeSharing(page) {
   const { current, sessionsController } = page;
   return new Sharing(page.bench, page.ask, page.notice, page.words, {
     shown: () => current.session && current.session.record,
@@ -122,7 +122,7 @@ function actsOf({ layout, snapshotView, pressing, running, source, travel }) {
  * @param {Page} page
  * @param {ManualSection[]} manual
  */
-export function guideOf(page, manual) {
+export function makeGuide(page, manual) {
   const { layout, programEditor } = page;
   const guide = new Guide(manual, {
     send: (lines) => page.serving.send(lines),

@@ -24,7 +24,7 @@ import * as say from "../words/page.js";
  * @param {Page} page
  * @param {ManualSection[]} manual
  */
-export function editorsOf(page, manual) {
+export function makeEditors(page, manual) {
   const { running } = page;
   return new Editors(page.bench, page.words, manual, {
     edited: (edits) => {
@@ -53,7 +53,7 @@ export function editorsOf(page, manual) {
  * @param {Page} page
  * @returns {ProblemsView}
  */
-export function problemsOf(page) {
+export function makeProblems(page) {
   /** @type {Record<string, import("./text/text_editor_view.js").EditorView>} */
   const editors = { program: page.programEditor, board: page.boardEditor, tests: page.tests.editor, properties: page.explore.editor };
   const problems = new ProblemsView({
@@ -79,7 +79,7 @@ export function nameCharacters({ snapshotView, watched, source }) {
  * @param {Page} page
  * @returns {SourceSync}
  */
-export function sourceOf(page) {
+export function makeSource(page) {
   const source = new SourceSync({
     text: () => page.programEditor.sent,
     check: (text) => page.bench.call("checkProgram", [text]),
@@ -99,7 +99,7 @@ export function sourceOf(page) {
  * @param {Page} page
  * @returns {TextsController}
  */
-export function textsOf(page) {
+export function makeTexts(page) {
   const { current } = page;
   return new TextsController(page.boardEditor, page.programEditor, page.tests.editor, page.explore.editor, page.ask, page.notice, {
     session: () => current.session,
@@ -141,7 +141,7 @@ export function insertKeyScan({ layout, programEditor }, board) {
  * @param {ManualSection[]} manual
  * @returns {TestsTab}
  */
-export function testsOf(page, manual) {
+export function makeTests(page, manual) {
   const { bench, running, words } = page;
   const tab = new TestsTab(manual, {
     texts: () => ({ boardText: page.boardEditor.text, programText: page.programEditor.text }),
@@ -208,7 +208,7 @@ async function openAfter(page, { name, lines, message }, texts) {
  * @param {() => import("../core/bench/bench_client.js").Bench} makeBench
  * @returns {ExploreTab}
  */
-export function exploreOf(page, manual, makeBench) {
+export function makeExplore(page, manual, makeBench) {
   const { bench, words } = page;
   const [explorer, prover] = [new Explorer(makeBench), new Prover(makeBench)];
   const tab = new ExploreTab(manual, {

@@ -12,7 +12,7 @@ import { Running } from "./time/running.js";
  * @param {Page} page
  * @returns {CurrentSession}
  */
-export function currentSessionOf(page) {
+export function makeCurrentSession(page) {
   return new CurrentSession(page.bench, page.store, {
     begin: (record) => page.begin(record),
     show: (shown) => page.show(shown),
@@ -33,7 +33,7 @@ export function currentSessionOf(page) {
  * @param {Page} page
  * @returns {Recovery}
  */
-export function recoveryOf(page) {
+export function makeRecovery(page) {
   return new Recovery(page.bench, page.words, page.notice, {
     session: () => page.current.session,
     isRunning: () => page.running.clock.isRunning,
@@ -51,14 +51,14 @@ export function recoveryOf(page) {
  * @param {Page} page
  * @returns {Running}
  */
-export function runningOf(page) {
+export function makeRunning(page) {
   const { current } = page;
   return new Running(page.bench, current, {
-    began: () => page.usual.clear(),
+    began: () => page.mistakes.clear(),
     stood: () => page.scope.stands(),
     took: (frame) => {
       page.log.collect(frame.ran);
-      page.usual.show(frame.tally.usual);
+      page.mistakes.show(frame.tally.usual);
       page.heat.ran(frame);
       page.show(frame, true, frame.litShares);
       page.breakpoints.count(frame.tally);
@@ -83,7 +83,7 @@ export function runningOf(page) {
  * @param {Page} page
  * @returns {Serving}
  */
-export function servingOf(page) {
+export function makeServing(page) {
   const { current, running } = page;
   return new Serving(page.bench, page.words, page.notice, {
     map: () => page.source.map,

@@ -3,14 +3,14 @@
 import { inflateRaw } from "pako/dist/pako_inflate.js";
 import { Bench } from "../core/bench/bench_client.js";
 import { startWorker } from "./bench/early_replies.js";
-import { Commands, shellOf } from "./compose_commands.js";
+import { Commands, makeShell } from "./compose_commands.js";
 import { block, button, byId, element, field, onClick } from "./ui/dom.js";
 import { fromBase64 } from "../core/session/base64.js";
 import { Locks } from "./session/locks.js";
 import { Notice } from "./ui/notice.js";
 import { Page } from "./bench_page.js";
 import { storyOf } from "./session/address.js";
-import { guideOf } from "./compose_session.js";
+import { makeGuide } from "./compose_session.js";
 import { SPEEDS, speedOf } from "../core/time/speeds.js";
 import { inTime, MemoryStore, Store } from "./session/store.js";
 import { Words } from "../core/bench/words.js";
@@ -92,7 +92,7 @@ function listenToChoices(page) {
   if (chosen) page.running.clock.setSpeed(chosen);
   const show = () => {
     speed.value = page.running.clock.speed.id;
-    typing.checked = page.types;
+    typing.checked = page.isTyping;
   };
   speed.replaceChildren(...SPEEDS.map(({ id, words }) => element("option", { value: id }, words)));
   speed.addEventListener("change", () => {
@@ -100,7 +100,7 @@ function listenToChoices(page) {
     page.running.setSpeed(speedOf(speed.value)).catch((fault) => page.recovery.failed(fault));
   });
   typing.addEventListener("change", () => {
-    page.types = typing.checked;
+    page.isTyping = typing.checked;
   });
   show();
   // A browser can restore old values of the fields when the user returns to the page.
@@ -138,11 +138,11 @@ async function start(words, notice, shell, { examples, manual }) {
   const locks = await Locks.find();
   const makeBench = benchMaker(examples);
   const bench = makeBench();
-  const [store] = await Promise.all([openStore(locks.areThere), bench.start()]);
+  const [store] = await Promise.all([openStore(locks.areAvailable), bench.start()]);
   const page = new Page({ bench, makeBench, store, locks, words, notice, examples, manual });
   bench.listener = page.listener();
   if (!store.keeps) notice.show(say.NO_STORE, "store");
-  const guide = guideOf(page, manual);
+  const guide = makeGuide(page, manual);
   const story = storyOf(location.search);
   const commands = new Commands(page, guide, examples, shell);
   const isFirst = location.hash === "" && !story && (await page.sessionsController.manager.kept()).length === 0;
@@ -159,7 +159,7 @@ async function start(words, notice, shell, { examples, manual }) {
 }
 
 async function main() {
-  const shell = shellOf();
+  const shell = makeShell();
   const notice = new Notice();
   // The block `needs` is for browsers that cannot run this script.
   block("needs").hidden = true;

@@ -7,12 +7,12 @@ import * as say from "../../words/machine.js";
 
 /**
  * @typedef {import("../../core/debug/common_mistakes.js").Kind} Kind
- * @typedef {import("../../core/debug/common_mistakes.js").CommonMistake} UsualFault
+ * @typedef {import("../../core/debug/common_mistakes.js").CommonMistake} CommonMistake
  */
 
 /**
  * The calls that the list of common mistakes makes.
- * @typedef {object} UsualCalls
+ * @typedef {object} MistakesCalls
  * @property {(address: number) => string} wordsOf Returns a text with an address, its name and its line.
  * @property {(address: number) => void} goTo Shows the line of an address in source and listing.
  * @property {(kinds: Kind[]) => void} stopAt Makes time stop at these kinds of mistakes.
@@ -21,8 +21,8 @@ import * as say from "../../words/machine.js";
  * @property {(kinds: string) => void} choose Stores the chosen kinds as one text.
  */
 
-export class UsualView {
-  /** @param {UsualCalls} calls */
+export class MistakesView {
+  /** @param {MistakesCalls} calls */
   constructor(calls) {
     this.calls = calls;
     this.block = block("usual");
@@ -42,15 +42,15 @@ export class UsualView {
     this.calls.counted(0);
   }
 
-  /** @param {UsualFault[]} faults */
-  show(faults) {
-    if (faults.length === 0) return;
-    this.list.append(...faults.map((fault) => this.row(fault)));
+  /** @param {CommonMistake[]} mistakes */
+  show(mistakes) {
+    if (mistakes.length === 0) return;
+    this.list.append(...mistakes.map((mistake) => this.row(mistake)));
     this.block.hidden = false;
     this.calls.counted(this.list.children.length);
   }
 
-  /** @param {UsualFault} fault */
+  /** @param {CommonMistake} mistake */
   row({ kind, address, words }) {
     const button = element("button", { type: "button", className: "place" }, this.calls.wordsOf(address));
     onClick(button, () => this.calls.goTo(address));

@@ -25,7 +25,7 @@ export class Locks {
   /** @param {LockManager | null} manager null if the browser has no locks: then each lock is free */
   constructor(manager) {
     this.manager = manager;
-    this.areThere = manager !== null;
+    this.areAvailable = manager !== null;
   }
 
   /**

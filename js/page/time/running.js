@@ -68,7 +68,7 @@ export class Running {
     this.begun = 0;
     this.rate = new Rate(0);
     this.clock = this.makeClock();
-    this.asked = new PendingKeys();
+    this.pendingKeys = new PendingKeys();
     this.sound = new Sound({
       listen: (line) => {
         bench.call("listenTo", [line]).catch(calls.failed);
@@ -166,7 +166,7 @@ export class Running {
    * @param {Key | null} key the key to press before the cycles
    */
   async advance(cycles, key) {
-    const arrived = key ? this.asked.send({ word: "press", key }) : () => {};
+    const arrived = key ? this.pendingKeys.send({ word: "press", key }) : () => {};
     const frame = await this.bench.call("advance", [cycles, key]).finally(arrived);
     this.ran(frame);
   }
@@ -303,9 +303,9 @@ export class Running {
     const { bench, current, calls } = this;
     current.touch();
     if (word === "press" && this.clock.pressNow(key)) return;
-    const arrived = this.asked.send({ word, key });
+    const arrived = this.pendingKeys.send({ word, key });
     bench.call(word, [key]).finally(arrived).then((waiting) => {
-      this.asked.waiting = waiting;
+      this.pendingKeys.waiting = waiting;
     }, calls.failed);
   }
 
@@ -315,6 +315,6 @@ export class Running {
    * @param {boolean} isDown whether the bench reports it as down
    */
   willBeDown(key, isDown) {
-    return this.clock.movesKeys ? this.asked.willBeDown(key, isDown) : isDown;
+    return this.clock.movesKeys ? this.pendingKeys.willBeDown(key, isDown) : isDown;
   }
 }
