@@ -4,7 +4,7 @@ import { hintOfKeys, keysOf } from "../../core/board/board_keys.js";
 import { Brightness } from "../../core/board/brightness.js";
 import { EYE_MS } from "../../core/time/mcs4_time.js";
 import { DisplayView } from "./display_view.js";
-import { Cell, block, button, element, oneStop, pressedSwitch, setStop } from "../ui/dom.js";
+import { Cell, block, button, element, makeFirstTabStop, makeOneTabStop, pressedSwitch } from "../ui/dom.js";
 import { Face, moreThan, byLine } from "../../core/board/face.js";
 import { missingOf } from "../../core/board/face_board.js";
 import { KeysDown } from "../../core/board/key_place.js";
@@ -61,7 +61,7 @@ export class FrontView {
     this.isShining = false;
     this.brightnessStatus = new Cell(block("brightness-status"));
     this.block = block("keys");
-    oneStop(this.block, () => this.columns);
+    makeOneTabStop(this.block, () => this.columns);
   }
 
   /**
@@ -134,7 +134,7 @@ export class FrontView {
     block("typing-label").hidden = this.keys.length === 0;
     // The front panel has its own switch at TEST.
     button("test").hidden = face.test !== null;
-    setStop(this.block);
+    makeFirstTabStop(this.block);
     block("keys-hint").textContent = isBare(board) ? "" : hintOfKeys(this.keys);
     this.showDown();
   }

@@ -160,7 +160,7 @@ export class Pressing {
     if (!held.stays) this.calls.release(key);
   }
 
-  allUp() {
+  releaseAll() {
     for (const { key } of [...this.held.values()]) this.up(key);
   }
 
@@ -184,7 +184,7 @@ export class Pressing {
     // The page does not receive key releases after it has lost the focus.
     addEventListener("blur", () => {
       typedAt.clear();
-      this.allUp();
+      this.releaseAll();
     });
   }
 }

@@ -3,7 +3,7 @@
 import { BITS_PER_CHIP } from "../../core/bench/board_form.js";
 import { Switch, block, element } from "../ui/dom.js";
 import { upTo } from "../../core/bench/numbers.js";
-import { drawn } from "../ui/svg.js";
+import { svgElement } from "../ui/svg.js";
 import { pathText, routeOf } from "../../core/board/routes.js";
 import { HEAD, drawBoard, isHigh, isHighAtRom } from "../../core/board/wiring.js";
 import * as say from "../../words/board.js";
@@ -41,7 +41,7 @@ export class WiringView {
     /** @type {Map<string, Part>} */
     this.parts = new Map();
     /** @type {Map<string, string[]>} the pins at the ends of each line's wires */
-    this.takers = new Map();
+    this.linePins = new Map();
     /** @type {WeakMap<Element, string>} the name of an element's part or pin */
     this.names = new WeakMap();
     /** @type {{ mask: string, levels: Levels }[]} the lines of each ROM, and its port in the board's text */
@@ -63,7 +63,7 @@ export class WiringView {
     /** The visible part of the picture's plane. */
     this.viewBox = "";
     /** The wire that the user is drawing. */
-    this.pencil = drawn("path", { class: "wire pencil" });
+    this.pencil = svgElement("path", { class: "wire pencil" });
   }
 
   /** Forgets the levels, because another board is in use. */
@@ -101,7 +101,7 @@ export class WiringView {
     /** @type {Map<string, SVGElement[]>} */
     const nodes = new Map();
     const wireNodes = wires.flatMap((wire, at) => this.drawWire(wire, pathText(routeOf(wire, parts, at)), nodes));
-    this.takers = takersOf(wires);
+    this.linePins = linePinsOf(wires);
     const partNodes = parts.map((part) => this.drawPart(part, nodes));
     for (const [line, some] of nodes) {
       this.levels.set(line, new Switch((isOn) => some.forEach((node) => node.classList.toggle("high", isOn))));
@@ -111,7 +111,7 @@ export class WiringView {
       this.viewBox = `0 0 ${width} ${height}`;
       this.root.style.setProperty("--picture-width", `${width}px`);
     }
-    const picture = drawn("svg", { viewBox: this.viewBox, role: "group", "aria-label": say.PARTS_AND_WIRES });
+    const picture = svgElement("svg", { viewBox: this.viewBox, role: "group", "aria-label": say.PARTS_AND_WIRES });
     picture.append(...wireNodes, ...partNodes, this.pencil);
     this.root.replaceChildren(picture);
     this.words.replaceChildren(...parts.map(({ title, says }) => element("li", {}, `${title}: ${says.join("; ")}.`)));
@@ -142,8 +142,8 @@ export class WiringView {
    * @param {Map<string, SVGElement[]>} nodes
    */
   drawWire(wire, d, nodes) {
-    const path = drawn("path", { class: "wire", d });
-    const reach = drawn("path", { class: "reach", d });
+    const path = svgElement("path", { class: "wire", d });
+    const reach = svgElement("path", { class: "reach", d });
     this.names.set(reach, wire.to.id);
     nodes.set(wire.line, [...(nodes.get(wire.line) || []), path]);
     return [path, reach];
@@ -156,14 +156,14 @@ export class WiringView {
   drawPart(part, nodes) {
     const { id, kind, title, x, y, width, height, says } = part;
     const words = `${title}: ${says.join("; ")}`;
-    const box = drawn("g", { class: `part of-${kind}`, role: "button", tabindex: -1, "aria-label": words });
-    const head = drawn("text", { class: "title", x: x + width / 2, y: y + HEAD - 9 }, title);
+    const box = svgElement("g", { class: `part of-${kind}`, role: "button", tabindex: -1, "aria-label": words });
+    const head = svgElement("text", { class: "title", x: x + width / 2, y: y + HEAD - 9 }, title);
     const isChip = part.pins.some(({ number }) => number !== undefined);
     const [middle, notch] = [x + width / 2, NOTCH];
-    box.append(drawn("rect", { x, y, width, height, rx: isChip ? 2 : 4 }), head);
-    if (isChip) box.append(drawn("path", { class: "notch", d: `M${middle - notch},${y}a${notch},${notch},0,0,0,${2 * notch},0` }));
+    box.append(svgElement("rect", { x, y, width, height, rx: isChip ? 2 : 4 }), head);
+    if (isChip) box.append(svgElement("path", { class: "notch", d: `M${middle - notch},${y}a${notch},${notch},0,0,0,${2 * notch},0` }));
     this.name(box, id);
-    return drawn("g", {}, box, ...part.pins.map((pin) => this.drawPin(part, pin, nodes)));
+    return svgElement("g", {}, box, ...part.pins.map((pin) => this.drawPin(part, pin, nodes)));
   }
 
   /**
@@ -185,18 +185,19 @@ export class WiringView {
     const isLeft = pin.x === part.x;
     const isLamp = part.kind === "lamps";
     const centre = { cx: pin.x, cy: pin.y };
-    const dot = drawn("circle", { class: isLamp ? `lamp ${pin.colour}` : "pin", ...centre, r: isLamp ? 6 : 4 });
+    const dot = svgElement("circle", { class: isLamp ? `lamp ${pin.colour}` : "pin", ...centre, r: isLamp ? 6 : 4 });
     const side = isLeft ? "at-left" : "at-right";
-    const label = drawn("text", { class: side, x: pin.x + (isLeft ? 10 : -10), y: pin.y + 4 }, pin.label);
+    const label = svgElement("text", { class: side, x: pin.x + (isLeft ? 10 : -10), y: pin.y + 4 }, pin.label);
     nodes.set(pin.line, [...(nodes.get(pin.line) || []), dot]);
-    const reach = drawn("circle", { class: "reach", ...centre, r: REACH });
+    const reach = svgElement("circle", { class: "reach", ...centre, r: REACH });
     const words = `${part.title}, ${pin.label}, ${this.wordsOfPin(pin)}`;
     const { number } = pin;
-    const title = drawn("title", {}, (pin.line || say.TEST_PIN) + (number === undefined ? "" : say.pinOf(number)));
+    const title = svgElement("title", {}, (pin.line || say.TEST_PIN) + (number === undefined ? "" : say.pinOf(number)));
     const leg = number === undefined ? [] : [
-      drawn("rect", { class: "leg", x: isLeft ? pin.x - LEG : pin.x, y: pin.y - 3, width: LEG, height: 6 }),
-      drawn("text", { class: `number ${isLeft ? "at-right" : ""}`, x: pin.x + (isLeft ? -LEG : LEG), y: pin.y - 5 }, String(number))];
-    const node = drawn("g", { "class": "at-pin", "role": "button", "tabindex": -1, "aria-label": words }, title, ...leg, dot, label, reach);
+      svgElement("rect", { class: "leg", x: isLeft ? pin.x - LEG : pin.x, y: pin.y - 3, width: LEG, height: 6 }),
+      svgElement("text", { class: `number ${isLeft ? "at-right" : ""}`, x: pin.x + (isLeft ? -LEG : LEG), y: pin.y - 5 }, String(number))];
+    const node = svgElement("g", { "class": "at-pin", "role": "button", "tabindex": -1, "aria-label": words },
+      title, ...leg, dot, label, reach);
     this.name(node, pin.id);
     return node;
   }
@@ -207,8 +208,8 @@ export class WiringView {
    */
   wordsOfPin({ id, line }) {
     if (line !== "" && id !== line) return say.at(line);
-    const takers = (this.takers.get(line) || []).filter((taker) => taker !== id);
-    return takers.length > 0 ? say.wiredTo(takers.join(say.AND)) : say.NOT_WIRED;
+    const pins = (this.linePins.get(line) || []).filter((pin) => pin !== id);
+    return pins.length > 0 ? say.wiredTo(pins.join(say.AND)) : say.NOT_WIRED;
   }
 
   /**
@@ -324,11 +325,11 @@ export class WiringView {
  * Returns the pins at the ends of wires, by line.
  * @param {Wire[]} wires
  */
-function takersOf(wires) {
+function linePinsOf(wires) {
   /** @type {Map<string, string[]>} */
-  const takers = new Map();
-  for (const { line, to } of wires) takers.set(line, [...(takers.get(line) || []), to.id]);
-  return takers;
+  const pins = new Map();
+  for (const { line, to } of wires) pins.set(line, [...(pins.get(line) || []), to.id]);
+  return pins;
 }
 
 /**

@@ -32,15 +32,15 @@ export function commandOfKey(event) {
 /**
  * Listens to the keys that work everywhere. While a dialog is open, neither the commands nor the browser's defaults are executed.
  * @param {(command: Command) => void} act
- * @param {() => boolean} isClosed
+ * @param {() => boolean} isBlocked
  * @param {Pick<Window, "addEventListener">} target
  */
-export function listenToKeys(act, isClosed, target = window) {
+export function listenToKeys(act, isBlocked, target = window) {
   target.addEventListener("keydown", (event) => {
     const found = commandOfKey(event);
     if (!found) return;
     event.preventDefault();
-    if (!isClosed()) act(found);
+    if (!isBlocked()) act(found);
   });
 }
 

@@ -4,7 +4,7 @@
  * Returns whether an element is a text or a panel. If it is hidden, another one is in front of it.
  * @param {Element} node
  */
-function isBehind(node) {
+function isTextOrPanel(node) {
   return node.matches("[role=tabpanel], aside, #view-menu");
 }
 
@@ -16,7 +16,7 @@ function isBehind(node) {
 export function isOffered(button) {
   if (button.disabled || button.getAttribute("aria-disabled") === "true") return false;
   for (let node = /** @type {HTMLElement | null} */ (button); node; node = node.parentElement) {
-    if (node.hidden && !isBehind(node)) return false;
+    if (node.hidden && !isTextOrPanel(node)) return false;
   }
   return true;
 }

@@ -94,7 +94,7 @@ export class DrawingController {
   typed(event) {
     const isOurs = this.calls.isInFront() && !isDialogOpen() && !wantsKey(event.target, event.key);
     if (!isOurs || event.defaultPrevented || !(event.ctrlKey || event.metaKey)) return;
-    if (this.input.doesWithControl(event)) event.preventDefault();
+    if (this.input.handleControlKey(event)) event.preventDefault();
   }
 
   /** @param {Promise<void>} work */

@@ -7,7 +7,7 @@
  *
  * The part or the pin that the pointer holds: its name, the point where the pointer went down, and the initial position of the part.
  * @typedef {import("../../core/board/wiring.js").Point} Point
- * @typedef {{ name: string, isPart: boolean, at: Point, stood: Point, isDragged: boolean }} Held
+ * @typedef {{ name: string, isPart: boolean, at: Point, start: Point, isDragged: boolean }} Held
  */
 
 /**
@@ -72,7 +72,7 @@ export class PictureInput {
     if (event.button !== 0 || !event.isPrimary) return;
     const name = this.view.nameAt(/** @type {Element} */ (event.target));
     const part = this.view.parts.get(name);
-    this.held = { name, isPart: part !== undefined, at: this.view.pointOf(event), stood: part || { x: 0, y: 0 }, isDragged: false };
+    this.held = { name, isPart: part !== undefined, at: this.view.pointOf(event), start: part || { x: 0, y: 0 }, isDragged: false };
     // The picture also receives events of the pointer outside of it.
     if (event.pointerType !== "touch") this.view.root.setPointerCapture(event.pointerId);
     if (name) this.view.focus(name);
@@ -93,7 +93,7 @@ export class PictureInput {
     held.isDragged = true;
     // The picture keeps its size until the part is dropped, because the pointer determines the part's position.
     view.isHeld = held.isPart;
-    if (held.isPart) this.calls.moved(held.name, { x: held.stood.x + now.x - held.at.x, y: held.stood.y + now.y - held.at.y });
+    if (held.isPart) this.calls.moved(held.name, { x: held.start.x + now.x - held.at.x, y: held.start.y + now.y - held.at.y });
     else view.drawPencil(held.name, now);
   }
 
@@ -130,7 +130,7 @@ export class PictureInput {
 
   /** @param {KeyboardEvent} event */
   typed(event) {
-    if (!this.does(event)) return;
+    if (!this.handleKey(event)) return;
     event.preventDefault();
     event.stopPropagation();
   }
@@ -139,11 +139,11 @@ export class PictureInput {
    * Does the action of a key. Returns whether the key has one.
    * @param {KeyboardEvent} event
    */
-  does(event) {
+  handleKey(event) {
     const { key } = event;
     const name = this.view.nameAt(/** @type {Element} */ (event.target));
-    if (event.ctrlKey || event.metaKey) return this.doesWithControl(event);
-    if (key in ARROWS) return this.goes(event, name);
+    if (event.ctrlKey || event.metaKey) return this.handleControlKey(event);
+    if (key in ARROWS) return this.handleArrow(event, name);
     if (key === "Enter" || key === " ") this.press(name);
     else if (key === "Escape") this.calls.left();
     else if (key === "Delete" || key === "Backspace") this.calls.deleted(name);
@@ -152,7 +152,7 @@ export class PictureInput {
   }
 
   /** @param {KeyboardEvent} event */
-  doesWithControl({ key, shiftKey }) {
+  handleControlKey({ key, shiftKey }) {
     const isUndo = key.toLowerCase() === "z" && !shiftKey;
     const isRedo = key.toLowerCase() === "y" || (key.toLowerCase() === "z" && shiftKey);
     if (isUndo || isRedo) this.calls.undoOrRedo(isUndo ? "undo" : "redo");
@@ -165,7 +165,7 @@ export class PictureInput {
    * @param {KeyboardEvent} event
    * @param {string} name
    */
-  goes({ key, shiftKey }, name) {
+  handleArrow({ key, shiftKey }, name) {
     const { view } = this;
     const { x, y } = ARROWS[key];
     const part = view.parts.get(name);

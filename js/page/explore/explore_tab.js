@@ -57,7 +57,7 @@ export class ExploreTab {
    */
   constructor(manual, calls) {
     this.calls = calls;
-    this.beside = new TextTab({
+    this.textTab = new TextTab({
       name: "properties",
       firstButton: "first-properties",
       firstText: firstProperties,
@@ -70,7 +70,7 @@ export class ExploreTab {
       send: () => this.exploreOrStop(),
       prove: () => this.proofs.proveOrCancel(),
     });
-    this.editor = this.beside.editor;
+    this.editor = this.textTab.editor;
     this.view = new ExploreView({
       goTo: (line) => this.editor.editor.select({ from: line, to: line }),
       goToSource: (line) => this.goToSource(line),
@@ -121,7 +121,7 @@ export class ExploreTab {
 
   /** Checks the text, because the tab came to the front. */
   look() {
-    this.beside.look();
+    this.textTab.look();
   }
 
   /** @param {number} count the number of errors in the text */
@@ -209,7 +209,7 @@ export class ExploreTab {
    * Returns the duration of the search and its seed, or null after a message if a field has no valid number.
    * @returns {Asked | null}
    */
-  asked() {
+  readRequest() {
     const wrong = NUMBERS.filter(({ id, most }) => {
       const { value } = field(id);
       const isWrong = !/^\d{1,8}$/.test(value.trim()) || Number(value) < 1 || Number(value) > most;
@@ -222,7 +222,7 @@ export class ExploreTab {
   }
 
   async explore() {
-    const asked = this.asked();
+    const asked = this.readRequest();
     if (!asked) return;
     const { texts, session } = this;
     /** @type {Explored} */
@@ -247,7 +247,7 @@ export class ExploreTab {
 
   /** @param {TextFault[]} faults the errors that prevented the search */
   refuse(faults) {
-    this.beside.showFaults(faults);
+    this.textTab.showFaults(faults);
     this.editor.showMessage(wordsOfFaults(faults, this.calls.wordsOfRefusal));
   }
 

@@ -1,6 +1,6 @@
 // The results of a search for counterexamples: a row for each property, and the coverage of the program.
 
-import { Cell, Switch, below, block, buttonOf, element } from "../ui/dom.js";
+import { Cell, Switch, block, buttonOf, descendant, element } from "../ui/dom.js";
 import { andMore } from "../../words/debug.js";
 import { coverageOf, markOf, wordsOfFigures, wordsOfProperty } from "../../words/explored.js";
 import * as say from "../../words/explore.js";
@@ -75,7 +75,7 @@ export class ExploreView {
     this.figures = new Cell(block("explore-figures"));
     this.bars = (/** @type {const} */ (["instructions", "ways"])).map((name) => {
       const root = block(`explored-${name}`);
-      return { name, root, bar: below(root, "progress", HTMLProgressElement), words: new Cell(below(root, "span", HTMLElement)) };
+      return { name, root, bar: descendant(root, "progress", HTMLProgressElement), words: new Cell(descendant(root, "span", HTMLElement)) };
     });
     this.left = block("never-run");
     /** The lines that never ran, as they are shown, to detect changes. */

@@ -1,6 +1,6 @@
 // The help: the manual's tables, with a search.
 
-import { Cell, below, block, button, element, field, onClick } from "../ui/dom.js";
+import { Cell, block, button, descendant, element, field, onClick } from "../ui/dom.js";
 import { piecesOf, searched } from "../../core/help/manual.js";
 import * as say from "../../words/help.js";
 
@@ -32,8 +32,8 @@ export class HelpView {
     this.root = block("help");
     this.switch = button("help-button");
     this.search = field("help-search");
-    this.sections = below(this.root, "#help-sections", HTMLElement);
-    this.status = new Cell(below(this.root, "#help-status", HTMLElement));
+    this.sections = descendant(this.root, "#help-sections", HTMLElement);
+    this.status = new Cell(descendant(this.root, "#help-status", HTMLElement));
     /** @type {string | null} the search text of the drawn sections; null before the first drawing */
     this.drawn = null;
     this.isOpen = false;

@@ -25,8 +25,8 @@ export class GoToView {
     this.field.addEventListener("change", () => this.go());
     // Enter works even if the text is unchanged.
     this.field.addEventListener("keydown", (event) => event.key === "Enter" && this.go());
-    const there = button("break-there");
-    onClick(there, () => {
+    const breakButton = button("break-there");
+    onClick(breakButton, () => {
       const address = this.go();
       if (address !== null) toggleBreakpoint(address);
     });

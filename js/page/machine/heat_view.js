@@ -45,7 +45,7 @@ export class HeatView {
     this.cycles = field("heat-cycles");
     this.status = block("heat-status");
     this.resting = 0;
-    this.asked = new AbortController();
+    this.request = new AbortController();
     /** True if the heat map does not show the present state. */
     this.isOld = true;
     /** @type {Heat | null} the last counts */
@@ -135,18 +135,18 @@ export class HeatView {
   /** Cancels a count, and begins another one after REST_TIME if it is needed. */
   wait() {
     clearTimeout(this.resting);
-    this.asked.abort();
+    this.request.abort();
     if (this.isOld && this.kind.value !== "" && !this.calls.isRunning()) this.resting = window.setTimeout(() => this.count(), REST_TIME);
   }
 
   async count() {
     const cycles = this.wanted();
     if (cycles === 0) return;
-    const asked = new AbortController();
-    this.asked = asked;
+    const request = new AbortController();
+    this.request = request;
     if (!this.heat) this.showStatus(say.SEARCHING_PAST);
-    const heat = await this.calls.count(cycles, asked.signal);
-    if (!heat || asked.signal.aborted || this.calls.isRunning() || this.kind.value === "") return;
+    const heat = await this.calls.count(cycles, request.signal);
+    if (!heat || request.signal.aborted || this.calls.isRunning() || this.kind.value === "") return;
     this.heat = heat;
     this.isOld = false;
     this.show(heat, cycles);

@@ -30,7 +30,7 @@ export class LastChangeView {
   constructor(panels, calls) {
     this.calls = calls;
     this.resting = 0;
-    this.asked = new AbortController();
+    this.request = new AbortController();
     this.tip = element("p", { className: "value-tip", id: "change-tip", hidden: true });
     this.tip.setAttribute("role", "status");
     document.body.append(this.tip);
@@ -52,7 +52,7 @@ export class LastChangeView {
 
   leave() {
     clearTimeout(this.resting);
-    this.asked.abort();
+    this.request.abort();
     this.tip.hidden = true;
   }
 
@@ -62,10 +62,10 @@ export class LastChangeView {
    */
   async showChange(cell, poked) {
     if (this.calls.isRunning()) return;
-    const asked = new AbortController();
-    this.asked = asked;
-    const words = await this.calls.wordsOf(poked, asked.signal);
-    if (words === "" || asked.signal.aborted || !cell.isConnected || this.calls.isRunning()) return;
+    const request = new AbortController();
+    this.request = request;
+    const words = await this.calls.wordsOf(poked, request.signal);
+    if (words === "" || request.signal.aborted || !cell.isConnected || this.calls.isRunning()) return;
     this.tip.textContent = words;
     this.tip.hidden = false;
     putBelow(this.tip, cell.getBoundingClientRect(), BELOW_CELL);

@@ -47,7 +47,7 @@ export class ListingView {
     /** @type {SourceMap | null} the program in ROM */
     this.map = null;
     // The number of requests. A listing that arrives after a newer request is not shown.
-    this.asked = 0;
+    this.requestCount = 0;
     /** True if time was running when the listing was last shown. */
     this.isRunning = false;
     /** The time at which the listing last followed the program counter, in milliseconds. */
@@ -117,7 +117,7 @@ export class ListingView {
   /** Discards all lines, because the bytes of ROM can have changed. */
   forget() {
     this.take([]);
-    this.asked += 1;
+    this.requestCount += 1;
   }
 
   /** @param {Listed[]} lines */
@@ -159,7 +159,7 @@ export class ListingView {
    */
   mustMove(isRunning) {
     if (!this.follows) return !isRunning && isInsideLine(this.lines, this.counter);
-    if (this.hasInside(this.counter)) return false;
+    if (this.showsCounter(this.counter)) return false;
     return !isRunning || performance.now() - this.followed > FOLLOW_INTERVAL;
   }
 
@@ -167,7 +167,7 @@ export class ListingView {
    * Returns whether the line of the program counter is shown, with some lines around it.
    * @param {number} counter
    */
-  hasInside(counter) {
+  showsCounter(counter) {
     const at = this.lines.findIndex((line) => line.address === counter);
     if (at < 0) return false;
     const isAtEnd = this.lines[this.lines.length - 1].address >= LAST_ADDRESS - 1;
@@ -180,12 +180,12 @@ export class ListingView {
    * @param {boolean} isScrolled whether the user has scrolled to the lines; then the scroll position stays
    */
   async read(goal, isScrolled = false) {
-    this.asked += 1;
-    const { asked, counter } = this;
+    this.requestCount += 1;
+    const { requestCount, counter } = this;
     const rows = this.rows.count;
     let lines = await this.reader.read(goal, rows);
     if (goal.anchor !== counter && isInsideLine(lines, counter)) lines = await this.reader.read({ ...goal, anchor: counter }, rows);
-    if (asked !== this.asked) return false;
+    if (requestCount !== this.requestCount) return false;
     this.take(stretchOf(lines, goal.from, rows));
     this.showRows();
     if (!isScrolled && this.lines.length > 0) this.scroll.beginAt(this.lines[0].address);

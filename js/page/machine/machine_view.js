@@ -1,6 +1,6 @@
 // The views of registers, ports and shift-register chains. Each view shows an answer of the bench.
 
-import { Cell, Switch, block, element, oneStop, setStop } from "../ui/dom.js";
+import { Cell, Switch, block, element, makeFirstTabStop, makeOneTabStop } from "../ui/dom.js";
 import { upTo } from "../../core/bench/numbers.js";
 import * as say from "../../words/machine.js";
 
@@ -66,8 +66,8 @@ export class RegistersView {
       else this.editor.offer(value, { place: name.toLowerCase(), name, digits: DIGITS.get(name) || 1 });
       return element("div", {}, title, element("dd", {}, value));
     }));
-    oneStop(group, () => 8);
-    setStop(group);
+    makeOneTabStop(group, () => 8);
+    makeFirstTabStop(group);
     return group;
   }
 

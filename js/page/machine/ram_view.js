@@ -1,6 +1,6 @@
 // The RAM of a board, with a table for each bank. A click on a nibble watches it, and nibbles can be edited in place.
 
-import { Cell, block, byId, element, oneStop, pressedSwitch, setStop } from "../ui/dom.js";
+import { Cell, block, byId, element, makeFirstTabStop, makeOneTabStop, pressedSwitch } from "../ui/dom.js";
 import { hex, upTo } from "../../core/bench/numbers.js";
 import { CHARACTERS, STATUS } from "../../core/conditions/places.js";
 import * as say from "../../words/machine.js";
@@ -72,7 +72,7 @@ export class RamView {
     this.tables = [];
     this.chooser = byId("bank", HTMLSelectElement);
     this.chooser.addEventListener("change", () => this.showBank());
-    oneStop(this.block, () => CHARACTERS + STATUS);
+    makeOneTabStop(this.block, () => CHARACTERS + STATUS);
   }
 
   /**
@@ -90,7 +90,7 @@ export class RamView {
     this.offerBanks(board.banks.map(({ bank }) => bank));
     block("memory-hint").hidden = board.banks.length === 0;
     if (board.banks.length === 0) this.block.textContent = say.NO_RAM;
-    setStop(this.block);
+    makeFirstTabStop(this.block);
   }
 
   /** @param {number[]} banks the banks that have chips */

@@ -1,6 +1,6 @@
 // The call stack: the program counter and the return addresses. While time is paused, each has its name and its line in the source.
 
-import { Cell, Switch, block, element, onClick, oneStop, setStop } from "../ui/dom.js";
+import { Cell, Switch, block, element, makeFirstTabStop, makeOneTabStop, onClick } from "../ui/dom.js";
 import { joinLines, matchAnswers, readInputs } from "../../core/bench/inputs.js";
 import { hex } from "../../core/bench/numbers.js";
 import { areLive, callBefore, noteOfCounter, noteOfReturn } from "../../core/machine/returns.js";
@@ -35,14 +35,14 @@ export class StackView {
     /** @type {SourceMap | null} */
     this.map = null;
     // The number of requests. An answer for former addresses is not shown.
-    this.asked = 0;
+    this.requestCount = 0;
     this.rows = ["pc", "ret 1", "ret 2", "ret 3"].map((name, at) => (
       this.makeRow(name, explain(name), () => goTo(this.addressOf(at)))));
     const root = element("div", { className: "stack" }, ...this.rows.map((row) => row.button));
     root.setAttribute("role", "group");
     root.setAttribute("aria-label", say.COUNTER_AND_RETURNS);
-    oneStop(root, () => 1);
-    setStop(root);
+    makeOneTabStop(root, () => 1);
+    makeFirstTabStop(root);
     block("call-stack").append(root);
   }
 
@@ -96,18 +96,18 @@ export class StackView {
     if (noted === this.noted && map === this.map) return;
     this.noted = noted;
     this.map = map;
-    this.asked += 1;
-    const { asked } = this;
+    this.requestCount += 1;
+    const { requestCount } = this;
     const [counter, ...returns] = this.addresses;
     const bytes = await this.bytesAt(returns.map(callBefore));
-    if (asked !== this.asked) return;
+    if (requestCount !== this.requestCount) return;
     const live = areLive(returns, bytes, map);
     this.showNotes([noteOfCounter(counter, map), ...returns.map((address, at) => noteOfReturn(address, live[at], map))]);
   }
 
   clear() {
     this.noted = "";
-    this.asked += 1;
+    this.requestCount += 1;
     for (const { note, isLive } of this.rows) {
       note.set("");
       isLive.set(true);

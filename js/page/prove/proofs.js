@@ -137,7 +137,7 @@ export class Proofs {
   }
 
   /** Returns the maximum number of states for a question, or 0 after a message if the field has no valid number. */
-  asked() {
+  readMaxStates() {
     const { value } = field("prove-states");
     const isNumber = /^\d{1,9}$/.test(value.trim()) && Number(value) >= 1 && Number(value) <= MAX_STATES;
     field("prove-states").setAttribute("aria-invalid", String(!isNumber));
@@ -146,7 +146,7 @@ export class Proofs {
   }
 
   async prove() {
-    const most = this.asked();
+    const most = this.readMaxStates();
     if (most === 0) return;
     const { calls, session } = this;
     const texts = calls.texts();

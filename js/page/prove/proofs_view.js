@@ -1,6 +1,6 @@
 // The results of proofs: a row for each property with its verdict, and the progress.
 
-import { Cell, Switch, below, block, buttonOf, element } from "../ui/dom.js";
+import { Cell, Switch, block, buttonOf, descendant, element } from "../ui/dom.js";
 import { isRight, markOf, wordsOfVerdict, wordsSoFar } from "../../words/proved.js";
 import * as say from "../../words/prove.js";
 import { wordsOfLine } from "../../words/stops.js";
@@ -72,8 +72,8 @@ export class ProofsView {
     this.block = block("proof-results");
     this.list = block("proof-list");
     this.progress = block("proof-progress");
-    this.bar = below(this.progress, "progress", HTMLProgressElement);
-    this.soFar = new Cell(below(this.progress, "span", HTMLElement));
+    this.bar = descendant(this.progress, "progress", HTMLProgressElement);
+    this.soFar = new Cell(descendant(this.progress, "span", HTMLElement));
     /** @type {Row[]} */
     this.rows = [];
   }

@@ -2,7 +2,7 @@
 
 import { galleryPicture } from "../../core/session/gallery_picture.js";
 import { icon } from "../ui/icons.js";
-import { drawn } from "../ui/svg.js";
+import { svgElement } from "../ui/svg.js";
 
 /** @typedef {import("../../core/session/gallery_picture.js").Shape} Shape */
 
@@ -12,15 +12,15 @@ import { drawn } from "../ui/svg.js";
  */
 function nodesOf(shape) {
   if (shape.kind === "lamp") {
-    return [drawn("circle", { class: `lamp ${shape.colour}${shape.isLit ? " lit" : ""}`, cx: shape.x, cy: shape.y, r: shape.size })];
+    return [svgElement("circle", { class: `lamp ${shape.colour}${shape.isLit ? " lit" : ""}`, cx: shape.x, cy: shape.y, r: shape.size })];
   }
   const { x, y, width, height } = shape;
   const [middle, base] = [x + width / 2, y + height / 2];
   if (shape.kind === "key") {
-    return [drawn("rect", { class: "cap", x, y, width, height, rx: 2 }), drawn("text", { x: middle, y: base + 3 }, shape.legend)];
+    return [svgElement("rect", { class: "cap", x, y, width, height, rx: 2 }), svgElement("text", { x: middle, y: base + 3 }, shape.legend)];
   }
-  return [drawn("rect", { class: "glass", x, y, width, height, rx: 2 }),
-    drawn("text", { class: `digits ${shape.colour}`, x: x + width - 5, y: base + 6 }, shape.digits)];
+  return [svgElement("rect", { class: "glass", x, y, width, height, rx: 2 }),
+    svgElement("text", { class: `digits ${shape.colour}`, x: x + width - 5, y: base + 6 }, shape.digits)];
 }
 
 /** Returns the picture of a board with an empty front panel: a chip. */
@@ -37,5 +37,5 @@ function emptyPicture() {
 export function pictureOf(boardText) {
   const { width, height, shapes } = galleryPicture(boardText);
   if (shapes.length === 0) return emptyPicture();
-  return drawn("svg", { class: "picture", viewBox: `0 0 ${width} ${height}`, "aria-hidden": "true" }, ...shapes.flatMap(nodesOf));
+  return svgElement("svg", { class: "picture", viewBox: `0 0 ${width} ${height}`, "aria-hidden": "true" }, ...shapes.flatMap(nodesOf));
 }

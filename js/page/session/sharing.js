@@ -34,7 +34,7 @@ import * as say from "../../words/session.js";
  * Returns a sentence that lists the contents of a link.
  * @param {Texts} texts
  */
-function whatOf({ testText, propertiesText }) {
+function contentsOf({ testText, propertiesText }) {
   const held = [...say.ALWAYS_HELD, ...(testText ? [say.THE_TESTS] : []), ...(propertiesText ? [say.THE_PROPERTIES] : [])];
   return say.itHolds(held.slice(0, -1).join(", "), held[held.length - 1]);
 }
@@ -70,7 +70,7 @@ export class Sharing {
       await this.offerFile(size);
       return;
     }
-    const messages = [`${whatOf(texts)}${location.protocol === "file:" ? say.OF_A_FILE : ""}`];
+    const messages = [`${contentsOf(texts)}${location.protocol === "file:" ? say.OF_A_FILE : ""}`];
     if (address.length > SAFE_LINK) messages.push(say.LONG);
     try {
       await navigator.clipboard.writeText(address);

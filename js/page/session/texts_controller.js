@@ -121,8 +121,8 @@ export class TextsController {
    * @param {import("../../core/session/opened_file.js").FileTexts} texts
    */
   take(name, { board, program, tests, properties, lines }) {
-    if (tests !== null) this.takeBeside("tests", name, tests);
-    if (properties !== null) this.takeBeside("properties", name, properties);
+    if (tests !== null) this.takeSingle("tests", name, tests);
+    if (properties !== null) this.takeSingle("properties", name, properties);
     if (tests !== null || properties !== null) return;
     const replaced = [...(board === null ? [] : this.put("board", board)), ...(program === null ? [] : this.put("program", program))];
     this.calls.took(board !== null ? "board" : "program", lines);
@@ -137,7 +137,7 @@ export class TextsController {
    * @param {string} name the name of the file
    * @param {string} text
    */
-  takeBeside(where, name, text) {
+  takeSingle(where, name, text) {
     const replaced = this.put(where, text);
     this.calls.took(where, "");
     this.showReplaced(replaced, `${name} ${say.BESIDE[where]}`);
@@ -162,7 +162,7 @@ export class TextsController {
       const old = this.program.text;
       if (found === old) {
         this.notice.show(say.SAME_AS_ROM, "refusal");
-      } else if (old.trim() === "" || (await this.isMeant(old, found))) {
+      } else if (old.trim() === "" || (await this.confirmReplacing(old, found))) {
         if (this.isShown(session)) this.replace("program", found, say.TAKEN_FROM_ROM);
       }
     } catch (fault) {
@@ -174,7 +174,7 @@ export class TextsController {
    * @param {string} old
    * @param {string} found
    */
-  isMeant(old, found) {
+  confirmReplacing(old, found) {
     return this.ask.ask({
       title: say.REPLACE_SOURCE,
       words: [say.sizesOfSources(wordsOfLines(old), wordsOfLines(found))],
@@ -220,7 +220,7 @@ export class TextsController {
    * @param {Replaced} replaced
    * @returns {Replaced[]} the texts that were replaced in turn
    */
-  back({ name, old, now, way }) {
+  restoreText({ name, old, now, way }) {
     const editor = this[name];
     if (editor.text !== now || !editor.undoOrRedo(way) || editor.text !== old) return this.put(name, old);
     this.edited();
@@ -248,7 +248,7 @@ export class TextsController {
       this.notice.show(say.inOtherSession(session.record.name), "refusal");
       return;
     }
-    const back = replaced.flatMap((each) => this.back(each));
+    const back = replaced.flatMap((each) => this.restoreText(each));
     const [{ name }] = replaced;
     if (back.length > 0) this.offer(session, back, replaced.length > 1 ? say.TEXTS_RESTORED : say.textRestored(say.WHICH_TEXT[name]));
   }

@@ -44,7 +44,7 @@ export class TestsTab {
    */
   constructor(manual, calls) {
     this.calls = calls;
-    this.beside = new TextTab({
+    this.textTab = new TextTab({
       name: "tests",
       firstButton: "first-test",
       firstText: () => calls.sample(calls.texts()),
@@ -56,7 +56,7 @@ export class TestsTab {
       counted: (count) => this.mark(count),
       send: () => this.run().catch(calls.failed),
     });
-    this.editor = this.beside.editor;
+    this.editor = this.textTab.editor;
     this.view = new TestsView({
       goTo: (line) => this.editor.editor.select({ from: line, to: line }),
       goToAddress: (address) => calls.goTo(address),
@@ -77,7 +77,7 @@ export class TestsTab {
 
   /** Checks the text, because the tab came to the front. */
   look() {
-    this.beside.look();
+    this.textTab.look();
   }
 
   /** @param {number} count the number of errors in the text */
@@ -125,7 +125,7 @@ export class TestsTab {
   show(report, texts) {
     if (report.faults.length > 0) {
       this.clear();
-      this.beside.showFaults(report.faults);
+      this.textTab.showFaults(report.faults);
       this.editor.showMessage(wordsOfFaults(report.faults, this.calls.wordsOfRefusal));
       return;
     }

@@ -1,6 +1,6 @@
 // The results of tests: a row for each test with its error, the coverage of the program, and its cycles.
 
-import { Cell, below, block, buttonOf, element } from "../ui/dom.js";
+import { Cell, block, buttonOf, descendant, element } from "../ui/dom.js";
 import { hex } from "../../core/bench/numbers.js";
 import { CYCLE_MS } from "../../core/time/mcs4_time.js";
 import { wordsOfCounts, wordsOfTime } from "../../words/results.js";
@@ -87,7 +87,7 @@ export class TestsView {
     if (begunBefore > 0) tableRows.push(cells(say.BEGUN_BEFORE, "", begunBefore.toLocaleString("en"), percent(begunBefore), "", "", ""));
     this.labels.replaceChildren(...tableRows);
     this.keys.hidden = keys.length === 0;
-    below(this.keys, "tbody", HTMLElement).replaceChildren(...keys.map(({ key, presses, answered, first, last }) => (
+    descendant(this.keys, "tbody", HTMLElement).replaceChildren(...keys.map(({ key, presses, answered, first, last }) => (
       cells(key, String(presses), String(answered), ...(answered > 0 ? [milliseconds(first), milliseconds(last)] : ["", ""])))));
   }
 }

@@ -10,7 +10,7 @@ import { tomlWords } from "../../core/text/toml_words.js";
  * @param {number} from the end of the line's last word
  * @returns {Coloured[]}
  */
-function commentBehind(line, from) {
+function commentAfter(line, from) {
   const at = line.indexOf("#", from);
   return at < 0 ? [] : [{ from: at, to: line.length, style: "comment" }];
 }
@@ -34,7 +34,7 @@ function styleOf({ kind, text }, isKey) {
 export function boardColours(line) {
   const words = tomlWords([line]).filter(({ kind }) => kind !== "end");
   const last = words[words.length - 1];
-  const comment = commentBehind(line, last ? last.to : 0);
+  const comment = commentAfter(line, last ? last.to : 0);
   const table = /^\s*\[[^\]]*\]?\]?/.exec(line);
   if (table) return [{ from: 0, to: table[0].length, style: "atom" }, ...comment];
   const equals = words.find(({ kind, text }) => kind === "mark" && text === "=");

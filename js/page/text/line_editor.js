@@ -10,7 +10,7 @@ import { EditorView, dropCursor, highlightSpecialChars, keymap, lineNumbers } fr
 import { lineColours } from "./line_colours.js";
 import { belowLayer, elementBelow, gutterLayer, gutterOf, lookOf, markLayer, textLayer, textMark } from "./line_layers.js";
 import { keepRulesInSheet } from "./style_rules.js";
-import { below } from "../ui/dom.js";
+import { descendant } from "../ui/dom.js";
 
 /**
  * @typedef {{ line: number, ch: number }} Position
@@ -393,7 +393,7 @@ export class LineEditor {
   /** Makes the element below a line no wider than the visible text. */
   fitBelow() {
     if (!this.below) return;
-    const gutters = below(this.view.dom, ".cm-gutters", HTMLElement).offsetWidth;
+    const gutters = descendant(this.view.dom, ".cm-gutters", HTMLElement).offsetWidth;
     this.below.style.setProperty("left", `${gutters}px`);
     this.below.style.setProperty("max-width", `${this.view.scrollDOM.clientWidth - gutters}px`);
   }

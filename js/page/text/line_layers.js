@@ -47,7 +47,7 @@ class LookOfGutters extends GutterMarker {
 }
 
 /** Words after a line. */
-class WordsBehind extends WidgetType {
+class WordsAfter extends WidgetType {
   /**
    * @param {string} words
    * @param {string} className
@@ -58,7 +58,7 @@ class WordsBehind extends WidgetType {
     this.className = className;
   }
 
-  /** @param {WordsBehind} other */
+  /** @param {WordsAfter} other */
   eq({ words, className }) {
     return words === this.words && className === this.className;
   }
@@ -186,8 +186,8 @@ export function lookOf(name) {
  * @param {string} words
  * @param {string} className
  */
-export function wordsBehind(words, className) {
-  return Decoration.widget({ widget: new WordsBehind(words, className), side: 1 });
+export function wordsAfter(words, className) {
+  return Decoration.widget({ widget: new WordsAfter(words, className), side: 1 });
 }
 
 /**

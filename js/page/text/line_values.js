@@ -1,6 +1,6 @@
 // Grey words after lines of a text: the changes that these lines made. The words are not part of the text, and move with their lines.
 
-import { wordsBehind } from "./line_layers.js";
+import { wordsAfter } from "./line_layers.js";
 
 export class LineValues {
   /** @param {import("./line_editor.js").LineEditor} editor */
@@ -18,7 +18,7 @@ export class LineValues {
     const shown = [...lines].filter(([line, words]) => words !== "" && line <= editor.lineCount());
     editor.showValues(shown.map(([line, words], at) => {
       const className = at === shown.length - 1 ? "line-values last" : "line-values";
-      return wordsBehind(words, className).range(editor.offset({ line: line - 1, ch: Infinity }));
+      return wordsAfter(words, className).range(editor.offset({ line: line - 1, ch: Infinity }));
     }));
   }
 }

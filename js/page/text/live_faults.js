@@ -18,13 +18,13 @@ export class LiveFaults {
     this.find = find;
     this.show = show;
     this.failed = failed;
-    this.asked = 0;
+    this.checkCount = 0;
     this.timer = 0;
   }
 
   /** Cancels a check that is under way, and begins another one after a pause. Called after each edit. */
   edited() {
-    this.asked += 1;
+    this.checkCount += 1;
     clearTimeout(this.timer);
     this.timer = window.setTimeout(() => this.look().catch(this.failed), CHECK_DELAY);
   }
@@ -35,9 +35,9 @@ export class LiveFaults {
    */
   async look() {
     clearTimeout(this.timer);
-    this.asked += 1;
-    const { asked } = this;
-    const isWanted = () => asked === this.asked;
+    this.checkCount += 1;
+    const { checkCount } = this;
+    const isWanted = () => checkCount === this.checkCount;
     const result = await this.find(isWanted);
     if (result === undefined || !isWanted()) return undefined;
     this.show(result);

@@ -24,18 +24,18 @@ export class SearchBar {
     const before = element("button", { type: "button", title: say.SHIFT_ENTER }, say.PREVIOUS);
     const next = element("button", { type: "button", title: "Enter" }, say.NEXT);
     const close = element("button", { type: "button", title: "Escape" }, say.CLOSE);
-    this.other = element("input", {
+    this.replacement = element("input", {
       "aria-label": say.REPLACE_BY, "placeholder": say.REPLACE_BY_HINT, "autocomplete": "off", "spellcheck": false,
     });
     const one = element("button", { type: "button", title: say.REPLACE_TITLE }, say.REPLACE);
     const all = element("button", { type: "button" }, say.REPLACE_ALL);
-    this.replacing = element("div", { className: "bar", hidden: true }, this.other, one, all);
+    this.replacing = element("div", { className: "bar", hidden: true }, this.replacement, one, all);
     this.bar = element("div", { role: "search", className: "search bar", hidden: true }, this.field, before, next, close, this.status.node,
       this.replacing);
     parent.prepend(this.bar);
     onClick(one, () => this.replace());
     onClick(all, () => this.replaceAll());
-    this.other.addEventListener("keydown", (event) => this.typed(event, () => this.replace()));
+    this.replacement.addEventListener("keydown", (event) => this.typed(event, () => this.replace()));
     onClick(before, () => this.find(true));
     onClick(next, () => this.find(false));
     onClick(close, () => this.close());
@@ -78,7 +78,7 @@ export class SearchBar {
     const { editor } = this;
     const wanted = this.field.value;
     const isChosen = wanted !== "" && editor.getSelection().toLowerCase() === wanted.toLowerCase();
-    if (isChosen) editor.replaceSelection(this.other.value);
+    if (isChosen) editor.replaceSelection(this.replacement.value);
     this.find(false);
   }
 
@@ -88,7 +88,7 @@ export class SearchBar {
     if (wanted === "") return;
     const spans = this.spansOf(wanted);
     const count = spans.length;
-    if (count > 0) this.editor.edit([...spans].reverse().map((span) => ({ ...span, insert: this.other.value })));
+    if (count > 0) this.editor.edit([...spans].reverse().map((span) => ({ ...span, insert: this.replacement.value })));
     this.status.set(count === 0 ? say.NOT_FOUND : say.replaced(count.toLocaleString("en")));
   }
 

@@ -1,6 +1,6 @@
 // The view of a text: its editor, its errors, its search, and a description of the word at the pointer or the caret.
 
-import { Cell, below, block, element, onClick } from "../ui/dom.js";
+import { Cell, block, descendant, element, onClick } from "../ui/dom.js";
 import { editorKeys } from "../commands/keys.js";
 import { CountMarks } from "./count_marks.js";
 import { FaultView } from "./fault_view.js";
@@ -64,14 +64,14 @@ export class EditorView {
     this.language = language;
     this.calls = calls;
     const root = block(id);
-    const paper = below(root, ".paper", HTMLElement);
+    const paper = descendant(root, ".paper", HTMLElement);
     const container = element("div", { className: "text" });
     const list = element("ul", { "className": "fault-list", "aria-label": say.FAULTS });
     this.meaning = new MeaningView(language.offer || (() => {}));
     this.counter = new Cell(element("p", { className: "size" }));
     paper.append(container, list, element("div", { className: "strip" }, this.meaning.node, this.counter.node));
-    this.status = new Cell(below(root, ".status-text", HTMLElement));
-    const label = below(root, "h2", HTMLElement).textContent || "";
+    this.status = new Cell(descendant(root, ".status-text", HTMLElement));
+    const label = descendant(root, "h2", HTMLElement).textContent || "";
     const { colours, gutters, indent, folds, isInstruction = () => false } = language;
     this.editor = new TextEditor({ container, label, colours, gutters, indent, folds, keys: this.keys(), calls: this.textCalls() });
     const { editor } = this.editor;
@@ -89,7 +89,7 @@ export class EditorView {
     this.counting = 0;
     this.listenToPointer(editor.getWrapperElement());
     editor.onScroll(() => this.meaning.hideTip());
-    onClick(below(root, ".send", HTMLButtonElement), () => calls.send());
+    onClick(descendant(root, ".send", HTMLButtonElement), () => calls.send());
   }
 
   /** @returns {import("./text_editor.js").KeyMap} */
@@ -213,7 +213,7 @@ export class EditorView {
   }
 
   /** Describes the word at the caret. */
-  reportCaret() {
+  describeAtCaret() {
     const position = this.editor.editor.getCursor();
     this.meaning.hideTip();
     this.meaning.set(this.valuesAt(position), this.wordsAt(position));
@@ -230,7 +230,7 @@ export class EditorView {
   /** Handles a move of the caret. The word at the caret is described after REST_TIME, so that typing does not wait for it. */
   moved() {
     clearTimeout(this.resting);
-    this.resting = window.setTimeout(() => this.reportCaret(), REST_TIME);
+    this.resting = window.setTimeout(() => this.describeAtCaret(), REST_TIME);
   }
 
   get text() {

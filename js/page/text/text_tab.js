@@ -17,7 +17,7 @@ import { COLOURS } from "../../core/text/test_colours.js";
 
 /**
  * The calls that the editor makes to its own tab.
- * @typedef {object} OwnCalls
+ * @typedef {object} TabCalls
  * @property {() => Promise<TextFault[]>} faults Resolves to the errors of the board, the program and this text.
  * @property {(count: number) => void} counted Shows the number of errors in this text.
  * @property {() => void} send Does the action of the tab's first button.
@@ -50,12 +50,12 @@ export class TextTab {
   /**
    * @param {Kind<Forms>} kind
    * @param {TextCalls} calls
-   * @param {OwnCalls} own
+   * @param {TabCalls} tabCalls
    */
-  constructor(kind, calls, own) {
+  constructor(kind, calls, tabCalls) {
     this.kind = kind;
     this.calls = calls;
-    this.own = own;
+    this.tabCalls = tabCalls;
     this.editor = new EditorView(`${kind.name}-editor`, {
       mark: "#",
       colours: COLOURS[kind.name],
@@ -66,8 +66,8 @@ export class TextTab {
       complete: (lines, line, at) => kind.complete(lines, line, at, this.names(), kind.forms),
     }, {
       edited: () => this.edited(),
-      send: own.send,
-      prove: own.prove,
+      send: tabCalls.send,
+      prove: tabCalls.prove,
       toggleBreakpoint: () => {},
     });
     this.faults = new LiveFaults(() => this.find(), (faults) => this.showFaults(faults), calls.failed);
@@ -107,7 +107,7 @@ export class TextTab {
 
   /** Resolves to the errors of the board, the program and this text; an empty list if this text is empty. */
   async find() {
-    return this.editor.text.trim() === "" ? [] : this.own.faults();
+    return this.editor.text.trim() === "" ? [] : this.tabCalls.faults();
   }
 
   /** @param {TextFault[]} faults the errors of all three texts */
@@ -118,6 +118,6 @@ export class TextTab {
       return { number, line, from: text.length - text.trimStart().length, to: text.length, words };
     });
     this.editor.showFaults(entries.slice(0, MAX_FAULTS), moreThan(entries, MAX_FAULTS));
-    this.own.counted(entries.length);
+    this.tabCalls.counted(entries.length);
   }
 }

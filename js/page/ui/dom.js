@@ -28,7 +28,7 @@ export const field = (id) => byId(id, HTMLInputElement);
  * @param {new () => Kind} kind
  * @returns {Kind}
  */
-export function below(root, selector, kind) {
+export function descendant(root, selector, kind) {
   const found = root.querySelector(selector);
   if (!(found instanceof kind)) throw new Error(`${root.id} has no ${selector}`);
   return found;
@@ -137,7 +137,7 @@ export function isDialogOpen() {
  * @param {HTMLElement} root
  * @param {() => number} columns returns the number of buttons in a row
  */
-export function oneStop(root, columns) {
+export function makeOneTabStop(root, columns) {
   /** @type {Record<string, () => number>} */
   const moves = { ArrowLeft: () => -1, ArrowRight: () => 1, ArrowUp: () => -columns(), ArrowDown: () => columns() };
   root.addEventListener("keydown", (event) => {
@@ -160,7 +160,7 @@ export function oneStop(root, columns) {
  * Makes the first button of a block the stop of the Tab key. Called after the block's buttons were created.
  * @param {HTMLElement} root
  */
-export function setStop(root) {
+export function makeFirstTabStop(root) {
   root.querySelectorAll("button").forEach((each, at) => {
     each.tabIndex = at === 0 ? 0 : -1;
   });

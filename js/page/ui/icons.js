@@ -1,6 +1,6 @@
 // The icons of the page, drawn with lines of one width in a box of 16 by 16 units.
 
-import { drawn } from "./svg.js";
+import { svgElement } from "./svg.js";
 
 /** The SVG path commands of each icon: its lines, then its filled shapes after a bar. */
 const SHAPES = {
@@ -49,6 +49,7 @@ export const ICONS = /** @type {IconName[]} */ (Object.keys(SHAPES));
  */
 export function icon(name) {
   const [lines, filled = ""] = SHAPES[name].split("|");
-  const parts = [...(lines ? [drawn("path", { d: lines })] : []), ...(filled ? [drawn("path", { class: "filled", d: filled })] : [])];
-  return drawn("svg", { "class": "icon", "viewBox": "0 0 16 16", "aria-hidden": "true", "focusable": "false" }, ...parts);
+  const parts = [...(lines ? [svgElement("path", { d: lines })] : []),
+    ...(filled ? [svgElement("path", { class: "filled", d: filled })] : [])];
+  return svgElement("svg", { "class": "icon", "viewBox": "0 0 16 16", "aria-hidden": "true", "focusable": "false" }, ...parts);
 }

@@ -74,16 +74,16 @@ export class Notice {
     this.block.prepend(row.node);
     this.block.hidden = false;
     for (const each of pushedOut(this.rows)) this.remove(each);
-    if (SUCCESSES.has(kind)) this.leaveLater(row);
+    if (SUCCESSES.has(kind)) this.removeLater(row);
   }
 
   /**
    * Removes a notice after STAY_TIME, or later while the pointer or the focus is on it.
    * @param {Row} row
    */
-  leaveLater(row) {
+  removeLater(row) {
     row.timer = window.setTimeout(() => {
-      if (row.node.matches(":hover, :focus-within")) this.leaveLater(row);
+      if (row.node.matches(":hover, :focus-within")) this.removeLater(row);
       else this.remove(row);
     }, STAY_TIME);
   }

@@ -33,10 +33,10 @@ export class Panels {
     this.choices = choices;
     this.resetRest = reset;
     this.menu = block("view-menu");
-    this.word = button("view-button");
+    this.viewButton = button("view-button");
     this.isMenuOpen = new Switch((isOpen) => {
       this.menu.hidden = !isOpen;
-      this.word.setAttribute("aria-expanded", String(isOpen));
+      this.viewButton.setAttribute("aria-expanded", String(isOpen));
     });
     this.panels = Object.entries(say.PANELS).map(([id, name]) => this.make(id, name));
     /** The id of the full-size panel, or "" if there is none. */
@@ -78,16 +78,16 @@ export class Panels {
   }
 
   listen() {
-    onClick(this.word, () => this.isMenuOpen.set(!this.isMenuOpen.isOn));
+    onClick(this.viewButton, () => this.isMenuOpen.set(!this.isMenuOpen.isOn));
     document.addEventListener("pointerdown", ({ target }) => {
-      if (target instanceof Node && !this.menu.contains(target) && !this.word.contains(target)) this.isMenuOpen.set(false);
+      if (target instanceof Node && !this.menu.contains(target) && !this.viewButton.contains(target)) this.isMenuOpen.set(false);
     });
-    for (const node of [this.menu, this.word]) {
+    for (const node of [this.menu, this.viewButton]) {
       node.addEventListener("keydown", (event) => {
         if (event.key !== "Escape" || !this.isMenuOpen.isOn) return;
         event.stopPropagation();
         this.isMenuOpen.set(false);
-        this.word.focus();
+        this.viewButton.focus();
       });
     }
   }

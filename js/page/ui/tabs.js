@@ -2,7 +2,7 @@
 
 import { block, button, onClick } from "./dom.js";
 
-/** @typedef {{ name: string, tab: HTMLButtonElement, panel: HTMLElement, mark: HTMLElement, listeners: (() => void)[] }} Shown */
+/** @typedef {{ name: string, tab: HTMLButtonElement, panel: HTMLElement, mark: HTMLElement, listeners: (() => void)[] }} TabEntry */
 
 export class Tabs {
   /**
@@ -20,7 +20,7 @@ export class Tabs {
 
   /**
    * @param {string} name
-   * @returns {Shown}
+   * @returns {TabEntry}
    */
   makeTab(name) {
     const tab = button(`${name}-tab`);

@@ -1,6 +1,6 @@
 // Long work: its progress, and a button that cancels it.
 
-import { Cell, below, block, button, onClick } from "./dom.js";
+import { Cell, block, button, descendant, onClick } from "./dom.js";
 import * as say from "../../words/page.js";
 
 /** The delay in milliseconds before work is shown. Shorter work is not shown. */
@@ -9,8 +9,8 @@ const SHOW_DELAY = 300;
 export class WorkView {
   constructor() {
     this.block = block("work");
-    this.bar = below(this.block, "progress", HTMLProgressElement);
-    this.words = new Cell(below(this.block, "p", HTMLElement));
+    this.bar = descendant(this.block, "progress", HTMLProgressElement);
+    this.words = new Cell(descendant(this.block, "p", HTMLElement));
     /** @type {AbortController | null} */
     this.controller = null;
     onClick(button("cancel"), () => this.cancel());

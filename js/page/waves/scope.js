@@ -1,6 +1,6 @@
 // The logic analyser: records the lines of the board over time, shows them, and saves them as a VCD file.
 
-import { Cell, below, block, button, byId, field, onClick } from "../ui/dom.js";
+import { Cell, block, button, byId, descendant, field, onClick } from "../ui/dom.js";
 import { download } from "../session/download.js";
 import { LiveWaves } from "../../core/waves/live_waves.js";
 import { lineNamed, namedInEdge } from "../../core/waves/trigger.js";
@@ -41,28 +41,28 @@ import * as say from "../../words/waves.js";
 const DRAW_INTERVAL = 100;
 
 /** Lets at most one panel below the row of controls be open. Escape and a press outside the panel close it. */
-function listenToPops() {
-  const pops = [.../** @type {NodeListOf<HTMLDetailsElement>} */ (block("wave-bar").querySelectorAll(".pop"))];
-  const closeBut = (/** @type {EventTarget | null} */ target) => {
-    for (const pop of pops) if (pop.open && !(target instanceof Node && pop.contains(target))) pop.open = false;
+function listenToPanels() {
+  const panels = [.../** @type {NodeListOf<HTMLDetailsElement>} */ (block("wave-bar").querySelectorAll(".pop"))];
+  const closeOthers = (/** @type {EventTarget | null} */ target) => {
+    for (const panel of panels) if (panel.open && !(target instanceof Node && panel.contains(target))) panel.open = false;
   };
-  addEventListener("pointerdown", ({ target }) => closeBut(target), true);
+  addEventListener("pointerdown", ({ target }) => closeOthers(target), true);
   const files = byId("wave-files", HTMLDetailsElement);
   files.addEventListener("click", ({ target }) => {
     if (target instanceof HTMLButtonElement) files.open = false;
   });
-  for (const pop of pops) {
-    pop.addEventListener("toggle", () => pop.open && closeBut(pop));
-    pop.addEventListener("keydown", (event) => {
+  for (const panel of panels) {
+    panel.addEventListener("toggle", () => panel.open && closeOthers(panel));
+    panel.addEventListener("keydown", (event) => {
       if (event.key !== "Escape") return;
-      pop.open = false;
-      below(pop, "summary", HTMLElement).focus();
+      panel.open = false;
+      descendant(panel, "summary", HTMLElement).focus();
     });
   }
 }
 
 /** Stores the height of the controls in a CSS property, because panels open below them. */
-function followHeight() {
+function storeHeight() {
   const bar = block("wave-bar");
   new ResizeObserver(() => block("scope").style.setProperty("--wave-bar-height", `${bar.offsetHeight}px`)).observe(bar);
 }
@@ -97,8 +97,8 @@ export class Scope {
     onClick(button("save-waves"), () => this.save());
     onClick(button("save-png"), () => this.savePng());
     onClick(button("save-svg"), () => this.saveSvg());
-    listenToPops();
-    followHeight();
+    listenToPanels();
+    storeHeight();
     for (const id of ["record-cycles", "trigger", "behind"]) {
       field(id).addEventListener("keydown", (event) => {
         if (event.key === "Enter") this.record();

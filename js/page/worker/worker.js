@@ -43,10 +43,10 @@ class BenchWorker {
     /** The time of the last report of progress. */
     this.status = 0;
     this.wake = () => {};
-    this.breathed = () => {};
+    this.resume = () => {};
     const { port1, port2 } = new MessageChannel();
-    this.breathing = port1;
-    port2.onmessage = () => this.breathed();
+    this.port = port1;
+    port2.onmessage = () => this.resume();
     scope.addEventListener("message", (event) => this.take(event.data));
   }
 
@@ -73,8 +73,8 @@ class BenchWorker {
   /** Resolves after the messages that have arrived meanwhile are handled. */
   yieldToMessages() {
     return new Promise((done) => {
-      this.breathed = () => done(undefined);
-      this.breathing.postMessage(0);
+      this.resume = () => done(undefined);
+      this.port.postMessage(0);
     });
   }
 
