@@ -158,7 +158,7 @@ export class Commands {
     this.calls = this.callsOf(guide, theme);
     this.welcome = this.welcomeOf(guide);
     this.palette = new PaletteView({
-      commands: () => [...COMMANDS, ...this.ownCommands()].map((each) => this.entryOf(each)),
+      commands: () => [...COMMANDS, ...this.ownCommands()].map((command) => this.entryOf(command)),
       places: (wanted) => placesOf(wanted, this.placeCalls()),
     });
     theme.changed = () => page.scope.view.ask();

@@ -57,7 +57,7 @@ export class Pressing {
       if (event.button !== 0) return;
       event.preventDefault();
       button.setPointerCapture(event.pointerId);
-      if (event.pointerType === "touch") this.rest(event.pointerId, boardKey);
+      if (event.pointerType === "touch") this.pressLater(event.pointerId, boardKey);
       else this.down(boardKey, event.shiftKey);
     });
     button.addEventListener("pointerup", (event) => {
@@ -98,7 +98,7 @@ export class Pressing {
    * @param {number} pointer
    * @param {BoardKey} boardKey
    */
-  rest(pointer, boardKey) {
+  pressLater(pointer, boardKey) {
     this.resting.set(pointer, window.setTimeout(() => {
       this.resting.delete(pointer);
       this.down(boardKey, false);

@@ -103,8 +103,8 @@ export class WiringView {
     const wireNodes = wires.flatMap((wire, at) => this.drawWire(wire, pathText(routeOf(wire, parts, at)), nodes));
     this.linePins = linePinsOf(wires);
     const partNodes = parts.map((part) => this.drawPart(part, nodes));
-    for (const [line, some] of nodes) {
-      this.levels.set(line, new Switch((isOn) => some.forEach((node) => node.classList.toggle("high", isOn))));
+    for (const [line, elements] of nodes) {
+      this.levels.set(line, new Switch((isOn) => elements.forEach((node) => node.classList.toggle("high", isOn))));
     }
     this.groupLevels(isWired ? board : null);
     if (!this.isHeld) {
@@ -217,8 +217,8 @@ export class WiringView {
    * @param {Element | null} node
    */
   nameAt(node) {
-    for (let each = node; each && each !== this.root; each = each.parentElement) {
-      const name = this.names.get(each);
+    for (let current = node; current && current !== this.root; current = current.parentElement) {
+      const name = this.names.get(current);
       if (name !== undefined) return name;
     }
     return "";
@@ -296,9 +296,9 @@ export class WiringView {
 
   showMark() {
     const id = this.marked.startsWith("lamp ") ? "lamps" : this.marked;
-    for (const own of this.parts.keys()) {
-      const node = this.items.get(own);
-      if (node) node.classList.toggle("marked", id !== "" && (own === id || own.startsWith(`${id}.`)));
+    for (const partId of this.parts.keys()) {
+      const node = this.items.get(partId);
+      if (node) node.classList.toggle("marked", id !== "" && (partId === id || partId.startsWith(`${id}.`)));
     }
   }
 

@@ -82,11 +82,11 @@ const never = () => "";
  * @param {CommandId} id
  * @param {Command["group"]} group
  * @param {Command["act"]} act
- * @param {Partial<Command>} [some]
+ * @param {Partial<Command>} [options]
  * @returns {Command}
  */
-function command(id, group, act, some = {}) {
-  return { id, words: say.COMMANDS[id], group, keys: [], place: "everywhere", act, whyNot: never, ...some };
+function command(id, group, act, options = {}) {
+  return { id, words: say.COMMANDS[id], group, keys: [], place: "everywhere", act, whyNot: never, ...options };
 }
 
 /**
@@ -96,10 +96,10 @@ function command(id, group, act, some = {}) {
  * @param {string} button
  * @param {string} shown the text or panel that has the button
  * @param {string} [why] the reason why the command cannot be executed while the button is not offered
- * @param {Partial<Command>} [some]
+ * @param {Partial<Command>} [options]
  */
-function pressing(id, group, button, shown, why = say.NOT_NOW, some = {}) {
-  return command(id, group, (calls) => calls.press(button, shown), { whyNot: (calls) => (calls.isOffered(button) ? "" : why), ...some });
+function pressing(id, group, button, shown, why = say.NOT_NOW, options = {}) {
+  return command(id, group, (calls) => calls.press(button, shown), { whyNot: (calls) => (calls.isOffered(button) ? "" : why), ...options });
 }
 
 /**
@@ -315,7 +315,7 @@ export const COMMANDS = [
  * @returns {Command}
  */
 export function commandOf(id) {
-  const found = COMMANDS.find((each) => each.id === id);
+  const found = COMMANDS.find((entry) => entry.id === id);
   if (!found) throw new Error(`there is no command ${id}`);
   return found;
 }

@@ -18,7 +18,8 @@ export function keyNameOf({ key, ctrlKey, metaKey, altKey, shiftKey }) {
 }
 
 /** The commands whose keys work everywhere, by their keys. */
-const EVERYWHERE = new Map(COMMANDS.filter(({ place }) => place === "everywhere").flatMap((each) => each.keys.map((key) => [key, each])));
+const EVERYWHERE = new Map(COMMANDS.filter(({ place }) => place === "everywhere").flatMap((command) => (
+  command.keys.map((key) => [key, command]))));
 
 /**
  * Returns the command of a key that works everywhere, or undefined if another part of the page has handled the key.
@@ -56,7 +57,7 @@ export function editorKeys(id, act) {
   const found = commandOf(id).keys.flatMap((key) => {
     const name = key.replace(/\+/g, "-").replace(/-$/, "+");
     const names = name.includes("Ctrl-") ? [name, name.replace("Ctrl-", "Cmd-")] : [name];
-    return names.map((each) => /** @type {[string, (editor: Editor) => void]} */ ([each, act]));
+    return names.map((editorKey) => /** @type {[string, (editor: Editor) => void]} */ ([editorKey, act]));
   });
   return Object.fromEntries(found);
 }

@@ -31,21 +31,21 @@ class MenuList {
   fill(items) {
     this.items = items;
     this.buttons = items.map((item) => this.makeItem(item));
-    this.node.replaceChildren(...this.buttons.map((each, at) => (
-      element("li", { role: "none", className: items[at].isNarrow ? "narrow" : "" }, each))));
+    this.node.replaceChildren(...this.buttons.map((button, at) => (
+      element("li", { role: "none", className: items[at].isNarrow ? "narrow" : "" }, button))));
   }
 
   /** @param {MenuItem} item */
   makeItem({ id, words, icon: name, key, act, isChosen }) {
-    const made = element("button", { "type": "button", "role": isChosen ? "menuitemradio" : "menuitem", "tabIndex": -1 },
+    const button = element("button", { "type": "button", "role": isChosen ? "menuitemradio" : "menuitem", "tabIndex": -1 },
       ...(name ? [icon(name)] : []), element("span", { className: "grow" }, words),
       ...(key ? [element("kbd", { "aria-hidden": "true" }, key)] : []));
-    if (id) made.id = id;
-    made.addEventListener("click", () => {
+    if (id) button.id = id;
+    button.addEventListener("click", () => {
       this.close();
       act();
     });
-    return made;
+    return button;
   }
 
   get isOpen() {
@@ -56,15 +56,15 @@ class MenuList {
   show(isOpen) {
     this.node.hidden = !isOpen;
     if (!isOpen) return;
-    this.buttons.forEach((each, at) => {
+    this.buttons.forEach((button, at) => {
       const { isChosen } = this.items[at];
-      if (isChosen) each.setAttribute("aria-checked", String(isChosen()));
+      if (isChosen) button.setAttribute("aria-checked", String(isChosen()));
     });
   }
 
   /** The buttons that are visible at the present width of the window. */
   get shown() {
-    return this.buttons.filter((each) => each.offsetParent !== null);
+    return this.buttons.filter((button) => button.offsetParent !== null);
   }
 
   /** @param {number} at */
@@ -75,7 +75,7 @@ class MenuList {
 
   /** @param {KeyboardEvent} event */
   typed(event) {
-    const at = this.shown.findIndex((each) => each === document.activeElement);
+    const at = this.shown.findIndex((button) => button === document.activeElement);
     /** @type {Record<string, () => void>} */
     const acts = {
       ArrowDown: () => this.focus(at + 1),

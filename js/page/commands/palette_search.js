@@ -19,12 +19,12 @@ export function wordsOfQuery(query) {
  * @param {string[]} wanted
  */
 export function rankOf({ words, hint, keys, isFound }, wanted) {
-  const own = words.toLowerCase();
-  const all = `${own} ${hint} ${keys.join(" ")}`.toLowerCase();
-  if (isFound || own.startsWith(wanted.join(" "))) return 0;
-  const begins = own.split(/[^a-z0-9]+/);
-  if (wanted.every((word) => begins.some((each) => each.startsWith(word)))) return 1;
-  if (wanted.every((word) => own.includes(word))) return 2;
+  const label = words.toLowerCase();
+  const searchable = `${label} ${hint} ${keys.join(" ")}`.toLowerCase();
+  if (isFound || label.startsWith(wanted.join(" "))) return 0;
+  const labelWords = label.split(/[^a-z0-9]+/);
+  if (wanted.every((word) => labelWords.some((labelWord) => labelWord.startsWith(word)))) return 1;
+  if (wanted.every((word) => label.includes(word))) return 2;
   return wanted.every((word) => all.includes(word)) ? 3 : -1;
 }
 
@@ -36,5 +36,5 @@ export function rankOf({ words, hint, keys, isFound }, wanted) {
 export function found(entries, query) {
   const wanted = wordsOfQuery(query);
   const ranked = entries.map((entry) => ({ entry, rank: rankOf(entry, wanted) })).filter(({ rank }) => rank >= 0);
-  return ranked.sort((one, other) => one.rank - other.rank).map(({ entry }) => entry);
+  return ranked.sort((first, second) => first.rank - second.rank).map(({ entry }) => entry);
 }

@@ -1,5 +1,5 @@
-// The command palette: a field that filters commands or places, and the list of matches. It is a combobox with a listbox, as ARIA
-// describes it: the field keeps the focus, arrows choose an entry, Enter executes it.
+// The command palette: a field that filters commands or places, and the list of matches. It is a combobox with a listbox, as ARIA describes
+// it: the field keeps the focus, arrows choose an entry, Enter executes it.
 
 import { element } from "../ui/dom.js";
 import { icon } from "../ui/icons.js";
@@ -79,13 +79,13 @@ export class PaletteView {
    * @param {number} at
    */
   option({ words, hint, why, keys, icon: name }, at) {
-    const made = element("li", { "id": `palette-${at}`, "role": "option", "aria-selected": "false" });
-    if (why) made.setAttribute("aria-disabled", "true");
+    const option = element("li", { "id": `palette-${at}`, "role": "option", "aria-selected": "false" });
+    if (why) option.setAttribute("aria-disabled", "true");
     // The labels of all commands begin in one column.
     const place = this.isCommands ? [element("span", { className: "icon" })] : [];
-    made.append(...(name ? [icon(name)] : place), element("span", { className: "grow" }, words), element("small", {}, why || hint),
+    option.append(...(name ? [icon(name)] : place), element("span", { className: "grow" }, words), element("small", {}, why || hint),
       ...keys.slice(0, 1).map((key) => element("kbd", {}, key)));
-    return made;
+    return option;
   }
 
   /** Lists the entries again; the selected one stays selected. */
@@ -131,7 +131,7 @@ export class PaletteView {
 
   /** @param {MouseEvent} event */
   clicked(event) {
-    const at = [...this.list.children].findIndex((each) => event.target instanceof Node && each.contains(event.target));
+    const at = [...this.list.children].findIndex((option) => event.target instanceof Node && option.contains(event.target));
     if (at >= 0) this.act(at);
   }
 

@@ -63,13 +63,13 @@ export class ToolbarView {
    */
   button(command, { id, tip, isWide = false }) {
     const { icon: name, words, keys } = command;
-    const made = element("button", { id, type: "button", className: "tool" }, ...(name ? [icon(name)] : []));
-    if (isWide) made.append(element("span", { className: "word" }, say.SHORT[command.id] || words));
-    made.setAttribute("aria-label", words);
-    if (keys.length > 0) made.setAttribute("aria-keyshortcuts", keys.map((key) => key.replace("Ctrl+", "Control+")).join(" "));
-    onClick(made, () => this.act(command));
-    this.tips.add(made, () => ({ words: tip || words, key: keys[0] || "" }));
-    return made;
+    const node = element("button", { id, type: "button", className: "tool" }, ...(name ? [icon(name)] : []));
+    if (isWide) node.append(element("span", { className: "word" }, say.SHORT[command.id] || words));
+    node.setAttribute("aria-label", words);
+    if (keys.length > 0) node.setAttribute("aria-keyshortcuts", keys.map((key) => key.replace("Ctrl+", "Control+")).join(" "));
+    onClick(node, () => this.act(command));
+    this.tips.add(node, () => ({ words: tip || words, key: keys[0] || "" }));
+    return node;
   }
 
   /**
@@ -85,9 +85,9 @@ export class ToolbarView {
   }
 
   paletteButton() {
-    const made = this.button(commandOf("settings.palette"), { id: "palette-button" });
-    made.append(element("span", { className: "word" }, say.PALETTE), element("kbd", {}, commandOf("settings.palette").keys[0]));
-    return made;
+    const node = this.button(commandOf("settings.palette"), { id: "palette-button" });
+    node.append(element("span", { className: "word" }, say.PALETTE), element("kbd", {}, commandOf("settings.palette").keys[0]));
+    return node;
   }
 
   /**
@@ -96,11 +96,11 @@ export class ToolbarView {
    * @param {IconName} name
    */
   menuButton(id, words, name) {
-    const made = element("button", { id, type: "button", className: "tool" }, icon(name), element("span", { className: "word" }, words),
+    const node = element("button", { id, type: "button", className: "tool" }, icon(name), element("span", { className: "word" }, words),
       icon("down"));
-    made.setAttribute("aria-label", words);
-    this.tips.add(made, () => ({ words, key: "" }));
-    return made;
+    node.setAttribute("aria-label", words);
+    this.tips.add(node, () => ({ words, key: "" }));
+    return node;
   }
 
   /** Returns the menu of files. In a narrow window this menu has the rest of the toolbar, too. */

@@ -137,8 +137,7 @@ export class DrawingController {
 
   /**
    * Adds a part from the shelf, with its head at a point of the sheet. A part that joins an existing one, as a lamp joins other lamps, is
-   * not
-   * moved to the point.
+   * not moved to the point.
    * @param {import("../../core/drawing/acts.js").Act} act
    * @param {import("../../core/board/wiring.js").Point | null} point
    */

@@ -179,14 +179,14 @@ export class DrawingView {
     const focused = document.activeElement instanceof HTMLElement && root.contains(document.activeElement)
       ? document.activeElement.getAttribute("aria-label") : null;
     const head = element("b", {}, title);
-    this.fields = fields.map((each, at) => this.fieldNode(each, at, disabled));
+    this.fields = fields.map((description, at) => this.fieldNode(description, at, disabled));
     const rows = this.fields.map((node, at) => element("label", {}, `${fields[at].label} `, node));
     const ends = buttons.map(({ word, act }) => this.buttonNode(word, () => this.calls.act(act), disabled));
     if (part === "keys") ends.push(this.buttonNode(say.INSERT_SCAN, () => this.calls.scanKeys(), disabled));
     if (part) ends.push(this.buttonNode(say.SHOW_IN_BOARD, () => this.calls.find(part), false));
     root.replaceChildren(head, ...ends, ...(ends.length > 0 ? [element("hr")] : []), ...rows);
     const nodes = [...root.querySelectorAll("input, select, button")];
-    const again = focused && nodes.find((each) => each.getAttribute("aria-label") === focused);
+    const again = focused && nodes.find((node) => node.getAttribute("aria-label") === focused);
     if (again instanceof HTMLElement) again.focus();
   }
 
@@ -207,10 +207,10 @@ export class DrawingView {
    * @param {boolean} disabled
    */
   fieldNode({ label, options }, at, disabled) {
-    const own = { "aria-label": label, "autocomplete": "off", disabled };
+    const attributes = { "aria-label": label, "autocomplete": "off", disabled };
     const node = options
-      ? element("select", own, ...options.map((each) => element("option", { value: each.value }, each.words)))
-      : element("input", { ...own, size: 10, spellcheck: false });
+      ? element("select", attributes, ...options.map((option) => element("option", { value: option.value }, option.words)))
+      : element("input", { ...attributes, size: 10, spellcheck: false });
     node.addEventListener("change", () => {
       const now = this.shown && this.shown.fields.fields[at];
       if (now && node.value !== now.value) this.calls.act(now.act(node.value));

@@ -1,12 +1,11 @@
 // Mouse, fingers and keys on the picture of a board. A wire is drawn from pin to pin, by dragging or by two clicks. A part is dragged.
-// Arrow
-// keys move the focus from part to part and from pin to pin.
+// Arrow keys move the focus from part to part and from pin to pin.
 
 /**
  * @typedef {import("../board/wiring_view.js").WiringView} WiringView
+ * @typedef {import("../../core/board/wiring.js").Point} Point
  *
  * The part or the pin that the pointer holds: its name, the point where the pointer went down, and the initial position of the part.
- * @typedef {import("../../core/board/wiring.js").Point} Point
  * @typedef {{ name: string, isPart: boolean, at: Point, start: Point, isDragged: boolean }} Held
  */
 
@@ -174,9 +173,9 @@ export class PictureInput {
       this.calls.dropped();
     }
     if (shiftKey) return part !== undefined;
-    /** @type {(each: string) => boolean} */
-    const isStop = (each) => (this.begun ? this.ends.has(each) : x === 0 || view.parts.has(each));
-    const stops = [...view.items.keys()].filter((each) => each === name || isStop(each));
+    /** @type {(stop: string) => boolean} */
+    const isStop = (stop) => (this.begun ? this.ends.has(stop) : x === 0 || view.parts.has(stop));
+    const stops = [...view.items.keys()].filter((stop) => stop === name || isStop(stop));
     const count = stops.length;
     const to = stops.indexOf(name) + x + y;
     const next = stops[this.begun ? (to + count) % count : to];

@@ -1,7 +1,6 @@
 // Drags parts from the shelf onto the sheet, by mouse, pen or finger. A part is added where it is dropped. A lamp or a buzzer that is
-// dropped
-// on a line is wired to it. A click adds a part at its default position. Shift and Enter add a part and focus it on the sheet, where arrow
-// keys move it.
+// dropped on a line is wired to it. A click adds a part at its default position. Shift and Enter add a part and focus it on the sheet,
+// where arrow keys move it.
 
 import { element } from "../ui/dom.js";
 

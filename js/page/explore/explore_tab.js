@@ -46,8 +46,8 @@ import * as say from "../../words/explore.js";
  */
 
 const NUMBERS = [
-  { id: "explore-seconds", most: 86400, words: say.SECONDS_FORM },
-  { id: "explore-seed", most: 99999999, words: say.SEED_FORM },
+  { id: "explore-seconds", max: 86400, words: say.SECONDS_FORM },
+  { id: "explore-seed", max: 99999999, words: say.SEED_FORM },
 ];
 
 export class ExploreTab {
@@ -170,12 +170,12 @@ export class ExploreTab {
   /** Shows the results of the session so far. */
   show() {
     const { shown } = this;
-    const goesOn = this.controller !== null;
-    this.exploreButton.set(goesOn ? say.STOP : say.EXPLORE);
+    const isRunning = this.controller !== null;
+    this.exploreButton.set(isRunning ? say.STOP : say.EXPLORE);
     this.offerClear();
-    if (shown && shown.report) this.view.show(shown.report, goesOn);
+    if (shown && shown.report) this.view.show(shown.report, isRunning);
     this.mark(0);
-    this.showMessage(this.wordsOf(shown, goesOn));
+    this.showMessage(this.wordsOf(shown, isRunning));
   }
 
   /**
@@ -189,11 +189,11 @@ export class ExploreTab {
 
   /**
    * @param {Explored | null} shown
-   * @param {boolean} goesOn
+   * @param {boolean} isRunning
    */
-  wordsOf(shown, goesOn) {
-    if (shown && shown.report) return goesOn ? wordsSoFar(shown.report) : wordsOfEnd(shown.report, shown.isStopped);
-    return goesOn ? say.BEGINS : "";
+  wordsOf(shown, isRunning) {
+    if (shown && shown.report) return isRunning ? wordsSoFar(shown.report) : wordsOfEnd(shown.report, shown.isStopped);
+    return isRunning ? say.BEGINS : "";
   }
 
   stop() {
@@ -210,9 +210,9 @@ export class ExploreTab {
    * @returns {Asked | null}
    */
   readRequest() {
-    const wrong = NUMBERS.filter(({ id, most }) => {
+    const wrong = NUMBERS.filter(({ id, max }) => {
       const { value } = field(id);
-      const isWrong = !/^\d{1,8}$/.test(value.trim()) || Number(value) < 1 || Number(value) > most;
+      const isWrong = !/^\d{1,8}$/.test(value.trim()) || Number(value) < 1 || Number(value) > max;
       field(id).setAttribute("aria-invalid", String(isWrong));
       return isWrong;
     });
@@ -222,8 +222,8 @@ export class ExploreTab {
   }
 
   async explore() {
-    const asked = this.readRequest();
-    if (!asked) return;
+    const request = this.readRequest();
+    if (!request) return;
     const { texts, session } = this;
     /** @type {Explored} */
     const explored = { texts, report: null, files: new Map(), isStopped: false };
@@ -234,7 +234,7 @@ export class ExploreTab {
     this.show();
     let ended = /** @type {Ended} */ ({ faults: [], isStopped: true });
     try {
-      ended = await this.calls.explore(texts, asked, controller.signal, (progress) => this.take(explored, progress));
+      ended = await this.calls.explore(texts, request, controller.signal, (progress) => this.take(explored, progress));
     } finally {
       this.controller = null;
       explored.isStopped = ended.isStopped;

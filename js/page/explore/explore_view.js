@@ -48,10 +48,10 @@ class Row {
   /**
    * @param {PropertyResult} property
    * @param {Report} report
-   * @param {boolean} goesOn
+   * @param {boolean} isRunning
    */
-  show(property, report, goesOn) {
-    const mark = markOf(property, goesOn);
+  show(property, report, isRunning) {
+    const mark = markOf(property, isRunning);
     this.mark.set(mark);
     this.isRight.set(mark === "ok");
     this.isWrong.set(mark === "not ok");
@@ -94,27 +94,27 @@ export class ExploreView {
 
   /**
    * @param {Report} report
-   * @param {boolean} goesOn whether the search is running
+   * @param {boolean} isRunning whether the search is running
    */
-  show(report, goesOn) {
+  show(report, isRunning) {
     if (this.rows.length === 0) {
       this.rows = report.properties.map((property, at) => new Row(property, at, this.calls));
       this.list.replaceChildren(...this.rows.map(({ node }) => node));
     }
-    this.rows.forEach((row, at) => row.show(report.properties[at], report, goesOn));
+    this.rows.forEach((row, at) => row.show(report.properties[at], report, isRunning));
     // If proofs settle all properties, there is nothing to search.
-    const isSearched = goesOn || report.steps > 0;
+    const isSearched = isRunning || report.steps > 0;
     this.figures.set(isSearched ? wordsOfFigures(report) : say.NO_STEPS);
-    this.showCoverage(report, goesOn, isSearched);
+    this.showCoverage(report, isRunning, isSearched);
     this.block.hidden = false;
   }
 
   /**
    * @param {Report} report
-   * @param {boolean} goesOn
+   * @param {boolean} isRunning
    * @param {boolean} isSearched whether any step was run
    */
-  showCoverage(report, goesOn, isSearched) {
+  showCoverage(report, isRunning, isSearched) {
     const covered = coverageOf(report);
     for (const { name, root, bar, words } of this.bars) {
       root.hidden = !isSearched;
@@ -124,7 +124,7 @@ export class ExploreView {
       words.set(label);
     }
     // During a search this list changes all the time.
-    this.showLeft(goesOn || !isSearched ? [] : covered.left);
+    this.showLeft(isRunning || !isSearched ? [] : covered.left);
   }
 
   /** @param {number[]} lines the lines that never ran */

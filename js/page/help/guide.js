@@ -72,7 +72,7 @@ export class Guide {
    * @param {Example[]} examples
    */
   showStory(name, examples) {
-    const { story = "" } = examples.find((each) => each.name === name) || {};
+    const { story = "" } = examples.find((example) => example.name === name) || {};
     const steps = stepsOfStory(story);
     if (steps.length > 0) this.tour.open(steps);
     else this.calls.refuse(say.noSuchStory(shortName(name)));

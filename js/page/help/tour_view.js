@@ -18,8 +18,7 @@ import * as say from "../../words/help.js";
  * @property {(example: Example) => Promise<boolean>} begin Begins a new session from an example. Resolves to whether it was created.
  * @property {(program: string) => void} put Puts a program into the source.
  * @property {(act: import("../../core/help/story.js").Act) => Promise<string>} act Does the action of a story's link. Resolves to the
- *   reason
- *   why it failed, or to "".
+ *   reason why it failed, or to "".
  * @property {(program: string) => boolean} isPut Returns whether the source is `program`.
  * @property {(target: Target) => void} reveal Scrolls the target of a step into view.
  * @property {() => void} left Handles the end of the tour.
@@ -120,9 +119,9 @@ export class TourView {
   /** @param {Part} part */
   nodeOf(part) {
     if (typeof part === "string") return part;
-    const made = element("button", { type: "button", className: "place" }, part.words);
-    onClick(made, async () => this.status.set(await this.calls.act(part.act)));
-    return made;
+    const node = element("button", { type: "button", className: "place" }, part.words);
+    onClick(node, async () => this.status.set(await this.calls.act(part.act)));
+    return node;
   }
 
   showDone() {

@@ -1,6 +1,5 @@
 // The row that edits the condition, the hit count and the log message of a breakpoint. The row is below the breakpoint's line of the
-// source,
-// or in the list of breakpoints if the breakpoint has no line. Enter applies the changes, Escape discards them.
+// source, or in the list of breakpoints if the breakpoint has no line. Enter applies the changes, Escape discards them.
 
 import { parseCount } from "../../core/bench/numbers.js";
 import { Cell, buttonOf, element } from "../ui/dom.js";
@@ -16,8 +15,8 @@ import * as say from "../../words/machine.js";
 /**
  * The calls that the row of a breakpoint makes.
  * @typedef {object} RowCalls
- * @property {(id: number, some: BreakpointWords) => void} change Changes the breakpoint with an id, and sends the change to the bench.
- * @property {(id: number, some: BreakpointWords) => void} type Shows the typed text without sending it to the bench.
+ * @property {(id: number, changes: BreakpointWords) => void} change Changes the breakpoint with an id, and sends the change to the bench.
+ * @property {(id: number, changes: BreakpointWords) => void} type Shows the typed text without sending it to the bench.
  * @property {() => Promise<void>} settled Resolves when the bench has all changes.
  * @property {(breakpoint: Breakpoint, node: HTMLElement) => void} place Puts the row below the line of its breakpoint, or into the list of
  *   breakpoints if the breakpoint has no line.
@@ -67,8 +66,8 @@ export class BreakpointRow {
       void this.apply();
     });
     node.addEventListener("input", () => {
-      const some = this.read();
-      if (this.edited && some) this.calls.type(this.edited.id, some);
+      const changes = this.read();
+      if (this.edited && changes) this.calls.type(this.edited.id, changes);
     });
     node.addEventListener("keydown", (event) => {
       if (event.key !== "Escape") return;
@@ -142,9 +141,9 @@ export class BreakpointRow {
 
   /** Applies the typed text. Returns whether it can be read. */
   change() {
-    const some = this.edited && this.read();
-    if (this.edited && some) this.calls.change(this.edited.id, some);
-    return some !== null;
+    const changes = this.edited && this.read();
+    if (this.edited && changes) this.calls.change(this.edited.id, changes);
+    return changes !== null;
   }
 
   /** Applies the typed text, and closes the row if there is no error in the text. */

@@ -78,7 +78,7 @@ export class BreakpointsController {
   makeView() {
     const { calls } = this;
     return new BreakpointsView({
-      change: (id, some) => this.keeper.change(id, some),
+      change: (id, changes) => this.keeper.change(id, changes),
       edit: (breakpoint) => this.edit(breakpoint, "condition"),
       remove: (id) => this.keeper.remove(id),
       switchAll: (isOn) => this.keeper.switchAll(isOn),
@@ -94,8 +94,8 @@ export class BreakpointsController {
   makeRow() {
     const { calls } = this;
     return new BreakpointRow({
-      change: (id, some) => this.keeper.change(id, some),
-      type: (id, some) => this.keeper.type(id, some),
+      change: (id, changes) => this.keeper.change(id, changes),
+      type: (id, changes) => this.keeper.type(id, changes),
       settled: () => this.keeper.settled,
       place: ({ id, line }, node) => {
         calls.showBelow(line, line > 0 ? node : null);

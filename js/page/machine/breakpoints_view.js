@@ -22,8 +22,8 @@ import * as say from "../../words/machine.js";
 /**
  * The calls that the list of breakpoints makes.
  * @typedef {object} BreakpointCalls
- * @property {(id: number, some: Partial<KeptBreakpoint>) => void} change Changes properties of the breakpoint with an id, such as whether
- * it is on.
+ * @property {(id: number, changes: Partial<KeptBreakpoint>) => void} change Changes properties of the breakpoint with an id, for example
+ *   whether it is on.
  * @property {(breakpoint: Breakpoint) => void} edit Opens the row that edits a breakpoint.
  * @property {(id: number) => void} remove Removes the breakpoint with an id.
  * @property {(isOn: boolean) => void} switchAll Switches all breakpoints on or off.
@@ -61,14 +61,14 @@ export class BreakpointsView {
   show(keeper) {
     const { list: { all }, faults, map } = keeper;
     for (const [id, { root }] of this.rows) {
-      if (all.some((each) => each.id === id)) continue;
+      if (all.some((breakpoint) => breakpoint.id === id)) continue;
       root.remove();
       this.rows.delete(id);
     }
-    all.forEach((each, at) => {
-      const row = this.rows.get(each.id) || this.makeRow(each.id, keeper);
+    all.forEach((breakpoint, at) => {
+      const row = this.rows.get(breakpoint.id) || this.makeRow(breakpoint.id, keeper);
       if (this.root.children[at] !== row.root) this.root.insertBefore(row.root, this.root.children[at] || null);
-      this.showRow(row, each, faults.get(each.id) || "", map);
+      this.showRow(row, breakpoint, faults.get(breakpoint.id) || "", map);
     });
     this.none.hidden = all.length > 0;
     block("breakpoints-bar").hidden = all.length === 0;

@@ -1,6 +1,5 @@
 // Cells that can be edited in place. A double click, or Enter or F2 on a cell, opens a small field over it. Enter sets the value, Escape
-// closes
-// the field.
+// closes the field.
 
 import { element } from "../ui/dom.js";
 import { putBelow } from "../ui/popup_message.js";

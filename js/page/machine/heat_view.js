@@ -101,9 +101,9 @@ export class HeatView {
     if (this.kind.value === "") return;
     // The message about the past does not apply to running time. A board without RAM has no other message.
     if (!warmed) this.showStatus("");
-    const most = parseCount(this.cycles.value, MAX_CYCLES);
-    if (!warmed || most === 0) return;
-    this.passing.add(warmed, cycles, most);
+    const limit = parseCount(this.cycles.value, MAX_CYCLES);
+    if (!warmed || limit === 0) return;
+    this.passing.add(warmed, cycles, limit);
     if (performance.now() - this.drawn < DRAW_INTERVAL) return;
     this.drawn = performance.now();
     this.heat = null;

@@ -90,11 +90,11 @@ export class ListingRows {
       const line = lines[at];
       row.button.hidden = line === undefined;
       if (!line) return;
-      const own = breakpoints.get(line.first);
-      const mark = own || insideMark(line.second, breakpoints);
+      const lineMark = breakpoints.get(line.first);
+      const mark = lineMark || insideMark(line.second, breakpoints);
       const title = [mark ? mark.words : "", line.source].filter(Boolean).join("; ");
       row.address = line.address;
-      row.marked = mark && !own ? parseInt(line.second, 16) : line.address;
+      row.marked = mark && !lineMark ? parseInt(line.second, 16) : line.address;
       row.bytes.set(line.bytes);
       row.labels.set(line.labels);
       row.instruction.set(line.instruction);

@@ -153,8 +153,8 @@ export class ListingView {
   }
 
   /**
-   * Returns whether other lines must be read. A listing that does not follow the counter reads its lines again if the counter is inside
-   * one of them.
+   * Returns whether other lines must be read. A listing that does not follow the counter reads its lines again if the counter is inside one
+   * of them.
    * @param {boolean} isRunning
    */
   mustMove(isRunning) {

@@ -28,9 +28,9 @@ function cells(count) {
   return upTo(count).map(() => new Cell(element("span")));
 }
 
-/** @param {Cell[]} some */
-function nodesOf(some) {
-  return some.map((cell) => cell.node);
+/** @param {Cell[]} cellList */
+function nodesOf(cellList) {
+  return cellList.map((cell) => cell.node);
 }
 
 /** The number of digits of each register that has more than one. */

@@ -32,17 +32,17 @@ function namesIn(register, names) {
   /** @type {(place: string, label: string) => string[]} */
   const labelled = (place, label) => (names.get(place) || []).map((name) => `${label} ${name}`);
   return [
-    ...upTo(CHARACTERS).flatMap((each) => labelled(`ram.${bank}.0x${hex(at * CHARACTERS + each, 2)}`, hex(each, 1))),
-    ...upTo(STATUS).flatMap((each) => labelled(`st.${bank}.${at}.${each}`, `status ${each}`)),
+    ...upTo(CHARACTERS).flatMap((nibble) => labelled(`ram.${bank}.0x${hex(at * CHARACTERS + nibble, 2)}`, hex(nibble, 1))),
+    ...upTo(STATUS).flatMap((index) => labelled(`st.${bank}.${at}.${index}`, `status ${index}`)),
   ];
 }
 
 /** The number of nibbles that stay together in a line. */
 const HALF = CHARACTERS / 2;
 
-/** @param {Cell[]} some */
-function groupOf(some) {
-  return element("span", { className: "nibbles" }, ...some.map(({ node }) => node));
+/** @param {Cell[]} cells */
+function groupOf(cells) {
+  return element("span", { className: "nibbles" }, ...cells.map(({ node }) => node));
 }
 
 export class RamView {

@@ -1,6 +1,5 @@
 // Runs to a line: to a line of the listing by Control and a click, the second button, or Control and Enter; to the caret's line in the
-// source
-// by Control and F10.
+// source by Control and F10.
 
 import { commandOf } from "../commands/command_table.js";
 import { keyNameOf } from "../commands/keys.js";

@@ -78,7 +78,7 @@ export class WatchedView {
     const remove = element("button", { "type": "button", "className": "remove", "title": say.stopWatching(watched.name) }, "\u00D7");
     remove.setAttribute("aria-label", say.stopWatching(watched.name));
     onClick(remove, () => {
-      this.take(this.all.filter((each) => each !== watched));
+      this.take(this.all.filter((entry) => entry !== watched));
       this.keep();
     });
     const root = element("li", { title: watched.text }, element("b", {}, watched.name), " ", value, " ", remove);

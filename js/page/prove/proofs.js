@@ -1,6 +1,5 @@
 // Proofs of properties: a button that proves them for all inputs in a worker of its own, and the verdicts. A verdict is shown while its
-// texts
-// are unchanged.
+// texts are unchanged.
 
 import { Cell, button, field, onClick } from "../ui/dom.js";
 import { lineNow, stillStands } from "../../core/prove/still_valid.js";
@@ -16,15 +15,14 @@ import { ProofsView } from "./proofs_view.js";
  * @typedef {import("../../core/testing/prepared.js").TextFault} TextFault
  *
  * The proof of a session's properties: its texts, the maximum number of states for a question, and its progress.
- * @typedef {{ texts: ExploredTexts, most: number, progress: Progress }} Proved
+ * @typedef {{ texts: ExploredTexts, maxStates: number, progress: Progress }} Proved
  *
  * The calls that proofs make to the page.
  * @typedef {object} ProofsCalls
  * @property {() => ExploredTexts} texts Returns the present texts.
- * @property {(texts: ExploredTexts, most: number, signal: AbortSignal, report: (progress: Progress) => void) => Promise<Ended>} prove
- *   Proves properties, with at most `most` states for a question, and calls `report` with the progress. Resolves to the errors in texts,
- * and
- *   to whether `signal` has cancelled the proof.
+ * @property {(texts: ExploredTexts, maxStates: number, signal: AbortSignal, report: (progress: Progress) => void) => Promise<Ended>} prove
+ *   Proves properties, with at most `maxStates` states for a question, and calls `report` with the progress. Resolves to the errors in
+ *   texts, and to whether `signal` has cancelled the proof.
  * @property {(line: number) => void} goTo Shows a line of the properties, from 1.
  * @property {(words: string) => void} showMessage Shows a message next to the buttons.
  * @property {(faults: TextFault[]) => void} refuse Shows the errors that prevented the proof.
@@ -94,19 +92,19 @@ export class Proofs {
   }
 
   /** The verdicts about the present texts. */
-  get standing() {
+  get currentVerdicts() {
     const { shown } = this;
-    return shown ? shown.progress.judged.filter(this.standsNow(shown)) : [];
+    return shown ? shown.progress.judged.filter(this.isCurrent(shown)) : [];
   }
 
   /** A short text about these verdicts. */
   get mark() {
-    return this.shown ? markOfTab(this.standing) : "";
+    return this.shown ? markOfTab(this.currentVerdicts) : "";
   }
 
   /** True if none of these verdicts is a counterexample. */
   get isGood() {
-    return this.standing.every((judged) => judged.verdict.kind === "open" || isRight(judged));
+    return this.currentVerdicts.every((judged) => judged.verdict.kind === "open" || isRight(judged));
   }
 
   /**
@@ -114,16 +112,16 @@ export class Proofs {
    * @param {Proved} shown
    * @returns {(judged: JudgedLine) => boolean}
    */
-  standsNow(shown) {
+  isCurrent(shown) {
     const now = this.calls.texts();
     return (judged) => stillStands(judged, shown.texts, now);
   }
 
   show() {
     const { shown } = this;
-    const goesOn = this.controller !== null;
-    this.button.set(goesOn ? say.CANCEL : say.PROVE);
-    if (shown) this.view.show(shown.progress, shown.most, goesOn, this.standsNow(shown));
+    const isRunning = this.controller !== null;
+    this.button.set(isRunning ? say.CANCEL : say.PROVE);
+    if (shown) this.view.show(shown.progress, shown.maxStates, isRunning, this.isCurrent(shown));
     this.calls.changed();
   }
 
@@ -146,12 +144,12 @@ export class Proofs {
   }
 
   async prove() {
-    const most = this.readMaxStates();
-    if (most === 0) return;
+    const maxStates = this.readMaxStates();
+    if (maxStates === 0) return;
     const { calls, session } = this;
     const texts = calls.texts();
     /** @type {Proved} */
-    const proved = { texts, most, progress: { judged: [], count: 0, states: 0 } };
+    const proved = { texts, maxStates, progress: { judged: [], count: 0, states: 0 } };
     const controller = new AbortController();
     this.controller = controller;
     this.proved.set(session, proved);
@@ -159,7 +157,7 @@ export class Proofs {
     this.show();
     let ended = /** @type {Ended} */ ({ faults: [], isStopped: true });
     try {
-      ended = await calls.prove(texts, most, controller.signal, (progress) => {
+      ended = await calls.prove(texts, maxStates, controller.signal, (progress) => {
         proved.progress = progress;
         if (proved === this.shown) this.show();
       });

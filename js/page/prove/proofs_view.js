@@ -55,13 +55,13 @@ class Row {
     ];
   }
 
-  /** @param {boolean} stands whether the verdict is about the present texts */
-  show(stands) {
+  /** @param {boolean} isCurrent whether the verdict is about the present texts */
+  show(isCurrent) {
     const { judged } = this;
-    this.mark.set(stands ? markOf(judged) : "");
-    this.words.set(stands ? wordsOfVerdict(judged) : say.CHANGED);
-    this.isLit.set(stands && judged.verdict.kind === "proved" && isRight(judged));
-    this.isWrong.set(stands && judged.verdict.kind !== "open" && !isRight(judged));
+    this.mark.set(isCurrent ? markOf(judged) : "");
+    this.words.set(isCurrent ? wordsOfVerdict(judged) : say.CHANGED);
+    this.isLit.set(isCurrent && judged.verdict.kind === "proved" && isRight(judged));
+    this.isWrong.set(isCurrent && judged.verdict.kind !== "open" && !isRight(judged));
   }
 }
 
@@ -86,19 +86,19 @@ export class ProofsView {
 
   /**
    * @param {Progress} progress
-   * @param {number} most the maximum number of states for a question
-   * @param {boolean} goesOn whether properties are being judged
-   * @param {(judged: JudgedLine) => boolean} stands returns whether a verdict is about the present texts
+   * @param {number} maxStates the maximum number of states for a question
+   * @param {boolean} isRunning whether properties are being judged
+   * @param {(judged: JudgedLine) => boolean} isCurrent returns whether a verdict is about the present texts
    */
-  show(progress, most, goesOn, stands) {
+  show(progress, maxStates, isRunning, isCurrent) {
     const more = progress.judged.slice(this.rows.length).map((judged) => new Row(judged, this.calls));
     this.list.append(...more.map(({ node }) => node));
     this.rows.push(...more);
-    for (const row of this.rows) row.show(stands(row.judged));
-    this.progress.hidden = !goesOn;
-    this.bar.max = most;
+    for (const row of this.rows) row.show(isCurrent(row.judged));
+    this.progress.hidden = !isRunning;
+    this.bar.max = maxStates;
     this.bar.value = progress.states;
-    this.soFar.set(goesOn ? wordsSoFar(progress) : "");
-    this.block.hidden = this.rows.length === 0 && !goesOn;
+    this.soFar.set(isRunning ? wordsSoFar(progress) : "");
+    this.block.hidden = this.rows.length === 0 && !isRunning;
   }
 }

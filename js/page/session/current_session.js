@@ -147,8 +147,7 @@ export class CurrentSession {
 
   /**
    * Shows the session's name in its field and in the title of the tab. The address becomes that of the session, or of the example while
-   * nothing
-   * has changed in it.
+   * nothing has changed in it.
    */
   showName() {
     if (!this.session) return;

@@ -30,9 +30,9 @@ async function entriesIn(folder) {
   const all = [];
   for (;;) {
     /** @type {FileSystemEntry[]} */
-    const some = await new Promise((resolve, reject) => { reader.readEntries(resolve, reject); });
-    if (some.length === 0 || all.length > MAX_FILES) return all;
-    all.push(...some);
+    const batch = await new Promise((resolve, reject) => { reader.readEntries(resolve, reject); });
+    if (batch.length === 0 || all.length > MAX_FILES) return all;
+    all.push(...batch);
   }
 }
 
@@ -47,8 +47,8 @@ async function readInto(folder, before, files, depth) {
     if (files.size >= MAX_FILES) return;
     const path = before + entry.name;
     if (entry.isFile) {
-      const own = /** @type {FileSystemFileEntry} */ (entry);
-      files.set(path, await new Promise((resolve, reject) => { own.file(resolve, reject); }));
+      const fileEntry = /** @type {FileSystemFileEntry} */ (entry);
+      files.set(path, await new Promise((resolve, reject) => { fileEntry.file(resolve, reject); }));
     } else if (depth < MAX_DEPTH && !entry.name.startsWith(".")) {
       await readInto(/** @type {FileSystemDirectoryEntry} */ (entry), `${path}/`, files, depth + 1);
     }

@@ -16,12 +16,12 @@ import * as say from "../../words/session.js";
  */
 
 /**
- * Resolves to the bytes of a file, and to one byte more than `most` if it is too long.
+ * Resolves to the bytes of a file, and to one byte more than `limit` if it is too long.
  * @param {File} file
- * @param {number} most
+ * @param {number} limit
  */
-async function bytesOf(file, most) {
-  return new Uint8Array(await file.slice(0, most + 1).arrayBuffer());
+async function bytesOf(file, limit) {
+  return new Uint8Array(await file.slice(0, limit + 1).arrayBuffer());
 }
 
 /**
@@ -44,8 +44,8 @@ async function textIn(files, path, kind) {
  * @param {string[][]} lists
  */
 function leftOut(lists) {
-  const rest = lists.flatMap((paths) => paths.slice(1));
-  return rest.length === 0 ? "" : say.leftOut(rest.join(", "), rest.length === 1);
+  const omitted = lists.flatMap((paths) => paths.slice(1));
+  return omitted.length === 0 ? "" : say.leftOut(omitted.join(", "), omitted.length === 1);
 }
 
 /**
@@ -54,11 +54,11 @@ function leftOut(lists) {
  * @returns {Promise<FolderTexts>}
  */
 export async function textsOfFolder({ name, files }) {
-  const own = files.get(PROJECT_FILE);
-  if (!own) throw new ProjectFault(PROJECT_FILE, say.NO_PROJECT_FILE);
+  const projectFile = files.get(PROJECT_FILE);
+  if (!projectFile) throw new ProjectFault(PROJECT_FILE, say.NO_PROJECT_FILE);
   /** @type {(path: string) => string} */
   const look = (path) => (files.has(path) ? "" : say.noFile(path));
-  const { board, program, tests, properties, speed } = readProject(await bytesOf(own, LONGEST_PROJECT_FILE), look);
+  const { board, program, tests, properties, speed } = readProject(await bytesOf(projectFile, LONGEST_PROJECT_FILE), look);
   const texts = {
     name: name || program.replace(/^.*\//, "").replace(/\.[^.]*$/, ""),
     title: "",

@@ -25,9 +25,9 @@ function nodesOf(shape) {
 
 /** Returns the picture of a board with an empty front panel: a chip. */
 function emptyPicture() {
-  const made = icon("chip");
-  made.classList.add("picture", "empty-picture");
-  return made;
+  const picture = icon("chip");
+  picture.classList.add("picture", "empty-picture");
+  return picture;
 }
 
 /**

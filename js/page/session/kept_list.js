@@ -84,14 +84,14 @@ export class KeptList {
    * @param {boolean} isHere
    */
   tick({ id, name }, isHere) {
-    const made = element("input", { type: "checkbox", checked: this.chosen.has(id), disabled: isHere, autocomplete: "off" });
-    made.setAttribute("aria-label", say.chooseNamed(name));
-    made.addEventListener("change", () => {
-      if (made.checked) this.chosen.add(id);
+    const box = element("input", { type: "checkbox", checked: this.chosen.has(id), disabled: isHere, autocomplete: "off" });
+    box.setAttribute("aria-label", say.chooseNamed(name));
+    box.addEventListener("change", () => {
+      if (box.checked) this.chosen.add(id);
       else this.chosen.delete(id);
       this.showChosen();
     });
-    return made;
+    return box;
   }
 
   /** @param {SessionRecord} record */

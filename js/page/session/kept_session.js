@@ -9,24 +9,24 @@ import { inTime, wordsOfStoreFault } from "./store.js";
  * @typedef {import("./store.js").SessionStore} SessionStore
  */
 
-let made = 0;
+let createdCount = 0;
 
 /**
  * Returns a new record of a session, with an id of its own.
  * @param {string} name
  * @param {Uint8Array} file
- * @param {{ boardText: string, programText: string, testText?: string, propertiesText?: string,
- *   breakpoints?: SessionRecord["breakpoints"], watched?: SessionRecord["watched"], wired?: SessionRecord["wired"] }} given
+ * @param {{ boardText: string, programText: string, testText?: string, propertiesText?: string, breakpoints?: SessionRecord["breakpoints"],
+ *   watched?: SessionRecord["watched"], wired?: SessionRecord["wired"] }} content
  * @param {boolean} runs
  * @returns {SessionRecord}
  */
-export function newRecord(name, file, given, runs = false) {
-  const { boardText, programText, testText = "", propertiesText = "", breakpoints, watched, wired } = given;
-  made += 1;
-  const id = `${Date.now().toString(36)}-${made}-${Math.floor(Math.random() * 1e9).toString(36)}`;
+export function newRecord(name, file, content, runs = false) {
+  const { boardText, programText, testText = "", propertiesText = "", breakpoints, watched, wired } = content;
+  createdCount += 1;
+  const id = `${Date.now().toString(36)}-${createdCount}-${Math.floor(Math.random() * 1e9).toString(36)}`;
   const texts = { boardText, programText, testText, propertiesText };
-  const own = { id, name: shortName(name) || "session", file, ...texts, runs, revision: 0, changed: Date.now() };
-  return { ...own, ...(breakpoints ? { breakpoints } : {}), ...(watched ? { watched } : {}), ...(wired ? { wired } : {}) };
+  const record = { id, name: shortName(name) || "session", file, ...texts, runs, revision: 0, changed: Date.now() };
+  return { ...record, ...(breakpoints ? { breakpoints } : {}), ...(watched ? { watched } : {}), ...(wired ? { wired } : {}) };
 }
 
 export class KeptSession {

@@ -30,8 +30,7 @@ export class Locks {
 
   /**
    * Acquires the lock of a session for this tab. Resolves to a function that releases the lock, or to null if another tab has it. A page
-   * that
-   * is being reloaded can still have the lock for a moment, so the lock is requested more than once.
+   * that is being reloaded can still have the lock for a moment, so the lock is requested more than once.
    * @param {string} id
    * @returns {Promise<Release | null>}
    */

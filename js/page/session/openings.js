@@ -10,8 +10,7 @@ const KEY = "fethsaim.opening.";
 const SETTLE_TIME = 1000;
 /**
  * The time in milliseconds for which an opening is recent. A page that is left by then has not hung, and another tab can still be opening
- * the
- * session.
+ * the session.
  */
 const RECENT_TIME = 2000;
 /** The events of a window whose page is left. Each browser has one of them. */
@@ -29,8 +28,7 @@ export class Openings {
     this.now = now;
     /**
      * @type {Map<string, { time: number, isEnded: boolean }>} the openings with a flag of this page: the time of their beginning, and
-     *   whether
-     *   they have ended
+     *   whether they have ended
      */
     this.begun = new Map();
   }

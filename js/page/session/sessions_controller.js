@@ -136,7 +136,7 @@ export class SessionsController {
 
   /** @param {string} name of an example */
   async beginNamed(name) {
-    const example = [...this.examples, FIRST_PROGRAM].find((each) => each.name === name);
+    const example = [...this.examples, FIRST_PROGRAM].find((candidate) => candidate.name === name);
     if (example) return this.begin(example);
     this.notice.show(say.noSuchExample(shortName(name)), "session");
     return false;
@@ -167,7 +167,7 @@ export class SessionsController {
   async openFirst(story) {
     const { hash } = location;
     const named = readAddress(hash);
-    const isStory = named.kind === "" && this.examples.some((each) => each.name === story && each.story);
+    const isStory = named.kind === "" && this.examples.some((example) => example.name === story && example.story);
     const { kind, value } = isStory ? { kind: "example", value: story } : named;
     const isQuiet = kind === "" || kind === "link" || (kind === "session" && this.openings.isUnended(value));
     if (isQuiet || !(await this.openNamed(kind, value))) await this.openLast(isQuiet);
@@ -194,7 +194,7 @@ export class SessionsController {
     const records = await this.manager.kept();
     const unended = records.filter(({ id }) => this.openings.isUnended(id));
     for (const record of unended) await this.reportUnended(record);
-    for (const record of records.filter((each) => !unended.includes(each))) {
+    for (const record of records.filter((candidate) => !unended.includes(candidate))) {
       if (await this.open(record.id)) return;
       if (isQuiet) this.notice.hide("session");
     }
@@ -203,8 +203,7 @@ export class SessionsController {
 
   /**
    * Reports a session that has perhaps hung the page at its last opening, and so is not opened automatically. Reports nothing if another
-   * tab has
-   * the session's lock.
+   * tab has the session's lock.
    * @param {SessionRecord} record
    */
   async reportUnended(record) {

@@ -41,7 +41,7 @@ function inOrder(examples) {
   const isEmpty = ({ board, program, lines, project }) => [board, program, lines, project].every((text) => text === "");
   /** @type {(example: Example) => number} */
   const placeOf = (example) => (isEmpty(example) ? -1 : ORDER.indexOf(example.name));
-  return [...examples].sort((one, other) => placeOf(one) - placeOf(other));
+  return [...examples].sort((first, second) => placeOf(first) - placeOf(second));
 }
 
 export class SessionsView {
@@ -130,13 +130,13 @@ export class SessionsView {
    * @param {() => void} act
    */
   button(word, label, act) {
-    const made = element("button", { type: "button" }, word);
-    made.setAttribute("aria-label", label);
-    made.addEventListener("click", (event) => {
+    const node = element("button", { type: "button" }, word);
+    node.setAttribute("aria-label", label);
+    node.addEventListener("click", (event) => {
       this.byPointer = event.detail > 0;
       act();
     });
-    return made;
+    return node;
   }
 
   /**

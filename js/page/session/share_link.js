@@ -1,6 +1,5 @@
 // A link contains the name and the texts of a session, in the part of an address that browsers do not send. The link begins with its kind
-// of
-// compression, 1 for deflate and 0 for none. Its content is a checksum, and then the lines of a project file up to the session.
+// of compression, 1 for deflate and 0 for none. Its content is a checksum, and then the lines of a project file up to the session.
 
 import { fromBase64, toBase64 } from "../../core/session/base64.js";
 import { checksum } from "../../core/session/checksum.js";
@@ -92,8 +91,8 @@ async function through(bytes, { readable, writable }) {
  */
 export async function linkOf({ name, boardText, programText, testText, propertiesText }) {
   const encoder = new TextEncoder();
-  const rest = `${linesOfTexts({ name, boardText, programText, testText, propertiesText }).join("\n")}\n`;
-  const bytes = encoder.encode(`${checksum(encoder.encode(rest))}\n${rest}`);
+  const body = `${linesOfTexts({ name, boardText, programText, testText, propertiesText }).join("\n")}\n`;
+  const bytes = encoder.encode(`${checksum(encoder.encode(body))}\n${body}`);
   const stream = streamOf("CompressionStream");
   return stream ? `1.${toLetters(await through(bytes, stream))}` : `0.${toLetters(bytes)}`;
 }
@@ -123,10 +122,10 @@ export async function readLink(link) {
   const packed = fromLetters(letters);
   const text = new TextDecoder().decode(way === "1" ? await unpacked(packed) : packed);
   const [sum] = text.split("\n", 1);
-  const rest = text.slice(sum.length + 1);
-  if (sum !== String(checksum(new TextEncoder().encode(rest)))) throw new NotALink(say.DAMAGED);
+  const body = text.slice(sum.length + 1);
+  if (sum !== String(checksum(new TextEncoder().encode(body)))) throw new NotALink(say.DAMAGED);
   try {
-    return readTexts(new Lines(rest));
+    return readTexts(new Lines(body));
   } catch (fault) {
     throw new NotALink(fault instanceof TextTooLong ? fault.message : say.DAMAGED);
   }

@@ -1,6 +1,5 @@
 // The store of sessions in the browser's IndexedDB. The page writes to it, not the worker: the browser completes the requests of a page
-// that
-// is being left, but ends a worker at once.
+// that is being left, but ends a worker at once.
 
 import * as say from "../../words/session.js";
 
@@ -101,8 +100,7 @@ export class Store {
 
   /**
    * Stores a record. Resolves when the record is on the disk. All requests are made at once, so that they complete even if the page is
-   * being
-   * closed.
+   * being closed.
    * @param {SessionRecord} record
    * @returns {Promise<void>}
    */

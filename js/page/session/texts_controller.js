@@ -21,8 +21,7 @@ import * as say from "../../words/session.js";
  * @property {(boardText: string) => void} named Updates the names from the board's text, which can have changed.
  * @property {() => Promise<string>} source Resolves to a source text for the bytes in ROM. Rejects if the bench fails.
  * @property {(text: string) => Promise<boolean>} isNoProgram Resolves to whether each line of a text has an error, so that the text is not
- *   a
- *   program.
+ *   a program.
  * @property {(seen: TextName, lines: string) => void} took Handles texts that were loaded from a file: shows the text `seen`, and puts
  *   `lines` into the input of the console.
  * @property {(fault: unknown) => void} failed Reports an error that a call threw.
@@ -32,8 +31,7 @@ import * as say from "../../words/session.js";
  * @typedef {keyof typeof say.WHICH_TEXT} TextName
  *
  * A text that was replaced: its name, the old text, the new one, and the step of the editor that restores the old one if nothing has
- * changed
- * since.
+ * changed since.
  * @typedef {{ name: TextName, old: string, now: string, way: "undo" | "redo" }} Replaced
  */
 
@@ -248,7 +246,7 @@ export class TextsController {
       this.notice.show(say.inOtherSession(session.record.name), "refusal");
       return;
     }
-    const back = replaced.flatMap((each) => this.restoreText(each));
+    const back = replaced.flatMap((text) => this.restoreText(text));
     const [{ name }] = replaced;
     if (back.length > 0) this.offer(session, back, replaced.length > 1 ? say.TEXTS_RESTORED : say.textRestored(say.WHICH_TEXT[name]));
   }

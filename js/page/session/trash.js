@@ -65,12 +65,12 @@ export class Trash {
    * @param {SessionRecord[]} records
    */
   async bringBack(records) {
-    for (const record of records.filter((each) => this.deleted.includes(each))) {
+    for (const record of records.filter((candidate) => this.deleted.includes(candidate))) {
       try {
         // The store has no former revision of the record.
         record.revision = 0;
         await this.store.put(record);
-        this.deleted = this.deleted.filter((each) => each !== record);
+        this.deleted = this.deleted.filter((candidate) => candidate !== record);
       } catch (fault) {
         this.refuse(say.notRestored(record.name, wordsOfStoreFault(fault)));
       }

@@ -28,12 +28,12 @@ export class WelcomeView {
   constructor(examples, calls) {
     this.calls = calls;
     /** @type {(name: string) => Example | undefined} */
-    const named = (name) => examples.find((each) => each.name === name);
+    const named = (name) => examples.find((example) => example.name === name);
     this.cards = Object.entries(say.CARDS).map(([name, card]) => this.card(name, card, named(card.example)));
     const title = element("h2", { id: "welcome-title" }, say.WELCOME);
     this.dialog = element("dialog", { "id": "welcome", "aria-labelledby": "welcome-title" },
       element("div", { className: "bar" }, title, buttonOf(say.CLOSE, () => this.dialog.close())),
-      element("ul", {}, ...this.cards.map((each) => element("li", {}, each))), element("p", { className: "hint" }, say.WELCOME_HINT));
+      element("ul", {}, ...this.cards.map((card) => element("li", {}, card))), element("p", { className: "hint" }, say.WELCOME_HINT));
     this.dialog.addEventListener("close", () => calls.seen());
     document.body.append(this.dialog);
   }
@@ -44,15 +44,15 @@ export class WelcomeView {
    * @param {Example | undefined} example
    */
   card(name, { title, words, example: begun }, example) {
-    const made = element("button", { type: "button", className: "card" });
+    const node = element("button", { type: "button", className: "card" });
     const picture = name === "draw" ? icon("chip") : pictureOf(example ? example.board : TOUR_BOARD);
-    made.append(picture, element("b", {}, title), element("span", {}, words));
-    made.addEventListener("click", () => {
+    node.append(picture, element("b", {}, title), element("span", {}, words));
+    node.addEventListener("click", () => {
       this.dialog.close();
       if (!begun) this.calls.beginTour();
       else this.begin(begun, name === "draw");
     });
-    return made;
+    return node;
   }
 
   /**

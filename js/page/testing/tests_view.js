@@ -78,10 +78,10 @@ export class TestsView {
   /** @param {Profile} profile */
   showProfile({ rows, total, begunBefore, keys }) {
     const cells = (/** @type {(string | Node)[]} */ ...texts) => element("tr", {}, ...texts.map((text) => element("td", {}, text)));
-    const percent = (/** @type {number} */ own) => ((100 * own) / total).toFixed(1);
+    const percent = (/** @type {number} */ part) => ((100 * part) / total).toFixed(1);
     const tableRows = rows.map(({ label, address, own, calls }) => {
       const name = address < 0 ? say.NO_LABEL : buttonOf(label, () => this.calls.goToAddress(address), { className: "name" });
-      const called = calls ? [calls.times, calls.withCalls, calls.longest].map((each) => each.toLocaleString("en")) : ["", "", ""];
+      const called = calls ? [calls.times, calls.withCalls, calls.longest].map((count) => count.toLocaleString("en")) : ["", "", ""];
       return cells(name, address < 0 ? "" : hex(address, 3), own.toLocaleString("en"), percent(own), ...called);
     });
     if (begunBefore > 0) tableRows.push(cells(say.BEGUN_BEFORE, "", begunBefore.toLocaleString("en"), percent(begunBefore), "", "", ""));

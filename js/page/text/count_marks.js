@@ -45,10 +45,10 @@ export class CountMarks {
   /** @param {Covered[]} covered the counts of lines */
   show(covered) {
     this.clear();
-    const lines = new Map(covered.map((each) => [each.line, each]));
+    const lines = new Map(covered.map((entry) => [entry.line, entry]));
     const { editor } = this;
     this.isShown = true;
-    const longest = Math.max(...covered.map((each) => textOfCount(each).length), 1);
+    const longest = Math.max(...covered.map((entry) => textOfCount(entry).length), 1);
     editor.container.classList.add("counted");
     editor.container.style.setProperty("--counts-width", `${longest + 1}ch`);
     this.marks.showAt("counts", (line) => textAt(lines.get(line), textOfCount), (line) => textAt(lines.get(line), wordsOfCount));

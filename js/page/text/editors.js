@@ -38,8 +38,8 @@ import * as say from "../../words/text.js";
  * @property {(edits: Edit[]) => void} edited Handles an edit of a text: the edits of the source, or an empty list for the board.
  * @property {(isBegun: boolean) => Promise<void>} assembled Handles a program that was loaded into ROM, with a reset if `isBegun`. Resolves
  *   when breakpoints are at their lines.
- * @property {(lines: string) => Promise<string | null>} act Serves lines. Resolves to the first answer, or to null after a failure that
- *   was reported.
+ * @property {(lines: string) => Promise<string | null>} act Serves lines. Resolves to the first answer, or to null after a failure that was
+ *   reported.
  * @property {() => Promise<void>} stop Pauses time. Resolves when time is paused.
  * @property {() => void} run Resumes time.
  * @property {() => string} counter Returns the program counter that is shown, as three hexadecimal digits.

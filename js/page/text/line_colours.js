@@ -11,12 +11,12 @@ import { Decoration, ViewPlugin } from "@codemirror/view";
  */
 
 /** @type {Map<string, Decoration>} */
-const made = new Map();
+const marksByStyle = new Map();
 
 /** @param {string} style */
 function markOf(style) {
-  const mark = made.get(style) || Decoration.mark({ class: `cm-${style}` });
-  made.set(style, mark);
+  const mark = marksByStyle.get(style) || Decoration.mark({ class: `cm-${style}` });
+  marksByStyle.set(style, mark);
   return mark;
 }
 

@@ -1,5 +1,5 @@
-// An editor of lines: the page's interface to CodeMirror 6. A position is a line and an offset in that line, both from 0. Each text has
-// its own state, with its undo history, its caret and its marks.
+// An editor of lines: the page's interface to CodeMirror 6. A position is a line and an offset in that line, both from 0. Each text has its
+// own state, with its undo history, its caret and its marks.
 
 import { defaultKeymap, history, historyKeymap, indentLess, insertTab, isolateHistory, redo, redoDepth, undo, undoDepth }
   from "@codemirror/commands";
@@ -106,12 +106,12 @@ export class LineEditor {
    * @returns {Extension[]}
    */
   extensionsOf({ label, description, colours, gutters, indent, keys, more }) {
-    const own = Object.entries(keys).map(([key, act]) => ({ key: keyName(key), run: () => {
+    const bindings = Object.entries(keys).map(([key, act]) => ({ key: keyName(key), run: () => {
       act(this);
       return true;
     } }));
     return [
-      Prec.high(keymap.of([...own, { key: "Enter", run: () => this.breakLine(indent) }])),
+      Prec.high(keymap.of([...bindings, { key: "Enter", run: () => this.breakLine(indent) }])),
       keymap.of([...historyKeymap, ...defaultKeymap]),
       history(HISTORY),
       EditorState.tabSize.of(INDENT),
@@ -317,7 +317,7 @@ export class LineEditor {
    * @param {import("../../core/drawing/text_edits.js").TextEdit[]} edits
    */
   edit(edits) {
-    const changes = edits.reduce((all, each) => all.compose(ChangeSet.of(each, all.newLength, this.state.lineBreak)),
+    const changes = edits.reduce((composed, edit) => composed.compose(ChangeSet.of(edit, composed.newLength, this.state.lineBreak)),
       ChangeSet.empty(this.doc.length));
     this.view.dispatch({ changes, annotations: isolateHistory.of("full") });
   }

@@ -73,9 +73,9 @@ export class NameView {
    * @param {string} text the text of the reference's line
    */
   row(reference, text) {
-    const made = element("button", { type: "button" }, say.lineOfName(reference.line, reference.isDefinition));
-    onClick(made, () => this.show(reference));
-    return element("li", {}, made, " ", element("code", {}, text.trim().slice(0, MAX_LENGTH)));
+    const node = element("button", { type: "button" }, say.lineOfName(reference.line, reference.isDefinition));
+    onClick(node, () => this.show(reference));
+    return element("li", {}, node, " ", element("code", {}, text.trim().slice(0, MAX_LENGTH)));
   }
 
   close() {

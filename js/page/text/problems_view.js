@@ -33,7 +33,8 @@ export class ProblemsView {
   take(name, faults) {
     if (faults.length === 0 && (this.faults.get(name) || []).length === 0) return;
     this.faults.set(name, faults);
-    this.list.replaceChildren(...[...this.faults].flatMap(([of, some]) => some.map((fault) => this.entry(of, fault))));
+    this.list.replaceChildren(...[...this.faults].flatMap(([textName, textFaults]) => (
+      textFaults.map((fault) => this.entry(textName, fault)))));
     this.count();
   }
 
@@ -45,7 +46,7 @@ export class ProblemsView {
   }
 
   count() {
-    const count = [...this.faults.values()].reduce((sum, some) => sum + some.length, this.bugs);
+    const count = [...this.faults.values()].reduce((sum, faults) => sum + faults.length, this.bugs);
     this.none.hidden = count > 0;
     this.calls.counted(count);
   }

@@ -1,5 +1,5 @@
-// The style rules that CodeMirror creates while it runs. The content security policy of the page accepts only its own style sheet, so
-// the rules are inserted at the beginning of that sheet.
+// The style rules that CodeMirror creates while it runs. The content security policy of the page accepts only its own style sheet, so the
+// rules are inserted at the beginning of that sheet.
 
 import { StyleModule } from "style-mod";
 

@@ -144,9 +144,7 @@ export class TextEditor {
 
   /**
    * Handles a key. Tab indents after something was typed or clicked in the editor. After Escape, or if Tab moved the focus in, Tab moves
-   * the
-   * focus as usual.
-   * Returns whether the key is handled.
+   * the focus as usual. Returns whether the key is handled.
    * @param {KeyboardEvent} event
    */
   typed({ key, shiftKey, ctrlKey, altKey, metaKey }) {

@@ -347,9 +347,9 @@ export class EditorView {
     clearTimeout(this.counting);
     this.counting = window.setTimeout(() => {
       const { isUnsent } = this.language;
-      const [{ length }, most, unit] = isUnsent ? [this.text, LONGEST_KEPT, "characters"] : [this.sent, LONGEST_TEXT, "bytes"];
-      this.counter.set(say.sizeOf(length.toLocaleString("en"), most.toLocaleString("en"), unit));
-      this.counter.node.classList.toggle("too-many", length > most);
+      const [{ length }, limit, unit] = isUnsent ? [this.text, LONGEST_KEPT, "characters"] : [this.sent, LONGEST_TEXT, "bytes"];
+      this.counter.set(say.sizeOf(length.toLocaleString("en"), limit.toLocaleString("en"), unit));
+      this.counter.node.classList.toggle("too-many", length > limit);
     }, REST_TIME);
   }
 }

@@ -1,6 +1,5 @@
 // The editor of a text that belongs to a board and a program: its tests or its properties. The editor completes the names in both, and
-// shows
-// errors while the user types.
+// shows errors while the user types.
 
 import { Face, moreThan } from "../../core/board/face.js";
 import { button, onClick } from "../ui/dom.js";
@@ -35,8 +34,7 @@ import { COLOURS } from "../../core/text/test_colours.js";
 
 /**
  * The kind of a text: its name, which is also in the id of its editor; the button that inserts a first text, and that text; the forms of
- * its
- * lines; and the functions that describe and complete a word.
+ * its lines; and the functions that describe and complete a word.
  * @template Forms
  * @typedef {{ name: "tests" | "properties", firstButton: string, firstText: (names: Names) => string | Promise<string>, forms: Forms,
  *   wordsAt: (lines: string[], line: number, at: number, forms: Forms) => string,

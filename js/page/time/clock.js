@@ -1,7 +1,6 @@
 // The clock. In real time, or slower, each frame of the browser runs the cycles that are due. At full speed the worker continues on its
-// own.
-// Below full speed, time stands still while the page is hidden, and while the browser or the computer does not run the page at all. In real
-// time a key press does not wait for the next frame: its cycles are simulated early.
+// own. Below full speed, time stands still while the page is hidden, and while the browser or the computer does not run the page at all. In
+// real time a key press does not wait for the next frame: its cycles are simulated early.
 
 import { CYCLES_PER_SECOND } from "../../core/time/mcs4_time.js";
 import { LONG_GAP, MOST_AHEAD, RealTime } from "../../core/time/real_time.js";
@@ -60,8 +59,7 @@ export class Clock {
 
   /**
    * Returns the duration of cycles in milliseconds at the present speed. At full speed, and at one instruction a second, returns Infinity,
-   * so
-   * that lamps are shown as perceived after a long time.
+   * so that lamps are shown as perceived after a long time.
    * @param {number} cycles
    */
   timeOf(cycles) {

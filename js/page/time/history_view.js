@@ -33,8 +33,8 @@ const MAX_MESSAGE_LENGTH = 200;
 export function offeredPlaces({ banks, roms, lamps, chains }, lampNames) {
   const rams = banks.flatMap(({ bank, chips }) => upTo(chips).map((chip) => `ram${bank}.${chip}`));
   const ports = [...roms.map(({ chip }) => `rom${chip}`), ...rams];
-  const some = lamps.length > 0 ? ["lamps", ...lamps.slice(0, 16).map((_, at) => lampNames[at] || `lamp ${at}`)] : [];
-  return [...some, ...ports, ...chains.map((_, at) => `chain${at}.0`), "acc", "cy", "dcl", ...upTo(16).map((number) => `r${number}`)];
+  const lampPlaces = lamps.length > 0 ? ["lamps", ...lamps.slice(0, 16).map((_, at) => lampNames[at] || `lamp ${at}`)] : [];
+  return [...lampPlaces, ...ports, ...chains.map((_, at) => `chain${at}.0`), "acc", "cy", "dcl", ...upTo(16).map((number) => `r${number}`)];
 }
 
 export class HistoryView {

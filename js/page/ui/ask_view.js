@@ -31,9 +31,9 @@ export class AskView {
    * @param {string} value the dialog's return value
    */
   button(word, value) {
-    const made = element("button", { type: "button" }, word);
-    made.addEventListener("click", () => this.dialog.close(value));
-    return made;
+    const node = element("button", { type: "button" }, word);
+    node.addEventListener("click", () => this.dialog.close(value));
+    return node;
   }
 
   /**

@@ -43,18 +43,18 @@ export function descendant(root, selector, kind) {
  * @returns {HTMLElementTagNameMap[Name]}
  */
 export function element(name, properties = {}, ...children) {
-  const made = document.createElement(name);
+  const node = document.createElement(name);
   for (const [key, value] of Object.entries(properties)) {
-    if (key in made) Object.assign(made, { [key]: value });
-    else made.setAttribute(key, String(value));
+    if (key in node) Object.assign(node, { [key]: value });
+    else node.setAttribute(key, String(value));
   }
-  made.append(...children);
-  return made;
+  node.append(...children);
+  return node;
 }
 
 /**
- * The text of an element. The page changes only if the text differs, so that an unchanged frame costs nothing. The text node stays:
- * WebKit loses a click if the pressed text node is removed before the release.
+ * The text of an element. The page changes only if the text differs, so that an unchanged frame costs nothing. The text node stays: WebKit
+ * loses a click if the pressed text node is removed before the release.
  */
 export class Cell {
   /** @param {HTMLElement} node */
@@ -122,9 +122,9 @@ export function onClick(node, act) {
  * @param {Record<string, unknown>} [properties]
  */
 export function buttonOf(text, act, properties = {}) {
-  const made = element("button", { type: "button", ...properties }, text);
-  onClick(made, act);
-  return made;
+  const node = element("button", { type: "button", ...properties }, text);
+  onClick(node, act);
+  return node;
 }
 
 /** Returns whether a dialog is open. An open dialog receives all keys. */
@@ -143,16 +143,16 @@ export function makeOneTabStop(root, columns) {
   root.addEventListener("keydown", (event) => {
     if (!(event.key in moves)) return;
     const buttons = [...root.querySelectorAll("button")];
-    const at = buttons.findIndex((each) => each === document.activeElement);
+    const at = buttons.findIndex((node) => node === document.activeElement);
     if (at < 0) return;
     event.preventDefault();
     const next = buttons[at + moves[event.key]()];
     if (!next) return;
-    for (const each of buttons) each.tabIndex = each === next ? 0 : -1;
+    for (const node of buttons) node.tabIndex = node === next ? 0 : -1;
     next.focus();
   });
   root.addEventListener("focusin", (event) => {
-    for (const each of root.querySelectorAll("button")) each.tabIndex = each === event.target ? 0 : -1;
+    for (const node of root.querySelectorAll("button")) node.tabIndex = node === event.target ? 0 : -1;
   });
 }
 
@@ -161,7 +161,7 @@ export function makeOneTabStop(root, columns) {
  * @param {HTMLElement} root
  */
 export function makeFirstTabStop(root) {
-  root.querySelectorAll("button").forEach((each, at) => {
-    each.tabIndex = at === 0 ? 0 : -1;
+  root.querySelectorAll("button").forEach((node, at) => {
+    node.tabIndex = at === 0 ? 0 : -1;
   });
 }

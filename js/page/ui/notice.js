@@ -7,8 +7,8 @@ import { NoticeList } from "./notice_list.js";
 import * as say from "../../words/page.js";
 
 /**
- * The kinds of notices: lasting errors (`kept`, `store`), rejections (`session`, `refusal`), a link that was copied (`share`), a file
- * whose texts or bytes were loaded (`file`), the session that was left for a new one (`left`), a session that was not opened automatically
+ * The kinds of notices: lasting errors (`kept`, `store`), rejections (`session`, `refusal`), a link that was copied (`share`), a file whose
+ * texts or bytes were loaded (`file`), the session that was left for a new one (`left`), a session that was not opened automatically
  * (`unended`), an action that can be undone (`undo`), and any other error ("").
  * @typedef {"" | "kept" | "session" | "store" | "refusal" | "share" | "file" | "left" | "unended" | "undo"} NoticeKind
  * @typedef {{ word: string, act: () => void }} NoticeAction a button in the notice
@@ -68,12 +68,13 @@ export class Notice {
     const message = { words, time: new Date(), actions };
     this.list.add(message);
     const row = { kind, words, node: element("div", { className: "notice", role: "alert" }, element("p", {}, words)), message, timer: 0 };
-    row.node.append(...actions.map((each) => this.button(each.word, say.ofNotice(each.word, words), () => this.act(message, each))));
+    row.node.append(...actions.map((action) => (
+      this.button(action.word, say.ofNotice(action.word, words), () => this.act(message, action)))));
     row.node.append(this.button(say.DISMISS, say.DISMISS_NOTICE, () => this.dismiss(row), "dismiss"));
     this.rows.unshift(row);
     this.block.prepend(row.node);
     this.block.hidden = false;
-    for (const each of pushedOut(this.rows)) this.remove(each);
+    for (const oldRow of pushedOut(this.rows)) this.remove(oldRow);
     if (SUCCESSES.has(kind)) this.removeLater(row);
   }
 
@@ -94,7 +95,7 @@ export class Notice {
    */
   hide(kind) {
     this.dismissed.delete(kind);
-    for (const row of this.rows.filter((each) => each.kind === kind)) this.remove(row);
+    for (const row of this.rows.filter((candidate) => candidate.kind === kind)) this.remove(row);
   }
 
   /** @param {Row} row */
@@ -110,7 +111,7 @@ export class Notice {
    */
   act(message, action) {
     message.actions = [];
-    for (const row of this.rows.filter((each) => each.message === message)) this.remove(row);
+    for (const row of this.rows.filter((candidate) => candidate.message === message)) this.remove(row);
     action.act();
   }
 
@@ -118,7 +119,7 @@ export class Notice {
   remove(row) {
     const hadFocus = row.node.contains(document.activeElement);
     clearTimeout(row.timer);
-    this.rows = this.rows.filter((each) => each !== row);
+    this.rows = this.rows.filter((candidate) => candidate !== row);
     row.node.remove();
     this.block.hidden = this.rows.length === 0;
     if (hadFocus) this.giveFocus();
@@ -137,14 +138,14 @@ export class Notice {
    * @param {string} className
    */
   button(word, label, act, className = "") {
-    const made = element("button", { type: "button", className }, word);
-    made.setAttribute("aria-label", label);
-    made.addEventListener("click", (event) => {
+    const node = element("button", { type: "button", className }, word);
+    node.setAttribute("aria-label", label);
+    node.addEventListener("click", (event) => {
       // After a click by pointer, the board receives the keys again.
-      if (event.detail > 0) made.blur();
+      if (event.detail > 0) node.blur();
       act();
     });
-    return made;
+    return node;
   }
 
   /**

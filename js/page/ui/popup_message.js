@@ -14,8 +14,8 @@ const GAP = 4;
  * @param {number} gap
  */
 export function putBelow(node, { left, bottom }, gap) {
-  const most = document.documentElement.clientWidth - node.offsetWidth - GAP;
-  node.style.setProperty("left", `${Math.max(GAP, Math.min(left, most)) + scrollX}px`);
+  const maxLeft = document.documentElement.clientWidth - node.offsetWidth - GAP;
+  node.style.setProperty("left", `${Math.max(GAP, Math.min(left, maxLeft)) + scrollX}px`);
   node.style.setProperty("top", `${bottom + gap + scrollY}px`);
 }
 

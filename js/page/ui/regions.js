@@ -41,9 +41,9 @@ export class Regions {
 
   /** @param {RegionName} name */
   draw(name) {
-    for (const each of this.marks) {
-      each.pressed.set(each.name === name);
-      document.body.classList.toggle(`region-${each.name}`, each.name === name);
+    for (const mark of this.marks) {
+      mark.pressed.set(mark.name === name);
+      document.body.classList.toggle(`region-${mark.name}`, mark.name === name);
     }
   }
 

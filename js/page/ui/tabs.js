@@ -34,7 +34,7 @@ export class Tabs {
 
   /** @param {string} name */
   find(name) {
-    const found = this.tabs.find((each) => each.name === name);
+    const found = this.tabs.find((entry) => entry.name === name);
     if (!found) throw new Error(`there is no tab ${name}`);
     return found;
   }
@@ -55,12 +55,12 @@ export class Tabs {
    * @param {string} name
    */
   show(name) {
-    this.front = this.tabs.find((each) => each.name === name && !each.tab.hidden) || this.tabs[0];
-    for (const each of this.tabs) {
-      const isFront = each === this.front;
-      each.tab.setAttribute("aria-selected", String(isFront));
-      each.tab.tabIndex = isFront ? 0 : -1;
-      each.panel.hidden = !isFront;
+    this.front = this.tabs.find((entry) => entry.name === name && !entry.tab.hidden) || this.tabs[0];
+    for (const entry of this.tabs) {
+      const isFront = entry === this.front;
+      entry.tab.setAttribute("aria-selected", String(isFront));
+      entry.tab.tabIndex = isFront ? 0 : -1;
+      entry.panel.hidden = !isFront;
     }
     for (const listen of this.front.listeners) listen();
   }
@@ -98,7 +98,7 @@ export class Tabs {
 
   /** @param {KeyboardEvent} event */
   typed(event) {
-    const offered = this.tabs.filter((each) => !each.tab.hidden);
+    const offered = this.tabs.filter((entry) => !entry.tab.hidden);
     const at = offered.indexOf(this.front);
     /** @type {Record<string, number>} */
     const next = { ArrowRight: at + 1, ArrowLeft: at - 1, Home: 0, End: -1 };

@@ -129,9 +129,9 @@ export class Tooltips {
   /** @param {DOMRect} box */
   put({ left, width, top, bottom }) {
     const { offsetWidth, offsetHeight, style } = this.node;
-    const most = document.documentElement.clientWidth - offsetWidth - GAP;
+    const maxLeft = document.documentElement.clientWidth - offsetWidth - GAP;
     const isBelow = bottom + GAP + offsetHeight < innerHeight;
-    style.setProperty("left", `${Math.max(GAP, Math.min(left + width / 2 - offsetWidth / 2, most))}px`);
+    style.setProperty("left", `${Math.max(GAP, Math.min(left + width / 2 - offsetWidth / 2, maxLeft))}px`);
     style.setProperty("top", `${isBelow ? bottom + GAP : top - GAP - offsetHeight}px`);
   }
 

@@ -63,8 +63,8 @@ export class RowMenu {
     const { view } = this;
     const leave = { words: say.LEAVE_GROUP, act: () => view.change([name], { group: "" }) };
     const join = { words: say.GROUP, act: () => this.ask(say.groupOf(name), "", (word) => view.change([name], { group: word })) };
-    const colours = /** @type {const} */ (["", ...ROW_COLOURS]).map((each) => (
-      { words: say.COLOURS[each], isChosen: () => colour === each, act: () => view.change([name], { colour: each }) }));
+    const colours = /** @type {const} */ (["", ...ROW_COLOURS]).map((choice) => (
+      { words: say.COLOURS[choice], isChosen: () => colour === choice, act: () => view.change([name], { colour: choice }) }));
     return [
       { words: say.RENAME, act: () => this.ask(say.nameOf(name), title || name,
         (word) => view.change([name], { title: word === name ? "" : word })) },

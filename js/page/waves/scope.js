@@ -127,14 +127,14 @@ export class Scope {
   /**
    * Returns the number of cycles in a field, or -1 after a message if it has no valid number.
    * @param {string} id
-   * @param {number} least
+   * @param {number} min
    */
-  cyclesIn(id, least) {
+  cyclesIn(id, min) {
     const input = field(id);
-    const cycles = input.value.trim() === "0" && least === 0 ? 0 : readCycles(input.value) || -1;
+    const cycles = input.value.trim() === "0" && min === 0 ? 0 : readCycles(input.value) || -1;
     input.setAttribute("aria-invalid", String(cycles < 0));
     if (cycles < 0) {
-      this.status.set(say.howManyCycles(least, MOST_CYCLES.toLocaleString("en")));
+      this.status.set(say.howManyCycles(min, MOST_CYCLES.toLocaleString("en")));
       byId("wave-settings", HTMLDetailsElement).open = true;
     }
     return cycles;

@@ -19,9 +19,9 @@ export function svgOf(picture) {
 
 /**
  * @param {Picture} picture
- * @param {(blob: Blob) => void} made
+ * @param {(blob: Blob) => void} receive
  */
-export function pngOf(picture, made) {
+export function pngOf(picture, receive) {
   const { gutter, view, height, colours } = picture;
   const canvas = element("canvas", { width: (gutter + view.width) * RATIO, height: height * RATIO });
   const context = canvas.getContext("2d");
@@ -31,5 +31,5 @@ export function pngOf(picture, made) {
   context.globalCompositeOperation = "destination-over";
   context.fillStyle = colours.sheet;
   context.fillRect(0, 0, canvas.width, canvas.height);
-  canvas.toBlob((blob) => blob && made(blob));
+  canvas.toBlob((blob) => blob && receive(blob));
 }

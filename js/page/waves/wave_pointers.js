@@ -1,6 +1,5 @@
 // Fingers, mouse and wheel on the waves. A click places the cursor. A drag moves the visible part, or a row at its name. Two fingers and
-// the
-// wheel zoom.
+// the wheel zoom.
 
 /**
  * @typedef {{ x: number, y: number }} Point
@@ -91,11 +90,11 @@ export class WavePointers {
    * @param {Point} point
    */
   pinch(id, before, point) {
-    const [other] = [...this.down].filter(([each]) => each !== id).map(([, at]) => at);
-    const old = Math.max(20, Math.abs(before.x - other.x));
-    const now = Math.max(20, Math.abs(point.x - other.x));
+    const [otherPoint] = [...this.down].filter(([pointerId]) => pointerId !== id).map(([, at]) => at);
+    const old = Math.max(20, Math.abs(before.x - otherPoint.x));
+    const now = Math.max(20, Math.abs(point.x - otherPoint.x));
     this.calls.pan((before.x - point.x) / 2);
-    this.calls.zoom(now / old, (point.x + other.x) / 2);
+    this.calls.zoom(now / old, (point.x + otherPoint.x) / 2);
   }
 
   /** @param {PointerEvent} event */

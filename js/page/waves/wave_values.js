@@ -22,9 +22,9 @@ export class WaveValues {
   draw({ lines }, rows) {
     this.rows = rows.map(({ line }) => line);
     this.cells = rows.map(() => [new Cell(element("td")), new Cell(element("td"))]);
-    const made = rows.map(({ line, title }, at) => element("tr", {}, element("th", { scope: "row" }, title || lines[line].name),
+    const rowNodes = rows.map(({ line, title }, at) => element("tr", {}, element("th", { scope: "row" }, title || lines[line].name),
       ...this.cells[at].map((cell) => cell.node)));
-    block("wave-table").replaceChildren(...made);
+    block("wave-table").replaceChildren(...rowNodes);
   }
 
   /**

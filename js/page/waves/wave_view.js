@@ -210,7 +210,7 @@ export class WaveView {
    * @param {WaveRow} row
    */
   rowOf({ line, group }) {
-    return this.rows.findIndex((each) => each.line === line && (line >= 0 || each.group === group));
+    return this.rows.findIndex((row) => row.line === line && (line >= 0 || row.group === group));
   }
 
   /** @param {Point} point */
@@ -381,7 +381,7 @@ export class WaveView {
    * @param {number} line
    */
   mark(line) {
-    const row = this.rows.findIndex((each) => each.line === line);
+    const row = this.rows.findIndex((candidate) => candidate.line === line);
     if (row >= 0) this.select(row);
   }
 

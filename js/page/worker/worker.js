@@ -33,7 +33,7 @@ class BenchWorker {
   constructor(scope) {
     this.scope = scope;
     this.sendEarly = earlySender(scope.name);
-    this.calls = new BenchCalls((done, total) => this.goesOn(done, total));
+    this.calls = new BenchCalls((done, total) => this.reportProgress(done, total));
     /** @type {Request[]} */
     this.requests = [];
     /** The number of the request under way. */
@@ -130,7 +130,7 @@ class BenchWorker {
    * @param {number} done
    * @param {number} total
    */
-  async goesOn(done, total) {
+  async reportProgress(done, total) {
     await this.yieldToMessages();
     if (this.cancelled === this.current) return false;
     if (performance.now() - this.status > PROGRESS_INTERVAL) {
