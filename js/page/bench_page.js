@@ -156,7 +156,7 @@ export class Page {
     snapshotView.draw(board, wired.text);
     this.drawing.wired(board);
     this.history.draw(snapshotView.board, lampNames(new Face(wired.text), snapshotView.board.lamps.length));
-    this.editors.look(board.length === 1);
+    this.editors.checkTexts(board.length === 1);
     this.heat.wired();
     drawSound(this, wired.text);
     nameCharacters(this);
@@ -195,10 +195,10 @@ export class Page {
     this.snapshotView.show(snapshot, isPassing, litShares);
     if (printed) {
       session.record.printed = printed;
-      this.snapshotView.strip.take(printed);
+      this.snapshotView.printer.take(printed);
     }
     this.values.looked(total);
-    this.heat.looked();
+    this.heat.handleSnapshot();
     this.scope.take(waves);
   }
 }

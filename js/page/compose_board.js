@@ -120,7 +120,7 @@ export function makeDrawing(page) {
   });
   tabs.whenShown("wiring", () => {
     wiring.showLevels();
-    drawing.look();
+    drawing.followText();
   });
   editor.caret = (line) => wiring.mark(partAtLine(linesOfParts(editor.text), line));
   return drawing;

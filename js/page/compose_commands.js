@@ -161,7 +161,7 @@ export class Commands {
       commands: () => [...COMMANDS, ...this.ownCommands()].map((command) => this.entryOf(command)),
       places: (wanted) => placesOf(wanted, this.placeCalls()),
     });
-    theme.changed = () => page.scope.view.ask();
+    theme.changed = () => page.scope.view.requestDrawing();
     listenToKeys((command) => this.do(command), isDialogOpen);
     toolbar.act = (command) => this.do(command);
     fillEmptyPanels(toolbar.act);

@@ -40,7 +40,7 @@ export function makeBreakpoints(page) {
     touched: () => page.current.touchAndKeep(),
     texts: () => ({ board: page.boardEditor.text, program: page.programEditor.sent }),
     served: (result) => page.serving.take(result),
-    stands: (result) => page.show(result, page.running.clock.isRunning),
+    showSession: (result) => page.show(result, page.running.clock.isRunning),
     showMarks: (lines, addresses) => {
       page.programEditor.showBreakpoints(lines);
       page.snapshotView.showBreakpoints(addresses);

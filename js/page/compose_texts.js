@@ -164,7 +164,7 @@ export function makeTests(page, manual) {
     edited: () => page.texts.edited(),
     failed: (fault) => page.recovery.failed(fault),
   });
-  page.layout.tabs.whenShown("tests", () => tab.look());
+  page.layout.tabs.whenShown("tests", () => tab.refresh());
   return tab;
 }
 
@@ -232,6 +232,6 @@ export function makeExplore(page, manual, makeBench) {
     edited: () => page.texts.edited(),
     failed: (fault) => page.recovery.failed(fault),
   });
-  page.layout.tabs.whenShown("properties", () => tab.look());
+  page.layout.tabs.whenShown("properties", () => tab.refresh());
   return tab;
 }

@@ -55,7 +55,7 @@ export function makeRunning(page) {
   const { current } = page;
   return new Running(page.bench, current, {
     began: () => page.mistakes.clear(),
-    stood: () => page.scope.stands(),
+    stood: () => page.scope.showPaused(),
     took: (frame) => {
       page.log.collect(frame.ran);
       page.mistakes.show(frame.tally.usual);

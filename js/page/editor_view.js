@@ -38,7 +38,7 @@ const pressing = new Pressing({
 /** The front panel. While time is running, it shows lamps as perceived, otherwise as they are at that instant. */
 const front = new FrontView((node, key) => pressing.listen(node, key), () => {});
 /** The printer's view. The adapter stores the printout since the board was drawn. */
-const strip = new PrinterView({ printOn: () => {}, clear: () => editor.postMessage({ isTorn: true }) });
+const printer = new PrinterView({ printOn: () => {}, clear: () => editor.postMessage({ isTorn: true }) });
 pressing.listenToKeyboard();
 button("test").addEventListener("click", () => sendKey(pinKey(front.level === "1" ? 0 : 1), true));
 
@@ -57,7 +57,7 @@ function show(news) {
     pressing.forget();
     const [board, face] = [readBoard(news.board), new Face(news.boardText || "")];
     front.draw(board, face);
-    strip.draw(board, face);
+    printer.draw(board, face);
   }
   if (news.isRunning !== undefined) isRunning = news.isRunning;
   if (news.test !== undefined) {
@@ -65,7 +65,7 @@ function show(news) {
     button("test").textContent = `TEST ${news.test}`;
     button("test").setAttribute("aria-pressed", String(news.test === "1"));
   }
-  if (news.printed) strip.take(news.printed);
+  if (news.printed) printer.take(news.printed);
   if (news.keys) front.showKeys(news.keys);
   const marks = news.lamps ?? front.marks;
   if (news.litShares) front.shine(marks, news.litShares, Infinity);

@@ -66,7 +66,7 @@ export class SnapshotView {
     this.lastDrawn = 0;
     this.changes = new Changes();
     this.front = new FrontView(calls.listen, calls.watchLamps);
-    this.strip = new PrinterView(calls);
+    this.printer = new PrinterView(calls);
     this.message = new PopupMessage();
     this.editor = new CellEditor({
       poke: async (place, value) => this.refusalOf(await calls.act(`poke ${place} ${value}\n`)),
@@ -130,7 +130,7 @@ export class SnapshotView {
     const face = new Face(boardText);
     this.face = face;
     this.front.draw(this.board, face);
-    this.strip.draw(this.board, face);
+    this.printer.draw(this.board, face);
     this.ram.draw(this.board);
     this.ports.draw(this.board, face);
     this.wiring.forget();
@@ -148,7 +148,7 @@ export class SnapshotView {
     const face = new Face(boardText);
     this.face = face;
     this.front.change(this.board, face);
-    this.strip.change(this.board, face);
+    this.printer.change(this.board, face);
   }
 
   /**

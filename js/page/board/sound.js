@@ -65,7 +65,7 @@ export class Sound {
     this.player = null;
     this.status = new Cell(block("sound-status"));
     this.pressed = pressedSwitch(button("sound-button"));
-    onClick(button("sound-button"), () => this.turn());
+    onClick(button("sound-button"), () => this.toggle());
   }
 
   /**
@@ -82,7 +82,7 @@ export class Sound {
   }
 
   /** Switches the sound on or off. */
-  turn() {
+  toggle() {
     if (this.player) this.mute();
     else if (typeof AudioContext === "function") this.begin();
     else this.status.set(say.NO_SOUND);

@@ -110,14 +110,14 @@ export class DrawingController {
   }
 
   /** Draws the board's text, if the picture is in front. */
-  look() {
+  followText() {
     if (this.calls.isInFront()) this.tried(this.drawing.look());
   }
 
   /** Draws the picture after a pause, because a text was edited. */
   edited() {
     clearTimeout(this.editing);
-    this.editing = window.setTimeout(() => this.drawing.text !== this.calls.text() && this.look(), DRAW_DELAY);
+    this.editing = window.setTimeout(() => this.drawing.text !== this.calls.text() && this.followText(), DRAW_DELAY);
   }
 
   /** Forgets the drawing, because the texts of another session are shown. */
@@ -132,7 +132,7 @@ export class DrawingController {
    */
   wired(answers) {
     this.drawing.takeWired(answers);
-    this.look();
+    this.followText();
   }
 
   /**

@@ -120,8 +120,8 @@ export class ExploreTab {
   }
 
   /** Checks the text, because the tab came to the front. */
-  look() {
-    this.textTab.look();
+  refresh() {
+    this.textTab.refresh();
   }
 
   /** @param {number} count the number of errors in the text */
@@ -143,7 +143,7 @@ export class ExploreTab {
     this.view.clear();
     this.show();
     this.proofs.begin(session);
-    this.look();
+    this.refresh();
   }
 
   /** Clears the counterexamples and the verdicts. */

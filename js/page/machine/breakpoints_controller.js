@@ -32,7 +32,7 @@ import * as say from "../../words/machine.js";
  * @property {() => void} touched Saves the session after the user has changed breakpoints.
  * @property {() => { board: string, program: string }} texts Returns the present texts of board and source.
  * @property {(result: ServedLines) => Promise<void>} served Saves, shows and logs the lines that set breakpoints of the bench.
- * @property {(result: ServedLines) => void} stands Shows the session after breakpoints were set without lines.
+ * @property {(result: ServedLines) => void} showSession Shows the session after breakpoints were set without lines.
  * @property {(lines: Map<number, BreakpointMark>, addresses: Map<number, BreakpointMark>) => void} showMarks Shows marks at lines of the
  *   source and at addresses of the listing.
  * @property {(address: number) => void} goTo Shows the line of an address in source and listing.
@@ -159,7 +159,7 @@ export class BreakpointsController {
   async set(placed) {
     const { faults, ...result } = await this.bench.call("setBreakpoints", [placed, this.texts()]);
     if (result.entries.length > 0) await this.calls.served(result);
-    else this.calls.stands(result);
+    else this.calls.showSession(result);
     return faults;
   }
 

@@ -112,7 +112,7 @@ export class HeatView {
   }
 
   /** Handles a new snapshot. */
-  looked() {
+  handleSnapshot() {
     if (this.kind.value === "") return;
     this.isOld = true;
     if (!this.calls.isRunning()) this.passing.clear();

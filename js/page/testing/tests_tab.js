@@ -76,8 +76,8 @@ export class TestsTab {
   }
 
   /** Checks the text, because the tab came to the front. */
-  look() {
-    this.textTab.look();
+  refresh() {
+    this.textTab.refresh();
   }
 
   /** @param {number} count the number of errors in the text */
@@ -90,7 +90,7 @@ export class TestsTab {
   forget() {
     this.round += 1;
     this.clear();
-    this.look();
+    this.refresh();
   }
 
   clear() {

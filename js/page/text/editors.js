@@ -143,10 +143,10 @@ export class Editors {
    * Checks both texts, because another session is shown or the board has changed.
    * @param {boolean} isEmpty whether the bench has no board
    */
-  look(isEmpty) {
+  checkTexts(isEmpty) {
     this.offerBoard(isEmpty);
-    this.programFaults.look().catch(this.calls.failed);
-    this.boardFaults.look().catch(this.calls.failed);
+    this.programFaults.checkNow().catch(this.calls.failed);
+    this.boardFaults.checkNow().catch(this.calls.failed);
   }
 
   /**
@@ -223,7 +223,7 @@ export class Editors {
     if (answer === null) return;
     const refusal = refusalOf(answer);
     this.board.showMessage(refusal ? this.wordsOfRefusal(refusal) : say.BOARD_WIRED);
-    await this.programFaults.look();
+    await this.programFaults.checkNow();
   }
 
   /** Replaces the text of the board with a first board, and applies it. */
@@ -242,7 +242,7 @@ export class Editors {
    * @param {"program" | "board"} name
    */
   async hasNoFaults(name) {
-    const found = await (name === "program" ? this.programFaults : this.boardFaults).look();
+    const found = await (name === "program" ? this.programFaults : this.boardFaults).checkNow();
     if (found && found.faults.length > 0) this.refuseFaults(name, found.faults);
     return found !== undefined && found.faults.length === 0;
   }

@@ -26,14 +26,14 @@ export class LiveFaults {
   edited() {
     this.checkCount += 1;
     clearTimeout(this.timer);
-    this.timer = window.setTimeout(() => this.look().catch(this.failed), CHECK_DELAY);
+    this.timer = window.setTimeout(() => this.checkNow().catch(this.failed), CHECK_DELAY);
   }
 
   /**
    * Checks the text at once and shows the result. Resolves to the result, or to undefined if the text was edited meanwhile.
    * @returns {Promise<Result | undefined>}
    */
-  async look() {
+  async checkNow() {
     clearTimeout(this.timer);
     this.checkCount += 1;
     const { checkCount } = this;

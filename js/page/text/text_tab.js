@@ -98,9 +98,9 @@ export class TextTab {
   }
 
   /** Checks the text, because its tab came to the front or another text has changed: the names in the board and the program can differ. */
-  look() {
+  refresh() {
     this.offerFirst();
-    this.faults.look().catch(this.calls.failed);
+    this.faults.checkNow().catch(this.calls.failed);
   }
 
   /** Resolves to the errors of the board, the program and this text; an empty list if this text is empty. */

@@ -94,7 +94,7 @@ export class Clock {
     }
     this.time.goOn(performance.now(), Date.now());
     if (document.hidden) this.time.hide();
-    this.again();
+    this.requestFrame();
   }
 
   /** Notes that the page is hidden. */
@@ -102,9 +102,9 @@ export class Clock {
     this.time.hide();
   }
 
-  again() {
+  requestFrame() {
     this.next = requestAnimationFrame((now) => {
-      this.again();
+      this.requestFrame();
       this.frame(now);
     });
   }

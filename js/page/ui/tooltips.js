@@ -66,7 +66,7 @@ export class Tooltips {
   over({ target, pointerType }) {
     const node = pointerType === "touch" ? null : this.find(target, true);
     if (!node || node === this.shown) return;
-    this.later(node, REST_TIME);
+    this.showLater(node, REST_TIME);
   }
 
   /** @param {PointerEvent} event */
@@ -101,14 +101,14 @@ export class Tooltips {
   /** @param {EventTarget | null} target */
   focused(target) {
     const node = this.find(target, false);
-    if (node && node === target && node.matches(":focus-visible")) this.later(node, 0);
+    if (node && node === target && node.matches(":focus-visible")) this.showLater(node, 0);
   }
 
   /**
    * @param {HTMLElement} node
    * @param {number} time
    */
-  later(node, time) {
+  showLater(node, time) {
     clearTimeout(this.timer);
     this.timer = window.setTimeout(() => this.show(node), time);
   }
@@ -123,11 +123,11 @@ export class Tooltips {
     // An open dialog covers everything outside it.
     (node.closest("dialog[open]") || document.body).append(this.node);
     this.node.hidden = false;
-    this.put(node.getBoundingClientRect());
+    this.place(node.getBoundingClientRect());
   }
 
   /** @param {DOMRect} box */
-  put({ left, width, top, bottom }) {
+  place({ left, width, top, bottom }) {
     const { offsetWidth, offsetHeight, style } = this.node;
     const maxLeft = document.documentElement.clientWidth - offsetWidth - GAP;
     const isBelow = bottom + GAP + offsetHeight < innerHeight;

@@ -262,7 +262,7 @@ export class Scope {
   }
 
   /** Shows the whole recording so far, because time is paused. */
-  stands() {
+  showPaused() {
     const { live } = this;
     if (!live || !live.isOn) return;
     this.drawLive(live);

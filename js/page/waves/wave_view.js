@@ -75,26 +75,26 @@ export class WaveView {
     this.selected = -1;
     this.view = new WaveWindow(0);
     /** True if a drawing is requested. */
-    this.isAsked = false;
+    this.isRequested = false;
     /** @type {Base} the base of numbers */
     this.base = "hex";
     /** The moment of the trigger, -1 for none. */
     this.trigger = -1;
     this.status = ["wave-first", "wave-second", "wave-between"].map((id) => new Cell(block(id)));
     this.active = [pressedSwitch(button("cursor-a")), pressedSwitch(button("cursor-b"))];
-    this.values = new WaveValues(() => this.ask());
+    this.values = new WaveValues(() => this.requestDrawing());
     this.listen();
     this.listenToButtons();
   }
 
   listen() {
     this.canvas.addEventListener("keydown", (event) => this.type(event));
-    this.canvas.addEventListener("focus", () => this.ask());
+    this.canvas.addEventListener("focus", () => this.requestDrawing());
     this.canvas.addEventListener("contextmenu", (event) => this.openMenu(event));
-    this.scroll.addEventListener("scroll", () => this.ask());
-    new ResizeObserver(() => this.ask()).observe(this.scroll);
+    this.scroll.addEventListener("scroll", () => this.requestDrawing());
+    new ResizeObserver(() => this.requestDrawing()).observe(this.scroll);
     for (const query of ["(prefers-color-scheme: dark)", "(forced-colors: active)"]) {
-      matchMedia(query).addEventListener("change", () => this.ask());
+      matchMedia(query).addEventListener("change", () => this.requestDrawing());
     }
     new WavePointers(this.canvas, {
       click: (point, isOther) => this.click(point, isOther),
@@ -103,15 +103,15 @@ export class WaveView {
       isName: ({ x, y }) => y >= AXIS && x < this.gutter,
       dragRow: (from, to) => this.dragRow(from, to),
       hover: (point) => this.hover(point),
-      pan: (pixels) => this.see(() => this.view.goTo(this.view.from + (pixels / this.view.width) * this.view.span)),
-      zoom: (factor, x) => this.see(() => this.view.zoom(factor, this.view.cyclesAt(x - this.gutter))),
+      pan: (pixels) => this.changeView(() => this.view.goTo(this.view.from + (pixels / this.view.width) * this.view.span)),
+      zoom: (factor, x) => this.changeView(() => this.view.zoom(factor, this.view.cyclesAt(x - this.gutter))),
     });
   }
 
   listenToButtons() {
     onClick(button("zoom-in"), () => this.zoom(ZOOM));
     onClick(button("zoom-out"), () => this.zoom(1 / ZOOM));
-    onClick(button("zoom-all"), () => this.see(() => this.view.showAll()));
+    onClick(button("zoom-all"), () => this.changeView(() => this.view.showAll()));
     onClick(button("edge-before"), () => this.toEdge(false));
     onClick(button("edge-after"), () => this.toEdge(true));
     onClick(button("wave-go-to"), () => this.showInstruction());
@@ -157,7 +157,7 @@ export class WaveView {
     if (!this.waves) return;
     this.trigger = trigger;
     this.view.stretch(this.waves.from, this.waves.cycles);
-    this.ask();
+    this.requestDrawing();
   }
 
   /** Shows the whole of a finished recording, with the cursors at the first two edges of the first row that has edges. */
@@ -166,7 +166,7 @@ export class WaveView {
     const row = rows.find(({ line }) => waves !== null && line >= 0 && waves.changesOf(line).length > 0);
     const edges = [...(waves && row ? waves.changesOf(row.line).slice(0, 2) : []), view.begin, view.begin];
     view.placeCursors(edges[0], edges[1]);
-    this.see(() => view.fit());
+    this.changeView(() => view.fit());
   }
 
   /**
@@ -174,14 +174,14 @@ export class WaveView {
    * @param {number} moment
    */
   showAround(moment) {
-    this.see(() => this.view.showAround(moment));
+    this.changeView(() => this.view.showAround(moment));
   }
 
   /** @param {Base} base the base of numbers */
   setBase(base) {
     this.base = base;
     if (this.waves) this.waves.base = base;
-    this.ask();
+    this.requestDrawing();
   }
 
   /** @param {number[]} lines the lines to show, in the order of the board */
@@ -202,7 +202,7 @@ export class WaveView {
     this.room.style.setProperty("height", `${AXIS + length * ROW}px`);
     this.scroll.style.setProperty("height", `${AXIS + Math.max(1, Math.min(MAX_ROWS, length)) * ROW}px`);
     if (waves) this.values.draw(waves, this.rows.filter(({ line }) => line >= 0));
-    this.ask();
+    this.requestDrawing();
   }
 
   /**
@@ -297,7 +297,7 @@ export class WaveView {
   hover(point) {
     this.pointer = point;
     if (!point) this.dragged = null;
-    this.ask();
+    this.requestDrawing();
   }
 
   /**
@@ -325,19 +325,19 @@ export class WaveView {
   // --- actions of the user ---
 
   /** @param {() => void} act changes the visible part */
-  see(act) {
+  changeView(act) {
     act();
-    this.ask();
+    this.requestDrawing();
   }
 
   /** @param {number} moment */
   move(moment) {
-    this.see(() => this.view.move(moment));
+    this.changeView(() => this.view.move(moment));
   }
 
   /** @param {number} cursor 0 for A, 1 for B */
   activate(cursor) {
-    this.see(() => {
+    this.changeView(() => {
       this.view.active = cursor;
       this.view.move(this.view.moment);
     });
@@ -350,7 +350,7 @@ export class WaveView {
   zoom(factor) {
     const { view } = this;
     const isSeen = view.moment >= view.from && view.moment <= view.to;
-    this.see(() => view.zoom(factor, isSeen ? view.moment : view.from + view.span / 2));
+    this.changeView(() => view.zoom(factor, isSeen ? view.moment : view.from + view.span / 2));
   }
 
   /**
@@ -392,7 +392,7 @@ export class WaveView {
     const seen = this.scroll.clientHeight - AXIS;
     if (top < this.scroll.scrollTop) this.scroll.scrollTop = top;
     else if (top + ROW > this.scroll.scrollTop + seen) this.scroll.scrollTop = top + ROW - seen;
-    this.ask();
+    this.requestDrawing();
   }
 
   /**
@@ -426,7 +426,7 @@ export class WaveView {
       ArrowUp: () => this.select(this.selected - 1), ArrowDown: () => this.select(this.selected + 1),
       PageUp: () => this.move(view.moment - view.span / 2), PageDown: () => this.move(view.moment + view.span / 2),
       Home: () => this.move(view.begin), End: () => this.move(view.end),
-      "+": () => this.zoom(ZOOM), "-": () => this.zoom(1 / ZOOM), 0: () => this.see(() => view.showAll()),
+      "+": () => this.zoom(ZOOM), "-": () => this.zoom(1 / ZOOM), 0: () => this.changeView(() => view.showAll()),
       Enter: () => this.enter(),
       "/": () => field("wave-search").focus(),
       p: () => this.toEdge(false), n: () => this.toEdge(true), a: () => this.activate(0), b: () => this.activate(1),
@@ -442,11 +442,11 @@ export class WaveView {
   // --- drawing ---
 
   /** Requests one drawing, at the next frame of the browser. */
-  ask() {
-    if (this.isAsked || !this.waves) return;
-    this.isAsked = true;
+  requestDrawing() {
+    if (this.isRequested || !this.waves) return;
+    this.isRequested = true;
     requestAnimationFrame(() => {
-      this.isAsked = false;
+      this.isRequested = false;
       this.show();
     });
   }
