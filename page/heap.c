@@ -1,8 +1,8 @@
-// What the module of the bench calls by name, where there is no C library: a heap, and arithmetic on 128 bits. And the buffers that the
-// page lends to its calls.
+// The functions that the module of the bench needs and that no C library provides: a heap, arithmetic on 128 bits, and buffers for the
+// calls of the page.
 //
-// The heap has blocks of 2^4, 2^5, .. bytes, each behind a header of 16 bytes that keeps its power. A block that is given back waits in
-// the list of its power, and is lent again from there; new ones are cut from the end of memory, which grows and never shrinks.
+// The heap has blocks of 2^4, 2^5, .. bytes, each after a header of 16 bytes with the exponent. A freed block is put into the list of its
+// exponent, and is used again from there. New blocks are cut from the end of memory, which grows and never shrinks.
 
 typedef unsigned char Byte;
 typedef unsigned long long Word;
@@ -12,7 +12,7 @@ enum { LEAST_POWER = 4, POWERS = 41, HEADER = 16, PAGE_POWER = 16 };
 
 extern Byte __heap_base;
 
-// A block as it waits in its list.
+// A freed block in its list.
 typedef struct Free {
     struct Free *next;
 } Free;
@@ -20,7 +20,7 @@ typedef struct Free {
 static Free *waiting[POWERS];
 static Word end_of_heap;
 
-// What a call that wants memory answers: whether there is some, and where. Where there is none, the pointer is to a byte that nobody owns.
+// The result of an allocation: whether it succeeded, and the block. After a failure the pointer is to a byte that no block contains.
 typedef struct {
     Word ok;
     void *at;
@@ -28,7 +28,7 @@ typedef struct {
 
 static Byte nothing;
 
-// The least power of two that holds so many bytes; POWERS or more where no block does.
+// Returns the exponent of the smallest block of `count` bytes, or POWERS if no block is so large.
 static int power_for(Word count) {
     int power = LEAST_POWER;
     while (power < POWERS && (1ULL << power) < count) power++;
@@ -37,7 +37,7 @@ static int power_for(Word count) {
 
 static Word *power_of(void *block) { return (Word *)((Byte *)block - HEADER); }
 
-// A block of so many bytes, aligned to 16, or 0 where there is no memory.
+// Returns a block of `count` bytes, aligned to 16, or 0 if there is no memory.
 static void *take(Word count) {
     int power = power_for(count);
     if (power >= POWERS) return 0;
@@ -52,7 +52,7 @@ static void *take(Word count) {
     if (end > have) {
         Word pages = (end - have + (1ULL << PAGE_POWER) - 1) >> PAGE_POWER;
         __builtin_wasm_memory_grow(0, pages);
-        // Whether it grew is read from its size: what the call answers where it did not has other bits where addresses have 32.
+        // The size of the memory says whether it has grown: after a failure the call's result has other bits with 32-bit addresses.
         if ((Word)__builtin_wasm_memory_size(0) << PAGE_POWER < end) return 0;
     }
     Byte *block = (Byte *)end_of_heap + HEADER;
@@ -73,12 +73,12 @@ static Tried tried(void *block) {
     return answer;
 }
 
-// ---- by the names and the contracts of the library that the bench is built with
+// ---- the allocator, with the names and the contracts of the library in the bench
 
-// An alignment divides 16, and so many bytes are fewer than 2^63.
+// `alignment` divides 16, and `count` is less than 2^63.
 Tried rattle_alloc(Word count, Word alignment) { return tried(alignment > HEADER ? 0 : take(count)); }
 
-// The first `kept` bytes stay. Where there is no memory, the block is as it was.
+// Keeps the first `kept` bytes. If there is no memory, the block stays unchanged.
 Tried rattle_realloc(void *block, Word kept, Word count, Word alignment) {
     if (power_for(count) <= (int)*power_of(block)) return tried(block);
     void *larger = alignment > HEADER ? 0 : take(count);
@@ -96,7 +96,7 @@ void *bench_buffer(Word count) { return take(count); }
 
 void bench_buffer_back(void *block) { give_back(block); }
 
-// ---- by the names that clang calls where the processor has no instruction
+// ---- functions that clang calls for operations without an instruction
 
 typedef union {
     Wide whole;
