@@ -3,7 +3,7 @@
 import { AskView } from "./ui/ask_view.js";
 import { Face } from "../core/board/face.js";
 import { makeCurrentSession, makeRecovery, makeRunning, makeServing } from "./core.js";
-import { drawSound, makeDrawing, makePressing, makeScope, makeSnapshotView } from "./compose_board.js";
+import { connectSound, makeDrawing, makePressing, makeScope, makeSnapshotView } from "./compose_board.js";
 import { makeBreakpoints, makeHeat, makeHistory, makeMistakes, makeTravel, makeValues, makeWatched } from "./compose_debug.js";
 import { lampNames } from "../core/board/face_board.js";
 import { isTextOf, keptWith, wiredOf } from "../core/board/wired_text.js";
@@ -66,7 +66,7 @@ export class Page {
     this.ask = new AskView();
     this.tests = makeTests(this, manual);
     this.explore = makeExplore(this, manual, makeBench);
-    this.looks = new TextLooks(this.layout.choices, this.textEditors.map(({ editor }) => editor.editor));
+    this.appearance = new TextLooks(this.layout.choices, this.textEditors.map(({ editor }) => editor.editor));
     this.mistakes = makeMistakes(this, makeProblems(this));
     this.texts = makeTexts(this);
     this.rom = makeRomFiles(this);
@@ -99,7 +99,7 @@ export class Page {
    */
   listener() {
     return {
-      frame: (frame) => this.running.ran(frame),
+      frame: (frame) => this.running.handleFrame(frame),
       failed: (fault) => this.recovery.failed(fault),
       died: () => this.recovery.restart(),
     };
@@ -154,11 +154,11 @@ export class Page {
     const { snapshotView } = this;
     this.current.takeTitle(titleOf(wired.text, this.programEditor.text) || (board.length > 1 ? say.MY_BOARD : ""));
     snapshotView.draw(board, wired.text);
-    this.drawing.wired(board);
+    this.drawing.handleBoard(board);
     this.history.draw(snapshotView.board, lampNames(new Face(wired.text), snapshotView.board.lamps.length));
     this.editors.checkTexts(board.length === 1);
-    this.heat.wired();
-    drawSound(this, wired.text);
+    this.heat.updateWatch();
+    connectSound(this, wired.text);
     nameCharacters(this);
   }
 
@@ -173,7 +173,7 @@ export class Page {
     if (!session || !wired || !isTextOf(boardText, wired)) return;
     session.record.wired = keptWith({ ...wired, text: boardText }, session.record.wired);
     this.snapshotView.readFace(boardText);
-    drawSound(this, boardText);
+    connectSound(this, boardText);
   }
 
   /**

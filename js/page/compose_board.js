@@ -80,7 +80,7 @@ export function makePressing(page) {
  * @param {Page} page
  * @param {string} boardText
  */
-export function drawSound({ running, snapshotView }, boardText) {
+export function connectSound({ running, snapshotView }, boardText) {
   running.sound.draw(buzzerOf(snapshotView.board, new Face(boardText)));
 }
 
@@ -148,7 +148,7 @@ export function makeScope(page) {
     end: () => resultOrReport(page, page.bench.call("endRecording", [])),
     record: async (cycles, isBefore, values) => {
       // A recording continues from the present state, so time must be paused.
-      await page.running.stand();
+      await page.running.pause();
       try {
         return await page.work.show(say.RECORDING_LINES,
           (signal, progress) => page.bench.call("record", [cycles, isBefore, textsWith(values)], { signal, progress }));

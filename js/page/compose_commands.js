@@ -1,7 +1,7 @@
 // Composes the commands: connects them to the page's parts, the palette and the keys.
 
 import { textOfKey } from "../core/board/key_place.js";
-import { COMMANDS, oneOf } from "./commands/command_table.js";
+import { COMMANDS, labelledCommand } from "./commands/command_table.js";
 import { fillEmptyPanels } from "./commands/empty_panels.js";
 import { listenToKeys } from "./commands/keys.js";
 import { PaletteView } from "./commands/palette_view.js";
@@ -249,9 +249,9 @@ export class Commands {
   ownCommands() {
     const { snapshotView, pressing, sessionsController } = this.page;
     return [
-      ...this.examples.map((example) => oneOf(`example.${example.name}`, say.openExample(example.name), "example",
+      ...this.examples.map((example) => labelledCommand(`example.${example.name}`, say.openExample(example.name), "example",
         () => void sessionsController.begin(example), "examples")),
-      ...snapshotView.front.keys.map((key) => oneOf(`key.${textOfKey(key.key)}`,
+      ...snapshotView.front.keys.map((key) => labelledCommand(`key.${textOfKey(key.key)}`,
         say.pressKey(key.legend || textOfKey(key.key)), "key", () => {
         pressing.down(key, false);
         pressing.up(key.key);

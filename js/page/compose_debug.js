@@ -63,7 +63,7 @@ export function makeBreakpoints(page) {
 export function makeTravel(page) {
   const { running } = page;
   return new Travel(page.bench, {
-    stand: () => running.stand(),
+    stand: () => running.pause(),
     texts: () => page.breakpoints.texts(),
     aim: (goal) => running.aim(goal),
     change: (words, work) => page.serving.change(words, work),

@@ -51,7 +51,7 @@ export function makeRomFiles(page) {
   return new RomFiles({
     ask: async (lines) => page.bench.call("ask", [lines]),
     act: (lines) => page.serving.act(lines),
-    stop: () => running.stand(),
+    stop: () => running.pause(),
   });
 }
 
@@ -95,10 +95,10 @@ function actsOf({ layout, snapshotView, pressing, running, source, travel }) {
     keys: () => snapshotView.front.keys,
     run: async () => {
       // A run up to a goal must end first, so that the next run continues without that goal.
-      if (running.goal) await running.stand();
+      if (running.goal) await running.pause();
       running.run();
     },
-    stand: () => running.stand(),
+    stand: () => running.pause(),
     goOn: (goal) => travel.goOn(goal),
     goBack: (goal) => travel.goBack(goal),
     goForward: () => travel.goForward(),

@@ -34,7 +34,7 @@ export function makeEditors(page, manual) {
     },
     assembled: (isBegun) => page.breakpoints.assembled(isBegun),
     act: (lines) => page.serving.act(lines),
-    stop: () => running.stand(),
+    stop: () => running.pause(),
     run: () => running.run(),
     counter: () => page.snapshotView.counter,
     toggleBreakpoint: (line) => page.breakpoints.toggleLine(line).catch((fault) => page.recovery.failed(fault)),
@@ -150,7 +150,7 @@ export function makeTests(page, manual) {
     sample: (texts) => bench.call("sampleTest", [texts]),
     run: async (texts) => {
       // The worker serves one call at a time. Without this pause, time would stop during the tests and nothing would say why.
-      await running.stand();
+      await running.pause();
       return page.work.show(say.RUNNING_TESTS, (signal, progress) => bench.call("runTests", [texts], { signal, progress }));
     },
     wordsOfRefusal: (number) => words.ofRefusal(number),
@@ -196,7 +196,7 @@ async function openAfter(page, { name, lines, message }, texts) {
   const before = page.current.session;
   if (!(await sessionsController.manager.useNew(make))) return;
   await page.serving.act(lines);
-  // The lines are not the user's: the former notice remains.
+  // `act` hides the notice about the former session, because it changes the new one. The notice must stay.
   if (before && !before.isUntouched) sessionsController.reportLeft(before.record);
   page.layout.showText("program");
   page.running.showMessage(message);

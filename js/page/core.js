@@ -18,8 +18,8 @@ export function makeCurrentSession(page) {
     show: (shown) => page.show(shown),
     checkSource: () => page.checkSource(),
     run: () => page.running.run(),
-    halted: (words) => page.running.halted(words),
-    standStill: () => page.running.standStill(),
+    halted: (words) => page.running.endRun(words),
+    standStill: () => page.running.stopRun(),
     where: () => page.running.where,
     touched: () => page.sessionsController.touched(),
     ran: () => page.log.take(),
@@ -38,8 +38,8 @@ export function makeRecovery(page) {
     session: () => page.current.session,
     isRunning: () => page.running.clock.isRunning,
     stopClock: () => page.running.clock.stop(),
-    halted: (words) => page.running.halted(words),
-    ran: (frame) => page.running.ran(frame),
+    halted: (words) => page.running.endRun(words),
+    ran: (frame) => page.running.handleFrame(frame),
     openAgain: async (record) => {
       page.show(await page.current.callOpen(record));
       page.breakpoints.keeper.again();
@@ -59,7 +59,7 @@ export function makeRunning(page) {
     took: (frame) => {
       page.log.collect(frame.ran);
       page.mistakes.show(frame.tally.usual);
-      page.heat.ran(frame);
+      page.heat.handleFrame(frame);
       page.show(frame, true, frame.litShares);
       page.breakpoints.count(frame.tally);
     },

@@ -29,7 +29,7 @@ const BULK_MEMORY_TRIAL = Uint8Array.of(0, 97, 115, 109, 1, 0, 0, 0, 1, 4, 1, 96
   65, 0, 65, 0, 65, 0, 252, 11, 0, 11);
 
 /** Returns the name of a feature that the bench needs and this browser lacks, or "" if nothing is missing. */
-function lackOfBrowser() {
+function missingFeature() {
   if (typeof WebAssembly !== "object" || !WebAssembly.validate(BULK_MEMORY_TRIAL)) return say.BULK_MEMORY;
   if (typeof BigInt !== "function") return say.BIG_INTEGERS;
   if (typeof Worker !== "function") return "workers";
@@ -163,7 +163,7 @@ async function main() {
   const notice = new Notice();
   // The block `needs` is for browsers that cannot run this script.
   block("needs").hidden = true;
-  const lack = lackOfBrowser();
+  const lack = missingFeature();
   if (lack) {
     notice.show(say.hasNo(lack, textOf("needs")));
     return;

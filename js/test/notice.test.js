@@ -1,10 +1,10 @@
 // Which notices make room for a new one.
 import assert from "node:assert/strict";
 import { test } from "node:test";
-import { pushedOut } from "../page/ui/notice.js";
+import { noticesToRemove } from "../page/ui/notice.js";
 
 /** Returns the kinds of the notices that make room; the newest is first. */
-const outOf = (...kinds) => pushedOut(kinds.map((kind) => ({ kind }))).map(({ kind }) => kind);
+const outOf = (...kinds) => noticesToRemove(kinds.map((kind) => ({ kind }))).map(({ kind }) => kind);
 
 test("three notices are shown, the newest ones", () => {
   assert.deepEqual(outOf(), []);

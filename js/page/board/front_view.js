@@ -25,7 +25,7 @@ const MAX_FAULTS = 20;
  * Returns whether a board has neither chips nor lamps. The page then offers ways to begin.
  * @param {Board} board
  */
-function isBare({ roms, banks, chains, lamps }) {
+function isEmptyBoard({ roms, banks, chains, lamps }) {
   return [roms, banks, chains, lamps].every((parts) => parts.length === 0);
 }
 
@@ -135,7 +135,7 @@ export class FrontView {
     // The front panel has its own switch at TEST.
     button("test").hidden = face.test !== null;
     makeFirstTabStop(this.block);
-    block("keys-hint").textContent = isBare(board) ? "" : hintOfKeys(this.keys);
+    block("keys-hint").textContent = isEmptyBoard(board) ? "" : hintOfKeys(this.keys);
     this.showDown();
   }
 

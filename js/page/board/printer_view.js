@@ -53,7 +53,7 @@ export class PrinterView {
     const { printer: before } = this;
     this.printer = printerOf(board, face);
     this.root.hidden = this.printer === null;
-    if (!before || !this.isOf(before)) this.codes = [];
+    if (!before || !this.isPrinter(before)) this.codes = [];
     this.calls.printOn(this.printer && { strobe: this.printer.strobe, port: this.printer.port });
     this.show();
   }
@@ -72,13 +72,13 @@ export class PrinterView {
    * Returns whether these are the lines of the printer.
    * @param {{ strobe: string, port: string }} lines
    */
-  isOf({ strobe, port }) {
+  isPrinter({ strobe, port }) {
     return this.printer !== null && this.printer.strobe === strobe && this.printer.port === port;
   }
 
   /** @param {Printed} printed */
   take(printed) {
-    if (!this.isOf(printed)) return;
+    if (!this.isPrinter(printed)) return;
     this.codes = printed.codes.map(([, code]) => code);
     this.show();
   }

@@ -98,7 +98,7 @@ function command(id, group, act, options = {}) {
  * @param {string} [why] the reason why the command cannot be executed while the button is not offered
  * @param {Partial<Command>} [options]
  */
-function pressing(id, group, button, shown, why = say.NOT_NOW, options = {}) {
+function buttonCommand(id, group, button, shown, why = say.NOT_NOW, options = {}) {
   return command(id, group, (calls) => calls.press(button, shown), { whyNot: (calls) => (calls.isOffered(button) ? "" : why), ...options });
 }
 
@@ -109,7 +109,7 @@ function pressing(id, group, button, shown, why = say.NOT_NOW, options = {}) {
  * @param {string[]} keys
  * @param {boolean} [isSource] whether the command is for the source only
  */
-function inText(id, what, keys, isSource = false) {
+function textCommand(id, what, keys, isSource = false) {
   return command(id, "text", (calls) => calls.inText(what), { keys, place: isSource ? "source" : "texts",
     whyNot: (calls) => (calls.hasText(isSource) ? "" : isSource ? say.NO_NAMES : say.NO_EDITOR) });
 }
@@ -129,7 +129,7 @@ const TIME = [
   command("time.toCursor", "time", (calls) => calls.runToCursor(), { keys: ["Ctrl+F10"], place: "source" }),
   command("time.count", "time", (calls) => calls.enter("step-count", "history")),
   command("time.untilChange", "time", (calls) => calls.enter("change-place", "history")),
-  pressing("time.backToChange", "time", "back-change", "history"),
+  buttonCommand("time.backToChange", "time", "back-change", "history"),
   command("time.reset", "time", (calls) => calls.serve("reset\n"), { icon: "reset" }),
   command("time.test", "time", (calls) => calls.test(), { whyNot: (calls) => (calls.isOffered("test") ? "" : say.NO_TEST_PIN) }),
 ];
@@ -159,33 +159,33 @@ const SHOW = [
 const BOARD = [
   command("board.apply", "board", (calls) => calls.send("board"), { keys: ["Ctrl+Enter"], place: "board" }),
   command("board.type", "board", (calls) => calls.toggle("typing")),
-  pressing("board.sound", "board", "sound-button", "front", say.NO_BUZZER),
-  pressing("board.tear", "board", "clear-printout", "front", say.NO_PRINTER),
-  pressing("board.first", "board", "first-board", "front", say.HAS_BOARD),
-  pressing("board.draw", "board", "first-drawing", "front", say.HAS_BOARD),
+  buttonCommand("board.sound", "board", "sound-button", "front", say.NO_BUZZER),
+  buttonCommand("board.tear", "board", "clear-printout", "front", say.NO_PRINTER),
+  buttonCommand("board.first", "board", "first-board", "front", say.HAS_BOARD),
+  buttonCommand("board.draw", "board", "first-drawing", "front", say.HAS_BOARD),
 ];
 
 /** @type {Command[]} */
 const TEXT = [
   command("text.assembleAndRun", "text", (calls) => calls.send("program"), { icon: "assemble", keys: ["Ctrl+Enter"], place: "source" }),
-  pressing("text.assemble", "text", "assemble-only", "program"),
-  pressing("text.disassemble", "text", "from-rom", "program"),
-  inText("text.find", "find", ["Ctrl+F"]),
-  inText("text.replace", "replace", ["Ctrl+H"]),
-  inText("text.line", "line", ["Ctrl+G"]),
-  inText("text.comment", "comment", ["Ctrl+/"]),
-  inText("text.complete", "complete", ["Ctrl+Space"]),
-  inText("text.define", "define", ["F12"], true),
-  inText("text.uses", "uses", ["Shift+F12"], true),
-  inText("text.rename", "rename", ["F2"], true),
-  inText("text.fold", "fold", ["Ctrl+Shift+["]),
-  inText("text.unfold", "unfold", ["Ctrl+Shift+]"]),
-  inText("text.foldAll", "foldAll", ["Ctrl+Alt+Shift+["]),
-  inText("text.unfoldAll", "unfoldAll", ["Ctrl+Alt+Shift+]"]),
-  inText("text.undo", "undo", ["Ctrl+Z"]),
-  inText("text.redo", "redo", ["Ctrl+Y"]),
-  pressing("text.smaller", "text", "text-smaller", ""),
-  pressing("text.larger", "text", "text-larger", ""),
+  buttonCommand("text.assemble", "text", "assemble-only", "program"),
+  buttonCommand("text.disassemble", "text", "from-rom", "program"),
+  textCommand("text.find", "find", ["Ctrl+F"]),
+  textCommand("text.replace", "replace", ["Ctrl+H"]),
+  textCommand("text.line", "line", ["Ctrl+G"]),
+  textCommand("text.comment", "comment", ["Ctrl+/"]),
+  textCommand("text.complete", "complete", ["Ctrl+Space"]),
+  textCommand("text.define", "define", ["F12"], true),
+  textCommand("text.uses", "uses", ["Shift+F12"], true),
+  textCommand("text.rename", "rename", ["F2"], true),
+  textCommand("text.fold", "fold", ["Ctrl+Shift+["]),
+  textCommand("text.unfold", "unfold", ["Ctrl+Shift+]"]),
+  textCommand("text.foldAll", "foldAll", ["Ctrl+Alt+Shift+["]),
+  textCommand("text.unfoldAll", "unfoldAll", ["Ctrl+Alt+Shift+]"]),
+  textCommand("text.undo", "undo", ["Ctrl+Z"]),
+  textCommand("text.redo", "redo", ["Ctrl+Y"]),
+  buttonCommand("text.smaller", "text", "text-smaller", ""),
+  buttonCommand("text.larger", "text", "text-larger", ""),
   command("text.wrap", "text", (calls) => calls.toggle("text-wrap")),
 ];
 
@@ -195,39 +195,39 @@ const DEBUG = [
   command("debug.condition", "debug", (calls) => calls.breakpoint("condition"), { keys: ["Shift+F9"] }),
   command("debug.hitCount", "debug", (calls) => calls.breakpoint("from")),
   command("debug.log", "debug", (calls) => calls.breakpoint("note")),
-  pressing("debug.allOn", "debug", "breakpoints-on", "breakpoints", say.NO_BREAKPOINTS),
-  pressing("debug.allOff", "debug", "breakpoints-off", "breakpoints", say.NO_BREAKPOINTS),
-  pressing("debug.hits", "debug", "breakpoints-hits", "breakpoints", say.NO_BREAKPOINTS),
-  pressing("debug.removeAll", "debug", "breakpoints-remove", "breakpoints", say.NO_BREAKPOINTS),
+  buttonCommand("debug.allOn", "debug", "breakpoints-on", "breakpoints", say.NO_BREAKPOINTS),
+  buttonCommand("debug.allOff", "debug", "breakpoints-off", "breakpoints", say.NO_BREAKPOINTS),
+  buttonCommand("debug.hits", "debug", "breakpoints-hits", "breakpoints", say.NO_BREAKPOINTS),
+  buttonCommand("debug.removeAll", "debug", "breakpoints-remove", "breakpoints", say.NO_BREAKPOINTS),
   command("debug.watch", "debug", (calls) => calls.enter("watched-field", "watched")),
   command("debug.heat", "debug", (calls) => calls.enter("heat", "memory")),
   command("debug.console", "debug", (calls) => calls.enter("lines", "talk")),
   command("debug.goTo", "debug", (calls) => calls.enter("go-to", "listing")),
-  pressing("debug.there", "debug", "break-there", "listing"),
+  buttonCommand("debug.there", "debug", "break-there", "listing"),
   command("debug.follow", "debug", (calls) => calls.toggle("follow")),
 ];
 
 /** @type {Command[]} */
 const TESTS = [
   command("tests.run", "tests", (calls) => calls.send("tests"), { icon: "tests", keys: ["Ctrl+Enter"], place: "tests" }),
-  pressing("tests.first", "tests", "first-test", "tests", say.HAS_TEXT),
-  pressing("tests.clear", "tests", "clear-tests", "tests", say.NO_RESULTS),
+  buttonCommand("tests.first", "tests", "first-test", "tests", say.HAS_TEXT),
+  buttonCommand("tests.clear", "tests", "clear-tests", "tests", say.NO_RESULTS),
   command("properties.search", "tests", (calls) => calls.send("properties"), { keys: ["Ctrl+Enter"], place: "properties" }),
-  pressing("properties.prove", "tests", "prove", "properties", "", { keys: ["Ctrl+Shift+Enter"], place: "properties" }),
-  pressing("properties.first", "tests", "first-properties", "properties", say.HAS_TEXT),
-  pressing("properties.clear", "tests", "clear-finds", "properties", say.NO_RESULTS),
+  buttonCommand("properties.prove", "tests", "prove", "properties", "", { keys: ["Ctrl+Shift+Enter"], place: "properties" }),
+  buttonCommand("properties.first", "tests", "first-properties", "properties", say.HAS_TEXT),
+  buttonCommand("properties.clear", "tests", "clear-finds", "properties", say.NO_RESULTS),
 ];
 
 /** @type {Command[]} */
 const WIRING = [
-  pressing("wiring.apply", "wiring", "drawing-wire", "wiring"),
-  pressing("wiring.undo", "wiring", "drawing-undo", "wiring"),
-  pressing("wiring.redo", "wiring", "drawing-redo", "wiring"),
-  pressing("wiring.arrange", "wiring", "drawing-tidy", "wiring"),
+  buttonCommand("wiring.apply", "wiring", "drawing-wire", "wiring"),
+  buttonCommand("wiring.undo", "wiring", "drawing-undo", "wiring"),
+  buttonCommand("wiring.redo", "wiring", "drawing-redo", "wiring"),
+  buttonCommand("wiring.arrange", "wiring", "drawing-tidy", "wiring"),
   command("wiring.scan", "wiring", (calls) => calls.scanKeys(), { whyNot: (calls) => (calls.hasKeys() ? "" : say.NO_KEYS) }),
-  pressing("wiring.larger", "wiring", "picture-larger", "wiring"),
-  pressing("wiring.smaller", "wiring", "picture-smaller", "wiring"),
-  pressing("wiring.fit", "wiring", "picture-fit", "wiring"),
+  buttonCommand("wiring.larger", "wiring", "picture-larger", "wiring"),
+  buttonCommand("wiring.smaller", "wiring", "picture-smaller", "wiring"),
+  buttonCommand("wiring.fit", "wiring", "picture-fit", "wiring"),
 ];
 
 /**
@@ -235,30 +235,30 @@ const WIRING = [
  * @param {CommandId} id
  * @param {string} button
  */
-const ofWaves = (id, button) => pressing(id, "waves", button, "waves", say.NO_WAVES);
+const waveCommand = (id, button) => buttonCommand(id, "waves", button, "waves", say.NO_WAVES);
 
 /** @type {Command[]} */
 const WAVES = [
-  pressing("waves.record", "waves", "record", "waves", "", { icon: "record" }),
+  buttonCommand("waves.record", "waves", "record", "waves", "", { icon: "record" }),
   command("waves.trigger", "waves", (calls) => calls.enter("trigger", "waves")),
-  ofWaves("waves.save", "save-waves"),
-  ofWaves("waves.png", "save-png"),
-  ofWaves("waves.svg", "save-svg"),
-  ofWaves("waves.in", "zoom-in"),
-  ofWaves("waves.out", "zoom-out"),
-  ofWaves("waves.all", "zoom-all"),
-  ofWaves("waves.before", "edge-before"),
-  ofWaves("waves.after", "edge-after"),
-  ofWaves("waves.a", "cursor-a"),
-  ofWaves("waves.b", "cursor-b"),
-  ofWaves("waves.instruction", "wave-go-to"),
+  waveCommand("waves.save", "save-waves"),
+  waveCommand("waves.png", "save-png"),
+  waveCommand("waves.svg", "save-svg"),
+  waveCommand("waves.in", "zoom-in"),
+  waveCommand("waves.out", "zoom-out"),
+  waveCommand("waves.all", "zoom-all"),
+  waveCommand("waves.before", "edge-before"),
+  waveCommand("waves.after", "edge-after"),
+  waveCommand("waves.a", "cursor-a"),
+  waveCommand("waves.b", "cursor-b"),
+  waveCommand("waves.instruction", "wave-go-to"),
   command("waves.search", "waves", (calls) => calls.enter("wave-search", "waves"), {
     whyNot: (calls) => (calls.isOffered("zoom-in") ? "" : say.NO_WAVES) }),
-  ofWaves("waves.findBefore", "find-before"),
-  ofWaves("waves.findAfter", "find-after"),
-  pressing("waves.changing", "waves", "waves-changing", "waves"),
-  pressing("waves.every", "waves", "waves-all", "waves"),
-  pressing("waves.none", "waves", "waves-none", "waves"),
+  waveCommand("waves.findBefore", "find-before"),
+  waveCommand("waves.findAfter", "find-after"),
+  buttonCommand("waves.changing", "waves", "waves-changing", "waves"),
+  buttonCommand("waves.every", "waves", "waves-all", "waves"),
+  buttonCommand("waves.none", "waves", "waves-none", "waves"),
 ];
 
 /** @type {Command[]} */
@@ -266,7 +266,7 @@ const HELP = [
   command("help.open", "help", (calls) => calls.toggleHelp(), { icon: "help", keys: ["F1"] }),
   command("help.keys", "help", (calls) => calls.help(KEYBOARD)),
   command("help.welcome", "help", (calls) => calls.welcome(), { icon: "lamp" }),
-  pressing("help.tour", "help", "tour-begin", "", "", { icon: "lamp" }),
+  buttonCommand("help.tour", "help", "tour-begin", "", "", { icon: "lamp" }),
 ];
 
 /**
@@ -278,11 +278,12 @@ const HELP = [
  * @param {IconName} [icon]
  * @returns {Command}
  */
-export const oneOf = (id, words, group, act, icon) => ({ id, words, group, keys: [], place: "everywhere", act, whyNot: never, icon });
+export const labelledCommand = (id, words, group, act, icon) => (
+  { id, words, group, keys: [], place: "everywhere", act, whyNot: never, icon });
 
 /** @type {Command[]} */
 const SHOWN = [...Object.entries(say.TEXTS), ...Object.entries(say.PANELS)].map(([name, words]) => (
-  oneOf(`show.${name}`, say.showText(words), "show", (calls) => calls.show(name))));
+  labelledCommand(`show.${name}`, say.showText(words), "show", (calls) => calls.show(name))));
 
 /**
  * Commands that close panels, open them again and make them full size.
@@ -290,17 +291,17 @@ const SHOWN = [...Object.entries(say.TEXTS), ...Object.entries(say.PANELS)].map(
  */
 const ARRANGED = [
   ...Object.entries(PANELS).flatMap(([id, name]) => [
-    oneOf(`panel.${id}`, say.toggledPanel(name), "show", (calls) => calls.togglePanel(id)),
-    oneOf(`full.${id}`, say.fullPanel(name), "show", (calls) => calls.fullPanel(id)),
+    labelledCommand(`panel.${id}`, say.toggledPanel(name), "show", (calls) => calls.togglePanel(id)),
+    labelledCommand(`full.${id}`, say.fullPanel(name), "show", (calls) => calls.fullPanel(id)),
   ]),
-  oneOf("layout.reset", RESET_LAYOUT, "show", (calls) => calls.resetLayout()),
+  labelledCommand("layout.reset", RESET_LAYOUT, "show", (calls) => calls.resetLayout()),
 ];
 
 /** @type {Command[]} */
 const SETTINGS = [
-  ...SPEEDS.map(({ id, words }) => oneOf(`speed.${id}`, say.atSpeed(words), "settings", (calls) => calls.setSpeed(id))),
+  ...SPEEDS.map(({ id, words }) => labelledCommand(`speed.${id}`, say.atSpeed(words), "settings", (calls) => calls.setSpeed(id))),
   ...Object.entries(say.THEMES).map(([name, words]) => (
-    oneOf(`theme.${name}`, words, "settings", (calls) => calls.setTheme(/** @type {Theme} */ (name)), "theme"))),
+    labelledCommand(`theme.${name}`, words, "settings", (calls) => calls.setTheme(/** @type {Theme} */ (name)), "theme"))),
 ];
 
 /** All commands that are always available, in the order of lists. */

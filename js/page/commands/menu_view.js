@@ -115,7 +115,7 @@ export class MenuView {
   constructor(button, id, label, items) {
     this.button = button;
     this.menu = new MenuList(id, label, () => {
-      // A keyboard user returns to the button.
+      // The focus returns from the menu to the button.
       if (this.node.contains(document.activeElement)) this.button.focus();
       this.show(false);
     });

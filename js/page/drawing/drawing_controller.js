@@ -55,12 +55,12 @@ export class DrawingController {
 
   makeView() {
     return new DrawingView(this.picture, {
-      act: (act) => this.tried(this.drawing.act(act)),
-      undoOrRedo: (which) => this.tried(this.drawing.undoOrRedo(which)),
-      wire: () => this.tried(this.wire()),
+      act: (act) => this.reportFailure(this.drawing.act(act)),
+      undoOrRedo: (which) => this.reportFailure(this.drawing.undoOrRedo(which)),
+      wire: () => this.reportFailure(this.wire()),
       find: this.calls.find,
       tidy: () => this.tidy(),
-      drop: (act, point) => this.tried(this.drop(act, point)),
+      drop: (act, point) => this.reportFailure(this.drop(act, point)),
       scanKeys: () => {
         if (this.view.shown) this.calls.scanKeys(this.view.shown.board);
       },
@@ -70,10 +70,10 @@ export class DrawingController {
   makeInput() {
     const { drawing } = this;
     return new PictureInput(this.picture, {
-      pressed: (name) => this.tried(drawing.pressed(name)),
+      pressed: (name) => this.reportFailure(drawing.pressed(name)),
       wired: (from, to) => {
         drawing.begun = from;
-        this.tried(drawing.endWire(to));
+        this.reportFailure(drawing.endWire(to));
       },
       moved: (part, point) => this.move(part, point),
       dropped: () => {
@@ -81,9 +81,9 @@ export class DrawingController {
         this.view.showPicture();
         this.keep();
       },
-      deleted: (name) => this.tried(drawing.act({ kind: "delete", part: name })),
+      deleted: (name) => this.reportFailure(drawing.act({ kind: "delete", part: name })),
       left: () => drawing.leave(),
-      undoOrRedo: (which) => this.tried(drawing.undoOrRedo(which)),
+      undoOrRedo: (which) => this.reportFailure(drawing.undoOrRedo(which)),
     });
   }
 
@@ -98,7 +98,7 @@ export class DrawingController {
   }
 
   /** @param {Promise<void>} work */
-  tried(work) {
+  reportFailure(work) {
     work.catch(this.calls.failed);
   }
 
@@ -111,7 +111,7 @@ export class DrawingController {
 
   /** Draws the board's text, if the picture is in front. */
   followText() {
-    if (this.calls.isInFront()) this.tried(this.drawing.look());
+    if (this.calls.isInFront()) this.reportFailure(this.drawing.look());
   }
 
   /** Draws the picture after a pause, because a text was edited. */
@@ -130,7 +130,7 @@ export class DrawingController {
    * Handles a board that was applied.
    * @param {string[]} answers the answers to `board`
    */
-  wired(answers) {
+  handleBoard(answers) {
     this.drawing.takeWired(answers);
     this.followText();
   }

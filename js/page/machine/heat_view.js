@@ -67,14 +67,14 @@ export class HeatView {
     this.choices.set("heat-cycles", this.cycles.value);
     this.showReach();
     this.clear();
-    this.wired();
-    if (this.kind.value !== "") this.wanted();
+    this.updateWatch();
+    if (this.kind.value !== "") this.readCycles();
     this.isOld = true;
     this.wait();
   }
 
   /** Returns the number of cycles in the field, or 0 after a message if the field has no such number. */
-  wanted() {
+  readCycles() {
     const cycles = parseCount(this.cycles.value, MAX_CYCLES);
     this.cycles.setAttribute("aria-invalid", String(cycles === 0));
     if (cycles === 0) {
@@ -85,7 +85,7 @@ export class HeatView {
   }
 
   /** Switches the bench's reports of RAM changes on or off, as the chosen heat map needs them. Called when a board is in use. */
-  wired() {
+  updateWatch() {
     this.calls.watch(this.kind.value !== "");
   }
 
@@ -97,7 +97,7 @@ export class HeatView {
    * Handles a frame of running time.
    * @param {{ warmed: PassedHeat | null, cycles: number }} frame
    */
-  ran({ warmed, cycles }) {
+  handleFrame({ warmed, cycles }) {
     if (this.kind.value === "") return;
     // The message about the past does not apply to running time. A board without RAM has no other message.
     if (!warmed) this.showStatus("");
@@ -140,7 +140,7 @@ export class HeatView {
   }
 
   async count() {
-    const cycles = this.wanted();
+    const cycles = this.readCycles();
     if (cycles === 0) return;
     const request = new AbortController();
     this.request = request;

@@ -1,7 +1,7 @@
 // Remembers the openings of sessions that have not succeeded. A session can hang the page, for example by a text that takes too long, and
 // must not do so at each start. So a flag is set before a session is opened, and cleared after the page has shown it and still responds.
 
-import { ownStore } from "../ui/choices.js";
+import { browserStore } from "../ui/choices.js";
 
 /** @typedef {Pick<Storage, "getItem" | "setItem" | "removeItem">} FlagStore */
 
@@ -22,7 +22,7 @@ export class Openings {
    * @param {(act: () => void, time: number) => void} later
    * @param {() => number} now returns the time in milliseconds
    */
-  constructor(store = ownStore(), later = (act, time) => { setTimeout(act, time); }, now = () => Date.now()) {
+  constructor(store = browserStore(), later = (act, time) => { setTimeout(act, time); }, now = () => Date.now()) {
     this.store = store;
     this.later = later;
     this.now = now;

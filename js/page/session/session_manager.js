@@ -120,11 +120,11 @@ export class SessionManager {
    * @param {Example} example
    */
   begin(example) {
-    return this.useNew(() => (example.project === "" ? this.ofExample(example) : this.ofProjectOf(example)), example.name);
+    return this.useNew(() => (example.project === "" ? this.recordOfExample(example) : this.recordOfExampleProject(example)), example.name);
   }
 
   /** @param {Example} example */
-  async ofExample(example) {
+  async recordOfExample(example) {
     const { board, program, tests, properties } = example;
     const texts = { boardText: board, programText: program, testText: tests, propertiesText: properties };
     const record = newRecord(example.name, await this.bench.call("make", [example]), texts, runsAtOnce(example));
@@ -135,8 +135,8 @@ export class SessionManager {
    * Resolves to a new record of an example that is a project, with the properties of the example.
    * @param {Example} example
    */
-  async ofProjectOf({ project, properties }) {
-    return { ...(await this.ofProject(new TextEncoder().encode(project))), propertiesText: properties };
+  async recordOfExampleProject({ project, properties }) {
+    return { ...(await this.recordOfProject(new TextEncoder().encode(project))), propertiesText: properties };
   }
 
   /** @param {string} id */
@@ -160,7 +160,10 @@ export class SessionManager {
       const opened = openedFile(file.name, bytes);
       if (opened.kind === "texts") await this.calls.texts(file.name, opened.texts);
       else if (opened.kind === "image") await this.calls.image(file.name, opened.bytes);
-      else return await this.openSession(opened.kind === "project" ? await this.ofProject(bytes) : await this.ofSession(file.name, bytes));
+      else {
+        const isProject = opened.kind === "project";
+        return await this.openSession(await (isProject ? this.recordOfProject(bytes) : this.recordOfSession(file.name, bytes)));
+      }
       return true;
     } catch (fault) {
       return this.refuse(say.fileNotOpened(file.name, this.words.ofFault(fault)));
@@ -177,7 +180,7 @@ export class SessionManager {
       const folder = await read();
       name = folder.name || name;
       const { texts, speed, words } = await textsOfFolder(folder);
-      const isDone = await this.openSession(await this.ofExample(texts));
+      const isDone = await this.openSession(await this.recordOfExample(texts));
       if (isDone && speed) this.calls.speed(speed);
       if (isDone && words) this.calls.refuse(words);
       return isDone;
@@ -195,7 +198,7 @@ export class SessionManager {
    * Resolves to a new record of a project. The bytes of its session stay unchanged.
    * @param {Uint8Array} bytes
    */
-  async ofProject(bytes) {
+  async recordOfProject(bytes) {
     const project = readProject(bytes, this.bench.size);
     await this.bench.call("settled", [project.file]);
     return newRecord(project.name || "session", project.file, project);
@@ -206,7 +209,7 @@ export class SessionManager {
    * @param {string} fileName
    * @param {Uint8Array} bytes
    */
-  async ofSession(fileName, bytes) {
+  async recordOfSession(fileName, bytes) {
     // One byte more than a session has is enough for the bench to see that it is too long.
     const settled = await this.bench.call("settled", [bytes.slice(0, this.bench.size + 1)]);
     const texts = await this.bench.call("texts", [settled]);

@@ -60,7 +60,7 @@ function fromLetters(letters) {
  * @param {Uint8Array} bytes
  * @param {Through} stream
  */
-async function through(bytes, { readable, writable }) {
+async function outputOf(bytes, { readable, writable }) {
   const writer = writable.getWriter();
   // The reader reports an error in the bytes.
   writer.write(bytes).catch(() => {});
@@ -94,17 +94,17 @@ export async function linkOf({ name, boardText, programText, testText, propertie
   const body = `${linesOfTexts({ name, boardText, programText, testText, propertiesText }).join("\n")}\n`;
   const bytes = encoder.encode(`${checksum(encoder.encode(body))}\n${body}`);
   const stream = streamOf("CompressionStream");
-  return stream ? `1.${toLetters(await through(bytes, stream))}` : `0.${toLetters(bytes)}`;
+  return stream ? `1.${toLetters(await outputOf(bytes, stream))}` : `0.${toLetters(bytes)}`;
 }
 
 /** @param {Uint8Array} bytes */
-async function unpacked(bytes) {
+async function unpack(bytes) {
   const stream = streamOf("DecompressionStream");
   if (!stream) {
     throw new NotALink(say.CANNOT_DECOMPRESS);
   }
   try {
-    return await through(bytes, stream);
+    return await outputOf(bytes, stream);
   } catch (fault) {
     throw fault instanceof NotALink ? fault : new NotALink(say.DAMAGED);
   }
@@ -120,7 +120,7 @@ export async function readLink(link) {
   if (way === undefined) throw new NotALink(say.DAMAGED);
   if (way !== "0" && way !== "1") throw new NotALink(say.NEWER_PAGE);
   const packed = fromLetters(letters);
-  const text = new TextDecoder().decode(way === "1" ? await unpacked(packed) : packed);
+  const text = new TextDecoder().decode(way === "1" ? await unpack(packed) : packed);
   const [sum] = text.split("\n", 1);
   const body = text.slice(sum.length + 1);
   if (sum !== String(checksum(new TextEncoder().encode(body)))) throw new NotALink(say.DAMAGED);

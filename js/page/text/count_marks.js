@@ -54,7 +54,7 @@ export class CountMarks {
     this.marks.showAt("counts", (line) => textAt(lines.get(line), textOfCount), (line) => textAt(lines.get(line), wordsOfCount));
     // Lines that never ran, and jumps that were always or never taken.
     const lacking = covered.filter(({ count, isJump, taken }) => count === 0 || (isJump && (taken === 0 || taken === count)));
-    editor.showLook("lacking", lacking.map(({ line }) => line - 1).filter((line) => line <= editor.lastLine()));
+    editor.showLineStyle("lacking", lacking.map(({ line }) => line - 1).filter((line) => line <= editor.lastLine()));
     editor.refresh();
   }
 
@@ -64,7 +64,7 @@ export class CountMarks {
     this.isShown = false;
     editor.container.classList.remove("counted");
     this.marks.showAt("counts", () => "");
-    editor.showLook("lacking", []);
+    editor.showLineStyle("lacking", []);
     editor.refresh();
   }
 }

@@ -8,7 +8,7 @@ import { indentUnit } from "@codemirror/language";
 import { ChangeSet, Compartment, EditorState, Prec, Transaction } from "@codemirror/state";
 import { EditorView, dropCursor, highlightSpecialChars, keymap, lineNumbers } from "@codemirror/view";
 import { lineColours } from "./line_colours.js";
-import { belowLayer, elementBelow, gutterLayer, gutterOf, lookOf, markLayer, textLayer, textMark } from "./line_layers.js";
+import { belowLayer, elementBelow, gutterLayer, gutterOf, markLayer, styleOfLine, textLayer, textMark } from "./line_layers.js";
 import { keepRulesInSheet } from "./style_rules.js";
 import { descendant } from "../ui/dom.js";
 
@@ -362,11 +362,11 @@ export class LineEditor {
    * @param {"next" | "lacking"} name
    * @param {number[]} lines from 0, in their order
    */
-  showLook(name, lines) {
-    const look = lookOf(name);
+  showLineStyle(name, lines) {
+    const style = styleOfLine(name);
     const starts = lines.map((line) => this.doc.line(line + 1).from);
-    this.layers[name === "next" ? "nextNumber" : "lacking"].show(this.view, starts.map((from) => look.gutters.range(from)));
-    if (name === "next") this.layers.next.show(this.view, starts.map((from) => look.line.range(from)));
+    this.layers[name === "next" ? "nextNumber" : "lacking"].show(this.view, starts.map((from) => style.gutters.range(from)));
+    if (name === "next") this.layers.next.show(this.view, starts.map((from) => style.line.range(from)));
   }
 
   /** @param {import("@codemirror/state").Range<any>[]} ranges the underlined words */

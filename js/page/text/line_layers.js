@@ -38,7 +38,7 @@ class TextMark extends GutterMarker {
 }
 
 /** A CSS class of the gutters at a line. */
-class LookOfGutters extends GutterMarker {
+class GutterStyle extends GutterMarker {
   /** @param {string} name */
   constructor(name) {
     super();
@@ -173,13 +173,13 @@ export function textMark(name, { text, words }) {
 }
 
 /** @type {Map<string, { line: Decoration, gutters: GutterMarker }>} the styles of lines by their names */
-const looks = new Map();
+const lineStyles = new Map();
 
 /** @param {string} name the CSS class of the line; the class of its gutters has the prefix `at-` */
-export function lookOf(name) {
-  const look = looks.get(name) || { line: Decoration.line({ class: name }), gutters: new LookOfGutters(`at-${name}`) };
-  looks.set(name, look);
-  return look;
+export function styleOfLine(name) {
+  const style = lineStyles.get(name) || { line: Decoration.line({ class: name }), gutters: new GutterStyle(`at-${name}`) };
+  lineStyles.set(name, style);
+  return style;
 }
 
 /**

@@ -42,6 +42,6 @@ export class LineMarks {
    * @param {number} line
    */
   showNext(line) {
-    this.editor.showLook("next", line > 0 && line <= this.editor.lineCount() ? [line - 1] : []);
+    this.editor.showLineStyle("next", line > 0 && line <= this.editor.lineCount() ? [line - 1] : []);
   }
 }

@@ -153,7 +153,7 @@ export class Running {
   /** @param {Speed} speed */
   async setSpeed(speed) {
     const { bench } = this;
-    if (!speed.isFull && this.clock.isFull && this.clock.isRunning) this.ran(await bench.call("halt", []));
+    if (!speed.isFull && this.clock.isFull && this.clock.isRunning) this.handleFrame(await bench.call("halt", []));
     this.clock.setSpeed(speed);
     this.sound.check();
     this.beginRate();
@@ -168,14 +168,14 @@ export class Running {
   async advance(cycles, key) {
     const arrived = key ? this.pendingKeys.send({ word: "press", key }) : () => {};
     const frame = await this.bench.call("advance", [cycles, key]).finally(arrived);
-    this.ran(frame);
+    this.handleFrame(frame);
   }
 
   /** Runs one instruction. Breakpoints and watches stop it as they stop any run. */
   async instruct() {
     const { bench, calls } = this;
-    this.ran(await bench.call("advance", [1]));
-    if (this.clock.isRunning && calls.isOwed()) this.ran(await bench.call("advance", [1]));
+    this.handleFrame(await bench.call("advance", [1]));
+    if (this.clock.isRunning && calls.isOwed()) this.handleFrame(await bench.call("advance", [1]));
   }
 
   /** @param {boolean} isHidden */
@@ -203,7 +203,7 @@ export class Running {
    * Ends the run, and shows why time is paused.
    * @param {string} words
    */
-  halted(words) {
+  endRun(words) {
     const { bench, current, calls } = this;
     this.clock.stop();
     this.goal = null;
@@ -219,18 +219,18 @@ export class Running {
   }
 
   /** Stops the clock and the worker, and handles the last frame. */
-  async standStill() {
+  async stopRun() {
     if (!this.clock.isRunning) return;
     this.clock.stop();
     this.bench.isRunning = false;
-    this.ran(await this.bench.call("halt", []));
+    this.handleFrame(await this.bench.call("halt", []));
   }
 
   /** Pauses time, shows where, and saves the session. */
   async stop() {
     const { current, calls } = this;
     try {
-      await this.standStill();
+      await this.stopRun();
     } catch (fault) {
       calls.failed(fault);
       return;
@@ -238,13 +238,13 @@ export class Running {
     // A breakpoint can have stopped the run before.
     if (current.session && current.session.record.runs) {
       calls.drawRest();
-      this.halted(wordsOfHalt(this.goal, calls.cycles() - this.begun, this.where));
+      this.endRun(wordsOfHalt(this.goal, calls.cycles() - this.begun, this.where));
     }
     await current.keep();
   }
 
   /** Pauses time if it is running. */
-  async stand() {
+  async pause() {
     if (this.clock.isRunning) await this.stop();
   }
 
@@ -252,14 +252,14 @@ export class Running {
    * Handles a frame that the worker reports.
    * @param {Frame} frame
    */
-  ran(frame) {
+  handleFrame(frame) {
     const { current } = this;
     const isNewRate = this.rate.add(frame.cycles, this.clock.now);
     if (frame.stop) this.clock.stop();
     this.sound.hear(frame.heard);
     this.calls.took(frame);
     if (frame.stop) {
-      this.halted(this.reasonOf(frame.stop));
+      this.endRun(this.reasonOf(frame.stop));
       this.ended(frame.stop.why);
       current.keep();
       return;

@@ -6,7 +6,7 @@ const KEY = "fethsaim.choices";
 /** @typedef {Pick<Storage, "getItem" | "setItem">} ChoiceStore */
 
 /** Returns the local storage of the browser, or null if the page cannot use it. */
-export function ownStore() {
+export function browserStore() {
   try {
     return localStorage;
   } catch {
@@ -29,7 +29,7 @@ function readChoices(text) {
 
 export class Choices {
   /** @param {ChoiceStore | null} store null if the browser stores nothing */
-  constructor(store = ownStore()) {
+  constructor(store = browserStore()) {
     this.store = store;
     this.chosen = readChoices(this.read());
   }

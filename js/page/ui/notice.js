@@ -33,7 +33,7 @@ const MAX_SHOWN = 3;
  * @param {Each[]} rows the newest one first
  * @returns {Each[]}
  */
-export function pushedOut(rows) {
+export function noticesToRemove(rows) {
   const older = rows.slice(1).reverse();
   const order = [...older.filter(({ kind }) => SUCCESSES.has(kind)), ...older.filter(({ kind }) => !SUCCESSES.has(kind))];
   return order.slice(0, Math.max(0, rows.length - MAX_SHOWN));
@@ -74,7 +74,7 @@ export class Notice {
     this.rows.unshift(row);
     this.block.prepend(row.node);
     this.block.hidden = false;
-    for (const oldRow of pushedOut(this.rows)) this.remove(oldRow);
+    for (const oldRow of noticesToRemove(this.rows)) this.remove(oldRow);
     if (SUCCESSES.has(kind)) this.removeLater(row);
   }
 

@@ -44,7 +44,7 @@ export class Panels {
     this.menu.append(element("ul", {}, ...this.panels.map((panel) => this.row(panel))),
       buttonOf(say.RESET_LAYOUT, () => this.reset()));
     this.listen();
-    this.fill(choices.get(FULL));
+    this.setFull(choices.get(FULL));
     this.place();
   }
 
@@ -72,7 +72,7 @@ export class Panels {
     const full = buttonOf(say.FULL_SIZE, () => {
       this.isMenuOpen.set(false);
       this.open(id, true);
-      this.fill(id);
+      this.setFull(id);
     }, { "aria-label": say.fullSize(name) });
     return element("li", {}, element("label", { className: "check" }, box, ` ${name}`), full);
   }
@@ -104,7 +104,7 @@ export class Panels {
   open(id, isOpen) {
     const panel = this.find(id);
     if (!panel) return;
-    if (!isOpen && this.full === id) this.fill("");
+    if (!isOpen && this.full === id) this.setFull("");
     panel.isOpen.set(isOpen);
     panel.box.checked = isOpen;
     this.choices.set(`panel.${id}`, isOpen ? "" : "closed");
@@ -127,14 +127,14 @@ export class Panels {
 
   /** @param {string} id */
   toggleFull(id) {
-    this.fill(this.full === id ? "" : id);
+    this.setFull(this.full === id ? "" : id);
   }
 
   /**
    * Makes a panel as large as the window, above all other panels.
    * @param {string} id "" for none
    */
-  fill(id) {
+  setFull(id) {
     this.full = this.find(id) ? id : "";
     this.choices.set(FULL, this.full);
     for (const panel of this.panels) panel.node.classList.toggle("full", panel.id === this.full);
@@ -144,7 +144,7 @@ export class Panels {
   /** Restores the initial layout. */
   reset() {
     this.isMenuOpen.set(false);
-    this.fill("");
+    this.setFull("");
     for (const { id } of this.panels) this.open(id, true);
     this.resetRest();
   }

@@ -46,10 +46,10 @@ export function drawWaves(context, picture) {
   drawTicks(context, picture);
   const first = Math.max(0, Math.floor(top / ROW));
   const last = Math.min(rows.length, Math.ceil((top + height - AXIS) / ROW));
-  clipped(context, [0, AXIS, width, height - AXIS], () => {
+  drawClipped(context, [0, AXIS, width, height - AXIS], () => {
     for (let row = first; row < last; row++) drawRow(context, picture, row, AXIS + row * ROW - top);
   });
-  clipped(context, [gutter - FLAG_WIDTH, 0, view.width + FLAG_WIDTH, height], () => {
+  drawClipped(context, [gutter - FLAG_WIDTH, 0, view.width + FLAG_WIDTH, height], () => {
     if (picture.trigger >= view.begin) {
       drawMark(context, picture, { moment: picture.trigger, letter: "T", y: 7, colour: colours.ink, dash: [2, 2] });
     }
@@ -63,7 +63,7 @@ export function drawWaves(context, picture) {
  * @param {[number, number, number, number]} box
  * @param {() => void} draw
  */
-function clipped(context, box, draw) {
+function drawClipped(context, box, draw) {
   context.save();
   context.beginPath();
   context.rect(...box);
@@ -131,11 +131,11 @@ function drawRow(context, picture, row, y) {
   const room = Math.min(88, context.measureText(value).width);
   const ink = colour === "" ? colours.ink : colours[colour];
   context.fillStyle = ink;
-  clipped(context, [0, y, gutter - 14 - room, ROW], () => context.fillText(name, group === "" ? 4 : INDENT, y + ROW / 2));
+  drawClipped(context, [0, y, gutter - 14 - room, ROW], () => context.fillText(name, group === "" ? 4 : INDENT, y + ROW / 2));
   context.textAlign = "right";
-  clipped(context, [gutter - 92, y, 88, ROW], () => context.fillText(value, gutter - 6, y + ROW / 2));
+  drawClipped(context, [gutter - 92, y, 88, ROW], () => context.fillText(value, gutter - 6, y + ROW / 2));
   context.textAlign = "left";
-  clipped(context, [gutter, y, view.width, ROW], () => {
+  drawClipped(context, [gutter, y, view.width, ROW], () => {
     context.strokeStyle = context.fillStyle = ink;
     if (isText(waves.lines[line])) drawTexts(context, picture, line, y);
     else drawLevels(context, picture, line, y);
