@@ -187,7 +187,7 @@ export class Running {
   }
 
   /**
-   * Reports for MESSAGE_TIME that time stood still, and measures the rate anew.
+   * Reports for MESSAGE_TIME that time stood still, and restarts the measurement of the rate.
    * @param {number} time the duration in milliseconds
    * @param {boolean} wasHidden
    */
