@@ -1,19 +1,19 @@
-// The commands among accepted lines: each command, and how many cycles it did. Cycles are counted from them, and the past is repeated by
-// them.
+// The commands that the bench accepted, with the cycles of each. The session counts cycles from them, and repeats its past from them.
 
 import { readRun } from "../bench/answers.js";
 
 /**
  * @typedef {import("../bench/inputs.js").Input} Input
- * @typedef {{ line: string, cycles: number, resets: boolean }} Accepted a command with its text, the cycles that it did, and whether it put
- * the machine into the state after a power cycle
+ *
+ * An accepted command: its text, the cycles that it ran, and whether it reset the machine to its state after power-on.
+ * @typedef {{ line: string, cycles: number, resets: boolean }} Accepted
  */
 
-/** @type {Record<string, true>} */
+/** @type {Record<string, true>} the kinds of commands that reset the machine */
 const RESETS = { reset: true, wire: true };
 
 /**
- * A command as it can be sent again.
+ * Returns the text that sends a command again.
  * @param {Input} input
  */
 function linesOf({ line, text, kind }) {
@@ -21,8 +21,9 @@ function linesOf({ line, text, kind }) {
 }
 
 /**
+ * Returns the accepted commands among some inputs.
  * @param {Input[]} inputs
- * @param {string[][]} answers those of each input
+ * @param {string[][]} answers for each input, the answers to it
  * @returns {Accepted[]}
  */
 export function acceptedOf(inputs, answers) {
@@ -37,7 +38,7 @@ export function acceptedOf(inputs, answers) {
   return accepted;
 }
 
-/** Counts cycles: all of them, and how many there were at the last reset. */
+/** Counts the cycles of the session, and those up to the last reset. */
 export class CycleCount {
   /**
    * @param {number} total

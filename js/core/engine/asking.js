@@ -1,4 +1,4 @@
-// Lines with queries before each run, in the same call: what the bench forecasts of the run.
+// Queries before each planned run, in the same call: the bench forecasts the run.
 
 import { cyclesOfLine } from "../debug/ahead.js";
 import { Answers } from "./tracing.js";
@@ -6,16 +6,16 @@ import { Answers } from "./tracing.js";
 /**
  * @typedef {import("./accepted.js").Accepted} Accepted
  *
- * A line to send: `change` is null for a run; for any other line it is the effect.
+ * A line to send. `change` is null for a run; for any other line it is the change that the line makes.
  * @typedef {{ line: string, change: object | null }} SentLine
  *
- * An asker: its queries before a run of this many cycles, as lines, each answered like `trace`; `seesChanges`: also queries of the state
- * after each change of a key.
+ * An asker has queries before each run. `questions` returns the query lines for a run of that many cycles; `count` is the number of
+ * queries, and each is answered like `trace`. `seesChanges` is true if the asker also needs the state after each change of a key.
  * @typedef {{ questions: (cycles: number) => string, count: number, seesChanges: boolean }} Asker
  */
 
 /**
- * The lines that are planned, with the questions.
+ * Returns the planned lines, with the queries of all askers before each run.
  * @param {SentLine[]} planned
  * @param {Asker[]} askers
  */
@@ -28,7 +28,8 @@ export function askedLines(planned, askers) {
 }
 
 /**
- * Splits the answers: those to the lines and to all that comes after them; and for each asker, line by line, those to its queries.
+ * Splits the answers of a call. `answers` are those to the planned lines and to all later lines. `askerAnswers` are the answers to each
+ * asker's queries, one list for each planned line.
  * @param {SentLine[]} planned
  * @param {Asker[]} askers
  * @param {string[]} all
@@ -58,10 +59,11 @@ export function partedAnswers(planned, askers, all) {
   return { answers: [...own, ...all.slice(answers.at)], askerAnswers };
 }
 
+/** Marks a line that changes something other than a key. */
 const OTHER_CHANGE = {};
 
 /**
- * Returns an accepted line as it is sent again.
+ * Returns the line that repeats an accepted command.
  * @param {Accepted} accepted
  * @returns {SentLine}
  */

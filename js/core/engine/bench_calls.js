@@ -1,5 +1,4 @@
-// The requests of the page to the worker: requests by their names, each in its part. Each is done whole, or it throws and has changed
-// nothing.
+// The requests that the page sends to the worker, by name. A request succeeds completely, or it throws and changes nothing.
 
 import { BreakpointRequests } from "./breakpoint_requests.js";
 import { FileRequests } from "./file_requests.js";
@@ -49,7 +48,7 @@ export class BenchCalls {
 }
 
 /**
- * Returns the requests of a part, which can be called without it.
+ * Returns the methods of a part as functions that are bound to it.
  * @param {object} part
  */
 function requestsOf(part) {

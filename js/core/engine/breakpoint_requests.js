@@ -1,4 +1,4 @@
-// Requests that set the stops: breakpoints, and common mistakes.
+// Requests that set where time stops: breakpoints and common mistakes.
 
 import { readBoard } from "../bench/answers.js";
 import { Face } from "../board/face.js";
@@ -19,9 +19,9 @@ export class BreakpointRequests {
   }
 
   /**
-   * Sets the breakpoints: those that always stop are the bench's own, and are served to it.
+   * Sets the breakpoints. A breakpoint that always stops is set in the bench itself, by a served line.
    * @param {Placed[]} placed
-   * @param {{ board: string, program: string, watched?: string[] }} texts the texts with the names
+   * @param {{ board: string, program: string, watched?: string[] }} texts the texts that define the names in conditions
    * @returns {Promise<BrokenLines>}
    */
   async setBreakpoints(placed, texts) {
@@ -34,7 +34,7 @@ export class BreakpointRequests {
   }
 
   /**
-   * Sets the common mistakes at which time stops.
+   * Sets the common mistakes that stop time.
    * @param {Kind[]} kinds
    */
   stopAtFaults(kinds) {

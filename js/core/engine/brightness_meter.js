@@ -1,5 +1,5 @@
-// Measures, while time runs, the duty cycle of each lamp, the patterns of each digit, and the times of their changes: by the answers to
-// `trace`, before each run.
+// Measures the duty cycle of each lamp, the patterns of each digit and the times of their changes, while time is running. It reads the
+// answers to a `trace` before each run.
 
 import { patternsAt, NOT_LIT, isLit } from "../board/digit_patterns.js";
 import { fittingGroups, isScanned } from "../board/face_board.js";
@@ -9,27 +9,28 @@ import { Answers, readTraced } from "./tracing.js";
  * @typedef {import("../board/face.js").Face} Face
  * @typedef {import("../board/face.js").Group} Group
  *
- * The changes within a number of cycles: after how many the first came, the longest time between two changes, and the rest since the last
- * one; null if there were none.
+ * The changes within a number of cycles: the cycles before the first change, the longest time between two changes, and the time since the
+ * last one. Null if nothing changed.
  * @typedef {{ first: number, longest: number, rest: number } | null} Moved
  *
- * The content of a display: its patterns at the end; and if they differed before, for each digit the patterns and their durations.
+ * The content of a display: its patterns at the end. If they changed, `shown` has for each digit its patterns, each with its duration.
  * @typedef {{ patterns: number[], moved: Moved, shown: [number, number][][] }} ShownDisplay
  *
- * The light of a number of cycles, in cycles: for each lamp, with those that are on at the end, and the changes of each; for each display;
- * for each other scanned group its lamps, row by row. `face`: the front panel, by the page's numbering.
+ * The light in a number of cycles. `marks`: the lamps that are on at the end. `lamps`: the cycles that each lamp was on. `moved`: the
+ * changes of each lamp. `scanned`: for each scanned group other than a display, the cycles of its lamps, row by row. `face`: the number
+ * that the page gave to the front panel.
  * @typedef {{ face: number, cycles: number, marks: string, lamps: number[], moved: Moved[], displays: ShownDisplay[],
  *   scanned: number[][] }} LitShares
  */
 
-/** Lines with more cycles are not queried: full speed is measured in another way. */
+/** The maximum length of lines that are measured, in cycles. At full speed `senseAhead` measures instead. */
 export const MOST_SHONE = 20000;
 
 /**
- * Returns whether some of these lamps have changed.
+ * Returns whether one of `count` lamps has changed.
  * @param {string} marks
- * @param {string} before
- * @param {number} first
+ * @param {string} before the marks before the change
+ * @param {number} first the first lamp
  * @param {number} count
  */
 function differ(marks, before, first, count) {
@@ -37,7 +38,7 @@ function differ(marks, before, first, count) {
   return false;
 }
 
-/** Notes when something changes. */
+/** Records the times of changes. */
 class Moves {
   constructor() {
     this.first = -1;
@@ -45,7 +46,7 @@ class Moves {
     this.longest = 0;
   }
 
-  /** @param {number} at after how many cycles */
+  /** @param {number} at the cycles before the change */
   add(at) {
     if (this.first < 0) this.first = at;
     else this.longest = Math.max(this.longest, at - this.last);
@@ -53,7 +54,8 @@ class Moves {
   }
 
   /**
-   * @param {number} cycles in all
+   * Returns the changes so far, and begins a new interval.
+   * @param {number} cycles the length of the interval
    * @returns {Moved}
    */
   take(cycles) {
@@ -65,28 +67,29 @@ class Moves {
   }
 }
 
-/** Adds up how long each pattern of a digit is shown. */
+/** Measures how long each pattern of a digit is shown. */
 class Digits {
   /** @param {Group} group a display */
   constructor(group) {
     this.group = group;
     this.moves = new Moves();
-    /** @type {number[]} the content, and since when */
+    /** @type {number[]} the present patterns; `since` is when they began */
     this.patterns = [];
     this.since = 0;
-    /** @type {Map<number, number>[]} */
+    /** @type {Map<number, number>[]} for each digit, the cycles of each pattern */
     this.shown = Array.from({ length: group.rows }, () => new Map());
   }
 
-  /** @param {string} marks of the lamps as they are first */
+  /** @param {string} marks the lamps at the beginning */
   begin(marks) {
     this.patterns = patternsAt(this.group, marks);
   }
 
   /**
+   * Records a change of lamps, if it changes this display.
    * @param {string} marks
-   * @param {string} before
-   * @param {number} at after how many cycles
+   * @param {string} before the marks before the change
+   * @param {number} at the cycles before the change
    */
   change(marks, before, at) {
     const { first, rows, columns, by } = this.group;
@@ -98,7 +101,7 @@ class Digits {
     this.patterns = patternsAt(this.group, marks);
   }
 
-  /** @param {number} at after how many cycles */
+  /** @param {number} at the cycles up to now */
   addUpTo(at) {
     const cycles = at - this.since;
     this.since = at;
@@ -109,7 +112,8 @@ class Digits {
   }
 
   /**
-   * @param {number} cycles in all
+   * Returns the content of the display, and begins a new interval.
+   * @param {number} cycles the length of the interval
    * @returns {ShownDisplay}
    */
   take(cycles) {
@@ -124,7 +128,7 @@ class Digits {
   }
 }
 
-/** Adds up how long the lamps of a scanned group are on. */
+/** Measures how long the lamps of a scanned group are on. */
 class ScannedLamps {
   /** @param {Group} group */
   constructor(group) {
@@ -134,8 +138,8 @@ class ScannedLamps {
   }
 
   /**
-   * @param {string} marks of the lamps up to then
-   * @param {number} at after how many cycles
+   * @param {string} marks the lamps up to now
+   * @param {number} at the cycles up to now
    */
   addUpTo(marks, at) {
     const cycles = at - this.since;
@@ -149,8 +153,9 @@ class ScannedLamps {
   }
 
   /**
+   * Returns the cycles that each lamp was on, and begins a new interval.
    * @param {string} marks
-   * @param {number} cycles in all
+   * @param {number} cycles the length of the interval
    */
   take(marks, cycles) {
     this.addUpTo(marks, cycles);
@@ -164,8 +169,8 @@ class ScannedLamps {
 export class BrightnessMeter {
   /**
    * @param {Face} face
-   * @param {number} count of the board's lamps
-   * @param {number} number of the face
+   * @param {number} count the number of lamps on the board
+   * @param {number} number the page's number of the front panel
    */
   constructor(face, count, number) {
     this.number = number;
@@ -175,7 +180,7 @@ export class BrightnessMeter {
     this.cycles = 0;
     /** The lamps that are on; "" before the first report. */
     this.marks = "";
-    /** @type {number[]} how long each lamp was on, and for those that are on now, since when */
+    /** @type {number[]} the cycles that each lamp was on, up to `since` */
     this.lit = new Array(count).fill(0);
     this.since = new Array(count).fill(0);
     this.moves = this.lit.map(() => new Moves());
@@ -197,8 +202,8 @@ export class BrightnessMeter {
   }
 
   /**
-   * Returns the duty cycles, from the answers to the queries before runs.
-   * @param {string[][]} answerLists line by line
+   * Returns the light since the last call, from the answers to the queries before runs.
+   * @param {string[][]} answerLists one list for each line
    * @returns {LitShares}
    */
   take(answerLists) {
@@ -217,7 +222,7 @@ export class BrightnessMeter {
     return litShares;
   }
 
-  /** @param {string[]} answers to one query; the effect of an instruction is there once its first cycle is over */
+  /** @param {string[]} answers to one query. An instruction takes effect after its first cycle. */
   add(answers) {
     const { row, lines, cycles } = new Answers(answers).takeTrace();
     const begun = this.cycles;
@@ -226,13 +231,13 @@ export class BrightnessMeter {
       const traced = readTraced(line);
       this.change(traced.row.slice(1), begun + traced.cycles + 1);
     }
-    // If nothing runs, the lamps that are on at this instant.
+    // A query of no cycles counts as one cycle, so that its lamps are on.
     this.cycles = begun + Math.max(1, cycles);
   }
 
   /**
-   * @param {string} marks
-   * @param {number} cycles these are on after this many cycles
+   * @param {string} marks the new lamps
+   * @param {number} cycles the cycles before the change
    */
   change(marks, cycles) {
     const { marks: before, lit, since, moves } = this;

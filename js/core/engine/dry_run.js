@@ -1,4 +1,4 @@
-// The bench's answers to texts from elsewhere, on an empty session: its board, and its refusals.
+// A dry run of texts on an empty session. It returns the board, and the refusals of the texts.
 
 import { faultsOfLines, sentText } from "../text/text_fault.js";
 import { wordsOfLine } from "../../words/stops.js";
@@ -6,11 +6,16 @@ import { wordsOfLine } from "../../words/stops.js";
 /**
  * @typedef {import("./engine_host.js").EngineHost} Engine
  * @typedef {{ boardText: string, programText: string }} Texts
- * @typedef {{ word: "wire" | "asm", answer: string }} Refused a text by the line before it, and its answer
- * @typedef {{ file: Uint8Array, board: string[], refused: Refused[] }} Tried the session with what was accepted, and the answer to `board`
+ *
+ * A rejected text: the command that sends it, and the answer.
+ * @typedef {{ word: "wire" | "asm", answer: string }} Refused
+ *
+ * The session with the accepted texts, the answer to `board`, and the rejected texts.
+ * @typedef {{ file: Uint8Array, board: string[], refused: Refused[] }} Tried
  */
 
 /**
+ * Loads texts into a new session.
  * @param {Engine} engine
  * @param {Texts} texts
  * @returns {Tried}
@@ -22,7 +27,7 @@ export function dryRun(engine, { boardText, programText }) {
   /** @type {(word: "wire" | "asm", text: string, mark: "#" | ";") => void} */
   const tryOne = (word, text, mark) => {
     if (text === "") return;
-    // A line that ends a text would turn the rest into lines.
+    // A line in the text that ends it would make commands of the lines after it.
     const [fault] = faultsOfLines(text, mark);
     const lines = `${word}\n${sentText(text, mark)}.\n`;
     const answer = fault ? `${wordsOfLine(fault.line)}: ${fault.words}` : engine.serve(file, lines, file).answers[0];

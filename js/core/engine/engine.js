@@ -1,26 +1,32 @@
-// The proved module and its calls: bytes of a session file and lines in, answers and bytes out. It keeps no session: the caller has the
-// bytes of the file, and they stay as they were unless a call returns new ones.
+// The proved module and its calls: they take bytes of a session file and lines, and return answers and bytes. The module stores no session:
+// the caller owns the bytes of the file.
 
 import { BenchRefusal, BenchTrap, NO_MEMORY } from "../bench/faults.js";
 
 /**
- * The result of lines: the status of the shell's end, its first line, `session N`, and the answers after that.
+ * The result of serving lines: the shell's status, its first answer `session N`, and the later answers.
  * @typedef {{ status: number, opened: string, answers: string[] }} Served
- * @typedef {{ offset: bigint, room: number }} Stretch a stretch of the module's memory
+ *
+ * A buffer in the module's memory.
+ * @typedef {{ offset: bigint, room: number }} Stretch
+ *
  * @typedef {"bench_serve_and_settle" | "bench_ask"} ServingCall
  * @typedef {(file: bigint, fileSize: bigint, input: bigint, inputSize: bigint, answers: bigint, room: bigint, report: bigint) => number}
  *   Serving
+ *
+ * The exports of the module.
  * @typedef {{ memory: WebAssembly.Memory, bench_file_size: () => bigint, bench_buffer: (count: bigint) => bigint, bench_buffer_back:
  * (offset: bigint) => void, bench_begin: (file: bigint, size: bigint) => number, bench_serve_and_settle: Serving, bench_ask: Serving,
- * bench_prove: (question: bigint, size: bigint, answers: bigint, room: bigint, report: bigint) => number }} Calls the exports of the module
+ * bench_prove: (question: bigint, size: bigint, answers: bigint, room: bigint, report: bigint) => number }} Calls
  */
 
+/** The first size of the buffers for input and answers, in bytes. */
 const ROOM_AT_FIRST = 1 << 20;
-/** A number of 32 bits, and a count of 64 at its eighth byte. */
+/** The size of a call's report: a number of 32 bits, and from its eighth byte a count of 64 bits. */
 const REPORT_SIZE = 16;
 const COUNT_AT = 8;
 
-/** The module at work, with the stretches of its memory that are lent to its calls. */
+/** A running module, with the buffers for its calls. */
 class Instance {
   /** @param {WebAssembly.Module} module */
   constructor(module) {
@@ -28,7 +34,7 @@ class Instance {
     /** The size of a session file in bytes. */
     this.size = Number(this.calls.bench_file_size());
     this.bytes = new Uint8Array(this.calls.memory.buffer);
-    // One byte more, so that a file that is too long is seen to be so.
+    // With one more byte, the module can detect that a file is too long.
     this.file = this.stretch(this.size + 1);
     this.input = this.stretch(ROOM_AT_FIRST);
     this.answers = this.stretch(ROOM_AT_FIRST);
@@ -36,7 +42,8 @@ class Instance {
   }
 
   /**
-   * @param {number} room
+   * Allocates a buffer. Throws a BenchRefusal if the allocation fails.
+   * @param {number} room in bytes
    * @returns {Stretch}
    */
   stretch(room) {
@@ -46,7 +53,7 @@ class Instance {
   }
 
   /**
-   * Returns a buffer with room for this many bytes: the present one, or a larger one in its place.
+   * Returns a buffer of at least `room` bytes: the given buffer, or a larger one that replaces it.
    * @param {Stretch} stretch
    * @param {number} room
    */
@@ -58,7 +65,7 @@ class Instance {
   }
 
   /**
-   * Returns the bytes of a buffer at its present location: growing memory detaches the old ones.
+   * Returns the first bytes of a buffer. When the module's memory grows, its old array is detached.
    * @param {Stretch} stretch
    * @param {number} count
    */
@@ -69,12 +76,12 @@ class Instance {
   }
 
   /**
-   * Puts lines into memory; returns how many bytes they have.
+   * Copies lines into the input buffer, and returns their length in bytes.
    * @param {string} lines
    * @param {TextEncoder} encoder
    */
   takeLines(lines, encoder) {
-    // No character needs more than three bytes.
+    // A UTF-16 unit needs at most three bytes of UTF-8.
     if (lines.length * 3 <= this.input.room) {
       return encoder.encodeInto(lines, this.view(this.input, this.input.room)).written || 0;
     }
@@ -90,7 +97,7 @@ class Instance {
     this.view(this.file, file.length).set(file);
   }
 
-  /** Returns a call's report: a number, and a count. */
+  /** Returns the report of the last call: a number and a count. */
   readReport() {
     const words = new DataView(this.calls.memory.buffer, Number(this.report.offset), REPORT_SIZE);
     return { number: words.getUint32(0, true), count: Number(words.getBigUint64(COUNT_AT, true)) };
@@ -98,6 +105,7 @@ class Instance {
 }
 
 /**
+ * Starts an instance of the module, and returns its exports. Throws a BenchRefusal if there is not enough memory.
  * @param {WebAssembly.Module} module
  * @returns {Calls}
  */
@@ -120,7 +128,7 @@ export class Engine {
     this.module = module;
     this.encoder = new TextEncoder();
     this.decoder = new TextDecoder();
-    /** @type {Instance | null} null if there was no memory to restart it: the next call tries again */
+    /** @type {Instance | null} null if a restart failed for lack of memory: the next call tries again */
     this.started = new Instance(module);
     /** The size of a session file in bytes. */
     this.size = this.started.size;
@@ -132,7 +140,8 @@ export class Engine {
   }
 
   /**
-   * Calls the module. After a trap nothing in its memory can be relied on, so another instance takes its place.
+   * Calls the module, and returns whether the call succeeded. After a trap the memory of the instance is unreliable, so a new one replaces
+   * it.
    * @param {(calls: Calls) => number} act
    */
   call(act) {
@@ -146,8 +155,8 @@ export class Engine {
   }
 
   /**
-   * Makes the file of a new session.
-   * @param {Uint8Array} [into] takes it
+   * Returns the file of a new session.
+   * @param {Uint8Array} [into] the array for it
    */
   begin(into = new Uint8Array(this.size)) {
     const { instance } = this;
@@ -157,10 +166,10 @@ export class Engine {
   }
 
   /**
-   * Serves lines on the session of a file, and replaces its log by a snapshot.
+   * Serves lines on the session in a file, and replaces its log with a snapshot.
    * @param {Uint8Array} file
    * @param {string} lines
-   * @param {Uint8Array} into receives the new file; it may be the old one
+   * @param {Uint8Array} into receives the new file; can be `file`
    * @returns {Served}
    */
   serve(file, lines, into) {
@@ -170,7 +179,7 @@ export class Engine {
   }
 
   /**
-   * Answers lines as `serve` would; the session is unchanged.
+   * Returns the answers of `serve`, without changing the session.
    * @param {Uint8Array} file
    * @param {string} lines
    * @returns {Served}
@@ -180,7 +189,7 @@ export class Engine {
   }
 
   /**
-   * Answers a question to the prover, as the program mcs4-prove does: returns the line that it prints. It can take hours.
+   * Asks the prover, and returns the line that the program mcs4-prove would print. This can take hours.
    * @param {string} question
    */
   prove(question) {
@@ -195,8 +204,8 @@ export class Engine {
   }
 
   /**
-   * Makes one call. If the answer has no room, the number is 0, and the count is the number of bytes needed.
-   * @param {number} size of the question
+   * Calls the prover once. If the answer does not fit into the buffer, `number` is 0 and `count` is the number of bytes it needs.
+   * @param {number} size the bytes of the question
    */
   tryToProve(size) {
     const { instance } = this;
@@ -205,13 +214,13 @@ export class Engine {
     return { isDone, ...instance.readReport() };
   }
 
-  /** A call accepts the bytes of a state as fast as any other one. */
+  /** Does nothing: every state is equally fast here. */
   keep() {
-    // Nothing is to be prepared.
+    // A state is its bytes.
   }
 
   /**
-   * Returns the bytes of the session's file: they are the state itself.
+   * Returns a copy of the state: it consists of the bytes of the session's file.
    * @param {Uint8Array} file
    */
   bytesOf(file) {
@@ -219,7 +228,7 @@ export class Engine {
   }
 
   /**
-   * Returns the state of a session file. (A slice of a Buffer of Node would share its memory.)
+   * Returns the state in a session file. (A slice of a Buffer of Node would share its memory.)
    * @param {Uint8Array} bytes
    */
   stateOf(bytes) {
@@ -227,6 +236,7 @@ export class Engine {
   }
 
   /**
+   * Serves lines, and repeats the call with a larger buffer if the answers do not fit.
    * @param {ServingCall} name
    * @param {Uint8Array} file
    * @param {string} lines
@@ -247,10 +257,10 @@ export class Engine {
   }
 
   /**
-   * Makes one call. If the answers have no room, it returns how many bytes they need, and nothing was done.
+   * Makes one call. If the answers do not fit into the buffer, nothing is done, and `answersNeed` is the number of bytes they need.
    * @param {ServingCall} name
    * @param {Uint8Array} file
-   * @param {number} inputSize
+   * @param {number} inputSize in bytes
    */
   tryToServe(name, file, inputSize) {
     const { instance } = this;

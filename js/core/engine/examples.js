@@ -1,11 +1,11 @@
-// The examples: texts for a new session.
+// The examples: texts that a new session can load.
 
 import { sentText } from "../text/text_fault.js";
 
 /**
- * `lines` are for the user to send; if there are none, time runs at once. `tests` and `properties` are those of the program. An example
- * that is a project has its text in `project` ("" in any other): its session is the one in there, and is paused. Some have a story, which
- * help/story.js reads.
+ * An example. `lines` are for the user to send; if there are none, time runs at once. `tests` and `properties` belong to the program.
+ * `project` is the text of a project file, or "". The session of such an example is the one in the file, and starts paused. `story` is read
+ * by help/story.js.
  * @typedef {{ name: string, title: string, board: string, program: string, tests: string, properties: string, lines: string,
  *   project: string, story?: string }} Example
  */

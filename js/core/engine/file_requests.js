@@ -1,4 +1,4 @@
-// Requests about the module, and about files and texts that are not the session's.
+// Requests about the module, and about files and texts that do not belong to the open session.
 
 import { readErrors, readWiring } from "../bench/text_judgement.js";
 import { Engine } from "./engine.js";
@@ -18,7 +18,7 @@ export class FileRequests {
   }
 
   /**
-   * Returns how many bytes a session file has.
+   * Loads the module, and resolves to the size of a session file in bytes.
    * @param {ArrayBuffer} module
    * @param {Example[]} examples
    */
@@ -29,7 +29,7 @@ export class FileRequests {
   }
 
   /**
-   * Returns the same session as this bench writes it, by a snapshot without records; throws if bytes are not a session.
+   * Returns the same session with a snapshot in place of its log. Throws if the bytes are not a session.
    * @param {Uint8Array} file
    */
   settled(file) {
@@ -39,7 +39,7 @@ export class FileRequests {
   }
 
   /**
-   * The file of a new session with an example's board and program in it.
+   * Returns the file of a new session with an example's board and program.
    * @param {Example} example
    */
   make(example) {
@@ -49,7 +49,7 @@ export class FileRequests {
   }
 
   /**
-   * Texts for a file that has none.
+   * Returns source texts for a session file that has none.
    * @param {Uint8Array} file
    */
   texts(file) {
@@ -57,7 +57,7 @@ export class FileRequests {
   }
 
   /**
-   * Returns the file of a new session with texts from elsewhere, and their refusals.
+   * Returns the file of a new session with imported texts, and the refusals of those texts.
    * @param {import("./dry_run.js").Texts} texts
    */
   dryRun(texts) {
@@ -65,7 +65,7 @@ export class FileRequests {
   }
 
   /**
-   * Returns what is wrong with a board's text; null if nothing is.
+   * Returns the error in a board's text, or null if there is none.
    * @param {string} sent
    */
   wiring(sent) {
@@ -74,7 +74,7 @@ export class FileRequests {
   }
 
   /**
-   * Returns the errors of a program's lines.
+   * Returns the errors in the lines of a program.
    * @param {string} sent
    */
   errors(sent) {

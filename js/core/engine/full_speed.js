@@ -1,4 +1,4 @@
-// Full speed, in the worker: batches of cycles one after the other, and when they are reported.
+// Full speed, in the worker: runs batches of cycles one after the other, and decides when to report them.
 
 import { RunLog } from "../bench/run_log.js";
 import { NO_TALLY, bothTallies } from "../debug/debugger.js";
@@ -8,16 +8,17 @@ import { NO_TALLY, bothTallies } from "../debug/debugger.js";
  * @typedef {{ advance: (cycles: number) => DebugFrame }} Machine
  */
 
-/** The duration of a batch, in milliseconds. */
+/** The target duration of a batch, in milliseconds. */
 const BATCH_TIME = 50;
+/** The minimum and the maximum of cycles in a batch. */
 const FIRST_BATCH = 50000;
 const LARGEST_BATCH = 8000000;
-/** The milliseconds between reports to a hidden page, which saves the session then. */
+/** The milliseconds between reports to a hidden page. It saves the session at each report. */
 const HIDDEN_TIME = 1000;
 
 /**
- * The empty report: the cycles, the answer that ended the run early, why time stopped, the work of breakpoints, whether a key was changed,
- * the answers of the last snapshot; and light, sound and changes of RAM, which are not asked for here.
+ * Returns the empty report. `end` is the answer that ended the run early, `stop` why time stopped, `tally` the work of breakpoints. Light,
+ * sound and changes of RAM are not measured at full speed.
  * @returns {Omit<DebugFrame, "ran">}
  */
 function nothing() {
@@ -34,7 +35,7 @@ export class FullSpeed {
     this.since = nothing();
   }
 
-  /** @param {boolean} isHidden whether the page is hidden */
+  /** @param {boolean} isHidden whether the page is hidden, and gets fewer reports */
   start(isHidden) {
     this.isOn = true;
     this.isHidden = isHidden;
@@ -45,7 +46,7 @@ export class FullSpeed {
     this.isOn = false;
   }
 
-  /** @param {Machine} machine */
+  /** @param {Machine} machine runs one batch */
   batch(machine) {
     const begun = performance.now();
     const frame = machine.advance(this.size);
@@ -65,14 +66,14 @@ export class FullSpeed {
     this.size = Math.round(Math.min(LARGEST_BATCH, Math.max(FIRST_BATCH, wanted)));
   }
 
-  /** @param {boolean} isAwaited whether the page has accepted the former report */
+  /** @param {boolean} isAwaited whether the page is ready for another report */
   isReportDue(isAwaited) {
     if (!this.isOn) return true;
     return isAwaited && (!this.isHidden || this.since.changesKeys || performance.now() - this.lastReport >= HIDDEN_TIME);
   }
 
   /**
-   * Returns what was done since the last report.
+   * Returns the report since the last one, and begins a new one.
    * @returns {DebugFrame}
    */
   take() {

@@ -1,4 +1,4 @@
-// The moments that going back leads to: the last stop, the beginning of the last instruction, before the last change of a place, or the
+// The targets of going back: the last stop, the beginning of the last instruction, the moment before the last change of a place, and the
 // last arrival at a breakpoint (last_arrival.js).
 
 import { readBoard, readCounter } from "../bench/answers.js";
@@ -17,32 +17,35 @@ import { cyclesOf, piecesOf, unitsBetween } from "./units.js";
  * @typedef {import("./timeline.js").Moment} Moment
  * @typedef {import("./timeline.js").Timeline} Timeline
  * @typedef {import("./units.js").Unit} Unit
+ *
+ * The target of going back. "arrival": a breakpoint, or the moment before a change of a watched value or of `place` ("" for none). "when":
+ * the moment before a condition becomes true; `asked` is the parsed condition. "call": the call of an open subroutine, by the address of
+ * its JMS and the return addresses before it.
  * @typedef {{ kind: "stop" } | { kind: "instruction" } | { kind: "change", place: string } | { kind: "arrival", place: string } | { kind:
  * "when", condition: string, asked?: import("../debug/becoming.js").Asked } | { kind: "call", call: number, returns: string[] }} BackGoal
- * an arrival at a breakpoint, or before a change of what is watched, including `place`, "" for none; before a condition becomes true, which
- * the debugger has read as `asked`; or the beginning of an open subroutine, by the address of its JMS and the return addresses then
  *
- * The moment, or null and why there is none: the past does not reach that far, or the board lacks the place. For a change, its place, its
- * old and new value, and the command that made it, "" if an instruction did. For an arrival, its kind: a breakpoint, with its id, a change,
- * or only the beginning of the remembered past.
+ * The result of a search of the past. `moment` is null if nothing was found; then `why` says why: the past is too short, or the board lacks
+ * the place. For a change: its place, its old and its new value, and the command that made it ("" for an instruction). For an arrival,
+ * `end` is its kind: a breakpoint (with its `id`), a change, or the beginning of the stored past. `present` is the session at that moment,
+ * if it is known.
  * @typedef {{ moment: Moment | null, why: "" | "short" | "lacks", place: string, from: string, to: string, line: string, end: "" | "break"
- * | "change" | "beginning", id: number, present: import("./timeline.js").Present | null }} Aim `present` is the session at that moment, if
- * it is known
+ * | "change" | "beginning", id: number, present: import("./timeline.js").Present | null }} Aim
  *
- * A search of the past. It begins at a moment, with the session of that time. It returns the last match among some consecutive units, and
- * does them on that session's file.
+ * A search of the past. `begin` sets the session where it begins. `among` repeats consecutive units on that session's file, and returns the
+ * last match in them.
  * @typedef {{ begin: (present: import("./timeline.js").Present) => void, among: (units: Unit[]) => Aim | null }} Finder
  */
 
-/** The cycles before the present that are searched first; each further stretch is this many times as long. */
+/** The first block to search: the last cycles before the present. Each further block is longer by a factor. */
 const FIRST_BLOCK = 500;
 const LONGER = 8;
 const LARGEST_BLOCK = 4000000;
 
-/** @type {Omit<Aim, "moment" | "present">} the report if nothing was searched for */
+/** @type {Omit<Aim, "moment" | "present">} the result if nothing was searched for */
 export const EMPTY_REPORT = { why: "", place: "", from: "", to: "", line: "", end: "", id: 0 };
 
 /**
+ * Returns a search result with some members set.
  * @param {Partial<Aim>} some
  * @returns {Aim}
  */
@@ -51,7 +54,7 @@ export function aim(some) {
 }
 
 /**
- * Returns the beginning of the last instruction: one or two cycles ago, unless a second cycle is pending.
+ * Resolves to the beginning of the last instruction. It is the last one or two cycles back: the one at which no second cycle is pending.
  * @param {Engine} engine
  * @param {Timeline} timeline
  * @param {GoesOn} goesOn
@@ -85,7 +88,7 @@ export class LastChange {
     this.file = file;
   }
 
-  /** @param {Unit[]} units which are queried before they are done */
+  /** @param {Unit[]} units */
   among(units) {
     const { engine, file, probes } = this;
     /** @type {Aim | null} */
@@ -99,8 +102,8 @@ export class LastChange {
   }
 
   /**
-   * Returns the report of a change, or null if it is not the wanted one.
-   * @param {string} before the rows of the places
+   * Returns the members that describe a change, or null if it does not match.
+   * @param {string} before the row of values before the change
    * @param {string} after
    * @returns {Partial<Aim> | null}
    */
@@ -138,12 +141,12 @@ class LastBecoming extends LastChange {
  * @param {Timeline} timeline
  * @param {Finder} finder
  * @param {GoesOn} goesOn
- * @returns {Promise<{ found: Aim | null, beginning: Moment }>} `beginning` of the remembered past, if nothing was found
+ * @returns {Promise<{ found: Aim | null, beginning: Moment }>} `beginning` is where the stored past begins, if nothing was found
  */
 export async function lastInPast(engine, timeline, finder, goesOn) {
   let to = timeline.end;
   for (let size = FIRST_BLOCK; ; size = Math.min(LARGEST_BLOCK, size * LONGER)) {
-    // At the beginning of a segment, continues at the end of the one before it.
+    // From the beginning of a segment, the search continues at the end of the previous one.
     if (to.entry === 0 && to.cycles === 0) {
       if (!timeline.segments[to.segment].follows) return { found: null, beginning: to };
       const { entries } = timeline.segments[to.segment - 1];
@@ -164,7 +167,7 @@ export async function lastInPast(engine, timeline, finder, goesOn) {
 }
 
 /**
- * Returns the finder of a place's last change, or null if the board lacks the place.
+ * Returns a finder for the last change of a place, or null if the board lacks the place.
  * @param {Engine} engine
  * @param {Uint8Array} file
  * @param {string} name
@@ -176,6 +179,7 @@ export function changeFinder(engine, file, name) {
 }
 
 /**
+ * Resolves to the target of going back.
  * @param {Engine} engine
  * @param {{ timeline: Timeline, file: Uint8Array }} session
  * @param {Exclude<BackGoal, { kind: "arrival" | "call" }>} goal

@@ -1,5 +1,5 @@
-// Recent changes of RAM: how often each character has changed, and when and by what last. The past is done again on a copy, and the bench
-// forecasts the changes of each unit of it. A write of the same value is not a change.
+// The heat map: the number of recent changes of each RAM nibble, and the time and the cause of the last one. The past is repeated on a
+// copy, and the bench forecasts the changes of each unit. Writing the same value is not a change.
 
 import { Cancelled } from "../bench/faults.js";
 import { hex, upTo } from "../bench/numbers.js";
@@ -18,18 +18,22 @@ import { cyclesOf, piecesOf, shortUnits, unitsBetween } from "./units.js";
  * @typedef {import("./timeline.js").Timeline} Timeline
  * @typedef {import("./units.js").Unit} Unit
  *
- * A changed place, by its name for `poke`: how often; and for the last change how many cycles ago, and the address of the instruction that
- * made it, or -1 and the command.
+ * A changed place, by its name for `poke`, with its number of changes. Of the last change: the cycles since then, and the address of the
+ * instruction that made it, or -1 and the command.
  * @typedef {{ place: string, count: number, ago: number, address: number, line: string }} Heated
- * @typedef {{ cycles: number, cells: Heated[] }} Heat over this many cycles, fewer than wanted if the past does not reach that far
+ *
+ * The changes in a number of cycles, which is smaller than requested if the past is shorter.
+ * @typedef {{ cycles: number, cells: Heated[] }} Heat
  */
 
 const REGISTERS = 4;
-/** The characters of a register are as many places as `trace` accepts: those of a chip are as many groups, and its status is one. */
+/**
+ * The groups of places for one RAM chip. A group is what one `trace` accepts: the nibbles of a register, or the status of all registers.
+ */
 export const GROUPS_OF_CHIP = REGISTERS + 1;
 
 /**
- * Returns the places of `trace` for all characters of a board's RAM, in groups as large as it accepts.
+ * Returns the places of all nibbles in a board's RAM, in groups for `trace`.
  * @param {Board} board
  */
 export function charactersOf({ banks }) {
@@ -41,7 +45,7 @@ export function charactersOf({ banks }) {
 }
 
 /**
- * Returns the moment this many cycles ago, or the beginning of the past if it is shorter.
+ * Returns the moment `cycles` cycles ago, or the beginning of the past if it is shorter.
  * @param {Timeline} timeline
  * @param {number} cycles
  * @returns {Moment}
@@ -54,12 +58,12 @@ function beginOf(timeline, cycles) {
   return { segment, entry: 0, cycles: 0 };
 }
 
-/** Collects changes by place. */
+/** Counts changes by place. */
 export class Counting {
   /** @param {string[][]} groups */
   constructor(groups) {
     this.groups = groups;
-    /** The number of cycles done. */
+    /** The cycles so far. */
     this.cycles = 0;
     /** @type {Map<string, Heated & { at: number }>} */
     this.cells = new Map();
@@ -67,7 +71,7 @@ export class Counting {
 
   /**
    * @param {Omit<PastChange, "unit">} change
-   * @param {number} begun the cycles that are done before its unit
+   * @param {number} begun the cycles before its unit
    */
   add({ group, before, after, cycles, address, line }, begun) {
     const was = valuesOf(before);
@@ -80,13 +84,13 @@ export class Counting {
   }
 
   /**
-   * Units that are done on a file.
+   * Repeats units on a file, and counts their changes.
    * @param {Engine} engine
    * @param {Uint8Array} file
    * @param {Unit[]} units
    */
   follow(engine, file, units) {
-    /** @type {Map<Unit, number>} how many cycles are done before each */
+    /** @type {Map<Unit, number>} the cycles before each unit */
     const begun = new Map();
     for (const unit of units) {
       begun.set(unit, this.cycles);
@@ -102,7 +106,7 @@ export class Counting {
 }
 
 /**
- * Searches the past up to now.
+ * Resolves to the heat map of the last cycles.
  * @param {Engine} engine
  * @param {Timeline} timeline
  * @param {Board} board

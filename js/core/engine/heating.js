@@ -1,5 +1,5 @@
-// The RAM nibbles that change while time runs, from the answers to `trace` before each run: one chip after the other, so that a frame takes
-// no longer on a board of many.
+// The RAM nibbles that change while time is running, from the answers to a `trace` before each run. It watches one chip at a time, so that
+// a frame takes the same time on a board with many chips.
 
 import { Counting, GROUPS_OF_CHIP, charactersOf } from "./heat.js";
 import { Answers, readTraced } from "./tracing.js";
@@ -7,7 +7,9 @@ import { Answers, readTraced } from "./tracing.js";
 /**
  * @typedef {import("../bench/answers.js").Board} Board
  * @typedef {import("./heat.js").Heat} Heat
- * @typedef {Heat & { chips: number }} PassedHeat of the cycles that were examined, in one of this many chips
+ *
+ * The changes in one of the board's `chips` RAM chips.
+ * @typedef {Heat & { chips: number }} PassedHeat
  */
 
 export class Heating {
@@ -40,8 +42,8 @@ export class Heating {
   }
 
   /**
-   * Returns the changes, from the answers to the queries before runs, and moves to the next chip.
-   * @param {string[][]} answerLists line by line
+   * Returns the changes, from the answers to the queries before runs. The next call watches the next chip.
+   * @param {string[][]} answerLists one list for each line
    * @returns {PassedHeat}
    */
   take(answerLists) {
@@ -53,7 +55,7 @@ export class Heating {
 
   /**
    * @param {Counting} counting
-   * @param {Answers} answers to the questions before one run
+   * @param {Answers} answers to the queries before one run
    */
   add(counting, answers) {
     const begun = counting.cycles;

@@ -1,14 +1,14 @@
-// Changes of keys that wait for their time. A program reads the keys only from time to time, so a key must stay down, and then up, long
-// enough to be seen, however short the press was.
+// Changes of keys that wait for their time. A program polls the keys only now and then. So a key stays down, and then up, long enough for
+// the program to see it, however short the press was.
 
 import { isSameKey, lineOfKey } from "../board/key_place.js";
 import { KEY_DOWN_CYCLES, KEY_UP_CYCLES } from "../time/mcs4_time.js";
 
-/** The longest run of one line. */
+/** The longest run of one line, in cycles. */
 export const LONGEST_RUN = 100000;
 
 /**
- * Returns a run of any length as runs that the bench accepts.
+ * Returns lines of runs that the bench accepts, for a run of any length.
  * @param {number} cycles
  */
 export function runLines(cycles) {
@@ -20,11 +20,13 @@ export function runLines(cycles) {
 /**
  * @typedef {import("../board/key_place.js").Key} Key
  * @typedef {{ key: Key, word: "press" | "release" }} Change
- * @typedef {{ line: string, change: Change | null }} PlannedLine that is to be sent: a change of a key, or a run
+ *
+ * A line to send: a change of a key, or a run.
+ * @typedef {{ line: string, change: Change | null }} PlannedLine
  */
 
 /**
- * Returns how many cycles must pass after a change.
+ * Returns the cycles that must pass after a change.
  * @param {Change} change
  */
 function cyclesAfter(change) {
@@ -50,7 +52,7 @@ export class KeyQueue {
   }
 
   /**
-   * Forgets the changes that wait for a key.
+   * Removes the waiting changes of a key.
    * @param {Key} key
    */
   forget(key) {
@@ -63,7 +65,7 @@ export class KeyQueue {
   }
 
   /**
-   * Returns the lines for this many cycles: those of runs, and between them the changes of keys that are due.
+   * Returns the lines for the next cycles: runs, and between them the changes of keys that are due.
    * @param {number} cycles
    * @returns {PlannedLine[]}
    */
@@ -90,9 +92,9 @@ export class KeyQueue {
   }
 
   /**
-   * Notes lines that were done; the last run may have been shorter.
+   * Updates the queue after lines were done. The last run can have ended early.
    * @param {PlannedLine[]} planned
-   * @param {(at: number) => number} cyclesOf the cycles of a run
+   * @param {(at: number) => number} cyclesOf returns the cycles that a line ran, by its index
    */
   done(planned, cyclesOf) {
     planned.forEach(({ change }, at) => {

@@ -1,5 +1,5 @@
-// The recorder of running time: before each run the bench is asked what it will do, in the same call. Time is not affected otherwise,
-// unless it is to stop at the end of a recording with a trigger. The recording is fetched part by part.
+// Records the lines of a board while time is running. Before each run it asks the bench for a forecast, in the same call. It affects time
+// only to stop it at the end of a recording with a trigger. The page fetches the recording part by part.
 
 import { readBoard, readRun } from "../bench/answers.js";
 import { ADDRESSES } from "../bench/rom_bytes.js";
@@ -19,21 +19,21 @@ import { RECORDED_CYCLES, RECORDED_UNITS } from "./pieces.js";
  * @typedef {import("./wave_recorder.js").Texts} Texts
  * @typedef {import("../waves/trigger.js").Trigger} Trigger
  *
- * The settings: how many cycles follow the trigger, and whether time stops at the end.
+ * The settings: the cycles to record after the trigger, and whether time stops at the end.
  * @typedef {{ behind: number, stopsTime: boolean }} LiveWanted
  *
- * A part of a recording. `triggered`: the moment of the trigger, -1 for none yet; `over`: why recording ended, "" if it continues:
- * "trigger", "board", "program", "back", "lines", "long".
+ * A part of a recording. `triggered`: the moment of the trigger, -1 before it. `over`: why recording ended, "" while it continues:
+ * "hand", "trigger", "board", "program", "back", "lines", "long".
  * @typedef {RecordedPart & { triggered: number, over: string }} LivePart
  */
 
-/** Moments have 32 bits. */
+/** The maximum length of a recording in cycles: a moment has 32 bits. */
 const LONGEST = 4000000000;
 
 export class LiveRecorder {
   /**
    * @param {Engine} engine
-   * @param {Uint8Array} file the session from now on
+   * @param {Uint8Array} file the present session
    * @param {Texts} texts
    */
   constructor(engine, file, texts) {
@@ -49,13 +49,14 @@ export class LiveRecorder {
     this.triggered = -1;
     this.over = "";
     this.held = true;
-    /** True if time is to stop, since all is recorded. */
+    /** True if time must stop because the recording is complete. */
     this.stops = false;
     this.listed = new Uint8Array(ADDRESSES);
     this.places = "";
   }
 
   /**
+   * Sets the trigger and the settings.
    * @param {Trigger | null} trigger
    * @param {LiveWanted} wanted
    */
@@ -69,13 +70,13 @@ export class LiveRecorder {
     return this.over === "";
   }
 
-  /** The moment of its end, once the trigger has come. */
+  /** The moment where recording ends, Infinity before the trigger. */
   get end() {
     return this.triggered < 0 ? Infinity : this.triggered + this.wanted.behind;
   }
 
   /**
-   * Returns its content as a recording in progress.
+   * Returns the content as a recording in progress.
    * @param {Uint8Array} file
    * @returns {Recorded}
    */
@@ -84,7 +85,7 @@ export class LiveRecorder {
   }
 
   /**
-   * Returns what was recorded since the last call.
+   * Returns the part since the last call.
    * @param {Uint8Array} file
    * @returns {LivePart}
    */
@@ -95,16 +96,16 @@ export class LiveRecorder {
     return { ...taken, listing: listedAt(this.engine, file, news), triggered: this.triggered, over: this.over };
   }
 
-  /** @param {string} why nothing more is recorded */
+  /** @param {string} why the reason for `over` */
   stop(why) {
     if (this.isOn) this.over = why;
   }
 
-  // --- time that runs ---
+  // --- while time is running ---
 
   /**
-   * Returns the queries before a run of this many cycles.
-   * @param {number} cycles
+   * Returns the queries before a run.
+   * @param {number} cycles the length of the run
    */
   questions(cycles) {
     return `${this.taking.questions(cycles)}${this.places ? `trace ${cycles} ${this.places}\n` : ""}`;
@@ -119,10 +120,10 @@ export class LiveRecorder {
   }
 
   /**
-   * Records the effect of lines; returns after how many of their cycles time stops, -1 if it continues.
+   * Records the effect of lines. Returns after how many of their cycles time must stop, or -1 if it continues.
    * @param {SentLine[]} planned
-   * @param {string[][]} traced
-   * @param {string[]} answers of the lines, and after them that to `state`
+   * @param {string[][]} traced the answers to the queries before each line
+   * @param {string[]} answers to the lines, and then to `state`
    */
   take(planned, traced, answers) {
     const { taking, trigger } = this;
@@ -147,7 +148,7 @@ export class LiveRecorder {
   }
 
   /**
-   * Returns the first moment at which a condition becomes true.
+   * Sets the trigger at the first moment when its condition becomes true in a run.
    * @param {Answers} answers
    * @param {number} from the moment before the run
    */
@@ -161,6 +162,7 @@ export class LiveRecorder {
   }
 
   /**
+   * Checks the trigger's condition at a moment.
    * @param {string[]} values
    * @param {number} moment
    */
@@ -171,9 +173,9 @@ export class LiveRecorder {
   }
 
   /**
-   * Returns the first matching edge after this many changes of each line.
+   * Sets the trigger at the first matching edge of its lines.
    * @param {Trigger} trigger
-   * @param {number[]} counts
+   * @param {number[]} counts for each line, the number of its earlier changes
    */
   takeEdges({ members, edge }, counts) {
     if (this.triggered >= 0) return;
@@ -187,9 +189,9 @@ export class LiveRecorder {
   }
 
   /**
-   * Returns the first instruction at an address, after this many that were begun; the instruction at which recording began does not count.
+   * Sets the trigger at the next instruction at an address. The instruction at which recording began does not count.
    * @param {number} address
-   * @param {number} counted
+   * @param {number} counted the number of earlier instructions
    */
   takeArrival(address, counted) {
     if (this.triggered >= 0) return;
@@ -199,9 +201,10 @@ export class LiveRecorder {
   }
 
   /**
-   * Returns whether all is recorded; and after how many cycles since a moment time stops: at the next instruction.
+   * Ends the recording if it is complete. Returns after how many cycles since `begun` time must stop, or -1 if it continues. Time stops at
+   * the next instruction.
    * @param {number} begun
-   * @param {number} counted how many instructions were begun so far
+   * @param {number} counted the number of instructions before `begun`
    */
   ended(begun, counted) {
     const { taking, end, wanted } = this;
@@ -218,8 +221,8 @@ export class LiveRecorder {
   // --- while time is paused ---
 
   /**
-   * Follows lines that were served: they are done again on a copy.
-   * @param {Uint8Array} file the former state; it is changed
+   * Records lines that were served, by repeating them on a copy.
+   * @param {Uint8Array} file the state before them; it is changed
    * @param {Accepted[]} accepted
    */
   follow(file, accepted) {

@@ -1,4 +1,4 @@
-// The state that all requests share: the module, the open session with its debugger, and its snapshot.
+// The state that all requests share: the module, and the open session with its debugger.
 
 import { readBoard } from "../bench/answers.js";
 import { Face } from "../board/face.js";
@@ -20,21 +20,25 @@ import { differenceOf, readProgram } from "./program_check.js";
  * @typedef {import("../bench/protocol.js").Shown} Shown
  * @typedef {import("../debug/debugger.js").Debugger} Debugger
  * @typedef {import("./engine.js").Engine} Engine
- * @typedef {{ board: string, program: string, values?: string[], watched?: string[] }} WaveTexts the texts with the names of a recording's
- * lines, the values that are recorded in addition to the lines of the board, by their names, and the watched values
- * @typedef {(done: number, total: number) => Promise<boolean>} GoesOn receives the progress of long work, and returns whether to continue
+ *
+ * The texts for the names of a recording's lines; `values` are the names of values to record in addition to the lines of the board, and
+ * `watched` the watched values.
+ * @typedef {{ board: string, program: string, values?: string[], watched?: string[] }} WaveTexts
+ *
+ * A callback of long work. It receives the progress, and resolves to whether to continue.
+ * @typedef {(done: number, total: number) => Promise<boolean>} GoesOn
  */
 
 export class OpenBench {
   /** @param {GoesOn} goesOn */
   constructor(goesOn) {
     this.goesOn = goesOn;
-    /** @type {ArrayBuffer[]} arrays in which a file can be sent to the page, which returns each one */
+    /** @type {ArrayBuffer[]} the buffers for sending a file to the page; the page returns each one */
     this.spare = [];
     this.fullSpeed = new FullSpeed();
     /** @type {Engine | null} */
     this.loaded = null;
-    /** @type {Debugger | null} of the session that is open */
+    /** @type {Debugger | null} the debugger of the open session */
     this.opened = null;
     /** @type {Example[]} */
     this.examples = [];
@@ -59,7 +63,7 @@ export class OpenBench {
   }
 
   /**
-   * Returns the present state of the session, with its file in an array that is sent to the page.
+   * Returns the present state of the session for the page, with its file in a buffer to transfer.
    * @param {string[]} snapshot
    * @param {boolean} showsBoard
    * @returns {Shown}
@@ -76,7 +80,7 @@ export class OpenBench {
     return { snapshot, file: buffer, board, total, reset, future: timeline.future.length, past, waves, printed, waiting: queue.changes };
   }
 
-  /** Returns what was recorded since the last report, or null if nothing is recorded. */
+  /** Returns the part of the recording since the last report, or null if nothing is being recorded. */
   recordedPart() {
     const { session } = this;
     const { recorder, file } = session;
@@ -95,7 +99,7 @@ export class OpenBench {
   }
 
   /**
-   * Resolves to the result of lines, and the state to show.
+   * Serves lines by a callback, and resolves to their result and the state to show.
    * @param {() => Promise<import("./worker_session.js").ResultAndSnapshot>} serve
    * @returns {Promise<ServedLines>}
    */
@@ -103,7 +107,7 @@ export class OpenBench {
     const { reset } = this.session.count;
     const { snapshot, ...result } = await serve();
     this.debugger.usual.forget();
-    // After a reset no subroutine returns.
+    // A reset clears the return addresses.
     if (this.session.count.reset !== reset) this.debugger.begin();
     return { ...result, ...this.shown(snapshot, result.wires) };
   }
@@ -117,8 +121,8 @@ export class OpenBench {
   }
 
   /**
-   * Returns the map of a program, and whether ROM has its bytes.
-   * @param {string} text as it is sent
+   * Returns the map of a program, and the first difference between the program and ROM.
+   * @param {string} text the text as sent to the bench
    * @returns {Checked}
    */
   checkProgram(text) {
@@ -132,7 +136,7 @@ export class OpenBench {
   }
 
   /**
-   * The names that conditions may have.
+   * Returns the names that conditions can use.
    * @param {{ board: string, program: string, watched?: string[] }} texts
    */
   namesOf({ board, program, watched }) {
@@ -151,7 +155,7 @@ export class OpenBench {
   }
 
   /**
-   * Returns what full speed has done since the last report.
+   * Returns the report of full speed since the last one.
    * @returns {Frame}
    */
   takeUnreported() {
@@ -160,14 +164,14 @@ export class OpenBench {
     return { ...result, tally: bothTallies(late, tally), ...this.shown(this.session.takeSnapshot(), false) };
   }
 
-  /** Does the work that the lamps did not wait for, after they were reported. */
+  /** Does the debugger's work that was postponed until after the report. */
   lookBack() {
     if (this.opened) this.opened.lookBack();
   }
 
   /**
-   * Reports a batch at full speed; null if it is not reported now. A report needs an array that the page has returned, so the page is never
-   * flooded.
+   * Runs a batch at full speed. Returns the report, or null if none is due. A report needs a buffer that the page has returned, so the page
+   * is never flooded.
    * @returns {Frame | null}
    */
   batch() {

@@ -1,4 +1,4 @@
-// Requests for the effect of time on lamps, RAM, the buzzer and the printer; the frames contain the answers.
+// Requests that start reports on lamps, RAM, the buzzer and the printer. The reports are in the frames.
 
 import { readBoard } from "../bench/answers.js";
 import { Face } from "../board/face.js";
@@ -18,9 +18,9 @@ export class OutputRequests {
   }
 
   /**
-   * Starts the reports, while time runs, of how long lamps are on; if the board has any.
-   * @param {string} boardText has the face
-   * @param {number} number of the face, which is reported again
+   * Starts the reports on how long lamps are on while time is running, if the board has lamps.
+   * @param {string} boardText the text with the front panel
+   * @param {number} number the page's number of the front panel, which the reports repeat
    */
   watchLamps(boardText, number) {
     if (!this.bench.opened) return;
@@ -29,7 +29,7 @@ export class OutputRequests {
   }
 
   /**
-   * Starts the reports, while time runs, of the RAM characters that change; if the board has any.
+   * Starts or ends the reports on RAM nibbles that change while time is running, if the board has RAM.
    * @param {boolean} isOn
    */
   watchRam(isOn) {
@@ -39,16 +39,16 @@ export class OutputRequests {
   }
 
   /**
-   * From here on, while time runs, the edges of a line are reported.
-   * @param {string} line "" for none
+   * Starts the reports on the edges of a line while time is running.
+   * @param {string} line "" ends them
    */
   listenTo(line) {
     if (this.bench.opened) this.bench.session.sounding = line === "" ? null : new Sounding(line);
   }
 
   /**
-   * Starts the reports of what is sent to a printer; a different printer has a new printout.
-   * @param {{ strobe: string, port: string } | null} printer
+   * Starts the reports on what is sent to a printer. A different printer begins a new printout.
+   * @param {{ strobe: string, port: string } | null} printer null ends them
    */
   printOn(printer) {
     if (!this.bench.opened) return;

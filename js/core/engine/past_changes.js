@@ -1,4 +1,4 @@
-// The changes in a stretch of the past: its units are done again on a copy of the session, and the bench forecasts the changes of each.
+// The changes in a part of the past. Its units are repeated on a copy of the session, and the bench forecasts the changes of each.
 
 import { Answers, readTraced } from "./tracing.js";
 
@@ -7,15 +7,15 @@ import { Answers, readTraced } from "./tracing.js";
  * @typedef {import("./tracing.js").Trace} Trace
  * @typedef {import("./units.js").Unit} Unit
  *
- * A change: its group, the rows of the group's values before and after it, its unit, the cycles of the unit before it, and the address of
- * the instruction that made it, or -1 and the command that did.
+ * A change of a group's values: the rows of values before and after it, its unit, and the cycles of the unit before it. `address` is that
+ * of the instruction that made the change, or -1 if the command `line` made it.
  * @typedef {{ group: number, before: string, after: string, unit: Unit, cycles: number, address: number, line: string }} PastChange
  */
 
 /**
- * Returns the traces ahead of each unit, by group, and the values after the last one.
+ * Returns the traces of each unit, by group, and last the traces after all units.
  * @param {Engine} engine
- * @param {Uint8Array} file is the state after the units afterwards
+ * @param {Uint8Array} file is moved to the state after the units
  * @param {Unit[]} units
  * @param {string[][]} groups
  * @returns {Trace[][]}
@@ -37,8 +37,8 @@ function tracesOf(engine, file, units, groups) {
  * @param {Engine} engine
  * @param {Uint8Array} file
  * @param {Unit[]} units
- * @param {string[][]} groups places of `trace`, in groups as large as it accepts
- * @param {(change: PastChange) => void} see receives those of the first group first, each group's in their order
+ * @param {string[][]} groups the places to watch, in groups that fit into one `trace`
+ * @param {(change: PastChange) => void} see receives the changes of the first group in order, then those of the next group
  */
 export function changesIn(engine, file, units, groups, see) {
   const traces = tracesOf(engine, file, units, groups);

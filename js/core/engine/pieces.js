@@ -1,21 +1,21 @@
-// Long work is done in pieces, so that it can report progress, and be cancelled.
+// Long work in pieces, so that it can report progress and be cancelled.
 
-/** The duration of a piece, in milliseconds. */
+/** The target duration of a piece, in milliseconds. */
 const PIECE_TIME = 40;
-/** The first piece if cycles are searched one by one. */
+/** The first piece of a search cycle by cycle. */
 export const FIRST_CYCLES = 1000;
-/** The cycles, and the units, that are searched at once, in the past or ahead. */
+/** The cycles and the units of a piece in a search of the past or the future. */
 export const LOOKED_CYCLES = 400000;
 export const LOOKED_UNITS = 500;
-/** The first piece of a recording. */
+/** The cycles and the units of a piece in a recording. */
 export const RECORDED_CYCLES = 50000;
 export const RECORDED_UNITS = 50;
 
 export class PieceSize {
   /**
-   * @param {number} first how much is in the first piece
-   * @param {number} least
-   * @param {number} most
+   * @param {number} first the size of the first piece
+   * @param {number} least the minimum size
+   * @param {number} most the maximum size
    */
   constructor(first, least, most) {
     this.size = first;
@@ -24,7 +24,7 @@ export class PieceSize {
   }
 
   /**
-   * Does a piece, and computes the size of the next one from its duration.
+   * Runs a piece, and computes the size of the next one from its duration.
    * @template Result
    * @param {() => Result} act
    * @returns {Result}

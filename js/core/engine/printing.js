@@ -1,5 +1,5 @@
-// The codes that a program sends to the board's printer, from the answers to `trace` before each run. Each code is kept with the cycle at
-// which it came. So the printout depends on the run alone, and after going back only the codes up to then remain.
+// The codes that a program sends to the board's printer, from the answers to a `trace` before each run. Each code is stored with its cycle.
+// So the printout depends only on the session, and going back removes the later codes.
 
 import { askedLines, partedAnswers, sentAgain } from "./asking.js";
 import { RECORDED_CYCLES, RECORDED_UNITS } from "./pieces.js";
@@ -9,11 +9,11 @@ import { Answers, readTraced, valuesOf } from "./tracing.js";
  * @typedef {import("./accepted.js").Accepted} Accepted
  * @typedef {import("./engine_host.js").EngineHost} Engine
  *
- * The lines of a printer, its strobe and the port of its code, and the codes: each with the cycle count when it came.
+ * A printer's strobe and code port, and the codes it received, each with the cycle count at its strobe.
  * @typedef {{ strobe: string, port: string, codes: [number, number][] }} Printed
  */
 
-/** The most codes that are stored: some hundred lines. */
+/** The maximum of stored codes: some hundred lines of print. */
 const MOST_CODES = 4000;
 
 export class Printing {
@@ -35,14 +35,14 @@ export class Printing {
     return this.strobe === strobe && this.port === port;
   }
 
-  /** The paper is torn off. */
+  /** Clears the printout. */
   clear() {
     this.codes = [];
   }
 
   /**
-   * Returns the printout if it differs from the last report; otherwise null.
-   * @param {number} total the cycles that were counted up to here
+   * Returns the printout if it has changed since the last report, otherwise null.
+   * @param {number} total the present cycle count
    * @returns {Printed | null}
    */
   takeNews(total) {
@@ -53,7 +53,7 @@ export class Printing {
     return { strobe: this.strobe, port: this.port, codes: this.codes.slice(0, count) };
   }
 
-  /** @param {number} total */
+  /** @param {number} total the cycle count up to which codes count */
   countAt(total) {
     let count = this.codes.length;
     while (count > 0 && this.codes[count - 1][0] > total) count -= 1;
@@ -76,9 +76,9 @@ export class Printing {
   }
 
   /**
-   * Reads the codes from the answers to the queries before runs; the effect of an instruction is there once its first cycle is over.
-   * @param {string[][]} answerLists line by line
-   * @param {number} total the cycles that were counted before them
+   * Reads the codes from the answers to the queries before runs. An instruction takes effect after its first cycle.
+   * @param {string[][]} answerLists one list for each line
+   * @param {number} total the cycle count before the first line
    */
   take(answerLists, total) {
     this.codes.length = this.countAt(total);
@@ -99,11 +99,11 @@ export class Printing {
   }
 
   /**
-   * Follows lines that were served: they are done again on a copy.
+   * Reads the codes of lines that were served, by repeating them on a copy.
    * @param {Engine} engine
-   * @param {Uint8Array} file the former state; it is changed
+   * @param {Uint8Array} file the state before them; it is changed
    * @param {Accepted[]} accepted
-   * @param {number} total the cycles that were counted before them
+   * @param {number} total the cycle count before them
    */
   follow(engine, file, accepted, total) {
     let before = total;

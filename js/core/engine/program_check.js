@@ -1,5 +1,4 @@
-// Compares a program's text with ROM: the text is assembled on a session of its own, which has all ROMs, and the bytes are
-// compared.
+// Compares a program's text with ROM. The text is assembled in a separate session whose board has all ROMs, and the bytes are compared.
 
 import { readBoard, readMap, refusalOf } from "../bench/answers.js";
 import { matchAnswers, readInputs } from "../bench/inputs.js";
@@ -11,19 +10,20 @@ import { LONGEST_TEXT, TEXT_TOO_LONG } from "../text/text_fault.js";
  * @typedef {import("../bench/answers.js").Refusal} Refusal
  * @typedef {import("./engine_host.js").EngineHost} Engine
  *
- * A program: the answers to `map`, or why the text is rejected; and its byte at each address, -1 if it has none.
+ * An assembled program: the answers to `map`, or why the text is rejected, and its byte at each address, -1 if it has none.
  * @typedef {{ text: string, map: string[], refusal: Refusal | null, bytes: Int16Array }} Program
  *
- * The first address at which ROM differs from the program; `hasRom` is false if the board has no ROM there.
+ * The first address at which ROM differs from the program; `hasRom` is false if the board has no ROM at that address.
  * @typedef {{ address: number, hasRom: boolean }} Difference
  * @typedef {{ map: string[], refusal: Refusal | null, difference: Difference | null }} Checked
  */
 
-/** Lines that wire a board of all ROMs. */
+/** The lines that wire a board with all ROMs. */
 export const ALL_ROMS = `wire\n${PAGES.map((chip) => `[[rom]]\nchip = ${chip}\nport = "0000"\n`).join("")}.\n`;
 
 /**
- * Says why a text cannot be sent at all: it is too long for the bench, or a line with only a dot would end it. That has no number.
+ * Returns why a text cannot be sent to the bench, or null. Either it is too long, or one of its lines is only a dot, which would end the
+ * text. The latter has no refusal number, so `number` is 0.
  * @param {string} text
  * @returns {Refusal | null}
  */
@@ -34,7 +34,7 @@ export function faultOfText(text) {
 }
 
 /**
- * Returns the bench's map of a program's text.
+ * Assembles a program's text.
  * @param {Engine} engine
  * @param {string} text
  * @returns {Program}
@@ -52,7 +52,7 @@ export function readProgram(engine, text) {
 }
 
 /**
- * Returns whether a program puts a byte at each address, by the answers to `map`.
+ * Returns 1 for each address at which a program has a byte, from the answers to `map`.
  * @param {string[]} map
  */
 function putBy(map) {
@@ -62,7 +62,7 @@ function putBy(map) {
 }
 
 /**
- * Returns how many bytes a program has, and the addresses outside the program at which ROM is not 0.
+ * Returns the size of a program in bytes, and the addresses outside the program at which ROM is not 0.
  * @param {Engine} engine
  * @param {Uint8Array} file
  * @param {Program} program
@@ -75,7 +75,7 @@ export function leftoversOf(engine, file, program) {
 }
 
 /**
- * Returns the first difference between ROM and a program, or null if ROM has all its bytes.
+ * Returns the first difference between ROM and a program, or null if ROM has all bytes of the program.
  * @param {Engine} engine
  * @param {Uint8Array} file
  * @param {string[]} board the answers to `board`

@@ -14,23 +14,23 @@ export class ProgramRequests {
   }
 
   /**
-   * Returns where a program's lines and names are, and where it differs from ROM.
-   * @param {string} text as it is sent
+   * Returns the map of a program, and its first difference from ROM.
+   * @param {string} text the text as sent to the bench
    */
   checkProgram(text) {
     return this.bench.checkProgram(text);
   }
 
   /**
-   * Returns the bytes in ROM that are not the program's.
-   * @param {string} text
+   * Returns the bytes in ROM that do not belong to a program.
+   * @param {string} text the text as sent to the bench
    */
   leftovers(text) {
     if (!this.bench.program || this.bench.program.text !== text) this.bench.program = readProgram(this.bench.engine, text);
     return leftoversOf(this.bench.engine, this.bench.session.file, this.bench.program);
   }
 
-  /** A source text for the bytes in ROM. */
+  /** Returns a source text for the bytes in ROM. */
   source() {
     return sourceOfRom(this.bench.engine, this.bench.session.file);
   }

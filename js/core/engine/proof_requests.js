@@ -1,4 +1,4 @@
-// Requests for proofs of properties, by the prover of the module.
+// Requests that prove properties with the module's prover.
 
 import { beginProving, judgedLine } from "../prove/bounded_proof.js";
 
@@ -15,9 +15,9 @@ export class ProofRequests {
   }
 
   /**
-   * Begins to prove properties; returns the errors of the texts, and the number of all that is judged.
+   * Begins to prove properties. Returns the errors of the texts, and the number of judgements to make.
    * @param {import("../explore/exploring.js").ExploredTexts} texts
-   * @param {number} most states that a question searches
+   * @param {number} most the maximum of states that one question searches
    */
   prove(texts, most) {
     const { bench } = this;
@@ -33,7 +33,7 @@ export class ProofRequests {
     return { faults, count: proving ? proving.total : 0 };
   }
 
-  /** Judges the next property; returns null if all are judged. */
+  /** Resolves to the line for the next judged property, or to null if all are judged. */
   async proveNext() {
     if (!this.proving) throw new Error("nothing is proved");
     const judged = await this.proving.next();

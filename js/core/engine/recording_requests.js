@@ -18,9 +18,9 @@ export class RecordingRequests {
   }
 
   /**
-   * Records the lines of the board for this many cycles, from now on or up to now; the session is unchanged.
+   * Records the lines of the board for the next cycles, or for the last ones. The session is unchanged.
    * @param {number} cycles
-   * @param {boolean} isBefore
+   * @param {boolean} isBefore whether to record the past
    * @param {WaveTexts} texts
    */
   record(cycles, isBefore, texts) {
@@ -33,8 +33,8 @@ export class RecordingRequests {
   }
 
   /**
-   * Starts a recording of all that is done, until it is ended; `part` of the snapshot contains it. If the trigger cannot be read, nothing
-   * is recorded, and words say why.
+   * Starts a recording that continues until it is ended. The later parts are in `waves` of the states to show. If the trigger has an error,
+   * nothing is recorded, and `fault` is the message.
    * @param {WaveTexts} texts
    * @param {{ trigger: string } & LiveWanted} wanted
    * @returns {{ recorded: Recorded | null, fault: string }}
@@ -50,7 +50,7 @@ export class RecordingRequests {
     return { recorded: recorder.recorded(session.file), fault: "" };
   }
 
-  /** Ends the recording; returns the rest of it. */
+  /** Ends the recording, and returns its last part. */
   endRecording() {
     if (this.bench.session.recorder) this.bench.session.recorder.stop("hand");
     return this.bench.recordedPart();

@@ -1,4 +1,4 @@
-// The board as perceived in the next 30 ms if nothing is pressed: the brightness of its lamps, and the text of its displays.
+// The board as perceived in the next 30 ms if no key changes: the brightness of its lamps, and the text of its displays.
 
 import { Brightness } from "../board/brightness.js";
 import { DisplayText } from "../board/display_text.js";
@@ -10,11 +10,11 @@ import { BrightnessMeter } from "./brightness_meter.js";
  * @typedef {import("../board/face.js").Face} Face
  */
 
-/** The question, which is answered as any `trace`. */
+/** The query for these 30 ms. */
 export const SEEN_QUESTION = `trace ${EYE_CYCLES} lamps\n`;
 
 /**
- * Returns whether some digits are multiplexed, so that no instant shows a number.
+ * Returns whether a front panel has a multiplexed display. At no single instant such a display shows the whole number.
  * @param {Face} face
  */
 export function hasScannedDisplay(face) {
@@ -22,10 +22,10 @@ export function hasScannedDisplay(face) {
 }
 
 /**
- * Returns how bright lamps are in the time of the query alone.
+ * Returns the brightness of lamps in the time of the query, with no history.
  * @param {Face} face
- * @param {number} count of the board's lamps
- * @param {string[]} answers to the question
+ * @param {number} count the number of lamps on the board
+ * @param {string[]} answers to the query
  */
 export function seenBrightness(face, count, answers) {
   const brightness = new Brightness(face, count);
@@ -36,7 +36,7 @@ export function seenBrightness(face, count, answers) {
 export class SeenText {
   /**
    * @param {Face} face
-   * @param {number} count of the board's lamps
+   * @param {number} count the number of lamps on the board
    */
   constructor(face, count) {
     this.face = face;
@@ -45,7 +45,7 @@ export class SeenText {
     this.text = new DisplayText(displays, [...face.lamps].map(([at, { text }]) => ({ at, text })));
   }
 
-  /** @param {string[]} answers to the question */
+  /** @param {string[]} answers to the query */
   read(answers) {
     return this.ofBrightness(seenBrightness(this.face, this.count, answers));
   }

@@ -1,4 +1,4 @@
-// The program of a session by its text: its names and lines, if the text makes the bytes that are in ROM.
+// The source text of a session's program: its names and lines, if the text assembles to the bytes in ROM.
 
 import { hex } from "../bench/numbers.js";
 import { SourceMap } from "../machine/source_map.js";
@@ -10,17 +10,17 @@ import { readProgram } from "./program_check.js";
  * @typedef {import("./engine_host.js").EngineHost} EngineHost
  * @typedef {import("../testing/prepared.js").TextFault} TextFault
  *
- * The first difference between ROM and the program: the address, the byte there, the line and the line's byte.
+ * The first difference between ROM and the program: the address, the byte in ROM, the source line, and the byte of that line.
  * @typedef {{ address: string, is: string, line: number, makes: string }} OtherByte
  *
- * Why the text is not the program of a session: it has errors, or ROM has another byte. With neither, `map` is the program's.
+ * The program of a session by its text. The text has errors (`faults`), or ROM differs (`other`); otherwise `map` is the program's map.
  * @typedef {{ faults: TextFault[], other: OtherByte | null, map: SourceMap }} SessionProgram
  */
 
 /**
- * Returns the first byte of ROM that differs from the program's; null if there is none.
- * @param {Uint8Array} codes
- * @param {Int16Array} bytes of the program, negative if it has none
+ * Returns the first byte in ROM that differs from the program, or null.
+ * @param {Uint8Array} codes the bytes in ROM
+ * @param {Int16Array} bytes the program's bytes, negative where it has none
  * @param {SourceMap} map
  * @returns {OtherByte | null}
  */
@@ -30,7 +30,7 @@ function otherByte(codes, bytes, map) {
 }
 
 /**
- * Reads a program's text alone; returns its map, and the byte at each address, or the errors.
+ * Assembles a program's text. Returns its map and its byte at each address, or the errors.
  * @param {EngineHost} engine
  * @param {string} text
  * @returns {{ faults: TextFault[], map: SourceMap, bytes: Int16Array }}
@@ -46,7 +46,7 @@ export function readSource(engine, text) {
 }
 
 /**
- * Reads a program's text, and compares it with ROM.
+ * Assembles a program's text, and compares it with ROM.
  * @param {EngineHost} engine
  * @param {Uint8Array} codes the bytes in ROM
  * @param {string} text

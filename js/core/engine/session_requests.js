@@ -1,4 +1,4 @@
-// Requests for the session: it is opened, and lines are served and asked.
+// Requests that open a session, serve lines and answer queries.
 
 import { BenchRefusal } from "../bench/faults.js";
 import { NO_TALLY, Debugger } from "../debug/debugger.js";
@@ -21,9 +21,9 @@ export class SessionRequests {
   /**
    * Opens a session in place of the present one.
    * @param {Uint8Array} file
-   * @param {number} [total] the cycles that were counted up to here
-   * @param {number} [reset] and up to the last reset
-   * @param {import("./printing.js").Printed | null} [printed] what was sent to its printer
+   * @param {number} [total] the cycle count
+   * @param {number} [reset] the cycle count at the last reset
+   * @param {import("./printing.js").Printed | null} [printed] the printout
    */
   open(file, total = 0, reset = 0, printed = null) {
     const session = new WorkerSession(this.bench.engine, file, new CycleCount(total, reset));
@@ -36,15 +36,15 @@ export class SessionRequests {
   }
 
   /**
-   * Restores the past that the page has kept from before the session was opened. Returns the number of entries used from its last segment,
-   * or -1 if it is not the session's past.
+   * Restores the past that the page has stored before the session was opened. Returns how many entries of the last segment are used, or -1
+   * if it is not the past of this session.
    * @param {import("./timeline.js").Recalled[]} segments
    */
   recall(segments) {
     try {
       return this.bench.session.timeline.recall(this.bench.engine, segments);
     } catch (fault) {
-      // Bytes that hold no session.
+      // The stored bytes are not a session.
       if (fault instanceof BenchRefusal) return -1;
       throw fault;
     }
@@ -60,7 +60,7 @@ export class SessionRequests {
   }
 
   /**
-   * The same of lines that were typed, whose runs end at each breakpoint.
+   * Serves typed lines, all of them or none. Their runs end at each breakpoint.
    * @param {string} lines
    * @returns {Promise<TypedLines>}
    */

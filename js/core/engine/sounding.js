@@ -1,9 +1,9 @@
-// The edges of a line while time runs, by the answers to `trace` before each run.
+// The edges of a line while time is running, from the answers to a `trace` before each run. The buzzer plays them.
 
 import { Answers, readTraced } from "./tracing.js";
 
 /**
- * The levels of a line over some cycles: the first one, and the cycles before each edge.
+ * The levels of a line in a number of cycles: the first level, and the cycles before each edge.
  * @typedef {{ cycles: number, level: number, edges: number[] }} Heard
  */
 
@@ -30,7 +30,7 @@ export class Sounding {
 
   /**
    * Returns the levels of the line, from the answers to the queries before runs. A change happens after the first cycle of its instruction.
-   * @param {string[][]} answerLists line by line
+   * @param {string[][]} answerLists one list for each line
    * @returns {Heard}
    */
   take(answerLists) {

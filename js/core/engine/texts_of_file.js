@@ -1,5 +1,5 @@
-// Texts for a session file, which has neither comments nor names: those of an example if they fit, otherwise texts made from the bench's
-// answers and a source disassembled from ROM.
+// Source texts for a session file, which stores neither comments nor names. If an example matches, its texts are used. Otherwise the board
+// text is made from the bench's answers, and the program is disassembled from ROM.
 
 import { readListing } from "../bench/answers.js";
 import { linesOfExample } from "./examples.js";
@@ -13,11 +13,13 @@ import { MAX_LISTED, PAGES, listQueries } from "../bench/rom_bytes.js";
  * @typedef {import("./engine_host.js").EngineHost} Engine
  */
 
-/** No tests and no properties. */
+/** Empty tests and properties. */
 const NONE_BESIDE = { testText: "", propertiesText: "" };
+/** The queries that list all ROMs. */
 const ALL_ROM = listQueries(PAGES);
 
 /**
+ * Returns source texts for a session file.
  * @param {Engine} engine
  * @param {Uint8Array} file
  * @param {Example[]} examples
@@ -52,7 +54,7 @@ function isOfTwoBytes(line) {
 }
 
 /**
- * The lines of a listing of all ROMs, from 000 to FFF.
+ * Returns the listing of all ROMs, from 000 to FFF.
  * @param {Engine} engine
  * @param {Uint8Array} file
  */
@@ -69,11 +71,11 @@ function listAll(engine, file) {
   return lines;
 }
 
-/** A stretch of ROM counts as empty from this many NOPs on. */
+/** The number of NOPs from which a part of ROM counts as empty. */
 const FEW_NOPS = 4;
 
 /**
- * A source text for the bytes in ROM, which assembles to the same bytes; empty stretches are left out.
+ * Returns a source text that assembles to the bytes in ROM. It leaves out empty parts.
  * @param {Engine} engine
  * @param {Uint8Array} file
  */

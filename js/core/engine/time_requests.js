@@ -1,4 +1,4 @@
-// Requests for time that runs: cycles and keys in real time, and full speed.
+// Requests while time is running: cycles and keys in real time, and full speed.
 
 /**
  * @typedef {import("./open_bench.js").OpenBench} OpenBench
@@ -13,9 +13,9 @@ export class TimeRequests {
   }
 
   /**
-   * Runs for this many cycles.
+   * Runs the next cycles.
    * @param {number} cycles
-   * @param {Key | null} [key] goes down before them, or when its turn comes
+   * @param {Key | null} [key] a key to press, first or after the waiting changes
    * @returns {Frame}
    */
   advance(cycles, key = null) {
@@ -25,7 +25,7 @@ export class TimeRequests {
   }
 
   /**
-   * Presses a key while time runs; returns the changes that wait, as do the next two.
+   * Presses a key while time is running. Returns the waiting changes of keys.
    * @param {Key} key
    */
   press(key) {
@@ -33,20 +33,26 @@ export class TimeRequests {
     return this.bench.session.queue.changes;
   }
 
-  /** @param {Key} key */
+  /**
+   * Releases a key while time is running. Returns the waiting changes of keys.
+   * @param {Key} key
+   */
   release(key) {
     this.bench.session.queue.release(key);
     return this.bench.session.queue.changes;
   }
 
-  /** @param {Key} key a key whose changes that wait are forgotten */
+  /**
+   * Removes the waiting changes of a key. Returns the other waiting changes.
+   * @param {Key} key
+   */
   forget(key) {
     this.bench.session.queue.forget(key);
     return this.bench.session.queue.changes;
   }
 
   /**
-   * Full speed begins.
+   * Starts full speed.
    * @param {boolean} isHidden whether the page is hidden
    */
   run(isHidden) {
@@ -55,7 +61,7 @@ export class TimeRequests {
   }
 
   /**
-   * At full speed a hidden page gets reports more seldom.
+   * Sets whether the page is hidden: at full speed a hidden page gets fewer reports.
    * @param {boolean} isHidden
    */
   pace(isHidden) {
@@ -63,7 +69,7 @@ export class TimeRequests {
   }
 
   /**
-   * Ends full speed; returns what was not reported yet.
+   * Ends full speed, and returns its last report.
    * @returns {Frame}
    */
   halt() {

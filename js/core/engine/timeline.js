@@ -1,6 +1,6 @@
-// The past of a session, for going back: its file at some moments, and the accepted commands after each of them, which are done again on a
-// copy of that file. Of a long past the stops are kept longest. It is in memory only, as long as the session is open in this worker; the
-// page receives the additions (session/kept_past.js), and can restore it after a reload.
+// The past of a session, for going back: its file at some moments, and the accepted commands after each of them. A past state is the result
+// of repeating commands on a copy of such a file. When the past is long, segments with stops are stored longest. The past is in the memory
+// of this worker. The page receives the additions (session/kept_past.js), and restores the past after a reload.
 
 import { Cancelled } from "../bench/faults.js";
 import { withoutSeq } from "../bench/state_line.js";
@@ -9,34 +9,47 @@ import { CycleCount } from "./accepted.js";
 /**
  * @typedef {import("./accepted.js").Accepted} Accepted
  * @typedef {import("./engine_host.js").EngineHost} Engine
- * @typedef {{ line: string, cycles: number, resets: boolean, isStop: boolean }} Entry a command; `isStop`: time was paused before it
+ *
+ * A command. `isStop`: time was paused before it.
+ * @typedef {{ line: string, cycles: number, resets: boolean, isStop: boolean }} Entry
+ *
+ * A part of the past: the file and the cycle count at its beginning, and the commands after it. `letters` is the total length of their
+ * lines. `follows`: it begins where the previous segment ends.
  * @typedef {{ file: Uint8Array, count: CycleCount, entries: Entry[], cycles: number, letters: number, follows: boolean, marks: Mark[] }}
- * Segment a file, the cycle count at it, and what followed; `follows`: it begins where the segment before it ends
- * @typedef {{ entry: number, file: Uint8Array, count: CycleCount, cycles: number }} Mark the session after a number of entries of a
- * segment, and cycles of it
- * @typedef {{ segment: number, entry: number, cycles: number }} Moment after a number of entries of a segment, and cycles of the next
+ * Segment
+ *
+ * A stored state within a segment: the session after `entry` entries, which ran `cycles` cycles.
+ * @typedef {{ entry: number, file: Uint8Array, count: CycleCount, cycles: number }} Mark
+ *
+ * A moment: after `entry` entries of a segment, and after `cycles` cycles of the next entry.
+ * @typedef {{ segment: number, entry: number, cycles: number }} Moment
  * @typedef {{ file: Uint8Array, count: CycleCount }} Present
- * @typedef {{ isAnew: boolean, entries: Entry[] }} News what was done since the last report; `isAnew`: the past before it is new
- * @typedef {{ file: Uint8Array, total: number, reset: number, entries: Entry[] }} Recalled a segment that the page restores: the file, the
- * cycle count at it, and what followed
- * @typedef {(done?: number) => Promise<boolean>} GoesOn receives how many cycles were searched, and returns whether to continue
+ *
+ * The entries since the last report. If `isAnew` is true, they begin a new past.
+ * @typedef {{ isAnew: boolean, entries: Entry[] }} News
+ *
+ * A segment that the page restores: the file and the cycle counts at its beginning, and its entries.
+ * @typedef {{ file: Uint8Array, total: number, reset: number, entries: Entry[] }} Recalled
+ *
+ * A callback that receives how many cycles were searched, and resolves to whether to continue.
+ * @typedef {(done?: number) => Promise<boolean>} GoesOn
  */
 
-/** The limits of a segment: its cycles, which can be done again quickly, its entries, and the letters in their lines. */
+/** The limits of a segment: its cycles, its entries, and the letters in their lines. A segment can be repeated quickly. */
 const SEGMENT_CYCLES = 4000000;
 export const SEGMENT_ENTRIES = 4000;
 const SEGMENT_LETTERS = 200000;
-/** Each has a file of 164 KB. */
+/** The maximum of segments. Each has a file of 164 KB. */
 const MOST_SEGMENTS = 48;
-/** The last two segments have a mark after this many cycles, so that a step back repeats no more than these. */
+/** The distance of marks in the last two segments, in cycles. A step back repeats at most that many. */
 const MARK_CYCLES = 250000;
-/** The most steps forward that are possible after going back. */
+/** The maximum of steps forward after going back. */
 export const MOST_FORWARD = 64;
-/** A command with a longer text is not done again: another segment begins after it. */
+/** The longest command that is repeated, in letters. After a longer one a new segment begins. */
 const LONGEST_LINE = 20000;
-/** Commands without cycles may be where the past is to end: this many places are tried. */
+/** The maximum of ends that `recall` tries: several commands without cycles can be at the same cycle count. */
 const MOST_TRIES = 8;
-/** The most cycles and lines that are done again at once. */
+/** The limits of a piece that is repeated at once. */
 const PIECE_CYCLES = 1000000;
 const PIECE_LINES = 500;
 
@@ -45,15 +58,15 @@ export class Timeline {
   constructor(present) {
     /** @type {Segment[]} */
     this.segments = [segmentAt(present, false)];
-    /** True if time is paused: what follows begins at a stop. */
+    /** True if time is paused: then the next entry begins at a stop. */
     this.isStopped = true;
-    /** @type {({ segments: Segment[] } & Present)[]} the targets of forward, the next one last */
+    /** @type {({ segments: Segment[] } & Present)[]} the targets of going forward; the next one is last */
     this.future = [];
     /** @type {News} */
     this.news = { isAnew: true, entries: [] };
   }
 
-  /** Returns what was done since the last call. */
+  /** Returns the entries since the last call. */
   takeNews() {
     const { news } = this;
     this.news = { isAnew: false, entries: [] };
@@ -61,10 +74,10 @@ export class Timeline {
   }
 
   /**
-   * Restores the past before the first segment, as the page has it. What was saved of the session may be older than the past: then the rest
-   * of that is left out. Returns how many entries of the last segment are used, -1 if the past does not reach the first segment.
+   * Restores the past before the first segment, as the page has stored it. If the stored past is newer than the session, its later entries
+   * are dropped. Returns how many entries of the last segment are used, or -1 if this past does not lead to the first segment.
    * @param {Engine} engine
-   * @param {Recalled[]} recalled each follows the one before it
+   * @param {Recalled[]} recalled consecutive segments
    */
   recall(engine, recalled) {
     const [first] = this.segments;
@@ -86,7 +99,7 @@ export class Timeline {
 
   /**
    * @param {Recalled[]} recalled
-   * @param {number} count of the last one's entries
+   * @param {number} count the number of entries to use from the last segment
    */
   putBefore(recalled, count) {
     const [first, ...more] = this.segments;
@@ -100,20 +113,20 @@ export class Timeline {
     return this.segments[this.segments.length - 1];
   }
 
-  /** Returns how many cycles it has. */
+  /** The number of cycles in the stored past. */
   get cycles() {
     return this.segments.reduce((sum, { cycles }) => sum + cycles, 0);
   }
 
-  /** Notes that time is paused here. */
+  /** Notes that time is paused now. */
   stop() {
     this.isStopped = true;
   }
 
   /**
-   * Notes what was done; stored objects are not changed later.
+   * Appends commands to the past. Objects that were stored are never changed.
    * @param {Accepted[]} accepted
-   * @param {Present} present the session after it
+   * @param {Present} present the session after them
    */
   record(accepted, present) {
     if (accepted.length === 0) return;
@@ -141,7 +154,7 @@ export class Timeline {
   }
 
   /**
-   * Stores the session if the last mark is far away.
+   * Stores a mark if the last one is far away.
    * @param {Present} present
    */
   mark({ file, count }) {
@@ -150,7 +163,7 @@ export class Timeline {
     if (cycles - before >= MARK_CYCLES) marks.push({ entry: entries.length, file: file.slice(), count: count.copy(), cycles });
   }
 
-  /** Forgets the oldest segment without a stop, otherwise the oldest. */
+  /** Removes the oldest segment that has no stop, or else the oldest segment. */
   thin() {
     const found = this.segments.findIndex(({ entries }, at) => at < this.segments.length - 1 && !entries.some(({ isStop }) => isStop));
     const at = Math.max(0, found);
@@ -164,7 +177,7 @@ export class Timeline {
   }
 
   /**
-   * Returns the last stop before the present; null if there is none.
+   * Returns the last stop before the present, or null.
    * @returns {Moment | null}
    */
   lastStop() {
@@ -178,9 +191,9 @@ export class Timeline {
   }
 
   /**
-   * Returns the moment this many cycles, 1 or more, before another one: what was done between cycles there is done. Null if the past does
-   * not reach that far.
-   * @param {number} back
+   * Returns the moment `back` cycles before another one. Commands without cycles at that moment are already done. Returns null if the past
+   * is too short.
+   * @param {number} back 1 or more
    * @param {Moment} [from]
    * @returns {Moment | null}
    */
@@ -202,7 +215,7 @@ export class Timeline {
   }
 
   /**
-   * Resolves to the session at a moment, replayed on a copy.
+   * Resolves to the session at a moment, by repeating commands on a copy.
    * @param {Engine} engine
    * @param {Moment} moment
    * @param {GoesOn} goesOn
@@ -224,9 +237,9 @@ export class Timeline {
   }
 
   /**
-   * Makes a moment the present. Forward leads back to the former present.
+   * Makes a moment the present. Going forward leads to the former present.
    * @param {Moment} moment
-   * @param {Present} present the session here
+   * @param {Present} present the session at that moment
    */
   goBack(moment, present) {
     const { segments } = this;
@@ -242,7 +255,7 @@ export class Timeline {
   }
 
   /**
-   * Returns to where the last move back began; null if there is nothing.
+   * Returns to the moment before the last move back. Returns null if there was none.
    * @returns {Present | null}
    */
   goForward() {
@@ -257,7 +270,7 @@ export class Timeline {
 
 /**
  * @param {Recalled} recalled
- * @param {number} at
+ * @param {number} at its index
  * @returns {Segment}
  */
 function segmentOf({ file, total, reset, entries }, at) {
@@ -271,7 +284,7 @@ function sumOf(numbers) {
 }
 
 /**
- * Returns the state of a session without its count of commands.
+ * Returns the answer to `state` without the count of commands.
  * @param {Engine} engine
  * @param {Uint8Array} file
  */
@@ -280,9 +293,9 @@ function stateOf(engine, file) {
 }
 
 /**
- * Returns the entries, from an index on, that are done again at once.
+ * Returns the next piece of entries to repeat at once.
  * @param {Entry[]} entries
- * @param {number} from
+ * @param {number} from an index
  */
 function pieceOf(entries, from) {
   let cycles = 0;
@@ -304,7 +317,7 @@ function segmentAt({ file, count }, follows) {
 }
 
 /**
- * Returns the first cycles of an entry, as an entry of its own; none if there are none.
+ * Returns the first cycles of an entry as a separate entry, or no entry for 0 cycles.
  * @param {Entry | undefined} entry
  * @param {number} cycles
  * @returns {Entry[]}

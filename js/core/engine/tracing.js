@@ -1,19 +1,25 @@
-// The bench's forecast of a run: the answers to `trace` and `count`, among other consecutive answers.
+// Reads the bench's forecasts of runs: the answers to `trace` and `count`, within a list of consecutive answers.
 
 import { readRun } from "../bench/answers.js";
 
 /**
- * A reported instruction: the cycles before it, its address, and the row of watched values after it, each value after a blank.
+ * A traced instruction: the cycles before it, its address, and the row of watched values after it. A blank is before each value.
  * @typedef {{ cycles: number, address: number, row: string }} Traced
- * @typedef {{ address: number, begun: number, jumped: number }} Counted how often the instruction at an address begins, and how often it
- * jumps, -1 for one that never does
- * @typedef {{ row: string, lines: string[], cycles: number }} Trace the row before the run, the lines of the instructions, its cycles
- * @typedef {{ cycles: number, end: string }} Ran the cycles of a run, and what stopped it, "end" if nothing did
+ *
+ * The counts of the instruction at an address: how often it began, and how often it jumped, -1 if it is not a jump.
+ * @typedef {{ address: number, begun: number, jumped: number }} Counted
+ *
+ * A trace: the row before the run, the lines of the instructions, and the cycles of the run.
+ * @typedef {{ row: string, lines: string[], cycles: number }} Trace
+ *
+ * The result of a run: its cycles, and why it stopped, "end" if nothing stopped it.
+ * @typedef {{ cycles: number, end: string }} Ran
  */
 
 const HEAD = /^(?:trace|count) ran (\d+) \w+ lines (\d+)(.*)$/;
 
 /**
+ * Parses a line of a trace, as `5 00A 1 0`.
  * @param {string} line
  * @returns {Traced}
  */
@@ -23,7 +29,7 @@ export function readTraced(line) {
 }
 
 /**
- * `00A 12`, or `00A 12 3` of an instruction that may jump.
+ * Parses a line of a count: `00A 12`, or `00A 12 3` for an instruction that can jump.
  * @param {string} line
  * @returns {Counted}
  */
@@ -34,14 +40,14 @@ function readCounted(line) {
 }
 
 /**
- * The values of a row.
+ * Returns the values in a row.
  * @param {string} row
  */
 export function valuesOf(row) {
   return row.slice(1).split(" ");
 }
 
-/** Consecutive answers. */
+/** A reader of consecutive answers. */
 export class Answers {
   /** @param {string[]} answers */
   constructor(answers) {
@@ -53,17 +59,21 @@ export class Answers {
     return this.at === this.answers.length;
   }
 
+  /** Returns the next answer, and moves on. */
   take() {
     this.at += 1;
     return this.answers[this.at - 1];
   }
 
-  /** @param {number} count the answers that are skipped */
+  /** @param {number} count the number of answers to skip */
   skip(count) {
     this.at += count;
   }
 
-  /** @returns {Trace} */
+  /**
+   * Parses the next trace, and moves on. Throws if the bench has answered otherwise.
+   * @returns {Trace}
+   */
   takeTrace() {
     const answer = this.take();
     const head = HEAD.exec(answer);
@@ -74,7 +84,7 @@ export class Answers {
   }
 
   /**
-   * Returns the next answer without consuming it.
+   * Parses the next trace without moving on.
    * @returns {Trace}
    */
   seeTrace() {
@@ -84,13 +94,13 @@ export class Answers {
     return trace;
   }
 
-  /** Returns the instructions that a run begins, from the answer to `count`. */
+  /** Parses the next answer to `count`: the instructions that begin in a run. */
   takeCounts() {
     return this.takeTrace().lines.map(readCounted);
   }
 
   /**
-   * Reads the answer to a run; a refusal is its end.
+   * Parses the next answer to a run. If it is a refusal, `end` is that answer.
    * @returns {Ran}
    */
   takeRun() {

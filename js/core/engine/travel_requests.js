@@ -1,4 +1,4 @@
-// Requests that move the session to a goal, back and forward, and that search its past.
+// Requests that move the session to a goal, back and forward, and requests that search its past.
 
 import { readBoard } from "../bench/answers.js";
 import { nearOf } from "../debug/debugger.js";
@@ -20,7 +20,7 @@ export class TravelRequests {
   }
 
   /**
-   * The names for a condition that is searched for.
+   * Sets the names that a condition can use.
    * @param {{ board: string, program: string, watched?: string[] }} texts
    */
   takeNames(texts) {
@@ -28,9 +28,9 @@ export class TravelRequests {
   }
 
   /**
-   * Moves to a goal, or to an earlier stop. If neither is near, nothing is done; running time continues towards it.
+   * Moves to a goal, or to an earlier stop. If neither is within `most` cycles, the session is unchanged, and running time continues to it.
    * @param {Goal} goal
-   * @param {number} [most] the cycles that are tried
+   * @param {number} [most]
    * @returns {Promise<ReachedLines>}
    */
   async goOn(goal, most = nearOf(goal)) {
@@ -40,15 +40,13 @@ export class TravelRequests {
     return { ...served, ...this.bench.shown(snapshot, false), found, tally };
   }
 
-  /**
-   * Time begins to run, or is paused: there is no goal any more.
-   */
+  /** Drops the goal, because time starts to run or is paused. */
   drop() {
     this.bench.debugger.begin();
   }
 
   /**
-   * Goes back; the view shows the session from there on, and forward leads to the former present.
+   * Goes back. Going forward leads to the former present.
    * @param {BackGoal} goal
    * @returns {Promise<TravelResult>}
    */
@@ -59,7 +57,7 @@ export class TravelRequests {
   }
 
   /**
-   * Returns to where the last move back began.
+   * Returns to the moment before the last move back.
    * @returns {TravelResult}
    */
   goForward() {
@@ -77,7 +75,7 @@ export class TravelRequests {
   }
 
   /**
-   * Returns how often each character of RAM has changed in the last cycles, and when and by what last.
+   * Resolves to the heat map of the last cycles.
    * @param {number} cycles
    */
   heat(cycles) {
@@ -89,9 +87,9 @@ export class TravelRequests {
 }
 
 /**
- * Replaces the session by its state at another moment.
+ * Returns the result of a move in time, with the new present to show.
  * @param {OpenBench} bench
- * @param {string} word its name in the log
+ * @param {string} word the name of the move in the log
  * @param {WentBack} went
  * @returns {TravelResult}
  */

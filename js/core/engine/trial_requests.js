@@ -1,4 +1,4 @@
-// Requests for tests, and for the search for counterexamples: on sessions of their own.
+// Requests that run tests and search for counterexamples, in separate sessions.
 
 import { Exploring, readExplored, readToExplore } from "../explore/exploring.js";
 import { sampleTest } from "../testing/sample_test.js";
@@ -25,7 +25,7 @@ export class TrialRequests {
   }
 
   /**
-   * Returns the text of tests that a board with its program begins with.
+   * Returns the sample test for a board and its program.
    * @param {import("../testing/prepared.js").Texts} texts
    */
   sampleTest(texts) {
@@ -33,7 +33,7 @@ export class TrialRequests {
   }
 
   /**
-   * Runs tests on sessions of their own.
+   * Runs tests in separate sessions.
    * @param {import("../testing/test_suite.js").TestedTexts} texts
    */
   runTests(texts) {
@@ -49,7 +49,7 @@ export class TrialRequests {
   }
 
   /**
-   * Begins a search for counterexamples; returns the errors of the texts.
+   * Begins a search for counterexamples. Resolves to the errors of the texts.
    * @param {import("../explore/exploring.js").ExploredTexts} texts
    * @param {import("../explore/exploring.js").Asked} asked
    */
@@ -62,7 +62,7 @@ export class TrialRequests {
   }
 
   /**
-   * Searches for this many milliseconds, or until something is found.
+   * Continues the search for a time, or until it finds something.
    * @param {number} milliseconds
    */
   exploreOn(milliseconds) {

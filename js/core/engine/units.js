@@ -1,13 +1,15 @@
-// The past once more, in units: the commands from one moment to a later one, and the cycles between them.
+// The past in units: the commands between two moments, and the runs between them. A caller can repeat the units.
 
 /**
  * @typedef {import("./timeline.js").Moment} Moment
  * @typedef {import("./timeline.js").Timeline} Timeline
- * @typedef {{ line: string, cycles: number, moment: Moment }} Unit a command, its cycles, and the moment where it begins
+ *
+ * A unit: a command, its cycles, and the moment where it begins.
+ * @typedef {{ line: string, cycles: number, moment: Moment }} Unit
  */
 
 /**
- * Returns the units from one moment to a later one of the same segment.
+ * Returns the units between two moments in the same segment.
  * @param {Timeline} timeline
  * @param {Moment} from
  * @param {Moment} to
@@ -28,9 +30,9 @@ export function unitsBetween(timeline, from, to) {
 }
 
 /**
- * Returns the same units, split if they have many cycles.
+ * Returns the same units, with long ones split into parts.
  * @param {Unit[]} units
- * @param {number} most the cycles of a part
+ * @param {number} most the maximum of cycles in a part
  */
 export function shortUnits(units, most) {
   return units.flatMap((unit) => {
@@ -51,7 +53,7 @@ export function cyclesOf(units) {
 }
 
 /**
- * Returns units in pieces of about this many cycles, and at most this many units.
+ * Yields units in pieces. A piece ends when it has at least `most` cycles, or `mostUnits` units.
  * @param {Unit[]} units
  * @param {number} most
  * @param {number} mostUnits

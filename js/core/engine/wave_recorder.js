@@ -1,5 +1,4 @@
-// The recorder of a board's lines over time, in the worker: a copy of a session is run, and before each run the bench is asked what it will
-// do.
+// Records a board's lines over time, in the worker. It runs a copy of a session, and asks the bench for a forecast before each run.
 
 import { readBoard } from "../bench/answers.js";
 import { Cancelled } from "../bench/faults.js";
@@ -22,28 +21,31 @@ import { withoutStops } from "./without_stops.js";
  * The program in ROM: its text, the line of each address (0 for none), and its labels by rising address.
  * @typedef {{ text: string, lines: Uint16Array, labels: { address: number, name: string }[] }} RecordedProgram
  *
- * A recording as a message carries it, or its continuation. A moment is a number of cycles from the beginning; the value at a moment is the
- * value after that many cycles. `from`: the moment where it begins; `cycles`: that where it ends; `isStuck`: whether the next code is not
- * an instruction; `tracks`: each line over time; `moments`: the beginning of each instruction, and the end; `counters`: the counter at each
- * of these; `isOwed`: whether the first of them is the second cycle of an instruction; `listing`: the lines of the listing at the counters
- * that are new.
+ * A recording as a message contains it, or the next part of one. A moment is a number of cycles since the beginning. The value at a moment
+ * is the value after that many cycles.
+ * - `from`, `cycles`: the moments where the part begins and ends;
+ * - `isStuck`: the next code is not an instruction;
+ * - `tracks`: each line over time;
+ * - `moments`, `counters`: the beginning of each instruction and the end, and the program counter at each of them;
+ * - `isOwed`: the first of these moments is the second cycle of an instruction;
+ * - `listing`: the lines of the listing at new counters.
  * @typedef {import("./wave_taking.js").Taken & { listing: [number, string][] }} RecordedPart
  *
- * The whole recording, with its lines; `program` is null if the text is not the program in ROM.
+ * A complete recording, with its lines. `program` is null if the text is not the program in ROM.
  * @typedef {RecordedPart & { lines: WaveLine[], program: RecordedProgram | null }} Recorded
  *
- * The context of a recording: a board's text, which has names, the program in ROM, and the names of registers and characters to record in
+ * The texts for a recording: the board's text for names, the program in ROM, and the names of registers and RAM nibbles to record in
  * addition to the lines of the board.
  * @typedef {{ board: string, program: RecordedProgram | null, values: string[] }} Texts
  *
- * Receives how many cycles are done, and returns whether to continue.
+ * A callback that receives how many cycles are done, and resolves to whether to continue.
  * @typedef {(done: number) => Promise<boolean>} GoesOn
  */
 
 class WaveRecorder {
   /**
    * @param {Engine} engine
-   * @param {Uint8Array} file is changed
+   * @param {Uint8Array} file the state to run; it is changed
    * @param {Texts} texts
    */
   constructor(engine, file, texts) {
@@ -56,7 +58,7 @@ class WaveRecorder {
   }
 
   /**
-   * Does units of the past.
+   * Runs units, and records them.
    * @param {Pick<Unit, "line" | "cycles">[]} units
    */
   record(units) {
@@ -83,7 +85,7 @@ class WaveRecorder {
 }
 
 /**
- * The lines of the listing at some addresses.
+ * Returns the lines of the listing at some addresses.
  * @param {Engine} engine
  * @param {Uint8Array} file
  * @param {Iterable<number>} addresses
@@ -97,7 +99,7 @@ export function listedAt(engine, file, addresses) {
 }
 
 /**
- * Records this many cycles from now on, regardless of breakpoints and watches; the file is unchanged.
+ * Records the next cycles, without stopping at breakpoints and watches. The file is unchanged.
  * @param {Engine} engine
  * @param {Uint8Array} file
  * @param {number} cycles
@@ -117,8 +119,8 @@ export async function recordAfter(engine, file, cycles, texts, goesOn) {
 }
 
 /**
- * Returns the moment where a recording up to the present begins: this many cycles ago, or as far as the past reaches, but on the present
- * board.
+ * Returns the moment where a recording of the past begins: `cycles` cycles ago, or the beginning of the past. If the board was changed
+ * later, the recording begins after that change.
  * @param {Timeline} timeline
  * @param {number} cycles
  * @returns {Moment}
@@ -138,7 +140,7 @@ function beginningBefore(timeline, cycles) {
 }
 
 /**
- * Returns the units done from a moment up to the present.
+ * Returns the units from a moment up to the present.
  * @param {Timeline} timeline
  * @param {Moment} from
  */
@@ -151,7 +153,7 @@ function unitsFrom(timeline, from) {
 }
 
 /**
- * Records the last cycles before the present, as far as the past reaches: they are done again, with all that happened between them.
+ * Records the last cycles before the present, as far as the past reaches, by repeating them with all commands between them.
  * @param {Engine} engine
  * @param {Timeline} timeline
  * @param {number} cycles

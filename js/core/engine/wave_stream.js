@@ -1,5 +1,5 @@
-// Records the lines of a board piece by piece, for a file that is written meanwhile: however long the recording is, only one piece is in
-// memory.
+// Records the lines of a board piece by piece, for a file that is written meanwhile. Only one piece is in memory, however long the
+// recording is.
 
 import { Waves } from "../waves/wave_recording.js";
 import { Answers } from "./tracing.js";
@@ -12,19 +12,20 @@ import { WaveTaking } from "./wave_taking.js";
  * @typedef {import("../waves/wave_lines.js").WaveLine} WaveLine
  */
 
+/** The cycles of a piece. */
 const PIECE = 20000;
 
 /**
- * Returns whether a line changes with the counter.
+ * Returns whether a line follows the program counter.
  * @param {WaveLine} line
  */
 const isOfCounter = ({ kind }) => kind === "pc" || kind === "label";
 
 /**
- * Returns the chosen lines of a board, and the lines of their ports.
- * @param {WaveLine[]} lines of the board
- * @param {number[]} chosen by their numbers
- * @returns {{ lines: WaveLine[], chosen: number[] }} `chosen` are the same lines by their new numbers
+ * Returns the chosen lines of a board, and the member lines of chosen ports.
+ * @param {WaveLine[]} lines the lines of the board
+ * @param {number[]} chosen the indices of the chosen lines
+ * @returns {{ lines: WaveLine[], chosen: number[] }} `chosen` are the chosen lines by their new indices
  */
 export function neededLines(lines, chosen) {
   const needed = [...new Set(chosen.flatMap((line) => [line, ...lines[line].members]))];
@@ -39,9 +40,9 @@ export function neededLines(lines, chosen) {
 /**
  * Records the next cycles of a state that has no breakpoints and no watches. Yields the recording at its beginning, and after each piece.
  * @param {EngineHost} engine
- * @param {State} state is moved on
+ * @param {State} state is moved to the end of the recording
  * @param {{ lines: WaveLine[], program: RecordedProgram | null, cycles: number }} wanted
- * @param {() => Promise<any>} yieldToMessages is called between the pieces
+ * @param {() => Promise<any>} yieldToMessages is called between pieces
  */
 export async function* recordPieces(engine, state, { lines, program, cycles }, yieldToMessages) {
   const taking = new WaveTaking(lines, lines.some(isOfCounter));

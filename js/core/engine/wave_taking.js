@@ -1,5 +1,4 @@
-// The parts of the bench's answers that a recording keeps: the moments at which each line changes, and those at which each instruction
-// begins.
+// Extracts a recording from the bench's answers: the moments when each line changes, and when each instruction begins.
 
 import { MOST_PLACES } from "../bench/inputs.js";
 import { valueIn } from "../bench/state_line.js";
@@ -12,22 +11,27 @@ import { readTraced, valuesOf } from "./tracing.js";
  * @typedef {import("../waves/track.js").TrackData} TrackData
  * @typedef {import("../waves/wave_lines.js").WaveLine} WaveLine
  *
- * A line that a place reports: its number, and its value in the report.
+ * A reader of a line: the line's index, and a function from the report of its place to its value.
  * @typedef {{ member: number, read: (answer: string) => number }} Reader
- * @typedef {{ place: string, readers: Reader[], from: number, to: number }} Asked a place, and its position in each row
- * @typedef {{ asked: Asked[], row: string }} Group places that are queried at once, and the last report of them
  *
- * The additions since the last fetch.
+ * A place, the lines to read from it, and the position of its report in each row.
+ * @typedef {{ place: string, readers: Reader[], from: number, to: number }} Asked
+ *
+ * Places that one query asks for, and the last row of their reports.
+ * @typedef {{ asked: Asked[], row: string }} Group
+ *
+ * The part of a recording since the last call of `take`.
  * @typedef {{ from: number, cycles: number, isStuck: boolean, isOwed: boolean, tracks: TrackData[], moments: Uint32Array,
  *   counters: Uint16Array }} Taken
  */
 
+/** Character codes. */
 const BLANK = 32;
 const ZERO = 48;
 const NINE = 57;
 
 /**
- * A hexadecimal digit in upper case.
+ * Returns the value of a hexadecimal digit in upper case.
  * @param {string} line
  * @param {number} at
  */
@@ -37,7 +41,8 @@ function digitAt(line, at) {
 }
 
 /**
- * Returns the place of `trace` that reports a line of the board, and how: a port reports a digit whose bit k is line k, a chain its bits.
+ * Returns the place of `trace` that reports a line of the board, and how to read the line. A port reports a digit whose bit k is line k. A
+ * chain reports its bits.
  * @param {string} line `rom0.3`, `ram0.1.3`, `chain0.5`
  */
 function placeOfLevel(line) {
@@ -49,9 +54,9 @@ function placeOfLevel(line) {
 }
 
 /**
- * Returns the places of lines, each once, with what they report.
+ * Returns the places of lines without duplicates, and how to read the lines from them.
  * @param {WaveLine[]} lines
- * @param {"level" | "value"} wanted
+ * @param {"level" | "value"} wanted the kind of lines
  */
 function placesOf(lines, wanted) {
   /** @type {Map<string, Reader[]>} */
@@ -66,7 +71,7 @@ function placesOf(lines, wanted) {
 }
 
 /**
- * The places of a value's digits, and the value by each of them.
+ * Returns a place for each digit of a value. Reading a digit returns the value with all digits read so far.
  * @param {string[]} places the highest digit first
  */
 function placesOfValue(places) {
@@ -81,7 +86,8 @@ function placesOfValue(places) {
 }
 
 /**
- * Returns places in groups that are queried at once: ports apart from values, which change far more often.
+ * Returns the places of lines in groups, one group for each query. Ports and values are in different groups, because values change far more
+ * often.
  * @param {WaveLine[]} lines
  */
 function groupsOf(lines) {
@@ -94,7 +100,7 @@ function groupsOf(lines) {
 }
 
 /**
- * Returns the position of each place in the rows of a group; the report of a place always has the same length.
+ * Sets the position of each place in the rows of a group. The report of a place always has the same length.
  * @param {Group} group
  * @param {string} row
  */
@@ -108,7 +114,7 @@ function measure({ asked }, row) {
 }
 
 /**
- * Returns whether two rows are the same from one letter up to another.
+ * Returns whether two rows are equal between two positions.
  * @param {string} one
  * @param {string} other
  * @param {number} from
@@ -119,17 +125,17 @@ function isSame(one, other, from, to) {
   return true;
 }
 
-/** Reads the answers to its queries and to runs, and those to other commands. */
+/** Builds a recording from answers to its queries, to runs and to `state`. */
 export class WaveTaking {
   /**
    * @param {WaveLine[]} lines
-   * @param {boolean} [hasCounter] whether the instructions that are begun are wanted
+   * @param {boolean} [hasCounter] whether to record the beginning of each instruction
    */
   constructor(lines, hasCounter = true) {
     this.lines = lines;
     this.hasCounter = hasCounter;
     this.elapsed = 0;
-    /** True if no instruction is at the counter. */
+    /** True if the code at the program counter is not an instruction. */
     this.isStuck = false;
     this.isOwed = false;
     this.hasBegun = false;
@@ -137,13 +143,13 @@ export class WaveTaking {
     this.tracks = lines.map(({ width }) => new Track(emptyTrack(width)));
     this.moments = new Growing(new Uint32Array(0));
     this.counters = new Growing(new Uint16Array(0));
-    /** The end of the last fetch. */
+    /** The end of the last part. */
     this.from = 0;
   }
 
   /**
-   * Returns the queries before a run: each instruction with its address, and the lines when they change.
-   * @param {number} cycles
+   * Returns the queries before a run: a `trace` of each instruction, and a `trace` for each group of places.
+   * @param {number} cycles the length of the run
    */
   questions(cycles) {
     const groups = this.groups.map(({ asked }) => `trace ${cycles} ${asked.map(({ place }) => place).join(" ")}\n`);
@@ -151,7 +157,7 @@ export class WaveTaking {
   }
 
   /**
-   * Reads the initial values: the answers to `state`, and to the queries.
+   * Reads the initial values from the answers to `state` and to the queries.
    * @param {Answers} answers
    */
   begin(answers) {
@@ -164,7 +170,7 @@ export class WaveTaking {
   }
 
   /**
-   * Reads the answers to the queries, and to the run.
+   * Reads the answers to the queries and to the run.
    * @param {Answers} answers
    */
   takeRun(answers) {
@@ -174,12 +180,12 @@ export class WaveTaking {
     this.takeEnd(ran);
   }
 
-  /** @param {Answers} answers to the questions */
+  /** @param {Answers} answers to the queries */
   takeQuestions(answers) {
     if (this.hasCounter) for (const line of answers.takeTrace().lines) this.takeBegun(line);
     for (const group of this.groups) {
       const trace = answers.takeTrace();
-      // A command may have changed it.
+      // The command before the run can have changed the row.
       this.takeRow(group, trace.row, this.elapsed);
       for (const line of trace.lines) {
         const { cycles, row } = readTraced(line);
@@ -189,7 +195,7 @@ export class WaveTaking {
   }
 
   /**
-   * Reads an instruction that begins, `5 00A`. There are more than a thousand of them in a frame: the line is read character by character.
+   * Reads the line of an instruction, as `5 00A`. A frame has more than a thousand of these lines, so this parses them by character.
    * @param {string} line
    */
   takeBegun(line) {
@@ -210,7 +216,7 @@ export class WaveTaking {
   }
 
   /**
-   * Reads the answer to `state` after a command, and at the end.
+   * Reads the answer to `state` after a command and at the end.
    * @param {string} state
    */
   takeState(state) {
@@ -220,7 +226,7 @@ export class WaveTaking {
       if (kind === "key") this.tracks[member].set(Number(keys.includes(`,${places[0]},`)), this.elapsed);
       if (kind === "test") this.tracks[member].set(test, this.elapsed);
     });
-    // Inside an instruction the counter is that of the next one.
+    // During the second cycle of an instruction, the counter is that of the next one.
     if (valueIn(state, "owed") === "0" || !this.hasBegun) {
       this.takeInstruction(this.elapsed, parseInt(valueIn(state, "pc"), 16));
     }
@@ -241,8 +247,9 @@ export class WaveTaking {
   }
 
   /**
+   * Reads a row of reports, and records the values that have changed.
    * @param {Group} group
-   * @param {string} row the value of each place after a blank
+   * @param {string} row the reports of the places, with a blank before each
    * @param {number} moment
    */
   takeRow(group, row, moment) {
@@ -257,7 +264,7 @@ export class WaveTaking {
   }
 
   /**
-   * Returns what was recorded since the last call.
+   * Returns the part of the recording since the last call.
    * @returns {Taken}
    */
   take() {

@@ -1,10 +1,10 @@
-// A state whose runs nothing stops: without its breakpoints and watches.
+// A copy of a state without breakpoints and watches, so that nothing stops its runs.
 
 import { readMarks } from "../bench/answers.js";
 import { joinLines } from "../bench/inputs.js";
 
 /**
- * The lines that take away all breakpoints and watches.
+ * Returns the lines that remove all breakpoints and watches.
  * @param {string[]} answers the answers to `breaks` and `watches`
  */
 function linesWithoutStops([breaks, watches]) {

@@ -1,4 +1,5 @@
-// The session in the worker: the bytes of its file, the waiting keys, and the calls on them. A call is done whole or not at all.
+// The session in the worker: the bytes of its file, the waiting changes of keys, and the calls on them. A call succeeds completely, or it
+// throws and changes nothing.
 
 import { CycleCount, acceptedOf } from "./accepted.js";
 import { askedLines, partedAnswers } from "./asking.js";
@@ -29,67 +30,73 @@ import { SEGMENT_ENTRIES, Timeline } from "./timeline.js";
  * @typedef {import("./sounding.js").Heard} Heard
  * @typedef {import("./sounding.js").Sounding} Sounding
  * @typedef {import("../bench/run_log.js").RanEntry} RanEntry
- * @typedef {{ line: string, textLines: number, answers: string[] }} Answered an input, how many lines its text had, and its answers
- * @typedef {{ entries: Answered[], first: string, status: number, touchesRom: boolean, wires: boolean }} LinesResult the result of lines:
- * the last inputs, the first answer, the status at the shell's end, and whether bytes of ROM or the board may have changed
+ *
+ * An input, the number of lines in its text, and its answers.
+ * @typedef {{ line: string, textLines: number, answers: string[] }} Answered
+ *
+ * The result of lines: the last inputs, the first answer, the shell's final status, and whether the lines can have changed ROM or the
+ * board.
+ * @typedef {{ entries: Answered[], first: string, status: number, touchesRom: boolean, wires: boolean }} LinesResult
  * @typedef {LinesResult & { snapshot: string[] }} ResultAndSnapshot
+ *
+ * The result of running. `end` is the answer that ended the run early, or "". `litShares`, `heard` and `warmed` are the light, the sound
+ * and the changes of RAM, null if not requested.
  * @typedef {{ ran: RanEntry[], cycles: number, end: string, changesKeys: boolean, snapshot: string[], litShares: LitShares | null, heard:
- * Heard | null, warmed: PassedHeat | null }} Frame the result of cycles; `end` is the answer that ended the run early, "" if none did; the
- * light (`shone`), the sound (`heard`), the changes of RAM (`warmed`), null if not asked for
+ * Heard | null, warmed: PassedHeat | null }} Frame
  */
 
-/** The most served inputs that are reported. */
+/** The maximum of served inputs in a result. */
 export const MOST_ENTRIES = 400;
-/** A recording follows lines of at most this many cycles. */
+/** The maximum of cycles that a recording repeats after lines were served. */
 const MOST_FOLLOWED = 2000000;
-/** The characters of lines that are served at once. */
+/** The size of a piece of lines, in characters. */
 const FIRST_PIECE = 4096;
 const LEAST_PIECE = 256;
 const LARGEST_PIECE = 1 << 20;
 
-/** @type {Record<string, true>} */
+/** @type {Record<string, true>} the kinds of commands that can change ROM */
 const TOUCHES_ROM = { poke: true, wire: true, asm: true };
 
 export class WorkerSession {
   /**
-   * Opens a session; throws if the bytes are not one.
+   * Opens a session. Throws if the bytes are not a session.
    * @param {Engine} engine
-   * @param {Uint8Array} file is owned, and changed by each call
-   * @param {CycleCount} [count] the cycles that were counted up to here
+   * @param {Uint8Array} file now belongs to this session, which changes it
+   * @param {CycleCount} [count] the cycle count of the session
    */
   constructor(engine, file, count = new CycleCount()) {
     this.engine = engine;
     this.file = file;
     this.count = count;
-    /** Stores the new bytes of a call, until they replace the old ones. */
+    /** The buffer for the next file: a call writes to it, and then swaps it with `file`. */
     this.next = new Uint8Array(file.length);
     this.queue = new KeyQueue();
     this.statusQueries = statusQueriesOf(engine, file);
     this.timeline = new Timeline(this);
-    /** @type {Accepted[]} the changes of breakpoints since going back, which the past gets before what comes next */
+    /** @type {Accepted[]} changes of breakpoints since the last travel in time, recorded before the next command */
     this.unrecorded = [];
-    /** @type {Uint8Array | null} the contents of ROM, if they were read */
+    /** @type {Uint8Array | null} the bytes in ROM, null until they are read */
     this.readCodes = null;
-    /** @type {LiveRecorder | null} the recorder of all that is done */
+    /** @type {LiveRecorder | null} the recorder of the lines of the board */
     this.recorder = null;
-    /** @type {Printing | null} what was sent to the board's printer */
+    /** @type {Printing | null} the printout of the board's printer */
     this.printing = null;
-    /** @type {Sounding | null} the reporter of a line's edges while time runs, if somebody listens */
+    /** @type {Sounding | null} reports the edges of a line while time is running, if requested */
     this.sounding = null;
-    /** @type {BrightnessMeter | null} the meter of light while time runs, if somebody looks */
+    /** @type {BrightnessMeter | null} measures light while time is running, if requested */
     this.brightnessMeter = null;
-    /** @type {Heating | null} the counter of RAM changes while time runs, if somebody looks */
+    /** @type {Heating | null} counts changes of RAM while time is running, if requested */
     this.heating = null;
   }
 
-  /** A new board is wired: its viewers must register again. */
+  /** Ends the reports, because they belong to another board. */
   forgetSenses() {
     this.brightnessMeter = null;
     this.sounding = null;
     this.heating = null;
   }
 
-  /** Returns the recorder if it is recording. */
+  /** The recorder, or null if it is not recording. */
   get recording() {
     return this.recorder && this.recorder.isOn ? this.recorder : null;
   }
@@ -101,7 +108,7 @@ export class WorkerSession {
   }
 
   /**
-   * Returns the answers to queries; nothing is changed.
+   * Returns the answers to queries, without changing the session.
    * @param {string} lines
    */
   ask(lines) {
@@ -112,12 +119,13 @@ export class WorkerSession {
     return snapshotAt(this.engine, this.file, this.statusQueries);
   }
 
+  /** Makes the result of the last call the session's file. */
   adopt() {
     [this.file, this.next] = [this.next, this.file];
   }
 
   /**
-   * Runs for this many cycles, with the changes of keys that are due, and takes a snapshot, in one call.
+   * Runs the next cycles, with the changes of keys that are due, and takes a snapshot, in one call.
    * @param {number} cycles
    * @returns {Frame}
    */
@@ -126,7 +134,7 @@ export class WorkerSession {
   }
 
   /**
-   * Does lines of the queue's plan, and takes a snapshot.
+   * Serves lines of the queue's plan, and takes a snapshot.
    * @param {PlannedLine[]} planned
    * @returns {Frame}
    */
@@ -154,7 +162,7 @@ export class WorkerSession {
   }
 
   /**
-   * Notes what was done.
+   * Adds accepted commands to the cycle count and to the past.
    * @param {Accepted[]} accepted
    */
   record(accepted) {
@@ -165,7 +173,7 @@ export class WorkerSession {
   }
 
   /**
-   * Takes over the session of another moment; returns whether its board is different.
+   * Replaces the session by its state at another moment. Returns whether the board has changed.
    * @param {{ file: Uint8Array, count: CycleCount }} present
    */
   become({ file, count }) {
@@ -182,15 +190,14 @@ export class WorkerSession {
     return wires;
   }
 
-  /** The addresses of the breakpoints that the bench has. */
+  /** The addresses of the breakpoints in the bench. */
   get breaks() {
     return readMarks(this.ask("breaks\n")[0]).map((address) => parseInt(address, 16));
   }
 
   /**
-   * Notes changes of breakpoints after going back or forward, which are not part of the past. Forward still leads where it did: they become
-   * a line of the past only once something else is done.
-   * @param {string} lines of breakpoints
+   * Changes breakpoints after a travel in time. They become part of the past only with the next command, so that going forward still works.
+   * @param {string} lines commands that change breakpoints
    */
   changeBreaks(lines) {
     const inputs = readInputs(lines);
@@ -199,8 +206,8 @@ export class WorkerSession {
   }
 
   /**
-   * Serves lines up to the first run that stops early, or a refusal. Only the answers show whether there is one; then the result of the
-   * call is discarded, and the lines up to there are served alone.
+   * Serves lines up to the first run that stops early, or up to a refusal. The call serves all lines. If an answer shows such an end, the
+   * result is discarded, and another call serves the lines up to that end.
    * @param {PlannedLine[]} planned
    */
   servePlanned(planned) {
@@ -223,8 +230,7 @@ export class WorkerSession {
   }
 
   /**
-   * Returns the meters of lamps, of the buzzer's line and of RAM for some lines; null for each that nobody asks for, or if the lines take
-   * too long.
+   * Returns the meters of lamps, of the buzzer's line and of RAM. Each is null if it is not requested, or if the lines are too long.
    * @param {PlannedLine[]} planned
    */
   sensesIn(planned) {
@@ -233,7 +239,7 @@ export class WorkerSession {
     return areFew ? { brightnessMeter, sounding, heating } : { brightnessMeter: null, sounding: null, heating: null };
   }
 
-  /** Returns the duty cycles and the changes of the next 30 ms; null for each that nobody asks for. */
+  /** Returns the light and the changes of RAM in the next 30 ms. Each is null if it is not requested. */
   senseAhead() {
     const { brightnessMeter, heating } = this;
     return {
@@ -242,7 +248,7 @@ export class WorkerSession {
     };
   }
 
-  /** @param {PlannedLine[]} planned */
+  /** @param {PlannedLine[]} planned lines to serve in one call, with the queries of all askers; `file` is unchanged */
   tryPlanned(planned) {
     const { recording, printing } = this;
     const { brightnessMeter, sounding, heating } = this.sensesIn(planned);
@@ -264,8 +270,8 @@ export class WorkerSession {
   }
 
   /**
-   * The recording follows lines that were served.
-   * @param {Uint8Array} before the file as it was
+   * Records lines that were served.
+   * @param {Uint8Array} before the file before them
    * @param {Accepted[]} accepted
    */
   follow(before, accepted) {
@@ -276,9 +282,9 @@ export class WorkerSession {
   }
 
   /**
-   * Serves lines, piece by piece: all of them, or none if a piece fails or the work is cancelled.
+   * Serves lines piece by piece: all of them, or none if a piece fails or the work is cancelled.
    * @param {string} lines
-   * @param {(done: number) => Promise<boolean>} goesOn receives, after each piece, how many characters are done, and returns whether to
+   * @param {(done: number) => Promise<boolean>} goesOn receives the number of characters done after each piece, and resolves to whether to
    * continue
    * @returns {Promise<ResultAndSnapshot>}
    */
@@ -286,7 +292,7 @@ export class WorkerSession {
     const report = new LinesReport(this.count.copy());
     const before = this.recording ? this.file.slice() : null;
     const printing = this.printing && this.printing.copy();
-    // The next piece is served on `from`; the session's own file is unchanged until all is done.
+    // The next piece is served on `from`. The session's own file is unchanged until all pieces are done.
     let [from, to] = [this.file, this.next];
     const size = new PieceSize(FIRST_PIECE, LEAST_PIECE, LARGEST_PIECE);
     for (let at = 0; at < lines.length;) {
@@ -306,7 +312,7 @@ export class WorkerSession {
     }
     const statusQueries = report.wires ? statusQueriesOf(this.engine, from) : this.statusQueries;
     const snapshot = snapshotAt(this.engine, from, statusQueries);
-    // From here on nothing fails: it is done.
+    // Nothing below can fail: the session changes now.
     if (from !== this.file) [this.file, this.next] = [from, this.file];
     this.statusQueries = statusQueries;
     if (report.touchesRom) this.readCodes = null;
@@ -315,7 +321,7 @@ export class WorkerSession {
     this.printing = printing;
     if (report.accepted.length > 0) this.timeline.record([...this.unrecorded.splice(0), ...report.accepted], this);
     this.timeline.stop();
-    // Changes that wait for their time were meant for the keys of the other board.
+    // The waiting changes of keys belong to the old board.
     if (report.wires) this.queue.clear();
     if (report.wires) this.forgetSenses();
     if (before) this.follow(before, report.accepted);
@@ -324,11 +330,12 @@ export class WorkerSession {
 }
 
 /**
- * Returns the status queries of a board: the answer to `board`, the queries as lines, and as inputs.
+ * The status queries of a board: the answer to `board`, the queries as lines, and the queries as inputs.
  * @typedef {{ board: string[], lines: string, inputs: Input[] }} StatusQueries
  */
 
 /**
+ * Returns the status queries of the board in a session file.
  * @param {Engine} engine
  * @param {Uint8Array} file
  * @returns {StatusQueries}
@@ -340,6 +347,7 @@ function statusQueriesOf(engine, file) {
 }
 
 /**
+ * Returns a snapshot of a session file.
  * @param {Engine} engine
  * @param {Uint8Array} file
  * @param {StatusQueries} lookQuestions
@@ -348,12 +356,12 @@ function snapshotAt(engine, file, { lines, inputs }) {
   return snapshotOf(inputs, engine.ask(file, lines).answers);
 }
 
-/** Gathers the results of pieces. */
+/** Collects the results of pieces. */
 class LinesReport {
-  /** @param {CycleCount} count the cycles before the first piece */
+  /** @param {CycleCount} count the cycle count before the first piece */
   constructor(count) {
     this.count = count;
-    /** @type {Accepted[]} only the last ones, if there are too many to do again */
+    /** @type {Accepted[]} the accepted commands; incomplete if there are too many to repeat them */
     this.accepted = [];
     /** @type {Answered[]} */
     this.entries = [];
@@ -364,7 +372,7 @@ class LinesReport {
   }
 
   /**
-   * Returns what was accepted.
+   * Adds the result of a piece, and returns its accepted commands.
    * @param {string} lines
    * @param {Served} served
    */
@@ -377,7 +385,7 @@ class LinesReport {
     if (this.first === "" && answers.length > 0) this.first = answers[0];
     this.status = status;
     this.touchesRom = this.touchesRom || inputs.some((input) => TOUCHES_ROM[input.kind]);
-    // A rejected board leaves the old one unchanged.
+    // A rejected board leaves the present one unchanged.
     this.wires = this.wires || inputs.some((input, at) => input.kind === "wire" && !matched[at].some(isStop));
     const from = Math.max(0, inputs.length - MOST_ENTRIES);
     const entries = inputs.slice(from).map(({ line, text }, at) => ({ line, textLines: text.length, answers: matched[from + at] }));
