@@ -1,4 +1,4 @@
-// The marks of breakpoints, in the margin of the source and in the listing, with words about each.
+// The marks of breakpoints in the margin of the source and in the listing, with a description of each.
 
 import * as say from "../../words/machine.js";
 
@@ -7,14 +7,14 @@ import * as say from "../../words/machine.js";
  * @typedef {{ mark: string, words: string }} BreakpointMark
  */
 
-/** It stops, it stops on a condition, it logs, it stops nothing. */
+/** The marks of a breakpoint: it always stops, it stops on a condition, it logs, it never stops. */
 const ALWAYS = "\u25CF";
 const SOMETIMES = "\u25C6";
 const LOGS = "\u25B8";
 const NEVER = "\u25CB";
 
 /**
- * Returns the condition and the log text of a breakpoint; "" if it stops every time.
+ * Returns the condition, the hit count and the log text of a breakpoint, or "" if it has none of them.
  * @param {Pick<Breakpoint, "condition" | "from" | "note">} breakpoint
  */
 export function detailsOfBreakpoint({ condition, from, note }) {
@@ -24,7 +24,7 @@ export function detailsOfBreakpoint({ condition, from, note }) {
 }
 
 /**
- * Returns the effect of a breakpoint, in words.
+ * Returns a sentence that describes a breakpoint.
  * @param {Pick<Breakpoint, "condition" | "from" | "note">} breakpoint
  */
 export function wordsOfBreakpoint(breakpoint) {
@@ -32,8 +32,9 @@ export function wordsOfBreakpoint(breakpoint) {
 }
 
 /**
+ * Returns the mark and the description of a breakpoint.
  * @param {Breakpoint} breakpoint
- * @param {string} fault why it cannot be read, and so stops every time; "" if it can
+ * @param {string} fault the error in its condition or log text, or "". With an error it stops every time.
  * @returns {BreakpointMark}
  */
 export function markOf(breakpoint, fault) {
@@ -46,9 +47,9 @@ export function markOf(breakpoint, fault) {
 }
 
 /**
- * The marks of the lines of the source, and those of addresses.
+ * Returns the marks by source line, and the marks by address.
  * @param {Breakpoint[]} breakpoints
- * @param {Map<number, string>} faults by their ids
+ * @param {Map<number, string>} faults the errors of breakpoints, by their ids
  */
 export function marksOf(breakpoints, faults) {
   /** @type {Map<number, BreakpointMark>} */

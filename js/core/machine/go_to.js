@@ -1,5 +1,4 @@
-// The targets of "go to": a name of the program, also with a number added to it, an address as listings print it, or a number as lines
-// write it.
+// Parses the target of "go to": a name of the program, a name plus a number, an address as in listings, or a number as in commands.
 
 import { LAST_ADDRESS, numberOf } from "../bench/numbers.js";
 import * as say from "../../words/machine.js";
@@ -7,16 +6,17 @@ import * as say from "../../words/machine.js";
 /**
  * @typedef {import("./source_map.js").SourceMap} SourceMap
  *
- * The address, or why there is none, in words.
+ * The address, or the message of an error.
  * @typedef {{ address: number, words: string }} Goal
  */
 
-/** Three digits are an address of a listing, even if all of them are decimal. */
+/** An address as in listings: three hexadecimal digits, even if all of them are decimal. */
 const OF_LISTING = /^[0-9a-f]{3}$/i;
-/** A name with an offset, as the page writes addresses after a label. */
+/** A name plus an offset, as the page writes addresses. */
 const BEHIND = /^([a-z_]\w*)\s*\+\s*(0x[0-9a-f]+|\d+)$/i;
 
 /**
+ * Returns an error.
  * @param {string} words
  * @returns {Goal}
  */
@@ -25,6 +25,7 @@ function refused(words) {
 }
 
 /**
+ * Parses a target.
  * @param {string} text
  * @param {SourceMap | null} map the program in ROM
  * @returns {Goal}
@@ -37,7 +38,7 @@ export function goalOf(text, map) {
   const address = OF_LISTING.test(word) ? parseInt(word, 16) : numberOf(word);
   if (address <= LAST_ADDRESS) return { address, words: "" };
   if (!Number.isNaN(numberOf(word))) return refused(say.beyondLast(word));
-    if (word === "") return refused(say.nothingToGoTo(say.ADDRESS_FORMS));
+  if (word === "") return refused(say.nothingToGoTo(say.ADDRESS_FORMS));
   if (map) return refused(say.noNameOrAddress(word, say.ADDRESS_FORMS));
   return refused(say.noAddress(word, say.ADDRESS_FORMS));
 }

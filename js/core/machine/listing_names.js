@@ -1,4 +1,4 @@
-// A line of a listing with the names of the program in ROM.
+// Adds the names of the program in ROM to a line of a listing.
 
 import { hex } from "../bench/numbers.js";
 import { wordsOfLine } from "../../words/stops.js";
@@ -7,20 +7,22 @@ import { wordsOfLine } from "../../words/stops.js";
  * @typedef {import("../bench/answers.js").Listed} Listed
  * @typedef {import("./source_map.js").SourceMap} SourceMap
  *
- * The contents of a row: its address and that of its second byte ("" for none) as answers write them, address and bytes, the labels at it,
- * its instruction, and its line of the source in words ("" for none).
+ * The fields of a listing line. `first`, `second`: its address, and the address of its second byte ("" for none); `bytes`: address and
+ * bytes as the answer has them; `labels`: the labels at its address; `source`: its source line as text ("" for none).
  * @typedef {{ address: number, first: string, second: string, bytes: string, labels: string, instruction: string, source: string }}
  *   NamedLine
  */
 
-/** Instructions whose last operand is an address. */
+/** An instruction whose last operand is an address. */
 const HAS_TARGET = /^(JUN|JMS|JCN|ISZ) .*0x([0-9A-F]{3})$/;
+/** Columns in a line of a listing. */
 const BYTES_END = 9;
 const SECOND_BYTE = 7;
 const INSTRUCTION_AT = 10;
 const COLON = 1;
 
 /**
+ * Returns a line of a listing with names.
  * @param {Listed} listed
  * @param {SourceMap | null} map
  * @returns {NamedLine}
@@ -40,7 +42,7 @@ export function namedLine({ address, line }, map) {
 }
 
 /**
- * Returns an instruction with the label of its target, the one that the source writes if there are several.
+ * Returns an instruction with a label in place of its target address. If the target has several labels, it is the one in the source line.
  * @param {string} instruction
  * @param {string} source
  * @param {SourceMap} map
@@ -56,7 +58,7 @@ function withTarget(instruction, source, map) {
 }
 
 /**
- * Returns the length of the longest label, with its colon; 0 if there is none.
+ * Returns the length of the longest label, with its colon, or 0 if there is none.
  * @param {SourceMap | null} map
  */
 export function widthOfLabels(map) {

@@ -1,4 +1,4 @@
-// Asks the bench for the requested stretch of a listing, and for no more.
+// Reads the part of a listing that is shown, with as few queries as possible.
 
 import { readListing } from "../bench/answers.js";
 import { joinLines, matchAnswers, readInputs } from "../bench/inputs.js";
@@ -16,9 +16,9 @@ export class ListingReader {
   }
 
   /**
-   * A list that is in step with the goal's anchor; usually the first one that is tried.
+   * Resolves to a listing that is aligned with the goal's anchor. Usually the first query finds it.
    * @param {Goal} goal
-   * @param {number} rows
+   * @param {number} rows the number of lines to show
    */
   async read(goal, rows) {
     /** @type {Listed[]} */

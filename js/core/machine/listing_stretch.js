@@ -1,5 +1,5 @@
-// The stretch of a listing that is shown: the addresses where lists must begin, and the parts to cut from them. A list is a sweep from its
-// first byte on, so it is in step with the program only if one of its lines begins at the known beginning of an instruction.
+// Finds where to begin a listing, and cuts the lines to show from it. The bench disassembles from the first byte on. So a listing is
+// aligned with the program only if one of its lines begins at an address where an instruction is known to begin.
 
 import { upTo } from "../bench/numbers.js";
 import { ADDRESSES, MAX_LISTED } from "../bench/rom_bytes.js";
@@ -7,21 +7,24 @@ import { ADDRESSES, MAX_LISTED } from "../bench/rom_bytes.js";
 /**
  * @typedef {import("../bench/answers.js").Listed} Listed
  *
- * A requested stretch: its first line is the first one at or after `from`, and a line begins at `anchor`, if that is known.
+ * The part of a listing to show: its first line is the first one at or after `from`. A line must begin at `anchor`, if that is known.
  * @typedef {{ from: number, anchor: number | null }} Goal
  */
 
-/** A sweep falls into step within a few instructions, so it begins this many bytes early; if it does not, it begins a byte later. */
+/**
+ * A disassembly becomes aligned within a few instructions, so a listing begins some bytes early. If it stays misaligned, it begins a byte
+ * later.
+ */
 const BYTES_BEFORE = 12;
 const TRIES = 4;
 
 /**
- * Returns the addresses where lists begin, the best one first; the last one begins at the anchor itself.
+ * Returns the addresses at which to begin a listing, the best first. The last one is the anchor itself.
  * @param {Goal} goal
- * @param {number} rows how many lines are shown
+ * @param {number} rows the number of lines to show
  */
 export function beginningsOf({ from, anchor }, rows) {
-  // At the end of the ROM the last lines fill the stretch, each of one or two bytes.
+  // At the end of ROM the last lines fill the view. A line has one or two bytes.
   const base = Math.min(from, ADDRESSES - 2 * rows) - BYTES_BEFORE;
   const starts = upTo(TRIES).map((later) => Math.max(0, base + later));
   if (anchor !== null) starts.push(anchor);
@@ -29,7 +32,7 @@ export function beginningsOf({ from, anchor }, rows) {
 }
 
 /**
- * Returns how many lines such a list needs.
+ * Returns how many lines a listing from `start` needs.
  * @param {number} start
  * @param {Goal} goal
  * @param {number} rows
@@ -48,7 +51,7 @@ export function beginsLine(lines, address) {
 }
 
 /**
- * The stretch in a list.
+ * Returns the lines to show.
  * @param {Listed[]} lines
  * @param {number} from
  * @param {number} rows
@@ -60,7 +63,7 @@ export function stretchOf(lines, from, rows) {
 }
 
 /**
- * Returns whether an address is inside a line and does not begin one: then the lines are not in step with it.
+ * Returns whether an address is inside a line: then the listing is not aligned with it.
  * @param {Listed[]} lines
  * @param {number} address
  */

@@ -1,21 +1,21 @@
-// A program as assemblers print it: each line of its source with its address and its bytes, and below them its names with their values.
+// The listing of a program, as assemblers print it: each source line with its address and its bytes, and at the end the names with values.
 
 import { hex, upTo } from "../bench/numbers.js";
 
 /** @typedef {import("./source_map.js").SourceMap} SourceMap */
 
-/** The columns before the source. */
+/** The width of the columns before the source. */
 const WIDTH = 17;
 const BYTES_IN_ROW = 4;
 const TAB = " ".repeat(8);
 const LABEL_ALONE = /^[A-Za-z_]\w*:$/;
 const NAMED_NUMBER = /^([A-Za-z_]\w*)=/;
 
-/** @type {(left: string, source: string) => string} */
+/** @type {(left: string, source: string) => string} returns a row without trailing blanks */
 const rowOf = (left, source) => `${left.padEnd(WIDTH)}${source}`.replace(/ +$/, "");
 
 /**
- * Returns the rows of a line with bytes; the first one has its source.
+ * Returns the rows of a line that has bytes. The first row has the source.
  * @param {number} address
  * @param {number[]} bytes
  * @param {string} source
@@ -28,7 +28,7 @@ function rowsOfBytes(address, bytes, source) {
 }
 
 /**
- * Returns the text before a line without bytes: the value of the name that it defines, or the address of a lone label.
+ * Returns the text before a line without bytes: the value that it gives to a name, or the address of a label that is alone in its line.
  * @param {string} line
  * @param {number} address
  * @param {SourceMap} map
@@ -41,8 +41,8 @@ function meaningOf(line, address, map) {
 }
 
 /**
- * Returns the rows of the lines of a program.
- * @param {string} text its source
+ * Returns the rows for all lines of a program.
+ * @param {string} text the source
  * @param {SourceMap} map
  * @param {Int16Array} bytes the byte at each address
  */
@@ -56,9 +56,9 @@ function rowsOf(text, map, bytes) {
 }
 
 /**
- * Returns the names of a program by the alphabet, or those of its labels alone, each with its value.
+ * Returns the names of a program with their values, in alphabetical order.
  * @param {SourceMap} map
- * @param {boolean} labelsAlone
+ * @param {boolean} labelsAlone whether to return only labels
  */
 export function namesOfProgram(map, labelsAlone) {
   return [...map.names.values()].filter(({ isLabel }) => isLabel || !labelsAlone)
@@ -67,7 +67,7 @@ export function namesOfProgram(map, labelsAlone) {
 }
 
 /**
- * Returns the lines of a listing.
+ * Returns the lines of a program's listing.
  * @param {string} text the source
  * @param {SourceMap} map
  * @param {Int16Array} bytes the byte at each address

@@ -1,4 +1,4 @@
-// The names of RAM nibbles: from the list of values, and from the source if SRC selects by a name of it.
+// The names of RAM nibbles. They are from the list of watched values, and from the source if the operand of an SRC is a name.
 
 import { hex } from "../bench/numbers.js";
 import { PAIR, partsOf } from "../text/assembly.js";
@@ -10,9 +10,9 @@ import { PAIR, partsOf } from "../text/assembly.js";
  */
 
 /**
- * The named numbers that the program loads into a pair of an SRC, by FIM.
+ * Returns the named numbers that the program loads by FIM into a register pair of an SRC, without duplicates.
  * @param {SourceMap} map
- * @returns {{ name: string, byte: number }[]} each name once
+ * @returns {{ name: string, byte: number }[]}
  */
 export function bytesOfSource(map) {
   const lines = map.sources.map(partsOf).filter(({ head }) => head !== null);
@@ -27,7 +27,7 @@ export function bytesOfSource(map) {
 }
 
 /**
- * Returns the names of RAM nibbles, by their places as `poke` has them. A byte of SRC selects in each bank.
+ * Returns the names of RAM nibbles, by their places as in `poke`. The byte of an SRC selects a nibble in each bank.
  * @param {Board} board
  * @param {Pick<Watched, "name" | "place">[]} watched
  * @param {SourceMap | null} map null if the source is not the program in ROM
@@ -41,7 +41,7 @@ export function namesOfCharacters({ banks }, watched, map) {
     const known = names.get(place) || [];
     if (!known.includes(name)) names.set(place, [...known, name]);
   };
-  // A nibble without a name of its own is called by its place.
+  // A watched value without a name is called by its place, which is not a word.
   for (const { name, place } of watched) if (place !== "" && /^\w+$/.test(name)) add(place, name);
   for (const { name, byte } of map ? bytesOfSource(map) : []) {
     for (const { bank, chips } of banks) if (byte < chips * 64) add(`ram.${bank}.0x${hex(byte, 2)}`, name);

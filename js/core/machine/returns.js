@@ -1,5 +1,5 @@
-// The return addresses that wait for a BBL, as far as they show it: a call leaves the address after its JMS, and a BBL the address after
-// itself.
+// Describes the return addresses in the stack. The stack keeps stale entries. A call stores the address after its JMS, so an entry without
+// a JMS before it is stale.
 
 import { LAST_ADDRESS } from "../bench/numbers.js";
 import * as say from "../../words/machine.js";
@@ -7,7 +7,9 @@ import { wordsOfLine } from "../../words/stops.js";
 
 /**
  * @typedef {import("./source_map.js").SourceMap} SourceMap
- * @typedef {{ isLive: boolean, words: string, title: string }} Note a description of an address, in words
+ *
+ * A description of an address. `isLive` is false for a stale entry.
+ * @typedef {{ isLive: boolean, words: string, title: string }} Note
  */
 
 const JMS_BYTES = 2;
@@ -22,9 +24,9 @@ export function callBefore(address) {
 }
 
 /**
- * Returns whether each return address is one that a call left, the newest first. Entries below a stale address are stale too.
+ * Returns for each return address, the newest first, whether a call stored it. All entries older than a stale one are stale.
  * @param {number[]} addresses
- * @param {string[]} bytes the bytes of ROM where the JMS of each would be
+ * @param {string[]} bytes for each address, the byte in ROM where its JMS would begin
  * @param {SourceMap | null} map the program in ROM
  */
 export function areLive(addresses, bytes, map) {
@@ -37,7 +39,8 @@ export function areLive(addresses, bytes, map) {
 }
 
 /**
- * @param {number} address the counter
+ * Returns the description of the program counter.
+ * @param {number} address
  * @param {SourceMap | null} map
  * @returns {Note}
  */
@@ -48,6 +51,7 @@ export function noteOfCounter(address, map) {
 }
 
 /**
+ * Returns the description of a return address.
  * @param {number} address
  * @param {boolean} isLive
  * @param {SourceMap | null} map

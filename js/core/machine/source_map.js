@@ -1,4 +1,4 @@
-// The map of a program's text to ROM, as the bench answers the line `map`: the address and the bytes of each line, and the names.
+// The map of a program, from the answers to `map`: the address and the bytes of each source line, and the names.
 
 import { readMap } from "../bench/answers.js";
 import { hex } from "../bench/numbers.js";
@@ -6,7 +6,7 @@ import { ADDRESSES } from "../bench/rom_bytes.js";
 import * as say from "../../words/machine.js";
 
 /**
- * A name with its value. A label is the address of a statement; any other name is a number of the program's own.
+ * A name with its value. A label is the address of a statement; any other name is a number that the program defines.
  * @typedef {{ name: string, value: number, isLabel: boolean }} Name
  */
 
@@ -15,24 +15,24 @@ const DATA = /^([ \t]*[A-Za-z_][A-Za-z0-9_]*[ \t]*:)?[ \t]*DB[ \t]/i;
 
 export class SourceMap {
   /**
-   * @param {string[]} answers to `map`
-   * @param {string} text the program
+   * @param {string[]} answers the answers to `map`
+   * @param {string} text the source
    */
   constructor(answers, text) {
     this.text = text;
-    /** @type {number[]} by line, from 1 */
+    /** @type {number[]} the address of each line; lines count from 1 */
     this.addresses = [];
     /** @type {number[]} the number of bytes of each line */
     this.sizes = [];
-    /** @type {Map<string, Name>} in the order of the lines that define them */
+    /** @type {Map<string, Name>} in the order of their definitions */
     this.names = new Map();
-    /** @type {Map<number, string[]>} */
+    /** @type {Map<number, string[]>} the labels at each address */
     this.labels = new Map();
     /** The line of the byte at each address, 0 for none. */
     this.lines = new Uint16Array(ADDRESSES);
     this.sources = text.split("\n");
     this.read(answers);
-    /** Each address's label, or the nearest one below it in the same stretch of bytes, by its address; -1 for none. */
+    /** For each address, the nearest address at or below it that has a label and is in the same run of bytes; -1 for none. */
     this.owners = this.findOwners();
   }
 
@@ -57,6 +57,7 @@ export class SourceMap {
     if (name.isLabel) this.labels.set(name.value, [...this.labelsAt(name.value), name.name]);
   }
 
+  /** Returns the value of `owners`. */
   findOwners() {
     const owners = new Int16Array(ADDRESSES);
     let owner = -1;
@@ -68,13 +69,13 @@ export class SourceMap {
     return owners;
   }
 
-  /** Returns how many lines the program has. */
+  /** The number of lines in the program. */
   get count() {
     return Math.max(0, this.addresses.length - 1);
   }
 
   /**
-   * Returns the address of a line with bytes; undefined for any other line.
+   * Returns the address of a line that has bytes, undefined for any other line.
    * @param {number} line
    * @returns {number | undefined}
    */
@@ -83,7 +84,7 @@ export class SourceMap {
   }
 
   /**
-   * Returns the line of the byte at an address; 0 if there is none.
+   * Returns the line of the byte at an address, or 0.
    * @param {number} address
    */
   lineOf(address) {
@@ -91,7 +92,7 @@ export class SourceMap {
   }
 
   /**
-   * Returns the line of a label; 0 for another word.
+   * Returns the line of a label, or 0.
    * @param {string} label
    */
   lineOfLabel(label) {
@@ -108,7 +109,7 @@ export class SourceMap {
   }
 
   /**
-   * Returns whether an address is inside an instruction of the program: a run that reaches its line does not begin anything there.
+   * Returns whether an address is inside an instruction of the program, so that no instruction begins at it.
    * @param {number} address
    */
   isInside(address) {
@@ -117,7 +118,7 @@ export class SourceMap {
   }
 
   /**
-   * The labels at an address, in the order of their lines.
+   * Returns the labels at an address, in the order of their lines.
    * @param {number} address
    */
   labelsAt(address) {
@@ -125,7 +126,8 @@ export class SourceMap {
   }
 
   /**
-   * Returns an address by its label, `put`, or by the nearest one below it in the same stretch of bytes, `put + 2`; "" if there is none.
+   * Returns the name of an address: its label, as `put`, or the nearest label below it in the same run of bytes, as `put + 2`. Returns ""
+   * if it has none.
    * @param {number} address
    */
   nameOf(address) {
@@ -136,7 +138,7 @@ export class SourceMap {
   }
 
   /**
-   * Returns the meaning of a name, in words; "" if the program lacks it.
+   * Returns a text with the value of a name, or "" if the program does not define it.
    * @param {string} word
    */
   meaningOf(word) {
@@ -148,7 +150,7 @@ export class SourceMap {
   }
 
   /**
-   * Returns the value of a name; undefined if the program has no such name.
+   * Returns the value of a name, undefined if the program does not define it.
    * @param {string} name
    * @returns {number | undefined}
    */
@@ -158,7 +160,7 @@ export class SourceMap {
   }
 
   /**
-   * Returns the value of a name in any case; undefined if the program has none, or more than one.
+   * Returns the value of a name, ignoring case if necessary. Returns undefined if no name matches, or more than one.
    * @param {string} word
    * @returns {number | undefined}
    */

@@ -1,5 +1,5 @@
-// The link between the source and the machine: while the program's text is what is in ROM, the next line is marked, and addresses have
-// names. The bench is asked again whenever the text or ROM may have changed.
+// The link between the source and the machine. While the source is the program in ROM, the next line is marked, and addresses have names.
+// The check is repeated whenever the source or ROM can have changed.
 
 import { hex } from "../bench/numbers.js";
 import { SourceMap } from "./source_map.js";
@@ -8,20 +8,19 @@ import * as say from "../../words/machine.js";
 /**
  * @typedef {import("../engine/program_check.js").Checked} Checked
  *
- * The view of the program's text: the next line (0 for none), and the address of each line ("" if it has none to show); it scrolls to a
- * line.
+ * The editor of the source. `showNext` marks the next line, 0 for none. `showAddresses` shows the address of each line, "" for none.
+ * `reveal` scrolls to a line.
  * @typedef {{ showNext: (line: number) => void, showAddresses: (addresses: string[]) => void,
  *   reveal: (line: number) => void }} SourceEditor
  */
 
 /**
- * The calls that the comparison of source and ROM makes.
+ * The callbacks of SourceSync.
  * @typedef {object} SyncCalls
- * @property {() => string} text Returns the source as it would be sent.
- * @property {(text: string) => Promise<Checked>} check Resolves to the map of a source, or to why it is rejected, and to where it differs
- * from ROM.
- * @property {(map: SourceMap | null, words: string) => void} changed The program in ROM has changed: its map, null if the source is not
- * what is in ROM, with a message about that.
+ * @property {() => string} text Returns the source as sent to the bench.
+ * @property {(text: string) => Promise<Checked>} check Resolves to the map of a source or its error, and its first difference from ROM.
+ * @property {(map: SourceMap | null, words: string) => void} changed Handles a change of the program in ROM. `map` is null if the source is
+ * not that program; then `words` is the message.
  * @property {(number: number) => string} wordsOfRefusal Returns the message of a refusal.
  */
 
@@ -40,20 +39,20 @@ export class SourceSync {
     this.editor = NO_EDITOR;
     /** @type {SourceMap | null} the program in ROM */
     this.map = null;
-    /** Why the text is not that program. */
+    /** The message if the source is not that program, or "". */
     this.words = "";
     /** @type {Checked | null} the result of the last check */
     this.checked = null;
     /** The text of the last check. */
     this.text = "";
-    // A result for an older text is not shown.
+    /** The number of the last check, to discard results of older checks. */
     this.asked = 0;
-    /** @type {Promise<void> | null} */
+    /** @type {Promise<void> | null} the check that all callers of `fresh` share */
     this.freshening = null;
     this.next = 0;
   }
 
-  /** The editor shows another text. */
+  /** Forgets the program, because the editor shows another text. */
   forget() {
     this.map = null;
     this.words = "";
@@ -63,7 +62,7 @@ export class SourceSync {
     this.calls.changed(null, "");
   }
 
-  /** Checks whether the text is what is in ROM. */
+  /** Checks whether the source is the program in ROM. */
   async check() {
     this.asked += 1;
     const { asked } = this;
@@ -73,6 +72,7 @@ export class SourceSync {
   }
 
   /**
+   * Handles the result of a check.
    * @param {string} text
    * @param {Checked} checked
    */
@@ -89,7 +89,7 @@ export class SourceSync {
   }
 
   /**
-   * Returns why the text is not what is in ROM; "" if it is.
+   * Returns the message if the source is not the program in ROM, or "".
    * @param {Checked} checked
    * @param {SourceMap} map
    */
@@ -106,7 +106,7 @@ export class SourceSync {
   }
 
   /**
-   * Shows the position of the machine. While time runs no line is the next one.
+   * Marks the next line. While time is running, no line is marked.
    * @param {number} counter
    * @param {boolean} isRunning
    */
@@ -118,7 +118,7 @@ export class SourceSync {
   }
 
   /**
-   * Brings the line of an address into view.
+   * Scrolls to the line of an address.
    * @param {number} address
    */
   reveal(address) {
@@ -126,9 +126,9 @@ export class SourceSync {
     if (line > 0) this.editor.reveal(line);
   }
 
-  /** Checks the text that was edited a moment ago. */
+  /** Waits until the present source has been checked. */
   async fresh() {
-    // A check that was overtaken by another is discarded. All who wait share one check, or none of theirs would be the last.
+    // A newer check makes the result of an older one useless. So all callers share one check; otherwise none would ever finish.
     while (this.calls.text() !== this.text || !this.checked) {
       this.freshening = this.freshening || this.check().finally(() => {
         this.freshening = null;
@@ -138,7 +138,7 @@ export class SourceSync {
   }
 
   /**
-   * Returns the meaning of a name of the program; "" for any other word.
+   * Returns a text with the value of a name of the program, or "" for any other word.
    * @param {string} word
    */
   meaningOf(word) {
@@ -147,7 +147,7 @@ export class SourceSync {
 }
 
 /**
- * Returns the address of each line that has bytes, and "" for each other one, the first line first.
+ * Returns the address of each line, "" for a line without bytes.
  * @param {SourceMap} map
  */
 function addressesOf(map) {

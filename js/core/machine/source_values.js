@@ -1,4 +1,5 @@
-// The values of the source's words while time is paused, and the changes by its last lines: of the last snapshot.
+// The values of the words in the source while time is paused, and the changes that the last executed lines made. Both are from the last
+// snapshot.
 
 import { LineChanges } from "../debug/line_changes.js";
 import { Standing } from "../debug/standing.js";
@@ -10,15 +11,15 @@ import { valuesAt } from "../debug/value_words.js";
  */
 
 /**
- * The calls that the values in the source make to the page.
+ * The callbacks of the page for values in the source.
  * @typedef {object} ValuesOwnCalls
  * @property {() => import("./source_map.js").SourceMap | null} map Returns the map of the program in ROM; null if the source is not in
  *   ROM.
- * @property {(lines: ReadonlyMap<number, string>) => void} showLines Shows next to each line, by its number from 1, what it has changed.
+ * @property {(lines: ReadonlyMap<number, string>) => void} showLines Shows the changes of each line at its end, by line numbers from 1.
  * @property {() => void} showWatched Shows the watched values again.
  * @property {() => string[]} snapshot Returns the answers of the last snapshot.
- * @property {() => boolean} isRunning Returns whether time runs; values are shown only while it is paused.
- * @property {() => void} changed The values have changed, or are hidden since time runs.
+ * @property {() => boolean} isRunning Returns whether time is running; values are shown only while it is paused.
+ * @property {() => void} changed Handles a change of the values, or that they are hidden because time is running.
  */
 
 /** @typedef {Program & ValuesOwnCalls} ValuesCalls */
@@ -27,22 +28,22 @@ export class SourceValues {
   /** @param {ValuesCalls} calls */
   constructor(calls) {
     this.calls = calls;
-    /** @type {string[]} the snapshot that was read */
+    /** @type {string[]} the last snapshot */
     this.snapshot = [];
-    /** @type {Standing | null} */
+    /** @type {Standing | null} the state in that snapshot */
     this.read = null;
     this.isRunning = false;
     this.changes = new LineChanges();
   }
 
-  /** Another session is shown. */
+  /** Forgets the values, because another session is shown. */
   forget() {
     this.snapshot = [];
     this.read = null;
     this.changes.forget();
   }
 
-  /** @returns {Standing | null} the state of the machine; null while time runs */
+  /** @returns {Standing | null} the state of the machine, null while time is running */
   get standing() {
     if (this.calls.isRunning()) return null;
     const snapshot = this.calls.snapshot();
@@ -54,7 +55,7 @@ export class SourceValues {
   }
 
   /**
-   * Returns the current value of the word at a position of a line.
+   * Returns the value of the word at a position in a line.
    * @param {string} text
    * @param {number} at
    * @returns {Piece[]}
@@ -65,8 +66,8 @@ export class SourceValues {
   }
 
   /**
-   * Handles a new snapshot: reports of it are renewed, but not at each frame while time runs.
-   * @param {number} cycles that were done in all
+   * Handles a new snapshot. While time is running, it updates the view only at the first one.
+   * @param {number} cycles the cycle count
    */
   looked(cycles) {
     const wasRunning = this.isRunning;

@@ -1,4 +1,4 @@
-// The heat level of a cell by how often, or how recently, it has changed, in five steps; and words about it.
+// The heat map's levels: the heat of a cell, by how often or how recently it has changed, and the texts about it.
 
 import { hex } from "../bench/numbers.js";
 import { wordsOfAddress } from "../../words/stops.js";
@@ -13,12 +13,13 @@ import * as say from "../../words/machine.js";
  * @typedef {"often" | "lately"} HeatKind
  */
 
+/** The highest heat level. */
 export const WARMEST = 5;
-/** The cycles of running time are kept as this many stretches. */
+/** The number of parts in which the last cycles are stored. */
 const MOST_PARTS = 50;
 
 /**
- * Returns the position of a number between 1 and the largest, by its logarithm: 1 to the warmest.
+ * Returns the level of a number between 1 and `most` on a logarithmic scale, from 1 to WARMEST.
  * @param {number} number
  * @param {number} most
  */
@@ -27,8 +28,7 @@ function degree(number, most) {
 }
 
 /**
- * The heat level of each place, from 1 to the hottest, relative to the one that changed most often, or last; places that have not changed
- * are left out.
+ * Returns the heat level of each place that has changed, from 1 to WARMEST. The place that changed most often, or last, has WARMEST.
  * @param {Heat} heat
  * @param {HeatKind} kind
  * @returns {Map<string, number>}
@@ -40,11 +40,11 @@ export function warmthOf({ cycles, cells }, kind) {
     [place, kind === "often" ? degree(count, most) : WARMEST + 1 - degree(1 + ago - last, cycles)])));
 }
 
-/** The changes while time runs, over its last cycles. */
+/** The changes in the last cycles while time is running. */
 export class PassingHeat {
   constructor() {
     this.total = 0;
-    /** @type {{ from: number, cells: Map<string, Heated & { at: number }> }[]} stretches of time, each with the cycles before it */
+    /** @type {{ from: number, cells: Map<string, Heated & { at: number }> }[]} parts of time, each with the cycle count at its beginning */
     this.parts = [];
   }
 
@@ -55,8 +55,8 @@ export class PassingHeat {
 
   /**
    * @param {PassedHeat} heat
-   * @param {number} cycles that have passed; not all of them were examined if time runs at full speed
-   * @param {number} most the cycles to keep
+   * @param {number} cycles the cycles since the last call; at full speed `heat` covers only some of them
+   * @param {number} most the number of cycles to store
    */
   add({ cells }, cycles, most) {
     const from = this.total;
@@ -79,7 +79,8 @@ export class PassingHeat {
 }
 
 /**
- * @param {Map<string, Heated & { at: number }>} all by their places
+ * Adds newer changes to a map by place.
+ * @param {Map<string, Heated & { at: number }>} all
  * @param {(Heated & { at: number })[]} newer
  */
 function addTo(all, newer) {
@@ -87,6 +88,7 @@ function addTo(all, newer) {
 }
 
 /**
+ * Returns a text for the cause of a place's last change.
  * @param {Heated} cell
  * @param {SourceMap | null} map
  */
@@ -95,6 +97,7 @@ function whoOf({ address, line }, map) {
 }
 
 /**
+ * Returns a text for the cause and the time of a place's last change.
  * @param {Heated} cell
  * @param {SourceMap | null} map
  */
@@ -109,7 +112,7 @@ function times(count) {
 }
 
 /**
- * Returns how often and by what last: `12 times, last by 00B (turn + 9, line 7), 320 cycles, 3.456 ms ago`.
+ * Returns the description of a place's changes: `12 times, last by 00B (turn + 9, line 7), 320 cycles, 3.456 ms ago`.
  * @param {Heated} cell
  * @param {SourceMap | null} map
  */
@@ -118,7 +121,7 @@ export function wordsOfChanges(cell, map) {
 }
 
 /**
- * Returns the same while time runs: not each change is examined, and none is reported at once, so it gives no time.
+ * Returns the description while time is running. It has no time of the last change, because the reports are late and incomplete.
  * @param {Heated} cell
  * @param {SourceMap | null} map
  */
@@ -127,7 +130,7 @@ export function wordsOfSeen(cell, map) {
 }
 
 /**
- * Returns the status while time runs.
+ * Returns the status of the heat map while time is running.
  * @param {PassedHeat} heat
  * @param {boolean} isAll whether all cycles are examined
  */
@@ -136,9 +139,9 @@ export function wordsOfPassing({ chips }, isAll) {
 }
 
 /**
- * Returns the summary.
+ * Returns the summary of a heat map.
  * @param {Heat} heat
- * @param {number} wanted cycles
+ * @param {number} wanted the number of cycles that were requested
  * @param {(place: string) => string} nameOf
  * @param {SourceMap | null} map
  */

@@ -1,6 +1,6 @@
-// Bytes as ASCII letters.
+// Base64: bytes as ASCII text.
 
-/** The bytes that are converted at once. */
+/** The number of bytes to convert at once. */
 const PIECE = 8192;
 
 /** @param {Uint8Array} bytes */
@@ -11,7 +11,7 @@ export function toBase64(bytes) {
 }
 
 /**
- * Throws if the text is not base64.
+ * Returns the bytes of a base64 text. Throws if the text is not base64.
  * @param {string} text
  */
 export function fromBase64(text) {

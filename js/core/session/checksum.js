@@ -1,4 +1,4 @@
-// The checksum that POSIX's `cksum` prints, so that anyone with a file can check by a system command that it is complete.
+// The checksum of POSIX's `cksum`, so that anyone can check a file with a system command.
 
 const POLYNOMIAL = 0x04c11db7;
 
@@ -10,6 +10,7 @@ const STEPS = Uint32Array.from({ length: 256 }, (_, value) => {
 });
 
 /**
+ * Returns the remainder after another byte.
  * @param {number} sum
  * @param {number} byte
  */
@@ -18,7 +19,7 @@ function sumWith(sum, byte) {
 }
 
 /**
- * Returns the checksum of some bytes: their remainder, with their count after them, as an unsigned number.
+ * Returns the checksum of bytes and of their count, as an unsigned number.
  * @param {Uint8Array} bytes
  */
 export function checksum(bytes) {

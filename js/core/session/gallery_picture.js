@@ -1,5 +1,5 @@
-// The picture of an example in the gallery: its front panel, small, as its text describes it. The program decides which lamps are on, so
-// some are drawn on: the first of each colour, and the digits of a display.
+// The picture of an example in the gallery: its front panel, small, as the board's text describes it. Only the program knows which lamps
+// are on. The picture shows as on the first lamp of each colour, and the digits of a display.
 
 import { partLines } from "../bench/part_lines.js";
 import { Face } from "../board/face.js";
@@ -7,7 +7,7 @@ import { endOf, isScanned, lampsOf } from "../board/face_board.js";
 import { upTo } from "../bench/numbers.js";
 
 /**
- * A shape: a lamp, a key with its legend, or a display with its digits. Sizes are in the picture's own units.
+ * A shape in the picture: a lamp, a key with its legend, or a display with its digits. Sizes are in units of the picture.
  * @typedef {{ kind: "lamp", x: number, y: number, size: number, colour: string, isLit: boolean }} LampShape
  * @typedef {{ kind: "key", x: number, y: number, width: number, height: number, legend: string }} KeyShape
  * @typedef {{ kind: "display", x: number, y: number, width: number, height: number, digits: string,
@@ -18,7 +18,7 @@ import { upTo } from "../bench/numbers.js";
 
 const WIDTH = 120;
 const GAP = 4;
-/** The places of a die's pips, in the order of its lamps: columns from the left and rows from the top, 0 to 2. */
+/** The positions of a die's pips, in the order of its lamps: column and row, from 0 to 2. */
 const PIPS = [[0, 0], [2, 0], [0, 1], [1, 1], [2, 1], [0, 2], [2, 2]];
 
 class Drawing {
@@ -29,7 +29,7 @@ class Drawing {
     /** @type {Shape[]} */
     this.shapes = [];
     this.bottom = GAP;
-    /** @type {Set<string>} the colours of single lamps */
+    /** @type {Set<string>} the colours that have a lamp that is on */
     this.litColours = new Set();
     /** @type {Set<number>} the lamps that are drawn */
     this.drawn = new Set();
@@ -40,9 +40,10 @@ class Drawing {
   }
 
   /**
+   * Draws a lamp.
    * @param {number} lamp
-   * @param {number} x of its middle
-   * @param {number} y of its middle
+   * @param {number} x the position of its centre
+   * @param {number} y
    * @param {number} size
    */
   lamp(lamp, x, y, size) {
@@ -68,7 +69,7 @@ class Drawing {
     }
   }
 
-  /** @param {import("../board/face.js").Group} group of as many digits as it has rows */
+  /** @param {import("../board/face.js").Group} group a display with one digit for each row */
   drawDisplay({ rows, first }) {
     const height = 24;
     const colour = (this.face.colours.get(first) || { text: "red" }).text;
@@ -78,7 +79,7 @@ class Drawing {
   }
 
   /**
-   * Lamps on a grid, as large as they fit.
+   * Draws lamps in a grid, as large as possible.
    * @param {{ lamp: number, column: number, row: number }[]} cells
    */
   drawAt(cells) {

@@ -1,12 +1,12 @@
-// Names and words that others wrote, for display: a link must not make them look like the page's own words.
+// Makes names that other people wrote safe to show. A link must not make them look like texts of the page.
 
-/** So long a name can be in its field, too. */
+/** The maximum length of a name, in characters. */
 const LONGEST_NAME = 60;
-/** Control characters, marks that turn the direction of a text, ends of lines, and invisible marks. */
+/** Control characters, bidirectional marks, line separators and invisible characters. */
 const UNSEEN = /[\p{Cc}\p{Bidi_Control}\u200b\u2028\u2029\u2060\ufeff]/gu;
 
 /**
- * Returns a text without such characters, in one line, and cut.
+ * Returns a name in one line, without such characters, and cut to the maximum length.
  * @param {string} text
  */
 export function shortName(text) {

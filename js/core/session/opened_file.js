@@ -1,5 +1,5 @@
-// The content of a file that is chosen or dropped: a project, a session, a board, a program, tests, properties, lines for the bench, or an
-// image of ROM. Its first bytes show it, and else its name.
+// Finds the content of a file that the user chooses or drops: a project, a session, a board, a program, tests, properties, lines for the
+// bench, or a ROM image. The first bytes decide, then the file's name, then the text.
 
 import { readInputs } from "../bench/inputs.js";
 import { PROJECT_FILE } from "../project/project_toml.js";
@@ -10,15 +10,15 @@ import { isProject } from "./project_file.js";
 import * as say from "../../words/session.js";
 
 /**
- * The texts of a file: null if it has none of that kind. `lines` are the remaining lines for the bench. `isGuess`: neither the name nor the
- * text identifies it as a program.
+ * The texts in a file, null for a missing kind. `lines` are the other lines for the bench. `isGuess`: neither the name nor the text shows
+ * that the file is a program.
  * @typedef {{ board: string | null, program: string | null, tests: string | null, properties: string | null, lines: string,
  *   isGuess?: boolean }} FileTexts
  *
  * @typedef {{ kind: "project" } | { kind: "session" } | { kind: "texts", texts: FileTexts } | { kind: "image", bytes: Int16Array }} Opened
  */
 
-/** A file is of no use to the bench, in words. */
+/** An error: the bench cannot use a file. The message says why. */
 export class NotForTheBench extends Error {}
 
 /** The first bytes of a session file. */
@@ -29,10 +29,11 @@ const BOARDS = /\.toml$/i;
 const TESTS = /\.test$/i;
 const PROPERTIES = /\.props$/i;
 const PROGRAMS = /\.(asm|s|src|a4|4004)$/i;
-/** Texts whose kind is found by their contents. */
+/** Names that do not show the kind of text. */
 const TEXTS = /(^[^.]*|\.(txt|text))$/i;
 
 /**
+ * Returns the error for a file that the bench cannot use.
  * @param {string} why
  * @returns {NotForTheBench}
  */
@@ -41,11 +42,11 @@ function refusal(why) {
 }
 
 /**
- * Decodes a text as UTF-8, or else one byte a letter; null if it is no text.
+ * Decodes a text as UTF-8, or else as Windows-1252. Returns null if the bytes are not a text.
  * @param {Uint8Array} bytes
  */
 function textOf(bytes) {
-  // Any other control character does not occur in a text.
+  // A text contains no other control characters.
   if (bytes.some((byte) => byte < 32 && ![9, 10, 12, 13, 26].includes(byte))) return null;
   try {
     return new TextDecoder("utf-8", { fatal: true }).decode(bytes);
@@ -55,7 +56,7 @@ function textOf(bytes) {
 }
 
 /**
- * Returns the texts among lines for the bench, the last one of each kind, and the remaining lines.
+ * Returns the texts in lines for the bench, the last one of each kind, and the other lines.
  * @param {string} script
  * @returns {FileTexts}
  */
@@ -72,6 +73,7 @@ function textsOfLines(script) {
 }
 
 /**
+ * Finds the kind of a text by the file's name, or else by the text.
  * @param {string} name
  * @param {string} text
  * @returns {FileTexts}
@@ -89,7 +91,8 @@ function readTexts(name, text) {
 }
 
 /**
- * @param {string} name of the file
+ * Returns the content of a text file. Throws if the bench cannot use it.
+ * @param {string} name the name of the file
  * @param {string} text
  * @returns {Opened}
  */
@@ -111,7 +114,7 @@ function openText(name, text) {
 
 /**
  * Returns the content of a file. Throws if the bench cannot use it.
- * @param {string} name of the file
+ * @param {string} name the name of the file
  * @param {Uint8Array} bytes
  * @returns {Opened}
  */

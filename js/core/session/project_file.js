@@ -1,5 +1,5 @@
-// A project: the session's file, its name and the texts of the editors in one text file. The manual ("A project file") describes its lines.
-// (project_parts.js has its parts as the files of a folder.)
+// Reads and writes a project file: one text file with the session's file, its name and the texts of the editors. The manual ("A project
+// file") describes its lines. project_parts.js has the same parts as the files of a folder.
 
 import { checksum } from "./checksum.js";
 import { shortName } from "./names.js";
@@ -9,33 +9,36 @@ import { LONGEST_KEPT } from "../text/text_fault.js";
 import * as say from "../../words/session.js";
 
 /**
- * @typedef {{ name: string, boardText: string, programText: string, testText?: string, propertiesText?: string }} Texts without tests or
- * properties the file has no such text
+ * The name and the texts of a project. The file omits empty tests and properties.
+ * @typedef {{ name: string, boardText: string, programText: string, testText?: string, propertiesText?: string }} Texts
  * @typedef {import("../debug/breakpoints.js").KeptBreakpoint} KeptBreakpoint
- * `watched` is the list of *Values*, each as it is kept.
+ *
+ * The same with breakpoints and with the watched values, as they are stored.
  * @typedef {Texts & { breakpoints?: KeptBreakpoint[], watched?: string[] }} DebuggedTexts
  * @typedef {DebuggedTexts & { file: Uint8Array }} Project
- * @typedef {"wire" | "asm" | "test" | "properties"} Word the line before a text
+ *
+ * The line before a text.
+ * @typedef {"wire" | "asm" | "test" | "properties"} Word
  */
 
 const FIRST_LINE = "fethsaim project 1";
-/** A text ends at a line with only a dot, like one that is sent to the bench. */
+/** The line that ends a text, as in lines for the bench. */
 const DOT = ".";
 const LAST_LINE = "end";
 const SUM_LINE = /^cksum \d+$/;
-/** The bytes in a line of the session; a line of zeros is left out. */
+/** The bytes in a line of the session's file. Lines of zeros are omitted. */
 const BYTES_OF_LINE = 16;
-/** No project has more bytes: its texts and its session have far less. */
+/** The maximum size of a project file in bytes. The largest texts and sessions need far less. */
 export const LONGEST_PROJECT = 4 << 20;
 
-/** Says why bytes are not a project, in words. */
+/** An error: the bytes are not a project. The message says why. */
 export class NotAProject extends Error {}
 
-/** One of its texts is longer than the editors accept. */
+/** An error: a text of the project is longer than the editors accept. */
 export class TextTooLong extends NotAProject {}
 
 /**
- * Returns which text is too long for a project and for a link, in words; "" if none is.
+ * Returns a message if one of the texts is too long for a project and for a link, or "".
  * @param {{ boardText: string, programText: string, testText?: string, propertiesText?: string }} texts
  */
 export function wordsOfLength({ boardText, programText, testText = "", propertiesText = "" }) {
@@ -49,7 +52,7 @@ export function wordsOfLength({ boardText, programText, testText = "", propertie
 // --- writing ---
 
 /**
- * Returns the lines of a text. A line of only dots has one more dot in the file, so that none of them ends the text.
+ * Returns the lines of a text. A line that consists of dots gets one more dot, so that it does not end the text.
  * @param {Word} word
  * @param {string} text
  */
@@ -60,7 +63,7 @@ function linesOfText(word, text) {
 }
 
 /**
- * A note says that the last line of a text has no line feed.
+ * Returns a line that notes that a text does not end with a line feed, if so.
  * @param {Word} word
  * @param {string} text
  */
@@ -82,7 +85,7 @@ function linesOfFile(file) {
 }
 
 /**
- * A carriage return before the end of a line has no meaning, as in the bench.
+ * Returns a text without carriage returns at the ends of lines. The bench ignores them, too.
  * @param {string} text
  */
 function plainLines(text) {
@@ -95,7 +98,7 @@ function oneLine(text) {
 }
 
 /**
- * Returns the lines of a name, its breakpoints and values, and its texts.
+ * Returns the lines for the name, the breakpoints, the watched values and the texts.
  * @param {DebuggedTexts} texts
  */
 export function linesOfTexts({ name, boardText, programText, testText = "", propertiesText = "", breakpoints = [], watched = [] }) {
@@ -107,7 +110,7 @@ export function linesOfTexts({ name, boardText, programText, testText = "", prop
 }
 
 /**
- * The text of a project.
+ * Returns the text of a project file.
  * @param {Project} project
  */
 export function projectText(project) {
@@ -118,14 +121,14 @@ export function projectText(project) {
 // --- reading ---
 
 /**
- * Returns whether bytes begin as those of a project do.
+ * Returns whether bytes begin like a project file.
  * @param {Uint8Array} bytes
  */
 export function isProject(bytes) {
   return /^\uFEFF?fethsaim project /.test(new TextDecoder("utf-8", { ignoreBOM: true }).decode(bytes.subarray(0, 40)));
 }
 
-/** The lines of a project, one after the other. */
+/** A reader of the lines of a project file. */
 export class Lines {
   /** @param {string} text */
   constructor(text) {
@@ -144,7 +147,8 @@ export class Lines {
   }
 
   /**
-   * @param {string} wanted
+   * Returns the error for an unexpected line.
+   * @param {string} wanted the expected line, as text
    * @returns {NotAProject}
    */
   fault(wanted) {
@@ -152,7 +156,7 @@ export class Lines {
   }
 
   /**
-   * The lines from a word on up to a dot.
+   * Reads a text: the lines after `word` up to a dot. Throws if the next line is not `word`.
    * @param {string} word
    */
   upToDot(word) {
@@ -166,7 +170,7 @@ export class Lines {
 }
 
 /**
- * Only its first two lines and its last one are checked.
+ * Checks the first line, the last line and the checksum, if there is one. Throws if one of them is wrong.
  * @param {string} text
  */
 function checkWhole(text) {
@@ -184,7 +188,8 @@ function checkWhole(text) {
 }
 
 /**
- * Reads the lines up to the first text: its name, which texts have a last line without an end, breakpoints and values.
+ * Reads the lines before the first text: the name, the breakpoints, the watched values, and in `open` which texts do not end with a line
+ * feed.
  * @param {Lines} lines
  */
 function readHead(lines) {
@@ -208,9 +213,10 @@ function readHead(lines) {
 }
 
 /**
+ * Reads a text of the project.
  * @param {Lines} lines
  * @param {Word} word
- * @param {Set<string>} open
+ * @param {Set<string>} open the texts that do not end with a line feed
  */
 function readText(lines, word, open) {
   const text = lines.upToDot(word).map((line) => `${/^\.\.+$/.test(line) ? line.slice(1) : line}\n`).join("");
@@ -218,9 +224,9 @@ function readText(lines, word, open) {
 }
 
 /**
- * Reads a name, its texts, and its breakpoints and values, if it has some. Rejects texts that the editors would never accept.
+ * Reads the name, the texts, the breakpoints and the watched values. Throws if a text is too long for the editors.
  * @param {Lines} lines
- * @param {boolean} [takesLong] whether longer texts are read, too
+ * @param {boolean} [takesLong] whether to accept longer texts
  * @returns {DebuggedTexts}
  */
 export function readTexts(lines, takesLong = false) {
@@ -236,8 +242,9 @@ export function readTexts(lines, takesLong = false) {
 }
 
 /**
+ * Reads the session's file.
  * @param {Lines} lines
- * @param {number} size how many bytes a session file has
+ * @param {number} size the size of a session file in bytes
  */
 function readFile(lines, size) {
   const first = lines.at + 2;
@@ -256,10 +263,10 @@ function readFile(lines, size) {
 }
 
 /**
- * Returns the content of a project. Throws if the bytes are no project.
+ * Returns the content of a project file. Throws if the bytes are not a project.
  * @param {Uint8Array} bytes
- * @param {number} size how many bytes a session file has
- * @param {boolean} [takesLong] whether texts that are too long for the editors are read, too
+ * @param {number} size the size of a session file in bytes
+ * @param {boolean} [takesLong] whether to accept texts that are too long for the editors
  * @returns {Project}
  */
 export function readProject(bytes, size, takesLong = false) {

@@ -1,4 +1,4 @@
-// ROM in files: loads an image from a file into ROM, and saves ROM to one.
+// Loads ROM images from files into ROM, and saves ROM to files.
 
 import { readBoard } from "../bench/answers.js";
 import { counted, hex } from "../bench/numbers.js";
@@ -8,15 +8,15 @@ import { textsOfBytes } from "../text/assembling.js";
 import * as say from "../../words/session.js";
 
 /**
- * The calls that loading and saving ROMs makes.
+ * The callbacks of RomFiles.
  * @typedef {object} RomCalls
- * @property {(lines: string) => Promise<string[]>} ask Resolves to the bench's answers to questions.
- * @property {(lines: string) => Promise<string | null>} act Serves lines that change the session. Resolves to the first answer, null if
- *   the call failed, which is then reported.
- * @property {() => Promise<void>} stop Pauses time; resolves once it is paused.
+ * @property {(lines: string) => Promise<string[]>} ask Resolves to the bench's answers to queries.
+ * @property {(lines: string) => Promise<string | null>} act Serves lines that change the session. Resolves to the first answer. If the call
+ *   fails, it reports that and resolves to null.
+ * @property {() => Promise<void>} stop Pauses time. Resolves when time is paused.
  */
 
-/** The board lacks a ROM, in words. */
+/** An error: the board lacks a ROM. The message says which. */
 export class LacksRom extends Error {}
 
 export class RomFiles {
@@ -25,14 +25,14 @@ export class RomFiles {
     this.calls = calls;
   }
 
-  /** The numbers of the ROMs that the board has. */
+  /** Resolves to the numbers of the ROMs on the board. */
   async chips() {
     return readBoard(await this.calls.ask("board\n")).roms.map(({ chip }) => chip);
   }
 
   /**
-   * Puts the bytes of an image into ROM; nothing else changes. Returns a message; "" if it failed, which is reported.
-   * @param {string} name of the file
+   * Loads an image into ROM, and changes nothing else. Resolves to a message, or to "" if the call fails, which `act` reports.
+   * @param {string} name the name of the file
    * @param {Int16Array} bytes
    */
   async load(name, bytes) {
@@ -49,19 +49,19 @@ export class RomFiles {
     return answer === null ? "" : say.bytesInRom(counted(count, "byte"), name, count === 1, hex(first, 3));
   }
 
-  /** Returns the bytes of all ROMs of the board. A list continues after the end of a ROM. */
+  /** Resolves to the bytes of all ROMs of the board. The answer to a `list` can continue after the end of a ROM, so this cuts it. */
   async bytes() {
     const chips = await this.chips();
     const listed = bytesOf(await this.calls.ask(listQueries(PAGES.filter((page) => chips.includes(page)))));
     return listed.map((byte, at) => (chips.includes(Math.floor(at / PAGE_BYTES)) ? byte : NO_BYTE));
   }
 
-  /** Resolves to the bytes of ROM in Intel HEX. */
+  /** Resolves to the content of ROM in Intel HEX, or to "" if the board has no ROM. */
   async hex() {
     return (await this.chips()).length === 0 ? "" : writeHex(await this.bytes());
   }
 
-  /** Resolves to the bytes of ROM from 000 to the end of the last chip; a missing chip reads as 0. */
+  /** Resolves to the content of ROM from 000 to the end of the last chip, with 0 for missing chips. */
   async image() {
     const end = (Math.max(-1, ...(await this.chips())) + 1) * PAGE_BYTES;
     return Uint8Array.from((await this.bytes()).subarray(0, end), (byte) => Math.max(0, byte));

@@ -1,12 +1,11 @@
-// Cycles for people: the number since a reset, since the last stop and between two marks, with the time that a real 4004 takes for them.
+// Counts of cycles for people: since a reset, since the last stop and between two marks, with the time that a real 4004 needs for them.
 
 import { counted } from "../bench/numbers.js";
 import { CYCLE_US } from "./mcs4_time.js";
 import * as say from "../../words/time.js";
 
 /**
- * The counts of a session: the cycles in all, those up to the last reset and up to the beginning of the last stretch of time, and those at
- * marks, of which there are at most two.
+ * The counts of a session: all cycles (`total`), and `total` at the last reset, at the beginning of the last run, and at up to two marks.
  * @typedef {{ total: number, reset: number, from: number, marks: number[] }} KeptCycles
  */
 
@@ -20,7 +19,7 @@ export function timeOfCycles(cycles) {
 }
 
 /**
- * `538 cycles, 5.810 ms`.
+ * Returns a count of cycles with its time: `538 cycles, 5.810 ms`.
  * @param {number} cycles
  */
 export function wordsOfCycles(cycles) {
@@ -35,12 +34,12 @@ export class Cycles {
     this.reset = reset;
     this.from = from;
     this.marks = marks;
-    /** True if time is paused: what follows is another stretch. */
+    /** True if time is paused: then the next cycles begin another run. */
     this.stands = true;
   }
 
   /**
-   * Takes over the bench's counts.
+   * Sets the bench's counts.
    * @param {{ total: number, reset: number }} counts
    */
   take({ total, reset }) {
@@ -57,12 +56,12 @@ export class Cycles {
     this.stands = true;
   }
 
-  /** The first mark, the second one, or the first of another two. */
+  /** Sets the first mark, or the second one. A third mark replaces both. */
   mark() {
     this.marks = this.marks.length === 1 ? [...this.marks, this.total] : [this.total];
   }
 
-  /** The cycles since a reset, in the last stretch, and from the first mark to the second or to here; null without a mark. */
+  /** The cycles since the reset, in the last run, and from the first mark to the second or to now (null without a mark). */
   get counts() {
     const [first, second = this.total] = this.marks;
     return {

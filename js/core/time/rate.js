@@ -1,20 +1,21 @@
 // The rate of cycles per second, measured over half a second.
 
+/** The duration of a measurement, in milliseconds. */
 const MEASURED = 500;
 
 export class Rate {
-  /** @param {number} now milliseconds */
+  /** @param {number} now in milliseconds */
   constructor(now) {
     this.since = now;
     this.cycles = 0;
-    /** Cycles a second, 0 until it is known. */
+    /** Cycles per second, 0 before the first measurement. */
     this.perSecond = 0;
   }
 
   /**
-   * Returns whether another rate is reported now.
-   * @param {number} cycles that were done
-   * @param {number} now milliseconds
+   * Adds cycles. Returns whether `perSecond` has a new value.
+   * @param {number} cycles
+   * @param {number} now in milliseconds
    */
   add(cycles, now) {
     this.cycles += cycles;

@@ -1,38 +1,38 @@
-// Real time: how many cycles are due. The time in which a page was hidden, blocked or asleep is left out. For a key press cycles are
-// simulated early, and later frames make up for them.
+// Real time: computes how many cycles are due. Time while the page was hidden, blocked or asleep does not count. A key press is simulated
+// early, and later frames make up for it.
 
 import { CYCLES_PER_SECOND, FRAME_MS } from "./mcs4_time.js";
 
-/** The most cycles of a frame: what a slow browser has missed is left out. */
+/** The maximum of cycles in a frame. A slow browser skips the others. */
 export const MOST_DUE = 20000;
-/** For a key time may run ahead by this many milliseconds: a frame, which is when lamps can follow. */
+/** The maximum that a key press is simulated early, in milliseconds: one frame, because lamps change only in frames. */
 export const MOST_AHEAD = FRAME_MS;
-/** Frames this many milliseconds apart: time was paused between them. */
+/** The gap between frames from which time was paused, in milliseconds. */
 export const LONG_GAP = 1000;
 
 export class RealTime {
   /**
-   * From these times on, in milliseconds, nothing is owed.
-   * @param {number} now the clock of the frames
-   * @param {number} wall the wall clock, which continues while a machine sleeps
+   * Begins at a time with no cycles due.
+   * @param {number} now the clock of the frames, in milliseconds
+   * @param {number} wall the wall clock in milliseconds, which continues while a machine sleeps
    */
   constructor(now, wall) {
     this.before = now;
     this.seen = wall;
     this.wasHidden = false;
-    /** The cycles that are due; negative after a key press. */
+    /** The cycles that are due; negative after an early key press. */
     this.owed = 0;
-    /** The cycles, or instructions, that are due in a second. */
+    /** The cycles, or instructions, per second. */
     this.perSecond = CYCLES_PER_SECOND;
   }
 
-  /** The time up to which cycles were done, by the clock of the frames. */
+  /** The time up to which cycles were simulated, by the clock of the frames. */
   get reached() {
     return this.before + (Math.max(0, -this.owed) * 1000) / this.perSecond;
   }
 
   /**
-   * Restarts at these times; cycles simulated early are forgotten.
+   * Restarts at a time with no cycles due, even after an early key press.
    * @param {number} now
    * @param {number} wall
    */
@@ -43,13 +43,13 @@ export class RealTime {
     this.owed = 0;
   }
 
-  /** The page is hidden. The next frame says for how long. */
+  /** Notes that the page is hidden. The next frame reports for how long. */
   hide() {
     this.wasHidden = true;
   }
 
   /**
-   * Continues after a gap that is left out; returns null if nothing is, or the milliseconds and whether the page was hidden.
+   * Skips the time since the last frame if time was paused. Returns that gap in milliseconds, or null if there was none.
    * @param {number} now
    * @param {number} wall
    * @returns {{ gap: number, wasHidden: boolean } | null}
@@ -64,9 +64,9 @@ export class RealTime {
   }
 
   /**
-   * The cycles that are due at this time; they count as done.
+   * Returns the cycles that are due, and counts them as done.
    * @param {number} now
-   * @param {number} [ahead] milliseconds are simulated early
+   * @param {number} [ahead] how early to simulate, in milliseconds
    */
   due(now, ahead = 0) {
     this.owed += (Math.max(0, now - this.before) / 1000) * this.perSecond;

@@ -1,19 +1,19 @@
-// The durations of the runs in some answers: their cycles, and the time that a 4004 takes for them.
+// The durations of runs, from the bench's answers: their cycles, and the time that a 4004 needs for them.
 
 import { readRun } from "../bench/answers.js";
 import { CYCLE_TENTHS_US } from "./mcs4_time.js";
 import * as say from "../../words/time.js";
 
 /**
- * Returns the place where a run stopped, in words, by the digits of the counter.
+ * A function that returns a text for the location at a program counter, which is given in hexadecimal digits.
  * @typedef {(counter: string) => string} PlaceOf
  *
- * The time of each run, with where or why it stopped, and the total; or why there is none, in words.
+ * The time of each run, with the location or the reason of its stop, and the total time. If there is an error, `words` is the message.
  * @typedef {{ runs: string[], sum: string, words: string }} RunTimes
  */
 
 const REFUSED = /^no \d/;
-/** The answers to `regs` and `state` have the counter. */
+/** An answer with the program counter, to `regs` or `state`. */
 const COUNTER = /^(?:acc|state seq) .*?\bpc ([0-9A-F]+)/;
 
 /** @param {number} cycles */
@@ -23,10 +23,10 @@ function timeOf(cycles) {
 }
 
 /**
- * Returns the times of the runs among answers.
+ * Returns the times of runs.
  * @param {string[]} answers
- * @param {number} first the first line that counts, from 1
- * @param {number} last the last one, 0 for the last of all
+ * @param {number} first the first answer to use, from 1
+ * @param {number} last the last answer to use, 0 for the last one in the list
  * @param {PlaceOf | null} placeOf
  * @returns {RunTimes}
  */

@@ -1,9 +1,9 @@
-// The speeds of time: as in the real chip, a fraction of that, an instruction a second, or as fast as this machine can.
+// The speeds of time: real time, a fraction of it, one instruction per second, or full speed.
 
 import * as say from "../../words/time.js";
 
 /**
- * `part`: time is this many times slower than real time; `byInstruction`: one instruction each second.
+ * A speed. Time is slower than real time by the factor `part`, or runs one instruction per second (`byInstruction`), or at full speed.
  * @typedef {{ id: string, words: string, part: number, byInstruction: boolean, isFull: boolean }} Speed
  */
 
@@ -19,7 +19,7 @@ function speed(id, words, some = {}) {
 
 export const REAL = speed("real", say.REAL_TIME);
 
-/** In the order of the menu. */
+/** The speeds in the order of the menu. */
 export const SPEEDS = [
   REAL,
   speed("tenth", "1/10", { part: 10 }),
@@ -35,7 +35,7 @@ export function speedOf(id) {
 }
 
 /**
- * Returns whether the eye can follow the line that runs.
+ * Returns whether the eye can follow the marked source line.
  * @param {Speed} each
  */
 export function isFollowed({ part, byInstruction }) {
@@ -43,7 +43,7 @@ export function isFollowed({ part, byInstruction }) {
 }
 
 /**
- * Returns whether a finger is too fast for the program: then a click toggles a key, as while time is paused.
+ * Returns whether a click toggles a key, as while time is paused. At this speed the program is too slow to detect a short press.
  * @param {Speed} each
  */
 export function keepsKeys({ part, byInstruction }) {

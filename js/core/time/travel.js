@@ -1,4 +1,4 @@
-// Moves to a goal, back and forward in time, and the status texts about them.
+// Moves to a goal, back and forward in time, with messages about them.
 
 import { wordsOfGone } from "../../words/stops.js";
 import * as say from "../../words/time.js";
@@ -15,21 +15,21 @@ import * as say from "../../words/time.js";
  */
 
 /**
- * The calls that moves through time make.
+ * The callbacks of Travel.
  * @typedef {object} TravelCalls
- * @property {() => Promise<void>} stand Pauses time; resolves once it is paused.
- * @property {() => { board: string, program: string, watched: string[] }} texts Returns the texts whose names a condition may have, and
+ * @property {() => Promise<void>} stand Pauses time. Resolves when time is paused.
+ * @property {() => { board: string, program: string, watched: string[] }} texts Returns the texts that define the names in conditions, and
  *   the watched values.
- * @property {(goal: Goal | null) => void} aim Stores the goal with the session while it is searched for; null once it is not.
+ * @property {(goal: Goal | null) => void} aim Stores the goal with the session during the search, and null after it.
  * @property {<Result extends ServedLines>(words: string, work: (ways: Ways) => Promise<Result>) => Promise<Result | null>} change Does
- *   work that changes the session, saves and shows its result. `words` name the work while it can be cancelled. Resolves to null if it
- *   was cancelled or failed, which is then reported.
- * @property {(goal: Goal) => void} runTo Lets time run to a goal that the bench has.
+ *   work that changes the session, and saves and shows its result. `words` name the work while the user can cancel it. If it is cancelled
+ *   or fails, it reports that and resolves to null.
+ * @property {(goal: Goal) => void} runTo Starts time, which runs to a goal that the bench has.
  * @property {(tally: Tally) => void} counted Reports the work of breakpoints.
- * @property {(stop: Stop, goal: Goal) => string} reasonOf Returns the message about why time stopped on its way to a goal.
- * @property {() => string} where Returns the counter with its name and its line, as words.
- * @property {(id: number) => import("../debug/breakpoints.js").Breakpoint | undefined} breakpoint Returns the breakpoint with an id;
- *   undefined if there is none.
+ * @property {(stop: Stop, goal: Goal) => string} reasonOf Returns the message that says why time stopped before a goal or at it.
+ * @property {() => string} where Returns the program counter with its name and its source line, as text.
+ * @property {(id: number) => import("../debug/breakpoints.js").Breakpoint | undefined} breakpoint Returns the breakpoint with an id, or
+ *   undefined.
  * @property {(words: string) => void} showMessage Shows a message in the status line.
  */
 
@@ -44,7 +44,7 @@ export class Travel {
   }
 
   /**
-   * Runs until a goal is reached, or something else stops it: at once if the goal is near, otherwise in running time.
+   * Runs until a goal is reached or something else stops time. A near goal is reached at once; otherwise time starts to run.
    * @param {Goal} goal
    */
   async goOn(goal) {
