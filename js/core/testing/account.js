@@ -1,6 +1,6 @@
-// The work of test runs, counted by the bench (`count`, `trace`) before each of them is done: how often each instruction begins and jumps,
-// the cycles of each, how long each call takes until it returns, and how long a lamp takes after a key. A tool that prints no profile uses
-// an account that counts less.
+// Counts the work of test runs, from the bench's forecasts (`count`, `trace`) before each run: how often each instruction begins and jumps,
+// its cycles, the duration of each call, and the time from a key press to a change of the lamps. The subclasses count less, for tools that
+// print no profile.
 
 import { ADDRESSES } from "../bench/rom_bytes.js";
 import { readTraced } from "../engine/tracing.js";
@@ -9,36 +9,43 @@ import { cyclesOf, isCall, isReturn, targetOf } from "../engine/rom_codes.js";
 /**
  * @typedef {import("../engine/tracing.js").Answers} Answers
  * @typedef {import("../engine/tracing.js").Counted} Counted
- * @typedef {{ times: number, withCalls: number, longest: number }} Calls those of one routine
- * @typedef {{ presses: number, answered: number, first: number, last: number }} KeyTimes the longest until the first lamp that changed,
- *   and until the last one before the next key
- * @typedef {{ at: number, entered: number }} Entered a routine, and when it was entered
+ *
+ * The calls of a routine: their number, their cycles including nested calls, and the cycles of the longest call.
+ * @typedef {{ times: number, withCalls: number, longest: number }} Calls
+ *
+ * The presses of a key: their number, and how many of them changed a lamp. `first` is the longest time from a press to the first change of
+ * a lamp, and `last` the longest time to the last change before the next press, in cycles.
+ * @typedef {{ presses: number, answered: number, first: number, last: number }} KeyTimes
+ *
+ * A call in progress: the address of the routine, and when it was called.
+ * @typedef {{ at: number, entered: number }} Entered
  */
 
-/** The 4004 keeps three return addresses. */
+/** The number of return addresses in a 4004. */
 export const MOST_LEVELS = 3;
 
 export class Account {
   /** @param {Uint8Array} codes the contents of ROM */
   constructor(codes) {
     this.codes = codes;
+    /** For each address, how often its instruction began and jumped, and its cycles. */
     this.runs = new Float64Array(ADDRESSES);
     this.taken = new Float64Array(ADDRESSES);
     this.own = new Float64Array(ADDRESSES);
-    /** Cycles of instructions that were begun before a test. */
+    /** The cycles of instructions that began before a test. */
     this.begunBefore = 0;
     this.total = 0;
-    /** @type {Map<number, Calls>} by the addresses of the routines */
+    /** @type {Map<number, Calls>} by the address of the routine */
     this.calls = new Map();
-    /** @type {Map<string, KeyTimes>} in the order of their first presses */
+    /** @type {Map<string, KeyTimes>} by the name of the key, in the order of first presses */
     this.keys = new Map();
-    /** @type {Entered[]} */
+    /** @type {Entered[]} the calls in progress, the innermost last */
     this.open = [];
-    /** The key that was pressed last, whose lamps are waited for. */
+    /** The last key press, and the first and the last change of a lamp since then (0 for none). */
     this.waiting = { key: "", pressed: 0, first: 0, last: 0 };
   }
 
-  /** Returns whether the cycles of instructions, calls and keys are counted. */
+  /** True if this account counts the times of instructions, calls and keys. */
   get keepsTimes() {
     return true;
   }
@@ -49,28 +56,29 @@ export class Account {
   }
 
   /**
-   * Returns the queries before a run of this many cycles.
-   * @param {number} cycles
+   * Returns the queries before a run.
+   * @param {number} cycles the length of the run
    */
   questions(cycles) {
     return `count ${cycles}\ntrace ${cycles} ret\n${this.waiting.key === "" ? "" : `trace ${cycles} lamps\n`}`;
   }
 
   /**
+   * Counts a run, from the answers to the queries before it.
    * @param {Answers} answers
    * @param {number} elapsed the cycles of the test before the run
-   * @param {() => Answers} askAll queries all instructions of the run
+   * @param {() => Answers} askAll queries a trace of all instructions in the run
    */
   take(answers, elapsed, askAll) {
     const links = this.count(answers.takeCounts());
     const lines = answers.takeTrace().lines;
     if (this.waiting.key !== "") this.followLamps(answers.takeTrace().lines, elapsed);
-    // No line reports a JMS or a BBL that leaves the return addresses unchanged.
+    // The short trace omits a JMS or a BBL that leaves the return addresses unchanged.
     this.followLinks(lines.length === links ? lines : askAll().takeTrace().lines, elapsed);
   }
 
   /**
-   * Counts the instructions of a run; returns how many JMS and BBL are among them.
+   * Counts the instructions in a run. Returns the number of JMS and BBL among them.
    * @param {Counted[]} counts
    */
   count(counts) {
@@ -87,6 +95,7 @@ export class Account {
   }
 
   /**
+   * Returns the calls of the routine at an address.
    * @param {number} at
    * @returns {Calls}
    */
@@ -97,7 +106,7 @@ export class Account {
   }
 
   /**
-   * From one routine into another, and back. Of four nested calls the first one has no way back.
+   * Follows calls and returns. The stack has three entries, so a fourth nested call makes the first one unable to return.
    * @param {string[]} lines
    * @param {number} elapsed
    */
@@ -113,7 +122,8 @@ export class Account {
   }
 
   /**
-   * Leaves the routine that was entered last. A recursive routine counts once; one that the test's end interrupts is not entered.
+   * Counts the end of the innermost call. A recursive call counts only with the outermost one. If the test ends during the JMS, the call
+   * counts 0 cycles.
    * @param {number} time
    */
   leave(time) {
@@ -126,7 +136,7 @@ export class Account {
   }
 
   /**
-   * Counts an instruction that writes a port; it takes one cycle.
+   * Records changes of lamps after a key press. An instruction that writes a port takes one cycle.
    * @param {string[]} lines
    * @param {number} elapsed
    */
@@ -138,7 +148,7 @@ export class Account {
   }
 
   /**
-   * A key went down.
+   * Records a key press.
    * @param {string} key
    * @param {number} elapsed
    */
@@ -147,6 +157,7 @@ export class Account {
     this.waiting = { key, pressed: elapsed, first: 0, last: 0 };
   }
 
+  /** Adds the last key press to the times of its key. */
   endKey() {
     const { key, pressed, first, last } = this.waiting;
     if (key === "") return;
@@ -162,14 +173,14 @@ export class Account {
   }
 
   /**
-   * The last instruction was not completed: its last cycle did not belong to this test.
+   * Uncounts the last cycle of an instruction that the test did not complete.
    * @param {number} address
    */
   cutShort(address) {
     this.own[address] -= 1;
   }
 
-  /** @param {number} elapsed the cycles of the test */
+  /** @param {number} elapsed the cycles of the test, which ends here */
   end(elapsed) {
     while (this.open.length > 0) this.leave(elapsed);
     this.endKey();
@@ -177,7 +188,7 @@ export class Account {
   }
 }
 
-/** Counts how often each instruction begins and jumps, for the coverage; it records no times. */
+/** Counts how often each instruction begins and jumps, for coverage. It records no times. */
 export class LineAccount extends Account {
   get keepsTimes() {
     return false;
@@ -194,7 +205,7 @@ export class LineAccount extends Account {
   }
 }
 
-/** Counts nothing: the bench is not queried before a run. */
+/** Counts nothing, and has no queries. */
 export class NoAccount extends Account {
   get keepsTimes() {
     return false;
@@ -205,6 +216,6 @@ export class NoAccount extends Account {
   }
 
   take() {
-    // No question was asked.
+    // There is no answer to read.
   }
 }

@@ -1,9 +1,9 @@
-// Checks that the result of a counterexample's test is the expected one.
+// Checks that the test of a counterexample has the expected result.
 
 import { runTests } from "./test_suite.js";
 
 /**
- * Returns whether a test fails on a board and a program; of a goal, whether it passes.
+ * Resolves to whether a test fails on a board and a program, or for a goal, whether it passes.
  * @param {import("../engine/engine_host.js").EngineHost} engine
  * @param {import("./prepared.js").Texts} texts
  * @param {string} test

@@ -1,4 +1,4 @@
-// The lines of a program that ran, from the counts of an account: each with its count and, for a conditional jump, its branch directions.
+// Coverage: how often each line of a program was run, and the branch directions of each conditional jump, from the counts of an account.
 
 import { formatTenths } from "../bench/numbers.js";
 import { hasWays, isCall, targetOf } from "../engine/rom_codes.js";
@@ -7,15 +7,24 @@ import * as say from "../../words/testing.js";
 /**
  * @typedef {import("../machine/source_map.js").SourceMap} SourceMap
  * @typedef {import("./account.js").Account} Account
- * @typedef {{ line: number, count: number, isJump: boolean, taken: number }} Covered a line that is an instruction
- * @typedef {{ from: number, to: number }} Stretch adjacent lines that were never run
- * @typedef {{ label: string, line: number, count: number }} Subroutine a label that a JMS calls, and how often it was run
+ *
+ * A line with an instruction: how often it was run, and how often its conditional jump was taken.
+ * @typedef {{ line: number, count: number, isJump: boolean, taken: number }} Covered
+ *
+ * Adjacent lines that were never run.
+ * @typedef {{ from: number, to: number }} Stretch
+ *
+ * A label that a JMS calls, and how often its instruction was run.
+ * @typedef {{ label: string, line: number, count: number }} Subroutine
+ *
+ * The coverage of a program. `instructions` and `ways` are the numbers of instructions and of branch directions; `run` and `waysRun` are
+ * how many of them were run.
  * @typedef {{ lines: Covered[], instructions: number, run: number, ways: number, waysRun: number, never: Stretch[],
  *   subroutines: Subroutine[] }} Coverage
  */
 
 /**
- * The lines that are instructions; a line of bytes (DB) counts if it was run.
+ * Returns the lines with instructions. A line of data (DB) counts if it was run.
  * @param {Account} account
  * @param {SourceMap} map
  * @returns {Covered[]}
@@ -33,7 +42,7 @@ function coveredLines({ codes, runs, taken }, map) {
 }
 
 /**
- * Returns the labels that a JMS of these lines calls, by rising addresses.
+ * Returns the labels that a JMS in these lines calls, by rising address.
  * @param {Account} account
  * @param {SourceMap} map
  * @param {Covered[]} lines
@@ -48,6 +57,7 @@ function subroutinesOf({ codes, runs }, map, lines) {
 }
 
 /**
+ * Returns the coverage of a program.
  * @param {Account} account
  * @param {SourceMap} map
  * @returns {Coverage}
@@ -74,7 +84,7 @@ export function coverageOf(account, map) {
 }
 
 /**
- * Returns a share in words: `20 of 21 instructions were run (95.2 %)`.
+ * Returns the summary: `20 of 21 instructions were run (95.2 %)`.
  * @param {Coverage} coverage
  */
 export function wordsOfCoverage({ instructions, run, ways, waysRun }) {

@@ -1,4 +1,4 @@
-// Coverage for a terminal, the source with the counts of its lines, and for other programs, LCOV's format.
+// Coverage as text: the source with the count of each line for a terminal, and the LCOV format for other programs.
 
 import { wordsOfCoverage } from "./coverage.js";
 import * as say from "../../words/testing.js";
@@ -7,10 +7,11 @@ import * as say from "../../words/testing.js";
  * @typedef {import("./coverage.js").Coverage} Coverage
  * @typedef {import("./coverage.js").Covered} Covered
  *
- * The text of a program, and how many lines of its file precede it.
+ * The source of a program, and the number of lines before it in its file.
  * @typedef {{ text: string, before: number }} ProgramText
  */
 
+/** Widths in characters. */
 const TAB = 8;
 const COUNT_WIDTH = 10;
 const WAYS_WIDTH = 13;
@@ -25,13 +26,13 @@ function expanded(text) {
   return line;
 }
 
-/** @type {(jump: Covered) => boolean} whether a conditional jump was run, and always went the same way */
+/** @type {(jump: Covered) => boolean} returns whether a conditional jump was run, and always took the same direction */
 const isOneWay = ({ isJump, count, taken }) => isJump && count > 0 && (taken === 0 || taken === count);
 
 /**
  * Returns a line of the report.
  * @param {string} source
- * @param {Covered | undefined} covered undefined for a line without an instruction
+ * @param {Covered | undefined} covered undefined if the line has no instruction
  */
 function rowOf(source, covered) {
   const count = covered ? covered.count || say.NEVER : "";
@@ -40,7 +41,7 @@ function rowOf(source, covered) {
 }
 
 /**
- * Returns the source with its counts, then a summary, the lines that were never run, and the jumps that always went the same way.
+ * Returns the report: the source with its counts, a summary, the lines that were never run, and the jumps that took only one direction.
  * @param {Coverage} coverage
  * @param {ProgramText} program
  */
@@ -57,13 +58,13 @@ export function coverageText(coverage, { text, before }) {
   return `${[...rows, ...ends].join("\n")}\n`;
 }
 
-/** @type {(name: string, values: (string | number)[]) => string} */
+/** @type {(name: string, values: (string | number)[]) => string} returns a line of the LCOV format */
 const record = (name, values) => `${name}:${values.join(",")}`;
 
 /**
- * Returns the coverage in LCOV's format; its functions are the labels that a JMS calls.
+ * Returns the coverage in the LCOV format. Its functions are the labels that a JMS calls.
  * @param {Coverage} coverage
- * @param {{ name: string, before: number }} program its file, and how many lines of it precede the text
+ * @param {{ name: string, before: number }} program the name of its file, and the number of lines before it in the file
  */
 export function lcovOf({ lines, subroutines, instructions, run, ways, waysRun }, { name, before }) {
   const branches = lines.filter(({ isJump }) => isJump).flatMap(({ line, count, taken }) => (

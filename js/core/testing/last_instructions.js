@@ -1,5 +1,5 @@
-// The last instructions of a session under test, a line each as in a trace: its last cycles are done once more, on a copy of the earlier
-// state.
+// The last instructions of a session under test, one line each, as in a trace. They are from a copy of an earlier state, on which the last
+// cycles are repeated.
 
 import { runLines } from "../engine/key_queue.js";
 import { InstructionTexts } from "../trace/instruction_texts.js";
@@ -14,11 +14,11 @@ import * as say from "../../words/testing.js";
  * @typedef {import("./test_session.js").TestSession} TestSession
  */
 
-/** The most instructions that are listed, in addition to the next one. */
+/** The maximum of listed instructions, without the next one. */
 const MOST_SHOWN = 12;
 
 /**
- * Returns the start of the listed part: the number of actions before it, and the cycles of the run there.
+ * Returns where the listed part begins: the number of actions before it, and the cycles of its first run before it.
  * @param {Done[]} done
  */
 function beginOf(done) {
@@ -33,7 +33,7 @@ function beginOf(done) {
 }
 
 /**
- * Returns the lines of the last instructions and commands, and that of the next instruction.
+ * Returns the lines of the last instructions and commands, and the line of the next instruction.
  * @param {TestSession} session
  * @param {{ board: Board, map: SourceMap }} names
  * @returns {string[]}

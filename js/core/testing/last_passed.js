@@ -1,4 +1,4 @@
-// The label that a session under test passed last, and the time: all that was done in the test is done once more, and counted by pieces.
+// Finds the label that a session under test passed last, and when. It repeats the whole test in pieces, and counts each piece.
 
 import { LONGEST_RUN } from "../engine/key_queue.js";
 import { Answers, readTraced } from "../engine/tracing.js";
@@ -9,11 +9,13 @@ import * as say from "../../words/testing.js";
  * @typedef {import("../machine/source_map.js").SourceMap} SourceMap
  * @typedef {import("./test_session.js").Done} Done
  * @typedef {import("./test_session.js").TestSession} TestSession
- * @typedef {{ address: number, cycles: number }} Passed after this many cycles of the test
+ *
+ * An instruction: its address, and the cycles of the test before it.
+ * @typedef {{ address: number, cycles: number }} Passed
  */
 
 /**
- * Yields the work of a test, in pieces as long as the bench accepts.
+ * Yields the actions of a test, with runs split into pieces that the bench accepts.
  * @param {Done[]} done
  * @returns {Generator<Done>}
  */
@@ -25,7 +27,7 @@ function* piecesOf(done) {
 }
 
 /**
- * Returns the last time that one of some addresses was passed; null if none was.
+ * Returns the last instruction at one of some addresses, or null if there was none.
  * @param {TestSession} session
  * @param {Set<number>} addresses
  * @returns {Passed | null}
@@ -54,9 +56,11 @@ export function lastPassed({ engine, begun, all }, addresses) {
 }
 
 /**
+ * Returns a text about the last label that was passed, for a condition that did not become true in time. If the condition is an address,
+ * the text also says when it was passed.
  * @param {TestSession} session
  * @param {SourceMap} map
- * @param {Condition} condition that was awaited
+ * @param {Condition} condition
  */
 export function wordsOfPassed(session, map, { address, text }) {
   const labels = [...map.names.values()].filter(({ isLabel }) => isLabel);

@@ -1,4 +1,4 @@
-// The initial state of tests: a session in memory with the texts of a board and a program, and their names; or the errors of the texts.
+// Prepares tests: loads the texts of a board and a program into a new session, and collects their names. Returns the errors of the texts.
 
 import { readBoard, refusalOf } from "../bench/answers.js";
 import { matchAnswers, readInputs } from "../bench/inputs.js";
@@ -13,15 +13,16 @@ import { romCodes } from "../engine/rom_codes.js";
  * @typedef {import("../engine/engine_host.js").EngineHost} Engine
  * @typedef {{ boardText: string, programText: string }} Texts
  *
- * The error of a text: its line (0 if unknown), and the reason; `number` is that of a refusal by the bench, 0 for none. `file` is the name
- * of a text of tests.
+ * An error in a text: its line (0 if unknown) and its message. `number` is the number of the bench's refusal, 0 if it is not one. `file` is
+ * the name of a text of tests.
  * @typedef {{ text: "board" | "program" | "tests" | "properties", file?: string, line: number, number: number, words: string }} TextFault
- * @typedef {{ file: Uint8Array, names: Names & { map: SourceMap }, codes: Uint8Array }} Prepared the session, the names, and the contents
- * of ROM
+ *
+ * The session, the names, and the bytes in ROM.
+ * @typedef {{ file: Uint8Array, names: Names & { map: SourceMap }, codes: Uint8Array }} Prepared
  */
 
 /**
- * Returns the errors in the names of keys and lamps, and in the displays.
+ * Returns the errors in the names of keys and lamps, and in displays.
  * @param {Face} face
  * @param {import("../bench/answers.js").Board} board
  * @returns {TextFault[]}
@@ -32,6 +33,7 @@ export function faultsOfNames(face, board) {
 }
 
 /**
+ * Returns the errors because of which a text cannot be sent to the bench.
  * @param {"board" | "program"} name
  * @param {string} text
  * @returns {TextFault[]}
@@ -41,6 +43,7 @@ export function faultsOfText(name, text) {
 }
 
 /**
+ * Returns the error in an answer of the bench, if it is a refusal.
  * @param {"board" | "program"} name
  * @param {string} answer
  * @returns {TextFault[]}
@@ -51,7 +54,7 @@ function refusedBy(name, answer) {
 }
 
 /**
- * Wires a board on a session of its own; returns the answers to `board`, or why the text is rejected.
+ * Wires a board in a new session. Returns the answers to `board`, or the error.
  * @param {Engine} engine
  * @param {string} text
  * @returns {{ faults: TextFault[], answers: string[] }}
@@ -64,7 +67,7 @@ export function wiredBoard(engine, text) {
 }
 
 /**
- * Returns a new session with a board and a program; an empty text is left out.
+ * Returns a new session with a board and a program. An empty text is not sent.
  * @param {Engine} engine
  * @param {Texts} texts
  * @returns {{ file: Uint8Array, faults: TextFault[] }}
@@ -83,6 +86,7 @@ export function newSession(engine, { boardText, programText }) {
 }
 
 /**
+ * Prepares tests of a board and a program.
  * @param {Engine} engine
  * @param {Texts} texts
  * @returns {{ prepared: Prepared | null, faults: TextFault[] }}

@@ -1,4 +1,4 @@
-// Lines that press keys of a board by their names, one after the other.
+// Makes the lines that press keys of a board by their names, one after the other.
 
 import { SEEN_QUESTION, hasScannedDisplay } from "../engine/seen_text.js";
 import { TOOL_KEY_DOWN_CYCLES, TOOL_KEY_UP_CYCLES } from "../time/mcs4_time.js";
@@ -7,10 +7,10 @@ import { keysOf } from "./test_text.js";
 /**
  * @typedef {import("../board/face.js").Face} Face
  *
- * How long each key is down, and how long it is up after that, in cycles.
+ * The time that each key is down and then up, in cycles.
  * @typedef {{ down: number, up: number }} Pace
  *
- * The lines, the last of which asks for the lamps; or the first name that is not a key.
+ * The lines, with a query of the lamps at the end, or the first name that is not a key.
  * @typedef {{ lines: string[], unknown: string | null }} PressLines
  */
 
@@ -18,7 +18,7 @@ import { keysOf } from "./test_text.js";
 export const USUAL_PACE = { down: TOOL_KEY_DOWN_CYCLES, up: TOOL_KEY_UP_CYCLES };
 
 /**
- * Returns lines for keys. A word that is not a name is read letter by letter.
+ * Returns the lines for keys. A word that is not a name is read letter by letter.
  * @param {Face} face
  * @param {string} text names with blanks between them
  * @param {Pace} pace

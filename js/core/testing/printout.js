@@ -1,4 +1,4 @@
-// The printout of a test: what the program has sent to the board's printer since the test began, or in the state that it is from.
+// The printout of a test: the codes that the program has sent to the board's printer in the test, and in the state from which it began.
 
 import { linesOf } from "../board/strip.js";
 import { Printing } from "../engine/printing.js";
@@ -11,7 +11,7 @@ import { Printing } from "../engine/printing.js";
 export class Printout {
   /**
    * @param {Printer} printer
-   * @param {number[]} codes that were sent before
+   * @param {number[]} codes the codes before the test
    */
   constructor(printer, codes) {
     this.printer = printer;
@@ -24,6 +24,7 @@ export class Printout {
   }
 
   /**
+   * Reads the answers to the queries before a run.
    * @param {Answers} answers
    * @param {number} elapsed the cycles of the test before the run
    */
@@ -37,7 +38,7 @@ export class Printout {
     return this.printing.codes.map(([, code]) => code);
   }
 
-  /** Returns the words of the completed lines. */
+  /** The words in the completed lines. */
   get words() {
     return linesOf(this.codes, this.printer.words).slice(0, -1).join(" ").split(/\s+/).filter(Boolean);
   }

@@ -1,4 +1,4 @@
-// The cycles of tests by label and key, by the counts of an account: a row for each label, and one for each key that was pressed.
+// A profile: the cycles of tests by label, and the times of keys, from the counts of an account.
 
 /**
  * @typedef {import("../machine/source_map.js").SourceMap} SourceMap
@@ -6,14 +6,16 @@
  * @typedef {import("./account.js").Calls} Calls
  * @typedef {import("./account.js").KeyTimes} KeyTimes
  *
- * The cycles from a label up to the next one (`own`), and how often a JMS calls it, with the cycles of all that it calls; the label "" is
- * for the code before all labels, at the address -1.
+ * A row for a label: the cycles from it up to the next label (`own`), and the calls of its routine. The row of the code before all labels
+ * has the label "" and the address -1.
  * @typedef {{ label: string, address: number, own: number, calls: Calls | null }} ProfileRow
+ *
+ * The rows, and a row for each key that was pressed. `begunBefore`: the cycles of instructions that began before a test.
  * @typedef {{ total: number, rows: ProfileRow[], begunBefore: number, keys: (KeyTimes & { key: string })[] }} Profile
  */
 
 /**
- * The labels by rising address, of several at one the first.
+ * Returns the labels by rising address, and only the first one at each address.
  * @param {SourceMap} map
  */
 function labelsOf(map) {
@@ -21,6 +23,7 @@ function labelsOf(map) {
 }
 
 /**
+ * Returns the profile of tests. Rows without cycles are omitted.
  * @param {Account} account
  * @param {SourceMap} map
  * @returns {Profile}

@@ -1,5 +1,5 @@
-// The text of tests that a board begins with. It presses the board's first key, if there is one, and expects what the bench then shows:
-// the display, or a lamp that is on.
+// The sample test for a board without tests. It presses the board's first key, if there is one, and expects the result: the text of the
+// display, or a lamp that is on.
 
 import { shownAnswers } from "../board/shown_answers.js";
 import { SEEN_QUESTION, hasScannedDisplay } from "../engine/seen_text.js";
@@ -17,14 +17,14 @@ import { keysOf } from "./test_text.js";
  * @typedef {import("./prepared.js").Texts} Texts
  */
 
-/** How long the key is down before something is expected. */
+/** The time that the key is down before the expectation, in milliseconds. */
 const HELD_MS = 50;
 
 /**
- * Returns what the front panel shows after a key was held, as conditions of tests, the best one first.
+ * Resolves to conditions of tests that hold after a key was held, the best first.
  * @param {Engine} engine
  * @param {Prepared} prepared
- * @param {string} press the command that presses the key; "" for none
+ * @param {string} press the command that presses the key, "" for none
  */
 async function shownAfter(engine, { file, names: { face, board }, codes }, press) {
   const session = new TestSession(engine, file, new NoAccount(codes), async () => {});
@@ -37,7 +37,7 @@ async function shownAfter(engine, { file, names: { face, board }, codes }, press
 }
 
 /**
- * Returns the sample test of a board with its program. If the texts have errors, it expects only the cycles that it ran.
+ * Resolves to the sample test for a board and its program. If the texts have errors, the test only runs some cycles.
  * @param {Engine} engine
  * @param {Texts} texts
  */

@@ -1,4 +1,4 @@
-// Counts the next cycles of a session: the lines of its program that run, and where the cycles go.
+// Counts the next cycles of a session, for coverage and a profile.
 
 import { romCodes } from "../engine/rom_codes.js";
 import { sessionProgram } from "../engine/session_program.js";
@@ -16,13 +16,15 @@ import { TestSession } from "./test_session.js";
  * @typedef {import("./prepared.js").TextFault} TextFault
  * @typedef {import("./profile.js").Profile} Profile
  *
- * The counts, after how many cycles the session stopped, and why ("end" if nothing stopped it).
+ * The counts, the cycles that were run, and why the run stopped ("end" if nothing stopped it).
  * @typedef {{ coverage: Coverage, profile: Profile, elapsed: number, stop: string }} Counted
- * @typedef {{ faults: TextFault[], other: OtherByte | null, counted: Counted | null }} SessionCount without `counted` nothing was run
+ *
+ * The result. If the program text has errors, or ROM differs from it, nothing is run and `counted` is null.
+ * @typedef {{ faults: TextFault[], other: OtherByte | null, counted: Counted | null }} SessionCount
  */
 
 /**
- * Counts the next cycles of a session; the state is unchanged. Breakpoints and watches are ignored.
+ * Counts the next cycles of a session, without stopping at breakpoints and watches. The state is unchanged.
  * @param {EngineHost} engine
  * @param {State} state
  * @param {string} programText

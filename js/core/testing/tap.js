@@ -1,4 +1,4 @@
-// Results of tests as TAP, version 13, which `prove` reads.
+// Test results in TAP version 13, which `prove` reads.
 
 import * as say from "../../words/testing.js";
 
@@ -8,7 +8,7 @@ import * as say from "../../words/testing.js";
 export const TAP_HEAD = "TAP version 13";
 
 /**
- * Returns a text as a string of YAML.
+ * Returns a text as a YAML string.
  * @param {string} text
  */
 export function quoted(text) {
@@ -16,7 +16,7 @@ export function quoted(text) {
 }
 
 /**
- * Returns the description of a test: a `#` would begin a directive.
+ * Returns the description of a test. It escapes `#`, which would begin a directive.
  * @param {string} name
  */
 export function described(name) {
@@ -27,7 +27,7 @@ export function described(name) {
 const placeOf = ({ source, line }) => `${source}:${line}`;
 
 /**
- * Returns the lines below `not ok`: the error, its place, and the state of the session then.
+ * Returns the lines below `not ok`: the error, its location, and the state of the session at the error.
  * @param {Failure} failure
  */
 function diagnosis(failure) {
@@ -41,9 +41,9 @@ function diagnosis(failure) {
 }
 
 /**
- * Returns the result of a test; the head precedes the first one.
+ * Returns the result of a test. The first one has the head before it.
  * @param {Outcome} outcome
- * @param {number} number of the test, from 1
+ * @param {number} number the number of the test, from 1
  * @param {number} total
  */
 export function tapOfTest({ name, failure }, number, total) {
@@ -53,7 +53,7 @@ export function tapOfTest({ name, failure }, number, total) {
 }
 
 /**
- * Returns all results.
+ * Returns the results of all tests.
  * @param {Outcome[]} outcomes
  */
 export function tapOfTests(outcomes) {
@@ -61,7 +61,7 @@ export function tapOfTests(outcomes) {
 }
 
 /**
- * Returns the error of a failed test, for people who watch a run; "" for one that passed.
+ * Returns a line with the error of a failed test, for people who watch a run, or "" if the test passed.
  * @param {Outcome} outcome
  */
 export function failureLine({ name, failure }) {

@@ -1,4 +1,4 @@
-// Runs tests: each on a session of its own in memory. Both the page's worker and node call it.
+// Runs tests, each in a new session in memory. The page's worker and Node use it.
 
 import { counted, hex } from "../bench/numbers.js";
 import { itemsOf, valueIn } from "../bench/state_line.js";
@@ -25,14 +25,15 @@ import * as say from "../../words/testing.js";
  * @typedef {import("./test_text.js").Step} Step
  * @typedef {import("./test_text.js").Test} Test
  *
- * An error: the line of the step with its text and the name of its source, and the reason; the state of the session then: the cycles of the
- * test, lamps and registers as `state` reports them, the last instructions; and the bytes of its file, null if it was not begun.
+ * A failed test. `source`, `line`, `text`: the name of the test text, and the step that failed; `words`: the message. Of the session at
+ * that step: the cycles of the test, lamps and registers as in `state`, the last instructions (`trace`), and its file. `file` is null if
+ * the test did not begin.
  * @typedef {{ source: string, line: number, text: string, words: string, cycles: number, lamps: string, registers: string, trace: string[],
  *   file: Uint8Array | null }} Failure
  * @typedef {{ name: string, line: number, cycles: number, failure: Failure | null }} Outcome
  */
 
-/** The interval at which the perceived lamps are checked. */
+/** The interval at which perceived lamps and the printout are checked, in cycles. */
 const LOOK_CYCLES = 1000;
 
 /** @param {Step} step */
@@ -40,14 +41,14 @@ function placeOf({ source, line, text }) {
   return { source: source.name, line, text };
 }
 
-/** Tests on one board with one program. */
+/** Runs tests of one board with one program. */
 export class TestRun {
   /**
    * @param {Engine} engine
    * @param {Prepared} prepared
    * @param {Account} account
    * @param {() => Promise<void>} yieldToMessages
-   * @param {import("../board/face.js").Printer | null} [printer] that tests ask for
+   * @param {import("../board/face.js").Printer | null} [printer] the printer, if a test has a condition about its printout
    */
   constructor(engine, prepared, account, yieldToMessages, printer = null) {
     this.engine = engine;
@@ -55,21 +56,22 @@ export class TestRun {
     this.account = account;
     this.yieldToMessages = yieldToMessages;
     this.printer = printer;
-    /** @type {Map<string, { file: Uint8Array, codes: number[] }>} the saved states, and the printout of each */
+    /** @type {Map<string, { file: Uint8Array, codes: number[] }>} the saved states by name, each with its printout */
     this.states = new Map();
-    /** The number of the text whose states they are. */
+    /** The number of the test text that saved them. */
     this.textNumber = 1;
     this.down = TOOL_KEY_DOWN_CYCLES;
     this.up = TOOL_KEY_UP_CYCLES;
-    /** True if a test may load other bytes into ROM, so that each one reads them again. */
+    /** True if a test can change ROM, so that each test reads the bytes in ROM again. */
     this.changesRom = true;
-    /** @type {(session: TestSession) => void} takes the session of each test at its end */
+    /** @type {(session: TestSession) => void} receives the session of each test at its end */
     this.ran = () => {};
   }
 
   /**
+   * Runs a test.
    * @param {Test} test
-   * @param {string} savedBy the name of the test that saves the state which it begins with
+   * @param {string} savedBy the name of the test that saves the state from which this one begins
    * @returns {Promise<Outcome>}
    */
   async run({ textNumber, name, line, from, steps }, savedBy) {
@@ -85,7 +87,7 @@ export class TestRun {
     this.account.codes = this.prepared.codes;
     const paper = this.printer && new Printout(this.printer, begun.codes);
     const session = new TestSession(this.engine, begun.file, this.account, this.yieldToMessages, paper);
-    // Another test may have loaded other bytes into ROM.
+    // The test that saved the state can have changed ROM.
     if (from !== "" && this.changesRom) session.readCodes();
     this.down = TOOL_KEY_DOWN_CYCLES;
     this.up = TOOL_KEY_UP_CYCLES;
@@ -96,9 +98,10 @@ export class TestRun {
   }
 
   /**
+   * Runs steps. Resolves to the failure, or to null.
    * @param {TestSession} session
    * @param {Step[]} steps
-   * @param {string[]} within where they are, the innermost first: repeated and shared steps
+   * @param {string[]} within descriptions of the repeated and shared steps around them, the innermost first
    * @returns {Promise<Failure | null>}
    */
   async runSteps(session, steps, within) {
@@ -117,6 +120,7 @@ export class TestRun {
   }
 
   /**
+   * Runs repeated or shared steps.
    * @param {TestSession} session
    * @param {Extract<Action, { steps: Step[] }>} action
    * @param {Step} step
@@ -137,7 +141,7 @@ export class TestRun {
   }
 
   /**
-   * Returns the state of a session in which a test has failed.
+   * Returns the state of a session for a failure.
    * @param {TestSession} session
    */
   reportOf(session) {
@@ -151,7 +155,7 @@ export class TestRun {
   }
 
   /**
-   * Does a step; returns the error, "" for none.
+   * Executes a step. Resolves to the error message, or to "".
    * @param {TestSession} session
    * @param {Exclude<Action, { steps: Step[] }>} action
    * @returns {Promise<string>}
@@ -173,6 +177,7 @@ export class TestRun {
   }
 
   /**
+   * Saves a session as a named state.
    * @param {TestSession} session
    * @param {string} state its name
    */
@@ -182,6 +187,7 @@ export class TestRun {
   }
 
   /**
+   * Runs some cycles. Resolves to the error message, or to "".
    * @param {TestSession} session
    * @param {number} cycles
    */
@@ -190,7 +196,7 @@ export class TestRun {
     return stop === "code" ? say.runStopped(session.elapsed, this.wordsOfCode(session)) : "";
   }
 
-  /** @param {TestSession} session is at a code that is not an instruction */
+  /** @param {TestSession} session has reached a code that is not an instruction */
   wordsOfCode({ counter }) {
     return say.beforeCode(this.named(counter));
   }
@@ -202,7 +208,7 @@ export class TestRun {
   }
 
   /**
-   * Returns the key that a value names now; or why there is none, in words.
+   * Returns the key that a value names now; if there is none, `words` is the message.
    * @param {TestSession} session
    * @param {ChosenKey} chosen
    * @returns {{ key: Key | undefined, words: string }}
@@ -218,6 +224,7 @@ export class TestRun {
   }
 
   /**
+   * Presses and releases keys. Resolves to the error message, or to "".
    * @param {TestSession} session
    * @param {(Key | ChosenKey)[]} keys
    * @param {"keys" | "press" | "release"} kind
@@ -241,10 +248,11 @@ export class TestRun {
   }
 
   /**
-   * Runs until a condition holds at the end of an instruction. At a label a run continues to the next time that it is reached.
+   * Runs until a condition holds at the end of an instruction. For a label it always runs to the next time that the label is reached.
+   * Resolves to the error message, or to "".
    * @param {TestSession} session
    * @param {Condition} condition
-   * @param {number} within
+   * @param {number} within the maximum of cycles
    */
   async until(session, condition, within) {
     const begun = session.elapsed;
@@ -259,7 +267,7 @@ export class TestRun {
   }
 
   /**
-   * Up to a breakpoint.
+   * Runs up to a label, with a temporary breakpoint. Resolves to why the run stopped.
    * @param {TestSession} session
    * @param {Condition} condition
    * @param {number} end
@@ -276,7 +284,7 @@ export class TestRun {
   }
 
   /**
-   * Traces the condition's places, first for a short time, because it may become true soon.
+   * Runs until a condition becomes true, by tracing its places. The first traces are short, because it can become true soon.
    * @param {TestSession} session
    * @param {Condition} condition
    * @param {number} end
@@ -284,7 +292,7 @@ export class TestRun {
   async untilChange(session, condition, end) {
     if (condition.needs.includes("seen") || condition.needs.includes("printed")) return this.untilSeen(session, condition, end);
     let stop = "end";
-    // The values that no trace reports (TEST, a pending second cycle) can change with the first cycle only.
+    // TEST and a pending second cycle are not in a trace. During a run they can change only in the first cycle.
     let piece = condition.places.length > 0 ? 1000 : 1;
     const beside = { ...session.readCondition(condition).beside, owed: "0" };
     for (; session.elapsed < end && stop === "end"; piece = piece < 10000 ? piece * 10 : LONGEST_RUN) {
@@ -298,7 +306,7 @@ export class TestRun {
   }
 
   /**
-   * Samples a multiplexed display as perceived, and the printout, at a fixed number of cycles.
+   * Runs until a condition about a perceived display or the printout holds. It checks the condition at a fixed interval.
    * @param {TestSession} session
    * @param {Condition} condition
    * @param {number} end
@@ -313,12 +321,12 @@ export class TestRun {
   }
 
   /**
-   * Returns how long it takes, at most this many cycles, until the condition holds; 0 if it does not within a piece.
+   * Returns the cycles until a condition becomes true within a piece, or 0 if it does not.
    * @param {TestSession} session
    * @param {Condition} condition
-   * @param {Beside} beside the values that no run changes
+   * @param {Beside} beside the values that a run does not change
    * @param {number} piece
-   * @param {number} most
+   * @param {number} most the maximum to return
    */
   cyclesToChange(session, condition, beside, piece, most) {
     const { lines } = new Answers(session.ask(`trace ${piece} ${condition.places.join(" ")}\n`)).takeTrace();

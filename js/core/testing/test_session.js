@@ -1,5 +1,5 @@
-// A session under test: in memory, with the work since a stored moment, so that the last instructions can be reported. Each run is counted
-// before it is done.
+// A session under test, in memory. It stores an earlier state and the actions since then, so that the last instructions can be reported.
+// Each run is counted before it is executed.
 
 import { SEEN_QUESTION } from "../engine/seen_text.js";
 import { readCounter, readRegisters } from "../bench/answers.js";
@@ -14,25 +14,29 @@ import { Answers, readTraced, valuesOf } from "../engine/tracing.js";
  * @typedef {import("../conditions/condition_language.js").Condition} Condition
  * @typedef {import("../engine/engine_host.js").EngineHost} Engine
  * @typedef {import("./printout.js").Printout} Printout
- * @typedef {{ line: string, cycles: number }} Done a command, or a run of these cycles ("run")
- * @typedef {{ file: Uint8Array, elapsed: number, done: Done[] }} Kept a moment, and the work since then
+ *
+ * A command, or a run ("run") with its cycles.
+ * @typedef {{ line: string, cycles: number }} Done
+ *
+ * A stored state, and the actions since then.
+ * @typedef {{ file: Uint8Array, elapsed: number, done: Done[] }} Kept
  */
 
-/** The last cycles whose instructions can be listed. */
+/** The number of last cycles whose instructions can be listed. */
 export const SHOWN_CYCLES = 26;
 
 export class TestSession {
   /**
    * @param {Engine} engine
-   * @param {Uint8Array} file how it begins
+   * @param {Uint8Array} file the initial state
    * @param {Account} account
-   * @param {() => Promise<void>} yieldToMessages between pieces of long work; throws if the work is cancelled
+   * @param {() => Promise<void>} yieldToMessages is called between pieces of long work; throws if the work is cancelled
    * @param {Printout | null} paper the printout, if a test asks for it
    */
   constructor(engine, file, account, yieldToMessages, paper = null) {
     this.engine = engine;
     this.file = file.slice();
-    /** The session before the last run, whose bytes the next run reuses. */
+    /** The session before the last run. The next run reuses its buffer. */
     this.past = file.slice();
     this.account = account;
     this.yieldToMessages = yieldToMessages;
@@ -43,7 +47,7 @@ export class TestSession {
     this.ran = 0;
     /** @type {Kept} */
     this.kept = { file: file.slice(), elapsed: 0, done: [] };
-    /** Its beginning, and all that was done since; consecutive runs are joined. */
+    /** The initial state; `all` has the actions since then, with consecutive runs joined. */
     this.begun = file;
     /** @type {Done[]} */
     this.all = [];
@@ -55,7 +59,7 @@ export class TestSession {
     this.beginsOwing = this.owed === "1";
   }
 
-  /** Returns the codes that were printed, if a test asks for them. */
+  /** The codes that were printed, if the printout is recorded. */
   get codes() {
     return this.paper ? this.paper.codes : [];
   }
@@ -73,7 +77,7 @@ export class TestSession {
   }
 
   /**
-   * Serves a command other than a run, which is accepted.
+   * Serves a command other than a run. Throws if the bench rejects it.
    * @param {string} line
    */
   command(line) {
@@ -85,13 +89,13 @@ export class TestSession {
     this.all.push({ line, cycles: 0 });
   }
 
-  /** Bytes in ROM have changed. */
+  /** Reads the bytes in ROM again after they have changed. */
   readCodes() {
     this.account.codes = romCodes(this.engine, this.file);
   }
 
   /**
-   * Runs for this many cycles, or up to an earlier stop; returns why it stopped.
+   * Runs for some cycles, or until something stops it. Resolves to why it stopped.
    * @param {number} cycles
    */
   async run(cycles) {
@@ -105,7 +109,7 @@ export class TestSession {
     return "end";
   }
 
-  /** @param {number} cycles at most the limit of a line */
+  /** @param {number} cycles at most LONGEST_RUN */
   runPiece(cycles) {
     if (cycles >= SHOWN_CYCLES) this.spare.set(this.file);
     const { account, engine, file, paper, past } = this;
@@ -132,14 +136,14 @@ export class TestSession {
     return ran;
   }
 
-  /** @param {number} cycles of a run */
+  /** @param {number} cycles the length of a run to add to `all` */
   note(cycles) {
     const last = this.all[this.all.length - 1];
     if (last && last.line === "run") last.cycles += cycles;
     else if (cycles > 0) this.all.push({ line: "run", cycles });
   }
 
-  /** The last instruction is not done, and will not be. */
+  /** Uncounts the last cycle of the last instruction, which will not be completed. */
   cutShort() {
     if (this.ran === 0 || !this.account.keepsTimes) return;
     const before = this.ran > 1 ? `run ${this.ran - 1}\n` : "";
@@ -149,7 +153,7 @@ export class TestSession {
   }
 
   /**
-   * Returns the values of a condition's places, and what else it asks for.
+   * Returns the values of a condition's places, and the other values that it needs.
    * @param {Condition} condition
    * @returns {{ values: string[], beside: Beside }}
    */
@@ -165,7 +169,7 @@ export class TestSession {
   }
 
   /**
-   * Returns whether a condition holds now; if not, `message` says what is, and what must be.
+   * Returns whether a condition holds now. If not, `message` has the present and the expected value.
    * @param {Condition} condition
    */
   look(condition) {
@@ -173,7 +177,7 @@ export class TestSession {
     return { holds: condition.holds(values, beside), message: condition.explain(values, beside) };
   }
 
-  /** The test is over. */
+  /** Ends the test. */
   end() {
     if (this.owed === "1") this.cutShort();
     this.account.end(this.elapsed);

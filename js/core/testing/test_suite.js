@@ -1,5 +1,5 @@
-// Tests of a program: reads their texts, runs them, and counts their coverage. The page's worker and node (mcs4 test, cover and profile)
-// call it.
+// Tests of a program: reads their texts, runs them, and counts their coverage. The page's worker and the commands `mcs4 test`, `mcs4 cover`
+// and `mcs4 profile` call it.
 //
 //     const report = await runTests(engine, { boardText, programText, testText }, async (done, total) => true);
 
@@ -20,24 +20,27 @@ import { readSources } from "./test_text.js";
  * @typedef {import("./test_text.js").Action} Action
  * @typedef {import("./test_text.js").Source} Source
  * @typedef {import("./test_text.js").Test} Test
- * @typedef {{ boardText: string, programText: string, testText?: string, sources?: Source[] }} TestedTexts with a text of tests, or several
- * with their names
  *
- * The options: what is counted (with less than an Account the coverage or the profile is empty); the receiver of each result, with its
- * number, when its test ends; the receiver of the session of each test; and the only test to run, by its name and its source, after those
- * that lead to its starting state.
+ * The texts of a board and a program, with one test text, or several with their names.
+ * @typedef {{ boardText: string, programText: string, testText?: string, sources?: Source[] }} TestedTexts
+ *
+ * The options of a test run:
+ * - `Counting`: the class that counts; if it counts less than an Account, the coverage or the profile is empty;
+ * - `ended`: receives each outcome when its test ends;
+ * - `ran`: receives the session of each test;
+ * - `only`: the one test to run, after the tests that save the states it needs.
  * @typedef {{ Counting?: typeof Account, ended?: (outcome: Outcome, number: number, total: number) => void,
  *   ran?: (session: import("./test_session.js").TestSession) => void, only?: { name: string, source: string } | null }} Options
  *
- * The results of tests; with errors nothing was run.
+ * The results of tests. If the texts have errors, no test is run.
  * @typedef {{ faults: TextFault[], outcomes: Outcome[], coverage: Coverage | null, profile: Profile | null }} Report
  */
 
-/** The least milliseconds between two checks whether to continue. */
+/** The minimum time between two calls of `goesOn`, in milliseconds. */
 const BREATH_TIME = 40;
 
 /**
- * Returns the errors of the texts, and runs nothing.
+ * Reads the texts. Returns the prepared session and the tests, or the errors.
  * @param {Engine} engine
  * @param {TestedTexts} texts
  */
@@ -52,7 +55,7 @@ export function readTested(engine, texts) {
 }
 
 /**
- * Returns whether any of some steps, including nested ones, does an action of a kind.
+ * Returns whether a step, or a step nested in one, has a wanted action.
  * @param {import("./test_text.js").Step[]} steps
  * @param {(action: Action) => boolean} isWanted
  * @returns {boolean}
@@ -62,7 +65,7 @@ function someStep(steps, isWanted) {
 }
 
 /**
- * Returns the test that saves another one's starting state; undefined if that begins at power-on.
+ * Returns the test that saves the state from which another test begins, or undefined if that test begins at power-on.
  * @param {Test[]} tests
  * @param {Test} test
  */
@@ -72,7 +75,7 @@ function savingOf(tests, { textNumber, from }) {
 }
 
 /**
- * Returns a test after those that lead to it, in their order.
+ * Returns a test and the tests that save the states it needs, in their order.
  * @param {Test[]} tests
  * @param {(test: Test) => boolean} isWanted
  */
@@ -83,7 +86,7 @@ function leadingTo(tests, isWanted) {
   return tests.filter((test) => wanted.has(test));
 }
 
-/** @type {(action: Action) => boolean} whether its condition is about the printout */
+/** @type {(action: Action) => boolean} returns whether the condition of a step is about the printout */
 const asksForPaper = (action) => "condition" in action && action.condition.needs.includes("printed");
 
 /** @type {(action: Action) => boolean} */
@@ -93,7 +96,8 @@ const changesRom = (action) => action.kind === "set" && action.changesRom;
  * Runs tests.
  * @param {Engine} engine
  * @param {TestedTexts} texts
- * @param {(done: number, total: number) => Promise<boolean>} goesOn receives how many tests are done, and returns whether to continue
+ * @param {(done: number, total: number) => Promise<boolean>} goesOn receives the number of completed tests, and resolves to whether to
+ * continue
  * @param {Options} [options]
  * @returns {Promise<Report>}
  */

@@ -1,4 +1,4 @@
-// Texts of tests: their tests with their steps, and the errors in them. Shared steps of a text can be used by the texts after it; states
+// Parses test texts into tests with their steps, and reports the errors. Later texts can use the shared steps of earlier ones. Saved states
 // belong to one text. The manual ("The lines of a test") describes the language.
 
 import { durationOf, wholeDuration } from "../conditions/durations.js";
@@ -13,12 +13,18 @@ import * as say from "../../words/testing.js";
 /**
  * @typedef {import("../conditions/condition_language.js").Condition} Condition
  * @typedef {import("../conditions/condition_language.js").Names} Names
- * @typedef {{ name: string, text: string }} Source a text of tests with the name of its file, "" if it has none
- * @typedef {{ file: string, line: number, column: number, words: string }} Fault `column` counts from 0, -1 if none is known
- * @typedef {{ name: string, key: import("../board/key_place.js").Key, press: string, release: string }} Key with the commands that move it
  *
- * A key that a value names: the word of the line, the place, its word of `trace`, and the keys for the values from 0 on; without these, the
- * key whose name is the value.
+ * A test text with the name of its file, "" if it has none.
+ * @typedef {{ name: string, text: string }} Source
+ *
+ * An error. `column` counts from 0, -1 if unknown.
+ * @typedef {{ file: string, line: number, column: number, words: string }} Fault
+ *
+ * A key with its name, and the commands that press and release it.
+ * @typedef {{ name: string, key: import("../board/key_place.js").Key, press: string, release: string }} Key
+ *
+ * A key that a value names when the step is executed: the word in the line, the place of the value, the place for `trace`, and the keys for
+ * the values from 0 on. If there are no keys, the value is the name of the key.
  * @typedef {{ word: string, place: string, probe: string, keys: Key[] }} ChosenKey
  *
  * The action of a step.
@@ -29,22 +35,23 @@ import * as say from "../../words/testing.js";
  *   | { kind: "repeat", times: number, steps: Step[] } | { kind: "do", name: string, steps: Step[] }} Action
  * @typedef {{ source: Source, line: number, text: string, action: Action }} Step
  *
- * Returns shared steps expanded, with the number of lines that they execute; repeated steps count as often as they are repeated.
+ * Shared steps. `lines` is the number of lines that they execute, including all repetitions.
  * @typedef {{ source: Source, name: string, line: number, steps: Step[], lines: number }} Shared
- * @typedef {{ textNumber: number, name: string, line: number, from: string, steps: Step[] }} Test `textNumber` counts the texts from 1;
- *   `from` is the state that it begins with, "" for none
+ *
+ * A test. `textNumber` is the number of its text, from 1. `from` is the name of the state from which it begins, "" for power-on.
+ * @typedef {{ textNumber: number, name: string, line: number, from: string, steps: Step[] }} Test
  * @typedef {{ tests: Test[], faults: Fault[] }} TestText
  */
 
-/** The most repetitions, and the most lines of a test with all its repetitions. */
+/** The maximum of repetitions, and of executed lines in a test with all its repetitions. */
 const MOST_TIMES = 100000;
 const MOST_LINES = 1000000;
 
-/** An error of a line, with its first column. */
+/** An error in a line, with its first column. */
 class BadLine extends Error {
   /**
    * @param {string} words
-   * @param {number} column from 0, -1 if none is known
+   * @param {number} column counts from 0, -1 if unknown
    */
   constructor(words, column) {
     super(words);
@@ -53,6 +60,7 @@ class BadLine extends Error {
 }
 
 /**
+ * Throws a BadLine.
  * @param {string} words
  * @param {number} [column]
  * @returns {never}
@@ -62,13 +70,13 @@ function fail(words, column = -1) {
 }
 
 /**
- * Returns the address of a place of ROM; NaN for any other place.
+ * Returns the address of a place in ROM, NaN for any other place.
  * @param {string} place
  */
 const romAddress = (place) => (place.startsWith("rom.") ? numberOf(place.slice("rom.".length)) : NaN);
 
 /**
- * Returns a key with its name.
+ * Returns a key with its name and its commands.
  * @param {string} name
  * @param {Key["key"]} key
  * @returns {Key}
@@ -78,7 +86,7 @@ export function namedKey(name, key) {
 }
 
 /**
- * Returns the names of a board's keys with the commands that move them, in the order of the front panel; last the switch at TEST.
+ * Returns the named keys of a board by their names, in the order of the front panel. The switch at TEST is last.
  * @param {import("../board/face.js").Face} face
  * @returns {Map<string, Key>}
  */
@@ -95,30 +103,30 @@ class TestReader {
   constructor(names) {
     this.names = names;
     this.keys = keysOf(names.face);
-    /** @type {Source} the text that is being read */
+    /** @type {Source} the text being read */
     this.source = { name: "", text: "" };
-    /** Its number among the texts. */
+    /** The number of that text, from 1. */
     this.textNumber = 0;
     /** @type {Test[]} */
     this.tests = [];
     /** @type {Fault[]} */
     this.faults = [];
-    /** @type {Map<string, Test>} by which test of this text each state is saved */
+    /** @type {Map<string, Test>} for each saved state of this text, the test that saves it */
     this.savedBy = new Map();
     /** @type {Map<string, Shared>} */
     this.shared = new Map();
-    /** @type {Shared | null} the shared steps that are being read, null in a test */
+    /** @type {Shared | null} the shared steps being read, null in a test */
     this.sharing = null;
-    /** @type {Step[]} the steps that the next one is added to */
+    /** @type {Step[]} the list for the next step */
     this.steps = [];
-    /** @type {{ line: number, times: number, outer: Step[] }[]} the repetitions that have no end yet, the outermost first */
+    /** @type {{ line: number, times: number, outer: Step[] }[]} the open repetitions, the outermost first */
     this.repeats = [];
-    /** The number of lines of the test, or of the shared steps, so far. */
+    /** The number of executed lines in the test or the shared steps so far. */
     this.lines = 0;
     this.hasBegun = false;
   }
 
-  /** @returns {Test} the current one */
+  /** @returns {Test} the test being read */
   get test() {
     return this.tests[this.tests.length - 1];
   }
@@ -141,7 +149,7 @@ class TestReader {
         if (!(fault instanceof BadLine)) throw fault;
         const column = fault.column < 0 ? -1 : fault.column + whole[at].length - whole[at].trimStart().length;
         this.addFault(at + 1, fault.message, Math.min(column, whole[at].trimEnd().length - 1));
-        // A text that is not one of tests has no lines of one.
+        // If a text does not begin like tests, one error is enough.
         if (!this.hasBegun && /^[\t -~]*$/.test(lines[at])) return;
       }
     }
@@ -149,7 +157,7 @@ class TestReader {
     if (!this.hasBegun && this.faults.length === 0) this.addFault(1, say.NO_TEST);
   }
 
-  /** All texts are read: there must be a test among them. */
+  /** Reports an error if the texts have no test. */
   end() {
     if (this.tests.length === 0 && this.faults.length === 0) this.addFault(1, say.NO_TEST);
   }
@@ -164,7 +172,8 @@ class TestReader {
   }
 
   /**
-   * Returns where the comment begins: at a mark with blanks around it, except in the name of a test, or if a key has the mark as its name.
+   * Returns a line without its comment. A comment mark has blanks around it. A mark in the name of a test is part of the name, and a mark
+   * that is the name of a key is that key.
    * @param {string} line
    */
   withoutComment(line) {
@@ -178,6 +187,7 @@ class TestReader {
   }
 
   /**
+   * Parses a line.
    * @param {string} text
    * @param {number} line
    */
@@ -197,7 +207,7 @@ class TestReader {
     }
   }
 
-  /** A test, or shared steps, begin: the former one has ended. */
+  /** Begins a test or shared steps, and ends the previous one. */
   begin() {
     this.closeRepeats();
     this.hasBegun = true;
@@ -232,6 +242,7 @@ class TestReader {
 
   // --- repetitions ---
 
+  /** Reports the repetitions without an end. */
   closeRepeats() {
     for (const { line } of this.repeats.splice(0)) this.addFault(line, say.NO_END);
   }
@@ -245,7 +256,7 @@ class TestReader {
   }
 
   /**
-   * Counts `count` more lines, as often as they are repeated here.
+   * Adds to the number of executed lines, as often as the open repetitions repeat them. Fails if there are too many.
    * @param {number} more
    */
   addLines(more) {
@@ -256,6 +267,7 @@ class TestReader {
   }
 
   /**
+   * Parses a step.
    * @param {string[]} words
    * @param {string} text
    * @param {number} line
@@ -281,7 +293,7 @@ class TestReader {
   }
 
   /**
-   * Shared steps are known from their end on, so none lead to themselves.
+   * Parses `do`. It can use only shared steps that have ended, so shared steps never contain themselves.
    * @param {string[]} words
    * @returns {Action}
    */
@@ -300,6 +312,7 @@ class TestReader {
   }
 
   /**
+   * Parses the action of a step.
    * @param {string[]} words
    * @param {string} text
    * @returns {Action}
@@ -343,7 +356,7 @@ class TestReader {
   }
 
   /**
-   * Returns names of keys; for `keys` a word that is not a name is read letter by letter.
+   * Parses the names of keys. In `keys` a word that is not a name is read letter by letter.
    * @param {"press" | "release" | "keys"} kind
    * @param {string[]} words
    * @returns {Action}
@@ -359,7 +372,8 @@ class TestReader {
   }
 
   /**
-   * Reads a word that names a key by a value: `{r4}` the key whose name is the value, `{r4:red,green}` one of these; null if it is none.
+   * Parses a word that names a key by a value: `{r4}` for the key whose name is the value, `{r4:red,green}` for the key at that index.
+   * Returns null for any other word.
    * @param {string} word
    * @returns {ChosenKey | null}
    */
@@ -377,8 +391,9 @@ class TestReader {
   }
 
   /**
+   * Fails because a key does not exist.
    * @param {string} name
-   * @param {string} word that contains it
+   * @param {string} word the word that contains the name
    * @returns {never}
    */
   noKey(name, word) {
@@ -388,6 +403,7 @@ class TestReader {
   }
 
   /**
+   * Parses a condition.
    * @param {string} text
    * @param {number} begin its column in the line
    */
@@ -397,7 +413,8 @@ class TestReader {
   }
 
   /**
-   * @param {string} text of the line
+   * Parses `until`.
+   * @param {string} text the line
    * @param {number} begin the column of its condition
    * @returns {Action}
    */
@@ -412,6 +429,7 @@ class TestReader {
   }
 
   /**
+   * Parses `set`. Fails if the board has no ROM at the address.
    * @param {string} text the text after `set`
    * @param {number} begin its column in the line
    */
@@ -439,7 +457,7 @@ function readPace(words) {
 }
 
 /**
- * Returns the steps without shared steps: the lines of these replace `do`.
+ * Returns the lines of steps, with the lines of shared steps in place of `do`.
  * @param {Step[]} steps
  * @returns {{ text: string, action: Action }[]}
  */
@@ -452,9 +470,9 @@ export function ownLines(steps) {
 }
 
 /**
- * Reads texts of tests, one after the other.
+ * Parses test texts, one after the other.
  * @param {Source[]} sources
- * @param {Names} names of the board and the program
+ * @param {Names} names the names in the board and the program
  * @returns {TestText}
  */
 export function readSources(sources, names) {
@@ -465,8 +483,9 @@ export function readSources(sources, names) {
 }
 
 /**
+ * Parses one test text.
  * @param {string} text
- * @param {Names} names of the board and the program
+ * @param {Names} names the names in the board and the program
  */
 export function readTests(text, names) {
   return readSources([{ name: "", text }], names);
