@@ -3,7 +3,7 @@
 import * as say from "../../words/text.js";
 
 /**
- * Returns the edit distance of two words: how many letters must be inserted, deleted, changed, or swapped with their neighbour.
+ * Returns the edit distance of two words: how many letters must be inserted, deleted, replaced, or swapped with their neighbour.
  * @param {string} one
  * @param {string} other
  */
@@ -23,7 +23,7 @@ export function distance(one, other) {
 }
 
 /**
- * Returns the words that are most like another one, at most two; none if none is similar.
+ * Returns at most two words that are most similar to a misspelled word, or none if no word is similar.
  * @param {string} wanted
  * @param {Iterable<string>} words
  * @returns {string[]}
@@ -37,7 +37,7 @@ export function mostAlike(wanted, words) {
 }
 
 /**
- * Returns a question that suggests words; "" if there are none.
+ * Returns a question that suggests words, or "" if there are none.
  * @param {string[]} words
  */
 export function meant(words) {

@@ -1,5 +1,5 @@
-// All errors in the texts of a board and of a program, with their places and messages, as every editor shows them: the page's, and those
-// that ask the language server.
+// All errors in the texts of a board and a program, with their positions and messages. The page's editors and the language server show
+// them.
 
 import { faceFaults } from "../board/face.js";
 import { SourceMap } from "../machine/source_map.js";
@@ -13,20 +13,22 @@ import { alignedText, faultsOfLines, sentText } from "./text_fault.js";
  * @typedef {import("./program_faults.js").AllFaults} AllFaults
  * @typedef {import("./text_fault.js").Fault} Fault
  *
- * @typedef {object} Asked the questions to the bench
- * @property {(sent: string) => Promise<import("../bench/text_judgement.js").BoardError | null>} wiring returns the error in a board's text;
- * null if there is none
- * @property {(sent: string) => Promise<import("../bench/text_judgement.js").LineError[]>} errors returns the errors of a program's lines
- * @property {(sent: string) => Promise<Refusal | null>} refuse returns how a program is rejected on the board, if it is
- * @property {(sent: string) => Promise<string[]>} map returns the answers to `map` of a program
- * @property {() => Promise<Set<number>>} roms returns the numbers of the ROMs that the board has
+ * The queries to the bench.
+ * @typedef {object} Asked
+ * @property {(sent: string) => Promise<import("../bench/text_judgement.js").BoardError | null>} wiring resolves to the error in a board's
+ * text, or to null
+ * @property {(sent: string) => Promise<import("../bench/text_judgement.js").LineError[]>} errors resolves to the errors in a program's
+ * lines
+ * @property {(sent: string) => Promise<Refusal | null>} refuse resolves to the refusal if a program is loaded on the board, or to null
+ * @property {(sent: string) => Promise<string[]>} map resolves to the answers to `map` for a program
+ * @property {() => Promise<Set<number>>} roms resolves to the numbers of the board's ROMs
  */
 
-/** The last number of the refusals of texts. */
+/** The highest number of a refusal of a text. */
 const LAST_OF_TEXTS = 42;
 
 /**
- * Returns the refusal of a text; null for any other answer.
+ * Returns a refusal if it is one of a text, otherwise null.
  * @param {Refusal | null} refusal
  */
 export function refusalOfText(refusal) {
@@ -36,8 +38,9 @@ export function refusalOfText(refusal) {
 export class AllFaultsOfTexts {
   /**
    * @param {Asked} asked
-   * @param {{ instructions: Map<string, Instruction>, tables: Map<string, Map<string, string>> }} manual its instructions, and the values
-   *   of the keys of a board's tables
+   * @param {{ instructions: Map<string, Instruction>, tables: Map<string, Map<string, string>> }} manual the instructions, and for each
+   * table
+   *   of a board's text the values of its keys
    * @param {(number: number) => string} wordsOf returns the message of a refusal
    */
   constructor(asked, { instructions, tables }, wordsOf) {
@@ -48,9 +51,10 @@ export class AllFaultsOfTexts {
   }
 
   /**
+   * Resolves to the errors of a program, or to undefined if they are no longer wanted.
    * @param {string} text
    * @param {() => boolean} isWanted
-   * @returns {Promise<AllFaults | undefined>} undefined if it is no longer wanted
+   * @returns {Promise<AllFaults | undefined>}
    */
   async ofProgram(text, isWanted) {
     const found = await findProgramFaults(text, this.instructions, this.wordsOf, this.asked);
@@ -62,9 +66,10 @@ export class AllFaultsOfTexts {
   }
 
   /**
+   * Resolves to the errors of a board, or to undefined if they are no longer wanted.
    * @param {string} text
    * @param {() => boolean} isWanted
-   * @returns {Promise<AllFaults | undefined>} undefined if it is no longer wanted
+   * @returns {Promise<AllFaults | undefined>}
    */
   async ofBoard(text, isWanted) {
     const unsent = faultsOfLines(text, "#");
@@ -77,7 +82,7 @@ export class AllFaultsOfTexts {
 }
 
 /**
- * Returns the errors in a board's comments; the board can be applied nevertheless.
+ * Returns the errors in a board's comments, which describe the front panel. They do not prevent applying the board.
  * @param {string} text
  * @returns {Fault[]}
  */

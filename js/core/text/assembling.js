@@ -1,4 +1,4 @@
-// The lines that load a program into ROM and nothing else: as few commands as possible.
+// Makes the texts that load bytes or a program into ROM and change nothing else, with as few commands as possible.
 
 import { counted, hex, upTo } from "../bench/numbers.js";
 import { PAGES, PAGE_BYTES } from "../bench/rom_bytes.js";
@@ -6,21 +6,21 @@ import { LONGEST_TEXT } from "./text_fault.js";
 import * as say from "../../words/text.js";
 
 /**
- * The bytes outside a program: its number of bytes, and the addresses at which ROM is not 0 outside it.
+ * The size of a program in bytes, and the addresses outside the program at which ROM is not 0.
  * @typedef {{ size: number, left: number[] }} Leftovers
  */
 
-/** The most bytes in a line, whose characters are at most 255. */
+/** The maximum of bytes in a line: a line has at most 255 characters. */
 const MOST_ON_LINE = 60;
-/** The most zeros in a line. */
+/** The maximum of zeros in a line. */
 const MOST_ZEROS = 126;
 
-/** @type {(address: number) => number} the ROM that an address belongs to */
+/** @type {(address: number) => number} returns the number of the ROM at an address */
 const pageOf = (address) => Math.floor(address / PAGE_BYTES);
 
 /**
- * Returns consecutive addresses as ranges, each as its first address and its length.
- * @param {number[]} addresses rising
+ * Returns addresses as ranges of consecutive addresses.
+ * @param {number[]} addresses in rising order
  * @returns {{ from: number, count: number }[]}
  */
 function stretchesOf(addresses) {
@@ -35,10 +35,10 @@ function stretchesOf(addresses) {
 }
 
 /**
- * Returns statements that put bytes from an address on.
+ * Returns statements that store bytes at an address and after it.
  * @param {number} from
  * @param {number[]} bytes
- * @param {number} most the maximum on a line
+ * @param {number} most the maximum of bytes in a line
  */
 function statementsOf(from, bytes, most) {
   const lines = [`ORG 0x${hex(from, 3)}\n`];
@@ -47,21 +47,21 @@ function statementsOf(from, bytes, most) {
 }
 
 /**
- * Returns statements that put 0 at addresses.
- * @param {number[]} addresses rising
- * @returns {string[]} lines in pairs or more, each stretch as one text
+ * Returns statements that store 0 at addresses, one text for each range.
+ * @param {number[]} addresses in rising order
+ * @returns {string[]}
  */
 function clearing(addresses) {
   return stretchesOf(addresses).map(({ from, count }) => statementsOf(from, Array(count).fill(0), MOST_ZEROS));
 }
 
-/** A text has room left for a byte of each ROM, if there is more than one text. */
+/** The room that each of several texts reserves for a byte in each ROM, in characters. */
 const ROOM_FOR_ROMS = PAGES.length * statementsOf(0, [255], 1).length;
 
 /**
- * Returns statements for the last byte of each ROM that is filled but has no byte among some lines.
+ * Returns statements for one byte, the last one, in each ROM that gets bytes, but none from a text's own lines.
  * @param {Int16Array} bytes
- * @param {Set<number>} pages that have a byte there
+ * @param {Set<number>} pages the ROMs that get bytes from the text's own lines
  */
 function statementsForRoms(bytes, pages) {
   const lastOf = (/** @type {number} */ page) => {
@@ -74,9 +74,9 @@ function statementsForRoms(bytes, pages) {
 }
 
 /**
- * Returns the texts of `asm` that put bytes into ROM, each as long as a text can be. Each of several texts has a byte for each ROM, so that
- * the bench rejects all of them if the board lacks one.
- * @param {Int16Array} bytes by their addresses, negative if there is none
+ * Returns the texts for `asm` that store bytes in ROM, each as long as possible. If there are several, each stores a byte in every ROM that
+ * gets bytes. So if the board lacks a ROM, the bench rejects all of them.
+ * @param {Int16Array} bytes the byte at each address, negative for none
  * @returns {string[]}
  */
 export function textsOfBytes(bytes) {
@@ -98,16 +98,16 @@ export function textsOfBytes(bytes) {
 }
 
 /**
- * Returns the texts of `asm` that put a program into ROM, and 0 at other addresses: one, if all of it fits in one text; the program's own
- * is the last one.
- * @param {string} program as it is sent
- * @param {number[]} addresses rising
+ * Returns the texts for `asm` that load a program into ROM and store 0 at other addresses. It is one text if possible. Otherwise the last
+ * text contains the program.
+ * @param {string} program the text as sent to the bench
+ * @param {number[]} addresses in rising order
  * @returns {string[]}
  */
 export function programTexts(program, addresses) {
   const texts = [program];
   for (const piece of clearing(addresses)) {
-    // The program's own lines are first in its text, so that they keep their numbers.
+    // The program's lines are first in their text, so that their numbers do not change.
     if (texts[0].length + piece.length <= LONGEST_TEXT) texts[0] += piece;
     else texts.unshift(piece);
   }
@@ -115,9 +115,9 @@ export function programTexts(program, addresses) {
 }
 
 /**
- * Returns what "assemble only" leaves unchanged, in words.
+ * Returns the message after a program was assembled, about the bytes that stay in ROM outside it.
  * @param {Leftovers} leftovers
- * @param {string} counter as it is written
+ * @param {string} counter the program counter, as text
  */
 export function wordsOfAssembled({ size, left }, counter) {
   const first = left.length > 0 ? `0x${hex(left[0], 3)}` : "";

@@ -1,12 +1,11 @@
-// A line of a program's text, split into its words. Only the bench decides whether it is right; this is for colours, help, and words of
-// errors.
+// Splits a line of a program's text into words, for colours, help and messages. Only the bench decides whether the line is valid.
 
 /**
- * A word and its place in its line.
+ * A word and its position in the line.
  * @typedef {{ text: string, from: number, to: number }} Word
  *
- * A line's parts: a label or the name that it defines, whether it defines one by `=`, the first word of its statement, the operands of that
- * (of a definition its value), and where its comment begins.
+ * The parts of a line. `label`: its label, or the name that it defines; `defines`: it defines a name by `=`; `head`: the first word of its
+ * statement; `operands`: the operands, or the value of a definition; `comment`: the position of its comment.
  * @typedef {{ label: Word | null, defines: boolean, head: Word | null, operands: Word[], comment: number }} Parts
  *
  * @typedef {"comment" | "label" | "instruction" | "directive" | "register" | "number" | "name" | "unknown"} Kind
@@ -21,7 +20,7 @@ export const NAME = /^[A-Za-z_][A-Za-z0-9_]*$/;
 export const LONGEST_NAME = 16;
 
 /**
- * Returns the word in a stretch of a line, without the blanks around it; null if there is none.
+ * Returns the word between two positions of a line, without the blanks around it, or null if there is none.
  * @param {string} line
  * @param {number} from
  * @param {number} to
@@ -36,7 +35,7 @@ function wordIn(line, from, to) {
 }
 
 /**
- * Returns the words between commas; a missing one is an empty word at its place.
+ * Returns the words between commas. A missing operand is an empty word at its position.
  * @param {string} line
  * @param {number} from
  * @param {number} to
@@ -53,12 +52,13 @@ function operandsIn(line, from, to) {
   return words;
 }
 
-/** @type {Map<string, Parts>} lines that were split before: a text is split again after each edit */
+/** @type {Map<string, Parts>} a cache of lines, because a text is split again after each edit */
 const known = new Map();
 const MOST_KNOWN = 8192;
 const LONGEST_KNOWN = 255;
 
 /**
+ * Returns the parts of a line.
  * @param {string} line
  * @returns {Readonly<Parts>}
  */
@@ -73,6 +73,7 @@ export function partsOf(line) {
 }
 
 /**
+ * Returns the parts of a line, without the cache.
  * @param {string} line
  * @returns {Parts}
  */
@@ -127,7 +128,7 @@ export function tokensOf(line, isInstruction) {
 }
 
 /**
- * The names that a text defines, each with its first line, from 1.
+ * Returns the names that a text defines, each with the number of its first line, from 1.
  * @param {string[]} lines
  * @returns {Map<string, number>}
  */
@@ -141,7 +142,7 @@ export function namesOf(lines) {
 }
 
 /**
- * Returns the word of letters and digits around a place of a line; null if there is none.
+ * Returns the word of letters, digits and underscores at a position in a line, or null if there is none.
  * @param {string} line
  * @param {number} at
  * @returns {Word | null}

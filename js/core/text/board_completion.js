@@ -1,5 +1,4 @@
-// The completions of a word that is typed in a board's text: a part with all its keys, a key, or a value, of the lines that the board has
-// so far.
+// Completes a word in a board's text: a part with all its keys, a key, or a value that names a line of the board.
 
 import { MAX_PARTS, boardLines } from "../bench/board_form.js";
 import { upTo } from "../bench/numbers.js";
@@ -15,11 +14,11 @@ import * as say from "../../words/text.js";
  * @typedef {import("../bench/board_form.js").BoardLine} BoardLine
  */
 
-/** The text before the caret if a value is typed: its key, an array that is open, a quote that is open, and the value so far. */
+/** The text before the caret in a value: its key, an open array, an open quote, and the value so far. */
 const VALUE = /(\w+)\s*=\s*(?:\[(?:[^\][\]"]|"[^"\n]*")*)?("?)([\w.]*)$/;
 
 /**
- * Returns the description of a line.
+ * Returns the description of a line of the board.
  * @param {BoardLine} line
  */
 function wordsOfLine({ name, kind, isInput }) {
@@ -28,10 +27,10 @@ function wordsOfLine({ name, kind, isInput }) {
   return kind === "ram" ? say.lineOfRam(third, second, first) : say.bitOfChain(second, first);
 }
 
-/** The most characters before the caret that are searched. */
+/** The maximum of characters before the caret that are searched. */
 const MOST_BEFORE = 2000;
 
-/** The parts of a board's text, as far as it can be read. */
+/** The parts of a board's text, as far as the text is valid. */
 class Parts {
   /** @param {string} text */
   constructor(text) {
@@ -46,7 +45,7 @@ class Parts {
   }
 
   /**
-   * Returns the possible values of a key; names of lines and ports are in quotes.
+   * Returns the possible values of a key. Names of lines and ports need quotes.
    * @param {string} table
    * @param {string} key
    * @returns {{ list: Fitting[], isQuoted: boolean }}
@@ -68,7 +67,7 @@ class Parts {
   }
 
   /**
-   * Returns each part, with all its keys, with wires if the board has the lines for it.
+   * Returns each part of a board with all its keys, using the lines that the board has.
    * @returns {Fitting[]}
    */
   templates() {
@@ -85,7 +84,7 @@ class Parts {
 }
 
 /**
- * The words that fit a value.
+ * Returns the completions of a value.
  * @param {string} text
  * @param {number} at
  * @param {RegExpExecArray} value
@@ -102,10 +101,11 @@ function completeValue(text, at, value, { list, isQuoted }) {
 }
 
 /**
+ * Returns the completions at a position in a board's text.
  * @param {string[]} lines
- * @param {number} line from 0
+ * @param {number} line counts from 0
  * @param {number} at
- * @param {Map<string, Map<string, string>>} tables
+ * @param {Map<string, Map<string, string>>} tables the values of the keys of each table
  * @returns {Completion}
  */
 export function completeBoard(lines, line, at, tables) {
@@ -115,7 +115,7 @@ export function completeBoard(lines, line, at, tables) {
   if (/^\s*\[+\w*$/.test(before)) return fitting(text, at, alone([...tables.keys()]));
   const table = tableAt(lines, line);
   const parts = new Parts(lines.map((each, number) => (number === line ? "" : each)).join("\n"));
-  // An array may have begun some lines before.
+  // An array can begin some lines before this one.
   const begun = lines.slice(Math.max(0, line - 9), line).map((each) => each.slice(0, commentAt(each, "#")));
   const value = VALUE.exec([...begun, before].join("\n").slice(-MOST_BEFORE));
   if (value && (before.includes(value[1]) || value[0].includes("["))) return completeValue(text, at, value, parts.values(table, value[1]));

@@ -1,5 +1,5 @@
-// The errors in a board's text, in words: the bench reports the error and its part, the text's reader finds the place of the part, and the
-// manual says what each key must be.
+// Describes the error that the bench reports in a board's text. The bench names the part, the reader of the text finds its position, and
+// the manual says what each key must be.
 
 import { KEYS, LINE_NAMES, MAX_PARTS, MAX_COLUMNS, BITS_PER_CHIP, RANGES, boardLines } from "../bench/board_form.js";
 import { meant, mostAlike } from "./alike.js";
@@ -15,11 +15,11 @@ import * as say from "../../words/text.js";
  * @typedef {import("./board_reader.js").Value} Value
  * @typedef {import("./text_fault.js").Fault} Fault
  *
- * Returns the wrong part, as far as the text has it.
+ * The wrong part, as far as the text contains it.
  * @typedef {{ entry: Entry | null, key: Key | null }} Meant
  */
 
-/** Refusals of a board's text. */
+/** The numbers of refusals of a board's text. */
 const NOT_TOML = 20;
 const UNKNOWN_KEY = 21;
 const MISSING_KEY = 22;
@@ -28,20 +28,21 @@ const THERE_TWICE = 24;
 const LACKS_LINE = 25;
 const WRONG_DIRECTION = 26;
 const TOO_MANY = 27;
-/** Keys whose values are lines. */
+/** The keys whose values are lines of the board. */
 const LINE_KEYS = ["clock", "data", "line", "columns"];
 
 /**
- * Returns the line that begins a table of this kind.
+ * Returns the line that begins a table.
  * @param {string} kind
  */
 const headerOf = (kind) => (kind === "keys" ? "[keys]" : `[[${kind}]]`);
 
+/** Finds the position and the message of an error. */
 class Words {
   /**
    * @param {BoardText} text
    * @param {BoardError} error
-   * @param {Map<string, Map<string, string>>} tables of the manual: the values of each key
+   * @param {Map<string, Map<string, string>>} tables from the manual: for each table, the values of its keys
    * @param {(number: number) => string} wordsOf returns the message of a refusal
    */
   constructor(text, error, tables, wordsOf) {
@@ -53,13 +54,13 @@ class Words {
     this.lines = new Map(boardLines(this.parts).map((line) => [line.name, line]));
   }
 
-  /** Returns the tables of the wrong section. */
+  /** The tables of the section with the error. */
   get entries() {
     const { section } = this.error;
     return this.text.entries.filter(({ table }) => table.replace(/[[\]]/g, "") === section);
   }
 
-  /** @returns {Meant} */
+  /** @returns {Meant} the part with the error */
   meant() {
     const { section, index, key: name } = this.error;
     const key = (/** @type {Key[]} */ keys) => keys.find((each) => each.name === name) || null;
@@ -72,7 +73,7 @@ class Words {
     return { entry: null, key: this.text.keys.find((each) => each.name === section) || null };
   }
 
-  /** Returns the error with its place and words. @returns {Fault} */
+  /** Returns the error with its position and message. @returns {Fault} */
   fault() {
     const { number } = this.error;
     if (number === NOT_TOML) return this.noToml();
@@ -84,7 +85,7 @@ class Words {
     return place ? faultAt(number, place, words) : this.wholeLine(words);
   }
 
-  /** Returns the error of a text that is no TOML. */
+  /** Returns the error in a text that is not TOML. */
   noToml() {
     const { number, line } = this.error;
     const found = this.text.faults.find((each) => each.line === line);
@@ -98,7 +99,7 @@ class Words {
   }
 
   /**
-   * Returns the value of a key, or the wrong one of several columns.
+   * Returns the value of a key, or the wrong value among several columns.
    * @param {Key} key
    * @returns {Value}
    */
@@ -113,10 +114,10 @@ class Words {
   }
 
   /**
-   * Returns the error in words.
+   * Returns the message of the error.
    * @param {Entry | null} entry
    * @param {Key | null} key
-   * @param {Value | null} value the wrong one
+   * @param {Value | null} value the wrong value
    */
   words(entry, key, value) {
     const { number, section, key: name } = this.error;
@@ -131,7 +132,7 @@ class Words {
   }
 
   /**
-   * Returns what a key or a table must be.
+   * Returns a message that says what a key or a table must be.
    * @param {Value | null} value
    */
   wordsOfForm(value) {
@@ -147,7 +148,7 @@ class Words {
   }
 
   /**
-   * Returns why the board lacks a line, or a chain.
+   * Returns a message that says why the board lacks a line or a chain.
    * @param {string} name
    */
   lacking(name) {
@@ -162,7 +163,7 @@ class Words {
   }
 
   /**
-   * Returns which bits the rows of the key matrix need.
+   * Returns a message that says which bits of a chain the rows of the key matrix need.
    * @param {Entry} entry
    */
   rowsNeed({ keys }) {
@@ -175,7 +176,7 @@ class Words {
   }
 
   /**
-   * Returns the line of the table that has the same value first.
+   * Returns the line of the first table with the same value.
    * @param {Entry | null} entry
    * @param {Key} key
    */
@@ -186,7 +187,7 @@ class Words {
   }
 
   /**
-   * Returns the error of a key or a part that no board has, with suggestions.
+   * Returns the error of a key or a table that boards do not have, with suggestions.
    * @param {Entry | null} entry
    * @param {Key | null} key
    * @returns {Fault}
@@ -204,7 +205,7 @@ class Words {
   }
 
   /**
-   * Returns an error of the line that the bench names.
+   * Returns an error that covers the line that the bench names.
    * @param {string} words
    * @returns {Fault}
    */
@@ -216,10 +217,10 @@ class Words {
 }
 
 /**
- * Returns the error that the bench reports of a board's text, with its place and words.
- * @param {string} text with the places of the original
+ * Returns an error that the bench reports in a board's text, with its position and message.
+ * @param {string} text a text with the positions of the original
  * @param {BoardError} error
- * @param {Map<string, Map<string, string>>} tables of the manual
+ * @param {Map<string, Map<string, string>>} tables from the manual: for each table, the values of its keys
  * @param {(number: number) => string} wordsOf returns the message of a refusal
  * @returns {Fault}
  */

@@ -1,5 +1,5 @@
-// A board's text, read as far as it is TOML in the form of boards, with the place of each key and value; the rest is reported. Only the
-// bench decides whether a text is right: this finds the words for what it rejects.
+// Parses a board's text: TOML as boards use it, with the position of each key and value. It collects errors and continues after them. Only
+// the bench decides whether a text is valid; this explains why the bench rejects it.
 
 import { RANGES } from "../bench/board_form.js";
 import { tomlWords } from "./toml_words.js";
@@ -10,26 +10,29 @@ import * as say from "../../words/text.js";
  * @typedef {import("./toml_words.js").TomlWord} TomlWord
  * @typedef {string | number | boolean | Value[] | Entry} Inner
  *
- * The end of something: its last line, and the character after it there.
+ * The end of a word: its line, and the position after its last character.
  * @typedef {{ line: number, to: number }} End
  *
- * A value with its place, of an array or a table the opening bracket, and its end; `whole` is false for a number that is not an integer.
+ * A value with its position and its end. For an array or a table the position is that of the opening bracket. `whole` is false for a number
+ * that is not an integer.
  * @typedef {{ inner: Inner, whole: boolean, line: number, from: number, to: number, end: End }} Value
  * @typedef {{ name: string, line: number, from: number, to: number, value: Value }} Key
  *
- * A table with its place, and its keys; one that is written as a value has an end.
+ * A table with its position and its keys. Only a table that is written as a value has an end.
  * @typedef {{ table: string, line: number, from: number, to: number, keys: Key[], end?: End }} Entry
  *
- * @typedef {{ entries: Entry[], others: Key[], keys: Key[], faults: Fault[] }} BoardText the tables, the keys at the top that are not
- * tables, all keys at the top, and the errors of TOML
+ * The content of a text: its tables (`entries`), the keys before all tables (`keys`), those of them that are not tables (`others`), and the
+ * errors.
+ * @typedef {{ entries: Entry[], others: Key[], keys: Key[], faults: Fault[] }} BoardText
  */
 
 /** The refusal of a text that is not TOML. */
 const NOT_TOML = 20;
-/** The most brackets and braces that are open at a time: a board has three. */
+/** The maximum nesting of brackets and braces. A board needs three. */
 const DEEPEST = 32;
 const INTEGER = /^[+-]?(0|[1-9](_?\d)*)$|^0x[0-9A-Fa-f](_?[0-9A-Fa-f])*$|^0o[0-7]+$|^0b[01]+$/;
 
+/** An error: a text is not TOML at a word. */
 class NotToml extends Error {
   /**
    * @param {TomlWord} word
@@ -54,9 +57,9 @@ export class BoardReader {
     this.keys = [];
     /** @type {Fault[]} */
     this.faults = [];
-    /** @type {Entry | null} the table that keys go into */
+    /** @type {Entry | null} the table being read, null before all tables */
     this.open = null;
-    /** The number of open brackets and braces in the value that is read. */
+    /** The number of open brackets and braces. */
     this.depth = 0;
   }
 
@@ -64,7 +67,7 @@ export class BoardReader {
     return this.words[this.at];
   }
 
-  /** @returns {End} the end of the word that was read last */
+  /** @returns {End} the end of the last word that was read */
   get lastEnd() {
     const { line, to } = this.words[this.at - 1];
     return { line, to };
@@ -76,14 +79,16 @@ export class BoardReader {
   }
 
   /**
+   * Reads a mark. Throws if the next word is not this mark.
    * @param {string} mark
-   * @param {string} words the error if it is missing
+   * @param {string} words the message
    */
   take(mark, words) {
     if (!this.isMark(mark)) throw new NotToml(this.word, this.word.fault || words);
     this.at += 1;
   }
 
+  /** Reads the text. After an error it continues in the next line. */
   read() {
     while (this.at < this.words.length) {
       const begun = this.at;
@@ -99,9 +104,9 @@ export class BoardReader {
   }
 
   /**
-   * Returns the first word of the line after the wrong one.
+   * Returns the index of the first word after an erroneous line.
    * @param {number} line
-   * @param {number} begun the first word of the wrong statement, whose words alone are examined
+   * @param {number} begun the index of the first word of the erroneous statement
    */
   lineAfter(line, begun) {
     let at = begun;
@@ -146,7 +151,7 @@ export class BoardReader {
   }
 
   /**
-   * Reads tables that are written as values; returns false if a value is not a table.
+   * Adds tables that are written as values. Returns false if the value is not a table or an array of tables.
    * @param {string} name
    * @param {Inner} inner
    */
@@ -172,7 +177,8 @@ export class BoardReader {
   }
 
   /**
-   * @param {string} key whose value it is
+   * Reads a value.
+   * @param {string} key the name of its key, for messages
    * @returns {Value}
    */
   readValue(key) {
@@ -188,7 +194,7 @@ export class BoardReader {
   }
 
   /**
-   * Reads the contents of brackets or braces; too deep nesting is an error.
+   * Reads the contents of brackets or braces. Throws if the nesting is too deep.
    * @template Read
    * @param {() => Read} read
    * @returns {Read}
@@ -204,6 +210,7 @@ export class BoardReader {
   }
 
   /**
+   * Returns the value of a string, a number or a boolean. Throws if it is neither.
    * @param {string} kind
    * @param {string} text
    * @returns {Inner}
@@ -217,6 +224,7 @@ export class BoardReader {
     throw new NotToml(this.word, say.textForm(text));
   }
 
+  /** Skips the ends of lines. */
   skipEnds() {
     while (this.at < this.words.length - 1 && this.word.kind === "end") this.at += 1;
   }
@@ -257,6 +265,7 @@ export class BoardReader {
 }
 
 /**
+ * Parses a board's text.
  * @param {string} text
  * @returns {BoardText}
  */
@@ -268,7 +277,7 @@ export function readBoardText(text) {
 }
 
 /**
- * Returns the parts that have lines, as far as the text lists them; of chips no more than there can be.
+ * Returns the ROMs, RAM banks and chains in a text. The numbers of chips are limited to what a board can have.
  * @param {Entry[]} entries
  */
 export function partsWithLines(entries) {

@@ -1,4 +1,4 @@
-// The completions of a word that is being typed in a program.
+// Completes a word in a program's text.
 
 import { DIRECTIVES, namesOf, partsOf } from "./assembly.js";
 import { operandsOfForm } from "./program_words.js";
@@ -6,19 +6,22 @@ import { operandsOfForm } from "./program_words.js";
 /**
  * @typedef {import("../help/manual.js").Instruction} Instruction
  *
- * A word that fits, and its description.
+ * A completion: the word and its description.
  * @typedef {{ text: string, what: string }} Fitting
- * @typedef {{ from: number, to: number, list: Fitting[] }} Completion the characters of the line that it replaces
+ *
+ * The completions, and the characters of the line that they replace.
+ * @typedef {{ from: number, to: number, list: Fitting[] }} Completion
  */
 
+/** The maximum of completions in a list. */
 const MOST_FITTING = 60;
-/** Between a form and its description. */
+/** The gap between a form and its description. */
 const COLUMN = "   ";
 const REGISTERS = [...Array(16).keys()].map((number) => `R${number}`);
 const PAIRS = [...Array(8).keys()].map((number) => `P${number}`);
 
 /**
- * Words without a description.
+ * Returns words as completions without a description.
  * @param {string[]} words
  * @returns {Fitting[]}
  */
@@ -27,11 +30,11 @@ export function alone(words) {
 }
 
 /**
- * Returns the words that begin like the text before the caret, whatever its case.
+ * Returns the words that begin with the text before the caret, ignoring case.
  * @param {string} line
  * @param {number} at
  * @param {Fitting[]} words
- * @param {RegExp} begins the typed part of a word
+ * @param {RegExp} begins matches the typed part of a word
  * @returns {Completion}
  */
 export function fitting(line, at, words, begins = /\w*$/) {
@@ -43,8 +46,9 @@ export function fitting(line, at, words, begins = /\w*$/) {
 }
 
 /**
+ * Returns the completions at a position in a program.
  * @param {string[]} lines
- * @param {number} line from 0
+ * @param {number} line counts from 0
  * @param {number} at
  * @param {Map<string, Instruction>} instructions
  * @returns {Completion}
@@ -54,7 +58,7 @@ export function completeProgram(lines, line, at, instructions) {
   const before = text.slice(0, at);
   const { head, comment } = partsOf(before);
   if (comment < before.length) return { from: at, to: at, list: [] };
-  // The word that is being typed is not a name of its own.
+  // The line ends at the caret, so that the word being typed does not complete itself.
   const others = namesOf(lines.map((each, number) => (number === line ? before : each)));
   if (!head || head.to === at) {
     const mnemonics = [...instructions].map(([name, { form, does }]) => ({ text: name, what: form.slice(name.length) + COLUMN + does }));

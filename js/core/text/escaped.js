@@ -1,11 +1,11 @@
-// Texts of others, made safe for a terminal: characters that would move its cursor, change its title or turn the direction of a line are
-// written out.
+// Makes foreign texts safe for a terminal. It escapes characters that would move the cursor, change the title or reverse the direction of a
+// line.
 
 // eslint-disable-next-line no-control-regex
 const UNSHOWN = /[\u0000-\u0008\u000b-\u001f\u007f-\u009f\u061c\u200e\u200f\u2028-\u202e\u2066-\u2069]/g;
 
 /**
- * Writes control characters, but line feeds and tabs, as `\x1B` or `\u202E`.
+ * Returns a text with control characters as `\x1B` or `\u202E`. Line feeds and tabs stay.
  * @param {string} text
  */
 export function escaped(text) {

@@ -1,11 +1,11 @@
-// Paragraphs in lines of a given width: each line ends between two words.
+// Wraps paragraphs to a width, between words.
 
 /**
- * Folds a paragraph. A word that is longer than a line has a line of its own.
+ * Wraps a paragraph. A word that is longer than a line gets its own line.
  * @param {string} text
  * @param {number} width
- * @param {string} [first] the prefix of its first line
- * @param {string} [others] the prefix of the others
+ * @param {string} [first] the prefix of the first line
+ * @param {string} [others] the prefix of the other lines
  */
 export function folded(text, width, first = "", others = first) {
   const lines = [first];
@@ -19,11 +19,11 @@ export function folded(text, width, first = "", others = first) {
   return lines.join("\n");
 }
 
-/** Lines that begin so are shown as they are: those of programs and boards. */
+/** The prefix of lines that are never wrapped, such as lines of programs and boards. */
 export const QUOTED = "    ";
 
 /**
- * Folds each line of a message that is too long; continuations are indented.
+ * Wraps the long lines of a message, and indents their continuations.
  * @param {string} message
  * @param {number} width
  */

@@ -1,10 +1,11 @@
-// The lines of a text that fold away below a line: a part of a program from its label on, a table of a board, a test, comment lines.
+// Finds the lines of a text that fold under a line: a part of a program after its label, a table of a board, a test, or comment lines.
 
 /**
- * @typedef {(line: number) => string | undefined} LineAt a line of the text, from 0; undefined after the last one
+ * A function that returns a line of the text, from 0, or undefined after the last line.
+ * @typedef {(line: number) => string | undefined} LineAt
  *
- * The beginnings of a text's parts: `mark` of its comments, `head` of a part; `isNested`: a head directly after a line of the part belongs
- * to it, as the label of a loop belongs to its subroutine.
+ * The marks of the parts of a text. `mark` begins a comment, and `head` matches the first line of a part. `isNested`: a head directly
+ * after a line of code belongs to the part around it, as the label of a loop belongs to its subroutine.
  * @typedef {{ mark: string, head: RegExp, isNested: boolean }} Parts
  */
 
@@ -21,7 +22,7 @@ function isBlank(text) {
 }
 
 /**
- * Returns whether a line is nothing but a comment.
+ * Returns whether a line contains only a comment.
  * @param {string | undefined} text
  * @param {Parts} parts
  */
@@ -30,7 +31,7 @@ function isComment(text, { mark }) {
 }
 
 /**
- * Returns whether a part begins here that belongs to no other: after a blank line or a comment.
+ * Returns whether a head begins an outer part: it is after a blank line or a comment, or parts cannot be nested.
  * @param {LineAt} lineAt
  * @param {number} line
  * @param {Parts} parts
@@ -41,23 +42,23 @@ function isOuter(lineAt, line, parts) {
 }
 
 /**
- * Returns whether a part that begins before a line ends there.
+ * Returns whether a part ends before a line.
  * @param {LineAt} lineAt
  * @param {number} line
  * @param {Parts} parts
- * @param {boolean} isOwn whether the part is not nested
+ * @param {boolean} isOwn whether the part is an outer part
  */
 function ends(lineAt, line, parts, isOwn) {
   const text = lineAt(line) || "";
   if (parts.head.test(text)) return !isOwn || isOuter(lineAt, line, parts);
-  // A comment at the margin after a blank line belongs to what follows.
+  // A comment at the margin after a blank line belongs to the next part.
   return text.startsWith(parts.mark) && isBlank(lineAt(line - 1));
 }
 
 /**
- * Returns the last line that folds away below a line; the line itself if none does.
+ * Returns the last line that folds under a line, or the line itself if none does.
  * @param {LineAt} lineAt
- * @param {number} line from 0
+ * @param {number} line counts from 0
  * @param {Parts} parts
  */
 export function lastFolded(lineAt, line, parts) {
@@ -76,7 +77,7 @@ export function lastFolded(lineAt, line, parts) {
 }
 
 /**
- * Returns the innermost line below which a line folds away with others; -1 if there is none.
+ * Returns the innermost line under which a line folds, or that has lines to fold itself; -1 if there is none.
  * @param {LineAt} lineAt
  * @param {number} line
  * @param {Parts} parts

@@ -1,4 +1,4 @@
-// All errors of a program: the bench names their lines and their numbers, and this finds the wrong words and characters.
+// All errors of a program. The bench reports their lines and numbers; this finds the wrong words and characters.
 
 import { namesOf, partsOf } from "./assembly.js";
 import { hex } from "../bench/numbers.js";
@@ -14,18 +14,20 @@ import * as say from "../../words/text.js";
  * @typedef {import("./program_words.js").Found} Found
  * @typedef {import("./text_fault.js").Fault} Fault
  *
- * The errors that were found, whether these are all, and the refusal that names no line (42).
+ * The errors in the lines of a program. `areAll` is false if the bench has not checked all lines. `rest` is a refusal that names no line
+ * (42).
  * @typedef {{ faults: Fault[], areAll: boolean, rest: Refusal | null }} AllFaults
  */
 
+/** The refusal of a program that does not fit the board's ROMs. */
 export const LACKS_ROM = 42;
 
 /**
- * Returns the error of a line, at the wrong word, or at all of its code.
- * @param {string} source the line as it is
- * @param {number} at its number
+ * Returns the error in a line, at the wrong word or at all code of the line.
+ * @param {string} source the line
+ * @param {number} at the number of the line
  * @param {Found | null} found
- * @param {number} number of the refusal
+ * @param {number} number the number of the refusal
  * @param {(number: number) => string} wordsOf
  * @returns {Fault}
  */
@@ -38,8 +40,8 @@ function faultAt(source, at, found, number, wordsOf) {
 }
 
 /**
- * Returns the error that the bench reports of a line, with its place and words.
- * @param {string[]} lines of the program
+ * Returns an error that the bench reports in a line, with its position and message.
+ * @param {string[]} lines the lines of the program
  * @param {import("../bench/text_judgement.js").LineError} error
  * @param {Facts} facts
  * @param {(number: number) => string} wordsOf returns the message of a refusal
@@ -51,7 +53,7 @@ export function errorOfLine(lines, { line, number }, facts, wordsOf) {
 }
 
 /**
- * Returns the errors of a program. Lines that cannot be sent are sent as empty ones.
+ * Resolves to the errors of a program. Lines that cannot be sent to the bench are sent as empty lines.
  * @param {string} program
  * @param {Map<string, Instruction>} instructions
  * @param {(number: number) => string} wordsOf returns the message of a refusal
@@ -74,8 +76,8 @@ export async function findProgramFaults(program, instructions, wordsOf, asked) {
 }
 
 /**
- * The first line in each ROM that the board lacks.
- * @param {string[]} lines of the program
+ * Returns an error for each ROM that the board lacks, at the first line of the program in that ROM.
+ * @param {string[]} lines the lines of the program
  * @param {import("../machine/source_map.js").SourceMap} map
  * @param {Set<number>} roms the numbers of the board's ROMs
  * @returns {Fault[]}
@@ -96,7 +98,7 @@ export function lacksOfRom(lines, map, roms) {
 }
 
 /**
- * Returns whether each line of code has an error, as far as the text was checked: such a text is hardly a program.
+ * Returns whether each checked line of code has an error. Such a text is probably not a program.
  * @param {string} program
  * @param {AllFaults} found
  */

@@ -1,35 +1,36 @@
-// The layout of a program's text: labels at the margin, then columns of instructions, operands and comments. Only blanks change, in lines
-// whose form is right, so each line keeps its words, and the program its bytes.
+// Formats a program's text: labels at the margin, then columns of instructions, operands and comments. It changes only blanks, and only in
+// lines of a valid form, so the program keeps its bytes.
 
 import { MAX_LINE_LENGTH } from "../bench/inputs.js";
 import { LONGEST_KEPT, LONGEST_TEXT, bare, sentText } from "./text_fault.js";
 import * as say from "../../words/text.js";
 
 /**
- * How a gap is filled: by blanks, or by tabs as far as they go, with a stop at each multiple of `tabSize`.
+ * The filling of gaps: blanks, or tabs as far as possible. A tab stop is at each multiple of `tabSize`.
  * @typedef {{ tabSize: number, insertSpaces: boolean }} Layout
  *
- * A line, split: the name that it defines by `=` with its value, or a label and a statement; "" for what it lacks.
+ * The parts of a line: the name that it defines by `=` with its value, or a label and a statement. A missing part is "".
  * @typedef {{ name: string, value: string, label: string, head: string, operands: string, comment: string, indent: number }} CutLine
  *
- * The position of a new text in a line, from 0.
+ * A change: the new text, and the positions in the line that it replaces, from 0.
  * @typedef {{ line: number, from: number, to: number, text: string }} Change
  */
 
+/** The columns of statements, operands and comments. */
 const STATEMENT = 8;
 const OPERANDS = 12;
 const COMMENT = 24;
-/** A comment that has no room in its column begins at the next multiple of this. */
+/** A comment after long code begins at the next multiple of this column. */
 const STEP = 8;
-/** A comment without code that is indented by less belongs to the statements, else to the comments. */
+/** A comment without code is aligned with statements if its indentation is less than this, else with comments. */
 const HALF = 16;
 const DEFINITION = /^([A-Za-z_]\w*)[ \t]*=[ \t]*(\w+)$/;
 const CODE = /^(?:([A-Za-z_]\w*)[ \t]*:[ \t]*)?(?:([A-Za-z]\w*)(?:[ \t]+(\w+(?:[ \t]*,[ \t]*\w+)*))?)?$/;
 
 /**
- * Returns the column that a text ends at.
+ * Returns the column after a text.
  * @param {string} text
- * @param {number} column of its beginning
+ * @param {number} column the column of its beginning
  * @param {Layout} layout
  */
 function columnAfter(text, column, { tabSize }) {
@@ -39,7 +40,7 @@ function columnAfter(text, column, { tabSize }) {
 }
 
 /**
- * Returns the gap between two columns.
+ * Returns the blanks and tabs between two columns.
  * @param {number} from
  * @param {number} to
  * @param {Layout} layout
@@ -52,9 +53,9 @@ function gap(from, to, { tabSize, insertSpaces }) {
 }
 
 /**
- * Cuts a line; null if its form is not right.
+ * Splits a line into its parts. Returns null if its form is not valid.
  * @param {string} line
- * @param {(word: string) => boolean} isHead whether a statement can begin with a word in upper case
+ * @param {(word: string) => boolean} isHead returns whether a statement can begin with a word, given in upper case
  * @param {Layout} layout
  * @returns {CutLine | null}
  */
@@ -72,7 +73,7 @@ function cut(line, isHead, layout) {
 }
 
 /**
- * Returns the length of the longest name among the definitions adjacent to each line; 0 for any other line.
+ * Returns for each definition the length of the longest name in its block of definitions, and 0 for any other line.
  * @param {(CutLine | null)[]} lines
  */
 function widthsOf(lines) {
@@ -83,9 +84,9 @@ function widthsOf(lines) {
 }
 
 /**
- * Returns the code of a line in its columns.
+ * Returns the formatted code of a line.
  * @param {CutLine} line
- * @param {number} width of the names of its definitions
+ * @param {number} width the length of the longest name in its block of definitions
  * @param {Layout} layout
  */
 function codeOf({ name, value, label, head, operands }, width, layout) {
@@ -102,9 +103,9 @@ function codeOf({ name, value, label, head, operands }, width, layout) {
 
 /**
  * Returns the column of a comment.
- * @param {number} end of the code before it, 0 for none
- * @param {number} indent of the present comment
- * @param {number} last column of the comment in the line before, 0 if that begins in no column of comments
+ * @param {number} end the end of the code before it, 0 for none
+ * @param {number} indent the present column of the comment
+ * @param {number} last the column of the comment in the previous line, 0 if that is not in a column of comments
  */
 function columnOfComment(end, indent, last) {
   if (end > 0) return Math.max(COMMENT, Math.ceil((end + 2) / STEP) * STEP);
@@ -113,9 +114,9 @@ function columnOfComment(end, indent, last) {
 }
 
 /**
- * Returns the lines of a program in their columns.
+ * Returns the formatted lines of a program.
  * @param {string[]} lines
- * @param {(word: string) => boolean} isHead whether a statement can begin with a word in upper case
+ * @param {(word: string) => boolean} isHead returns whether a statement can begin with a word, given in upper case
  * @param {Layout} layout
  * @returns {string[]}
  */
@@ -128,14 +129,14 @@ export function formattedLines(lines, isHead, layout) {
     const end = columnAfter(code, 0, layout);
     const column = line && line.comment ? columnOfComment(end, line.indent, last) : 0;
     last = column >= COMMENT ? column : 0;
-    // A line is sent whole, and must not become too long for that.
+    // A line stays unchanged if formatting would make it too long to send.
     if (!line || code.length > MAX_LINE_LENGTH) return lines[at];
     return line.comment ? code + gap(end, column, layout) + line.comment : code;
   });
 }
 
 /**
- * Returns why a text in its columns would not be accepted; "" if it would.
+ * Returns a message if the formatted text would be too long, or "".
  * @param {string[]} lines
  */
 export function faultOfLayout(lines) {
@@ -146,9 +147,9 @@ export function faultOfLayout(lines) {
 }
 
 /**
- * Returns the changes from some lines to others, one for each line that differs: the characters between those that stay.
+ * Returns the changes between two versions of a text, one for each changed line. A change omits the common prefix and suffix.
  * @param {string[]} before
- * @param {string[]} after as many lines
+ * @param {string[]} after the same number of lines
  * @returns {Change[]}
  */
 export function changesOf(before, after) {

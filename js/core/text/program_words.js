@@ -1,4 +1,4 @@
-// The error in a line of a program that the bench has rejected: the wrong word, and what was expected.
+// Explains an error in a line of a program that the bench rejects: the wrong word, and what was expected.
 
 import { meant, mostAlike } from "./alike.js";
 import { LAST_ADDRESS } from "../bench/numbers.js";
@@ -10,15 +10,15 @@ import * as say from "../../words/text.js";
  * @typedef {import("./assembly.js").Word} Word
  * @typedef {import("../help/manual.js").Instruction} Instruction
  *
- * The knowledge of the program: the instructions by their mnemonics, and its names with their lines.
+ * The known words: the instructions by their mnemonics, and the names that the program defines, with their lines.
  * @typedef {{ instructions: Map<string, Instruction>, names: Map<string, number> }} Facts
  *
- * The wrong word, and what was expected; if the fix is known, the replacement of the word.
+ * The wrong word and a message. `cures` are replacements for the word that fix the error.
  * @typedef {{ word: Word | null, words: string, cures?: string[] }} Found
  */
 
 /**
- * The operands of instructions by their letters in the manual's table, and the largest value of each.
+ * The kinds of operands, by their letters in the manual's table, with the maximum of each value.
  * @type {Record<string, { what: string, most: number }>}
  */
 const OPERANDS = {
@@ -31,15 +31,15 @@ const OPERANDS = {
 };
 
 /**
- * Returns the meaning of an operand, by its letters in the manual's table.
- * @param {string} kind
+ * Returns the description of a kind of operand.
+ * @param {string} kind its letters in the manual's table
  */
 export function wordsOfOperand(kind) {
   return OPERANDS[kind].what;
 }
 
 /**
- * Converts a number of another assembler: returns its spelling here, with words about that, or null for anything else.
+ * Converts a number in the spelling of another assembler. Returns its spelling here and a message, or null for anything else.
  * @param {string} text
  * @returns {{ number: string, words: string } | null}
  */
@@ -58,7 +58,7 @@ function foreignNumber(text) {
 }
 
 /**
- * Returns a number in the spelling of other assemblers, or a calculation, in the spelling here.
+ * Returns a message about a number in the spelling of another assembler, or about an expression; "" for anything else.
  * @param {string} text
  */
 function wordsOfNumber(text) {
@@ -72,7 +72,7 @@ function wordsOfNumber(text) {
 }
 
 /**
- * Returns the number in this bench's spelling, if it is in another assembler's; none if it is not.
+ * Returns the spelling here of a number in the spelling of another assembler, or an empty list.
  * @param {string} text
  */
 function curesOfNumber(text) {
@@ -81,7 +81,7 @@ function curesOfNumber(text) {
 }
 
 /**
- * Returns the message about a word, with its fixes if there are any.
+ * Returns a message about a word, with fixes if there are any.
  * @param {Word | null} word
  * @param {string} words
  * @param {string[]} cures
@@ -92,7 +92,7 @@ function curable(word, words, cures) {
 }
 
 /**
- * Returns the reason that a word cannot be a name; "" if it can.
+ * Returns a message that says why a word cannot be a name, or "".
  * @param {string} text
  * @param {Facts} facts
  */
@@ -106,9 +106,9 @@ function wordsOfName(text, { instructions }) {
 }
 
 /**
- * Returns what an operand must be, if it is not.
- * @param {string} head
- * @param {string} kind its letters in the table
+ * Returns the error in an operand, or null.
+ * @param {string} head the instruction
+ * @param {string} kind the letters of the operand in the manual's table
  * @param {Word} word
  * @param {Facts} facts
  * @param {boolean} isFirst
@@ -128,7 +128,8 @@ function faultOfOperand(head, kind, word, facts, isFirst) {
 }
 
 /**
- * @param {string} form as `JCN c, t`
+ * Returns the kinds of an instruction's operands.
+ * @param {string} form `JCN c, t`
  * @returns {string[]}
  */
 export function operandsOfForm(form) {
@@ -137,6 +138,7 @@ export function operandsOfForm(form) {
 }
 
 /**
+ * Returns the error in a statement whose first word is not an instruction.
  * @param {Parts} parts
  * @param {Word} head
  * @param {Facts} facts
@@ -171,7 +173,7 @@ function isHead(word, instructions) {
 }
 
 /**
- * Returns the replacement of another assembler's instruction: a condition has a comma before the address.
+ * Returns the fix for an instruction of another assembler. A condition needs a comma before the address.
  * @param {string} other
  */
 function asHead(other) {
@@ -179,6 +181,7 @@ function asHead(other) {
 }
 
 /**
+ * Returns the error in a directive, or null.
  * @param {Word} head
  * @param {Word[]} operands
  * @param {Facts} facts
@@ -197,7 +200,7 @@ function faultOfDirective(head, operands, facts) {
 }
 
 /**
- * A line of no form that the assembler knows.
+ * Returns the error in a line whose form the assembler does not know.
  * @param {Parts} parts
  * @param {Facts} facts
  * @returns {Found | null}
@@ -228,7 +231,7 @@ function faultOfForm(parts, facts) {
 }
 
 /**
- * A value out of its range.
+ * Returns the error in a line with a value that is out of range.
  * @param {Parts} parts
  * @param {Facts} facts
  * @returns {Found | null}
@@ -249,7 +252,7 @@ function faultOfValue({ head, operands, defines, label }, { instructions }) {
 }
 
 /**
- * Returns the last operand that is a name, or the last one of all.
+ * Returns the last operand that is a name, or else the last operand.
  * @param {Parts} parts
  */
 function target({ operands }) {
@@ -257,6 +260,7 @@ function target({ operands }) {
 }
 
 /**
+ * Returns the error in a line with a name that is not defined.
  * @param {Parts} parts
  * @param {Facts} facts
  * @returns {Found | null}
@@ -271,9 +275,9 @@ function faultOfUnknown({ operands }, { names }) {
 }
 
 /**
- * Returns the error in a line, by the number of its refusal, or null if the refusal's own message says all.
+ * Returns the error in a line, or null if the message of the refusal is sufficient.
  * @param {string} line
- * @param {number} number
+ * @param {number} number the number of the refusal
  * @param {Facts} facts
  * @returns {Found | null}
  */

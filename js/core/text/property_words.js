@@ -1,4 +1,4 @@
-// Words of a text of properties: their descriptions in the manual, and their completions, with the names of the board and the program.
+// Help and completions for a text of properties, from the manual's tables and the names of the board and the program.
 
 import { alone, completeWord, conditionForms, fittings, formsOfTables, saidOf, wordsOfCondition, wordsUpTo } from "./test_words.js";
 import * as say from "../../words/text.js";
@@ -12,8 +12,9 @@ import * as say from "../../words/text.js";
  * @typedef {{ lines: Form[], conditions: Form[] }} PropertyForms
  */
 
+/** The sections of the manual with forms of properties. */
 const SECTIONS = [say.MAY_CHANGE, say.MUST_HOLD];
-/** The words that begin a line, before a condition. */
+/** The words before a condition at the beginning of a line. */
 const BEFORE = /^(never|always|reach)$/;
 /** The words of tests that properties cannot use. */
 const OF_TESTS = new Set(["cycles", "printed", "test", "key"]);
@@ -31,7 +32,7 @@ export function propertyForms(manual) {
 }
 
 /**
- * A text to begin with.
+ * Returns a first text of properties for a board.
  * @param {TestNames} names
  */
 export function firstProperties({ keys, lamps }) {
@@ -41,7 +42,7 @@ export function firstProperties({ keys, lamps }) {
 }
 
 /**
- * Returns the words of a line from its condition on; null if it has none.
+ * Returns the words of the condition in a line, or null if the line has none.
  * @param {string[]} words
  */
 function conditionOf(words) {
@@ -51,9 +52,9 @@ function conditionOf(words) {
 }
 
 /**
- * Returns the words that can follow some words of a line.
+ * Returns the words that can follow other words in a line.
  * @param {string[]} before
- * @param {string} begun the word that is being typed
+ * @param {string} begun the word being typed
  * @param {TestNames} names
  * @param {PropertyForms} forms
  * @returns {Fitting[]}
@@ -70,8 +71,9 @@ function wordsAfter(before, begun, names, { lines, conditions }) {
 }
 
 /**
+ * Returns the completions at a position in a text of properties.
  * @param {string[]} lines
- * @param {number} line from 0
+ * @param {number} line counts from 0
  * @param {number} at
  * @param {TestNames} names
  * @param {PropertyForms} forms
@@ -82,9 +84,9 @@ export function completeProperty(lines, line, at, names, forms) {
 }
 
 /**
- * Returns the help for a word of a line; "" if there is none.
+ * Returns the help for the word at a position, or "".
  * @param {string[]} lines
- * @param {number} line from 0
+ * @param {number} line counts from 0
  * @param {number} at
  * @param {PropertyForms} forms
  */

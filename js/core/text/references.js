@@ -1,17 +1,17 @@
-// The places of a program's name: its definition, its uses, and the text in which it is renamed.
+// The references to a name in a program: its definition and its uses. Also checks a new name before renaming.
 
 import { DIRECTIVES, LONGEST_NAME, NAME, PAIR, REGISTER, namesOf, partsOf, wordAt } from "./assembly.js";
 import * as say from "../../words/text.js";
 
 /**
- * A place of a name: its line from 1, and its characters there.
+ * A reference: its line from 1, and the positions of its first character and after its last one.
  * @typedef {{ line: number, from: number, to: number, isDefinition: boolean }} Reference
  */
 
 /**
- * The places of a name in a line; none in its comment.
+ * Returns the references to a name in a line, without its comment.
  * @param {string} text
- * @param {number} line from 1
+ * @param {number} line counts from 1
  * @param {string} name
  * @returns {Reference[]}
  */
@@ -23,7 +23,7 @@ function referencesIn(text, line, name) {
 }
 
 /**
- * All places of a name, in the order of the text.
+ * Returns all references to a name, in the order of the text.
  * @param {string[]} lines
  * @param {string} name
  * @returns {Reference[]}
@@ -33,9 +33,9 @@ export function referencesOf(lines, name) {
 }
 
 /**
- * Returns the name of a program at a place; "" if there is none.
+ * Returns the name at a position, or "" if the program does not define one there.
  * @param {string[]} lines
- * @param {number} line from 0
+ * @param {number} line counts from 0
  * @param {number} at
  */
 export function nameAt(lines, line, at) {
@@ -46,7 +46,7 @@ export function nameAt(lines, line, at) {
 }
 
 /**
- * Returns the definition of a name.
+ * Returns the definition of a name, or null.
  * @param {string[]} lines
  * @param {string} name
  */
@@ -55,11 +55,11 @@ export function definitionOf(lines, name) {
 }
 
 /**
- * Returns why a name cannot be renamed, in words; "" if it can.
+ * Returns a message that says why a name cannot be renamed, or "".
  * @param {string[]} lines
  * @param {string} name
- * @param {string} wanted
- * @param {(word: string) => boolean} isInstruction of a word in upper case
+ * @param {string} wanted the new name
+ * @param {(word: string) => boolean} isInstruction receives a word in upper case
  */
 export function faultOfRenaming(lines, name, wanted, isInstruction) {
   const upper = wanted.toUpperCase();

@@ -1,17 +1,17 @@
-// The routines of a program: the lines that each one can reach, the routines that it calls by JMS, and its callers. The first statement
-// begins one, and so does each label that a JMS names. A way ends at BBL, at JIN (its target is not in the text), at data and at ORG.
+// The routines of a program: the lines that each routine can reach, the routines that it calls by JMS, and its callers. A routine begins at
+// the first statement, and at each label that a JMS names. A path ends at BBL, at JIN (its target is not in the text), at data and at ORG.
 
 import { namesOf, partsOf } from "./assembly.js";
 
 /**
- * A routine, by the label that begins it ("" for none), with its first and last line, from 0; no line up to the last one belongs to another
- * routine.
- * @typedef {{ name: string, line: number, from: number, to: number, last: number }} Routine `from` and `to` are the characters of its label
+ * A routine. `name` is its label, "" for none; `from` and `to` are the positions of the label in its line. `line` and `last` are its first
+ * and its last line, from 0. No line between them belongs to another routine.
+ * @typedef {{ name: string, line: number, from: number, to: number, last: number }} Routine
  *
- * A statement: its word in upper case, and the line that its target begins at, -1 for none.
+ * A statement: its first word in upper case, and the line of its target, -1 for none.
  * @typedef {{ head: string, target: number }} Statement
  *
- * The position of the target in a line with a call.
+ * The position of the target in the line of a call.
  * @typedef {{ line: number, from: number, to: number }} CallPlace
  */
 
@@ -24,7 +24,7 @@ export class Routines {
     this.parts = lines.map(partsOf);
     this.names = namesOf(lines);
     this.statements = this.parts.map((parts) => this.statementOf(parts));
-    /** @type {Map<number, Set<number>>} the lines that each routine reaches, by its first line */
+    /** @type {Map<number, Set<number>>} for each routine, by its first line, the lines that it reaches */
     this.reached = new Map();
     this.routines = this.findRoutines();
   }
@@ -40,7 +40,7 @@ export class Routines {
     return { head: head.text.toUpperCase(), target: line === undefined || this.parts[line - 1].defines ? -1 : line - 1 };
   }
 
-  /** @returns {Routine[]} by their lines */
+  /** @returns {Routine[]} in the order of their lines */
   findRoutines() {
     const first = this.statements.findIndex((statement) => statement !== null && statement.head !== "ORG");
     const called = this.statements.map((statement) => (statement && statement.head === "JMS" ? statement.target : -1));
@@ -53,7 +53,7 @@ export class Routines {
   }
 
   /**
-   * Returns the line of the next statement; -1 if there is none.
+   * Returns the line of the first statement at or after a line, or -1.
    * @param {number} line
    */
   statementFrom(line) {
@@ -62,7 +62,7 @@ export class Routines {
   }
 
   /**
-   * Returns the lines of the possible successors of a statement.
+   * Returns the lines of the statements that can follow a statement.
    * @param {number} line
    */
   after(line) {
@@ -92,7 +92,7 @@ export class Routines {
   }
 
   /**
-   * Returns the last line up to which all statements belong to one routine.
+   * Returns the last line up to which all statements belong to a routine.
    * @param {number} begin its line
    */
   lastOf(begin) {
@@ -103,13 +103,13 @@ export class Routines {
   }
 
   /**
-   * Returns the routine that a line begins, or one that reaches it; null if none does.
+   * Returns the routine that begins at a line, or else a routine that reaches it, or null.
    * @param {number} line
    */
   routineAt(line) {
     const own = this.routines.find((each) => each.line === line);
     const inside = this.routines.filter((each) => this.linesOf(each.line).has(line));
-    // The nearest one above it, if it is in several.
+    // If several routines reach the line, the nearest one above it is the best.
     return own || inside.filter((each) => each.line <= line).pop() || inside[0] || null;
   }
 
@@ -126,7 +126,7 @@ export class Routines {
   }
 
   /**
-   * Returns the JMS of some lines.
+   * Returns the calls in some lines.
    * @param {Iterable<number>} lines
    */
   callsIn(lines) {
@@ -144,7 +144,7 @@ export class Routines {
   }
 
   /**
-   * Returns the routines that a routine calls, each with the places of the calls.
+   * Returns the routines that a routine calls, each with the positions of the calls.
    * @param {Routine} routine
    * @returns {{ routine: Routine, places: CallPlace[] }[]}
    */
@@ -155,7 +155,7 @@ export class Routines {
   }
 
   /**
-   * Returns the routines that contain a call: each one that reaches it, or that of the nearest label above it.
+   * Returns the routines that contain a line with a call: those that reach it, or else the routine of the nearest label above it.
    * @param {number} line
    * @returns {Routine[]}
    */
@@ -168,7 +168,7 @@ export class Routines {
   }
 
   /**
-   * Returns the routines that call a routine, each with the places of the calls.
+   * Returns the routines that call a routine, each with the positions of the calls.
    * @param {Routine} routine
    * @returns {{ routine: Routine, places: CallPlace[] }[]}
    */
@@ -187,7 +187,7 @@ export class Routines {
   }
 
   /**
-   * Returns how often each label is called, and how often it is used otherwise.
+   * Returns for each label how many calls and how many other uses it has.
    * @returns {Map<string, { calls: number, others: number }>}
    */
   uses() {

@@ -1,12 +1,15 @@
-// Colours of a text of tests, and of one of properties.
+// The colours of texts of tests and properties.
 
 import { WORDS } from "../conditions/parser.js";
 
-/** @typedef {{ from: number, to: number, style: string }} Coloured the characters of a line that have a style */
+/**
+ * The style of a part of a line.
+ * @typedef {{ from: number, to: number, style: string }} Coloured
+ */
 
 /**
- * The words that begin a line; the other words of the language; the line that is a name; the lines without comments after their words; and
- * whether a line may begin with a condition.
+ * A language: `first` matches the words that begin a line, and `others` are its other words. `named` is the word before a name that fills
+ * the line. `whole` matches the first words of lines without comments. `isFree`: a line can begin with a condition.
  */
 const TESTS = {
   first: /^(test|steps|from|save|press|release|keys|pace|run|until|expect|mark|set|reset|do|repeat|end)$/,
@@ -25,6 +28,7 @@ const PROPERTIES = {
 };
 
 /**
+ * Returns the style of a word, "" for none.
  * @param {string} word
  * @param {boolean} isFirst
  * @param {typeof TESTS} language
@@ -40,16 +44,17 @@ function styleOf(word, isFirst, { first, others, isFree }) {
 
 /**
  * Returns whether a comment begins at a word.
- * @param {string} rest of the line, from the word on
- * @param {string} first the first word of the line, "" if it is this one
+ * @param {string} rest the line from this word on
+ * @param {string} first the first word of the line, "" if it is this word
  * @param {typeof TESTS} language
  */
 function isComment(rest, first, language) {
-  // After words of keys the mark may be a key's name.
+  // After the names of keys, the mark can be the name of a key.
   return /^[#;]/.test(rest) && (first === "" || (!language.whole.test(first) && /^[#;](\s|$)/.test(rest)));
 }
 
 /**
+ * Returns the styles in a line.
  * @param {string} line
  * @param {typeof TESTS} language
  */
@@ -68,7 +73,7 @@ function coloursOf(line, language) {
   return coloured;
 }
 
-/** By the names of the texts. */
+/** For each kind of text, a function that returns the styles in a line. */
 export const COLOURS = {
   tests: (/** @type {string} */ line) => coloursOf(line, TESTS),
   properties: (/** @type {string} */ line) => coloursOf(line, PROPERTIES),

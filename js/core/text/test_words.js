@@ -1,4 +1,4 @@
-// Words of a text of tests: their descriptions in the manual, and their completions, with the names of the board and the program.
+// Help and completions for a text of tests, from the manual's tables and the names of the board and the program.
 
 import { piecesOf, plain } from "../help/manual.js";
 import * as say from "../../words/text.js";
@@ -11,14 +11,14 @@ import * as say from "../../words/text.js";
  */
 
 /**
- * A form of a line or of a condition, as the manual writes it, its first word, and its description.
+ * A form of a line or a condition, as the manual writes it, its first word, and its description.
  * @typedef {{ word: string, form: string, does: string }} Form
  * @typedef {{ steps: Form[], conditions: Form[] }} TestForms
  */
 
 
 /**
- * The forms in the rows of a table; a row may have several.
+ * Returns the forms in the rows of a table. A row can have several forms.
  * @param {string[][]} rows
  * @returns {Form[]}
  */
@@ -28,7 +28,7 @@ function formsOf(rows) {
 }
 
 /**
- * The forms in each table of a section.
+ * Returns the forms in each table of a section.
  * @param {ManualSection[]} manual
  * @param {string} title
  */
@@ -38,7 +38,7 @@ export function formsOfTables(manual, title) {
 }
 
 /**
- * Returns the manual's forms of conditions, wherever they are allowed.
+ * Returns the manual's forms of conditions, including conditions that only some texts allow.
  * @param {ManualSection[]} manual
  */
 export function conditionForms(manual) {
@@ -57,6 +57,7 @@ export function testForms(manual) {
 }
 
 /**
+ * Returns the first words of forms as completions, without duplicates.
  * @param {Form[]} forms
  * @returns {Fitting[]}
  */
@@ -65,13 +66,13 @@ export function fittings(forms) {
   return [...words.values()].map(({ word, form, does }) => ({ text: word, what: `${form.slice(word.length)}   ${does}` }));
 }
 
-/** @type {(words: string[]) => Fitting[]} */
+/** @type {(words: string[]) => Fitting[]} returns words as completions without a description */
 export const alone = (words) => words.map((text) => ({ text, what: "" }));
 
 /**
- * Returns the words that can follow some words of a line.
+ * Returns the words that can follow other words in a line.
  * @param {string[]} before
- * @param {string} begun the word that is being typed
+ * @param {string} begun the word being typed
  * @param {TestNames} names
  * @param {TestForms} forms
  * @returns {Fitting[]}
@@ -93,7 +94,7 @@ const JOINS = new Set(["and", "or", "&&", "||"]);
  * @param {string[]} before its words so far
  * @param {TestNames} names
  * @param {Form[]} conditions
- * @param {string[]} after the words that can follow it
+ * @param {string[]} after the words that can follow the condition
  * @returns {Fitting[]}
  */
 export function wordsOfCondition(before, { keys, lamps, labels }, conditions, after) {
@@ -109,10 +110,10 @@ export function wordsOfCondition(before, { keys, lamps, labels }, conditions, af
 }
 
 /**
- * Returns the completions of the word that is being typed.
+ * Returns the completions of the word being typed.
  * @param {string} line
  * @param {number} at
- * @param {(before: string[], begun: string) => Fitting[]} fitting returns the words that can follow others
+ * @param {(before: string[], begun: string) => Fitting[]} fitting returns the words that can follow other words
  * @returns {Completion}
  */
 export function completeWord(line, at, fitting) {
@@ -124,8 +125,9 @@ export function completeWord(line, at, fitting) {
 }
 
 /**
+ * Returns the completions at a position in a text of tests.
  * @param {string[]} lines
- * @param {number} line from 0
+ * @param {number} line counts from 0
  * @param {number} at
  * @param {TestNames} names
  * @param {TestForms} forms
@@ -138,7 +140,7 @@ export function completeTest(lines, line, at, names, forms) {
 }
 
 /**
- * Returns the words of a line up to a place, that at the place as the last one; none if no word is there, or in a comment.
+ * Returns the words of a line up to the word at a position. Returns none if there is no word at the position, or if the line is a comment.
  * @param {string} line
  * @param {number} at
  */
@@ -150,7 +152,7 @@ export function wordsUpTo(line, at) {
 }
 
 /**
- * Returns the text of a table of forms for a word.
+ * Returns the description of a word from forms, or "".
  * @param {Form[]} forms
  * @param {string} word
  */
@@ -160,9 +162,9 @@ export function saidOf(forms, word) {
 }
 
 /**
- * Returns the help for a word of a line; "" if there is none.
+ * Returns the help for the word at a position, or "".
  * @param {string[]} lines
- * @param {number} line from 0
+ * @param {number} line counts from 0
  * @param {number} at
  * @param {TestForms} forms
  */
@@ -175,7 +177,8 @@ export function helpForTest(lines, line, at, { steps, conditions }) {
 }
 
 /**
- * Places of one kind differ in their numbers, for which the manual has letters: `ram.1.0x20` is `ram.B.S`.
+ * Returns a word with 0 in place of its numbers, and of the letters that the manual writes for numbers. So `ram.1.0x20` and `ram.B.S` are
+ * equal.
  * @param {string} word
  */
 function kindOf(word) {

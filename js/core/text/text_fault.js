@@ -1,28 +1,31 @@
-// A text as it is sent, and the lines that cannot be sent. It is sent line for line, without comments and indentation, so comments take no
-// room there and may contain any character. Elsewhere a character outside ASCII is an error.
+// Converts a text to the form that is sent to the bench, and finds the lines that cannot be sent. Comments and indentation are not sent, so
+// comments can contain any character and take no room. In code, a character outside ASCII is an error.
 
 import { LINE_TOO_LONG, MAX_LINE_LENGTH, NOT_ASCII } from "../bench/inputs.js";
 import * as say from "../../words/text.js";
 
 /**
- * @typedef {{ from: number, to: number }} Lines lines of a text, counted from 1
+ * A range of lines, counted from 1.
+ * @typedef {{ from: number, to: number }} Lines
  *
- * An error: the number of its refusal (0 if there is none), its line from 1, the characters of the line from `from` to `to`, in words; if
- * its fix is known, the replacement of these characters.
+ * An error: the number of its refusal (0 for none), its line from 1, the range of its characters, and its message. `cures` are replacements
+ * for these characters that fix the error.
  * @typedef {{ number: number, line: number, from: number, to: number, words: string, cures?: string[] }} Fault
  *
- * @typedef {";" | "#"} CommentMark the beginning of a comment: in a program, in a board's text
+ * The character that begins a comment, in a program and in a board's text.
+ * @typedef {";" | "#"} CommentMark
  */
 
-/** The longest text that can be sent, with a line feed for each line. */
+/** The maximum length of a text that is sent, with a line feed for each line. */
 export const LONGEST_TEXT = 16384;
-/** The longest text with its comments and indentation, in characters. */
+/** The maximum length of a text with comments and indentation, in characters. */
 export const LONGEST_KEPT = 65536;
-/** The refusal of a text. */
+/** The refusal of a longer text. */
 export const TEXT_TOO_LONG = 13;
 
 /**
- * @param {number} number of the refusal
+ * Returns an error at a position.
+ * @param {number} number the number of the refusal
  * @param {{ line: number, from: number, to: number }} place
  * @param {string} words
  * @returns {Fault}
@@ -32,7 +35,7 @@ export function faultAt(number, { line, from, to }, words) {
 }
 
 /**
- * Returns the position of a line's comment, or the line's length if it has none. In a board's text the mark may be inside a string.
+ * Returns the position of a line's comment, or the line's length if it has none. In a board's text, a mark inside a string does not count.
  * @param {string} line
  * @param {CommentMark} mark
  */
@@ -45,7 +48,7 @@ export function commentAt(line, mark) {
 }
 
 /**
- * Returns lines as comments, or without their mark if all of them are comments; blank lines stay.
+ * Returns lines as comments, or without comment marks if all of them are comments. Blank lines are unchanged.
  * @param {string[]} lines
  * @param {CommentMark | string} mark
  */
@@ -56,7 +59,7 @@ export function commented(lines, mark) {
 }
 
 /**
- * Returns a line in which each character keeps its place, and characters outside ASCII in its comment are blanks.
+ * Returns a line with a blank for each character outside ASCII in its comment, so that positions stay the same.
  * @param {string} line
  * @param {CommentMark} mark
  */
@@ -78,7 +81,7 @@ export function bare(text) {
 }
 
 /**
- * Returns a line as it is sent. It never becomes only a dot, which would end the text.
+ * Returns a line as it is sent. The result is never only a dot, which would end the text.
  * @param {string} line
  * @param {CommentMark} mark
  */
@@ -88,20 +91,20 @@ export function sentLine(line, mark) {
 }
 
 /**
- * The lines of a text, each of them changed, with a line feed after the last one.
+ * Returns a text with each line changed, and with a line feed after the last line.
  * @param {string} text
  * @param {(line: string) => string} change
  */
 function changedLines(text, change) {
   if (text === "") return "";
   const lines = text.replace(/\r\n?/g, "\n").split("\n");
-  // A last line of blanks ends a text, too.
+  // A text can end with a line of blanks.
   if (lines[lines.length - 1] === "") lines.pop();
   return lines.map((line) => `${change(line)}\n`).join("");
 }
 
 /**
- * Returns a text whose lines keep their lengths, without characters outside ASCII in comments: errors have their places in it.
+ * Returns a text without characters outside ASCII in comments. The positions of its characters stay the same, so errors can refer to them.
  * @param {string} text
  * @param {CommentMark} mark
  */
@@ -110,7 +113,7 @@ export function alignedText(text, mark) {
 }
 
 /**
- * A text as it is sent. Blanks may belong to a string of TOML that goes over several lines.
+ * Returns a text as it is sent. If a board's text has a multi-line string, blanks are kept, because they can belong to the string.
  * @param {string} text
  * @param {CommentMark} mark
  */
@@ -120,7 +123,7 @@ export function sentText(text, mark) {
 }
 
 /**
- * Returns the name of a character outside ASCII, and what is allowed there.
+ * Returns a message about a character that is not allowed.
  * @param {string} character
  */
 function wordsOfCharacter(character) {
@@ -135,9 +138,10 @@ function wordsOfCharacter(character) {
 }
 
 /**
- * @param {string} line in which each character keeps its place
- * @param {string} sent
- * @param {number} at its number
+ * Returns the error in a line that cannot be sent, or null.
+ * @param {string} line a line with the positions of the original
+ * @param {string} sent the line as it would be sent
+ * @param {number} at the number of the line
  * @returns {Fault | null}
  */
 function faultOfLine(line, sent, at) {
@@ -154,7 +158,7 @@ function faultOfLine(line, sent, at) {
 }
 
 /**
- * Returns whether each line of a text can be sent: most texts need no closer check.
+ * Returns whether all lines of a text can be sent. This fast check is enough for most texts.
  * @param {string} text
  * @param {string[]} sentLines
  */
@@ -163,7 +167,7 @@ function canBeSent(text, sentLines) {
 }
 
 /**
- * Returns the lines of a text that cannot be sent; last the one from which on it is too long.
+ * Returns the errors of lines that cannot be sent. If the text is too long, the last error is at the line where the maximum is reached.
  * @param {string} text
  * @param {CommentMark} mark
  * @returns {Fault[]}

@@ -1,4 +1,4 @@
-// Help for the words of a text, at the pointer or the caret: from the manual's tables.
+// Help for the words of programs and boards, from the manual's tables.
 
 import { counted } from "../bench/numbers.js";
 import { PAIR, REGISTER, namesOf, partsOf, wordAt } from "./assembly.js";
@@ -11,7 +11,7 @@ import * as say from "../../words/text.js";
  */
 
 /**
- * Returns the help for an instruction: its form, words, cycles, effect, and the carry if the effect does not say.
+ * Returns the help for an instruction: its form, its size in words and cycles, and its effect.
  * @param {Instruction} instruction
  */
 export function wordsOfInstruction(instruction) {
@@ -22,7 +22,7 @@ export function wordsOfInstruction(instruction) {
 }
 
 /**
- * Returns the effect of an instruction, and of the carry if that is not mentioned.
+ * Returns the effect of an instruction. If the manual does not mention the carry, the text says that it stays unchanged.
  * @param {Instruction} instruction
  */
 export function doesOf({ does }) {
@@ -40,7 +40,7 @@ export function wordsOfRegister(word) {
 }
 
 /**
- * Returns the help for a directive; "" for any other word.
+ * Returns the help for a directive, or "" for any other word.
  * @param {string} word in upper case
  */
 export function wordsOfDirective(word) {
@@ -49,12 +49,12 @@ export function wordsOfDirective(word) {
 }
 
 /**
- * Returns the help for a word of a program; "" if there is none.
+ * Returns the help for the word at a position in a program, or "".
  * @param {string[]} lines
- * @param {number} line from 0
+ * @param {number} line counts from 0
  * @param {number} at
  * @param {Map<string, Instruction>} instructions
- * @param {(name: string) => string} meaningOf returns the meaning of a name, if known
+ * @param {(name: string) => string} meaningOf returns the meaning of a name, or ""
  */
 export function helpForProgram(lines, line, at, instructions, meaningOf) {
   const text = lines[line] || "";
@@ -73,7 +73,7 @@ export function helpForProgram(lines, line, at, instructions, meaningOf) {
 }
 
 /**
- * The keys of a board's tables, as the manual has them: for each table its keys, each with its values.
+ * Returns the tables of a board's text from the manual: for each table its keys, and for each key a description of its values.
  * @param {ManualSection[]} manual
  * @returns {Map<string, Map<string, string>>}
  */
@@ -92,10 +92,10 @@ export function boardTables(manual) {
 }
 
 /**
- * Returns the table that contains a line of a board's text; "" at the top. Of the keys only `columns` has an array that is not an array of
- * tables.
+ * Returns the table that contains a line of a board's text, or "" before all tables. An open bracket after `columns =` does not begin a
+ * table.
  * @param {string[]} lines
- * @param {number} line from 0
+ * @param {number} line counts from 0
  */
 export function tableAt(lines, line) {
   for (let at = line; at >= 0; at--) {
@@ -106,9 +106,9 @@ export function tableAt(lines, line) {
 }
 
 /**
- * Returns the help for a word of a board's text.
+ * Returns the help for the word at a position in a board's text, or "".
  * @param {string[]} lines
- * @param {number} line from 0
+ * @param {number} line counts from 0
  * @param {number} at
  * @param {Map<string, Map<string, string>>} tables
  */

@@ -1,9 +1,9 @@
-// The words of a TOML text, each with its place; invalid ones are reported.
+// Splits a TOML text into words with their positions. Invalid words are reported.
 
 import * as say from "../../words/text.js";
 
 /**
- * A word: a mark, a string without its quotes, a bare word, or the end of a line; `fault` says in words why it is invalid.
+ * A word: a mark, a string without its quotes, a bare word, the end of a line, or an invalid word; then `fault` is the message.
  * @typedef {{ kind: "mark" | "string" | "bare" | "end" | "bad", text: string, line: number, from: number, to: number,
  *   fault: string }} TomlWord
  */
@@ -14,7 +14,7 @@ const BARE = /^[A-Za-z0-9_+:-]+(\.[A-Za-z0-9_+:-]+)*/;
 const STRING = /^"((?:\\.|[^"\\])*)"|^'([^']*)'/;
 
 /**
- * Reads the next word of a line, from an index on.
+ * Returns the word of a line at an index.
  * @param {string} text
  * @param {number} line
  * @param {number} from
@@ -40,8 +40,9 @@ function wordFrom(text, line, from) {
 }
 
 /**
+ * Returns the words of a text, with an "end" after each line.
  * @param {string[]} lines
- * @returns {TomlWord[]} with an "end" after each line
+ * @returns {TomlWord[]}
  */
 export function tomlWords(lines) {
   /** @type {TomlWord[]} */

@@ -1,9 +1,9 @@
-// Texts without tabs.
+// Replaces tabs by blanks.
 
 const TAB_WIDTH = 8;
 
 /**
- * Returns a text with blanks in place of its tabs; a tab ends at a multiple of eight.
+ * Returns a line with blanks in place of its tabs. Tab stops are at multiples of eight.
  * @param {string} text
  */
 export function withoutTabs(text) {
