@@ -1,6 +1,5 @@
-// Decoders: rows that are computed from several lines of a recording. The decoder of a shift register (4003) shows the bit that is shifted
-// in at each clock, and the bits of the register once it is at rest. That of the key matrix shows the driven rows, and the keys that
-// answer.
+// Decoders: rows that are computed from several lines of a recording. The decoder of a shift register (4003) shows the bit that each clock
+// shifts in, and the register's bits when it is at rest. The decoder of the key matrix shows the driven rows and the keys that answer.
 
 import { countUpTo } from "./growing.js";
 import * as say from "../../words/waves.js";
@@ -11,10 +10,10 @@ import * as say from "../../words/waves.js";
  * @typedef {import("./wave_words.js").Base} Base
  */
 
-/** A register is at rest after this many cycles without a clock. */
+/** The cycles without a clock after which a register is at rest. */
 export const REST = 16;
 
-/** Values in the track of a shift register. A bit is one of two numbers in turn: equal bits that follow each other are two changes. */
+/** Values in the track of a shift register. A bit alternates between two codes, so that equal consecutive bits are two changes. */
 const AT_REST = 0;
 const BIT = 2;
 const OTHER_BIT = 4;
@@ -27,9 +26,9 @@ export function isDecoder({ kind }) {
 }
 
 /**
- * Returns the moment of the last rise of a line that is one bit; -1 if there is none.
- * @param {Track} clock
- * @param {number} until the rise is not after this moment
+ * Returns the moment of the last rising edge of a line up to a moment, or -1.
+ * @param {Track} clock a line of one bit
+ * @param {number} until
  */
 export function lastRise(clock, until) {
   const edges = clock.moments.all;
@@ -39,11 +38,11 @@ export function lastRise(clock, until) {
 }
 
 /**
- * Extends the track of a shift register by what follows a moment.
- * @param {{ clock: Track, data: Track, rise: number }} from `rise`: the last rise of the clock up to `after`, -1 for none
+ * Extends the track of a shift register from a moment to the end of the recording.
+ * @param {{ clock: Track, data: Track, rise: number }} from `rise` is the last rising edge of the clock up to `after`, or -1
  * @param {Track} track
  * @param {number} after
- * @param {number} end of the recording
+ * @param {number} end
  */
 export function deriveShift({ clock, data, rise }, track, after, end) {
   const edges = clock.moments.all;
@@ -62,7 +61,7 @@ export function deriveShift({ clock, data, rise }, track, after, end) {
 }
 
 /**
- * The bits of a register as a number, the highest first: it may have more bits than a number has exactly.
+ * Returns the bits of a register as text, the highest first. It uses BigInt because a register can have more than 53 bits.
  * @param {number[]} bits the lowest first
  * @param {Base} base
  */
@@ -73,8 +72,8 @@ function textOfBits(bits, base) {
 }
 
 /**
- * Returns the text of a shift register's value: the bit that was shifted in, or the bits at rest.
- * @param {number} value of its track
+ * Returns the text for a value in the track of a shift register: the bit that was shifted in, or the register's bits at rest.
+ * @param {number} value
  * @param {number[]} bits
  * @param {Base} base
  */
@@ -83,10 +82,10 @@ export function shiftText(value, bits, base) {
 }
 
 /**
- * The numbers of the bits that are 1.
+ * Returns the indices of the bits that are 1, counted from `from`.
  * @param {number} value
  * @param {number} from the first bit
- * @param {number} to the one after the last
+ * @param {number} to the bit after the last one
  */
 function onesOf(value, from, to) {
   const found = [];
@@ -95,10 +94,10 @@ function onesOf(value, from, to) {
 }
 
 /**
- * Returns the result of a key scan: the rows that are driven, the columns that answer, and the name of each key that answers. A key has a
- * column and a row, so its name is known if one row is driven.
+ * Returns the driven rows, the columns that answer, and the names of the keys that answer. If several rows are driven, the keys are
+ * unknown.
  * @param {WaveLine} line
- * @param {number} value of its track
+ * @param {number} value a value in its track
  */
 export function scannedBy({ places, columns, width }, value) {
   const rows = onesOf(value, columns, width);
@@ -108,8 +107,9 @@ export function scannedBy({ places, columns, width }, value) {
 }
 
 /**
+ * Returns the text for a value in the track of a key scan.
  * @param {WaveLine} line
- * @param {number} value of its track
+ * @param {number} value
  */
 export function scanText(line, value) {
   const { rows, columns, keys } = scannedBy(line, value);

@@ -1,14 +1,15 @@
-// Numbers in a typed array that become more at the end, and fewer at both ends.
+// A queue of numbers in a typed array. Numbers are added at the end, and removed at both ends.
 
 /** @typedef {Uint16Array | Uint32Array | Float64Array} Numbers */
 
+/** The first capacity. */
 const ROOM_AT_FIRST = 64;
-/** The most elements that are dropped at the beginning before the rest is moved there. */
+/** The maximum of unused elements at the beginning before the numbers are moved there. */
 const MOST_DROPPED = 4096;
 
 /**
- * Returns how many of some rising numbers are at most this one.
- * @param {ArrayLike<number>} numbers
+ * Returns how many numbers are at most `most`.
+ * @param {ArrayLike<number>} numbers in rising order
  * @param {number} most
  */
 export function countUpTo(numbers, most) {
@@ -23,7 +24,7 @@ export function countUpTo(numbers, most) {
 
 /** @template {Numbers} Kind */
 export class Growing {
-  /** @param {Kind} numbers the initial ones; the array is owned from now on */
+  /** @param {Kind} numbers the first numbers; the array now belongs to the queue */
   constructor(numbers) {
     this.numbers = numbers;
     this.from = 0;
@@ -34,7 +35,7 @@ export class Growing {
     return this.to - this.from;
   }
 
-  /** The last one, -1 for none. */
+  /** The last number, -1 if there is none. */
   get last() {
     return this.count > 0 ? this.numbers[this.to - 1] : -1;
   }
@@ -56,12 +57,12 @@ export class Growing {
     this.numbers = larger;
   }
 
-  /** Removes the last one. */
+  /** Removes the last number. */
   pop() {
     this.to -= 1;
   }
 
-  /** @param {number} count the number to remove at the beginning */
+  /** @param {number} count how many numbers to remove at the beginning */
   drop(count) {
     this.from += count;
     if (this.from < MOST_DROPPED || this.from < this.count) return;
@@ -70,20 +71,20 @@ export class Growing {
     this.from = 0;
   }
 
-  /** @param {number} count the number that stays */
+  /** @param {number} count how many numbers to keep at the beginning */
   cut(count) {
     this.to = this.from + count;
   }
 
   /**
-   * Returns the current elements, until the next one is added or dropped.
+   * The numbers, as a view that is valid until the next change.
    * @returns {Kind}
    */
   get all() {
     return /** @type {Kind} */ (this.numbers.subarray(this.from, this.to));
   }
 
-  /** Returns all of them, and forgets them. */
+  /** Returns a copy of the numbers, and removes them. */
   take() {
     const taken = /** @type {Kind} */ (this.all.slice());
     this.from = this.to = 0;

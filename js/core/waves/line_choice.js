@@ -1,4 +1,4 @@
-// The lines of a recording that a command's arguments name.
+// Finds the lines of a recording that the arguments of a command name.
 
 import { linesOfBoard, valueLine } from "./wave_lines.js";
 import * as say from "../../words/waves.js";
@@ -7,22 +7,22 @@ import * as say from "../../words/waves.js";
  * @typedef {import("../bench/answers.js").Board} Board
  * @typedef {import("./wave_lines.js").WaveLine} WaveLine
  *
- * The lines of a board with the requested values, and the numbers of the requested lines, in that order.
+ * The lines of a board with the requested values, and the indices of the requested lines in the order of the request.
  * @typedef {{ lines: WaveLine[], chosen: number[] }} LineChoice
  */
 
-/** An error: a name that no line has. */
+/** An error: a name does not match a line. */
 export class NoLine extends Error {}
 
-/** @type {(line: WaveLine) => boolean} whether a line is a bit of the board */
+/** @type {(line: WaveLine) => boolean} returns whether a line is a bit of the board */
 const isBit = ({ kind }) => kind === "level" || kind === "key" || kind === "test";
-/** @type {(line: WaveLine) => boolean} whether a line need not be requested by its own name */
+/** @type {(line: WaveLine) => boolean} returns whether a line is offered by its name, and can be requested by its group */
 const isOffered = (line) => isBit(line) || line.kind === "pc" || line.kind === "label";
 
 /**
  * Returns the names of the lines of a board.
  * @param {Board} board
- * @param {string} text of the board, which has names
+ * @param {string} text the board's text, which has names
  * @param {boolean} hasLabels
  */
 export function offeredNames(board, text, hasLabels) {
@@ -30,9 +30,9 @@ export function offeredNames(board, text, hasLabels) {
 }
 
 /**
- * Returns the plain name of a lamp or a key, without the board's names, `lamp0` or `key2.3`; "" for another line.
+ * Returns the name of a lamp or a key without the names of the board, `lamp0` or `key2.3`, and "" for any other line.
  * @param {WaveLine} line
- * @param {number} number of the lamp
+ * @param {number} number the number of the lamp
  */
 function plainName({ group, places }, number) {
   if (group === "lamps") return `lamp${number}`;
@@ -40,7 +40,7 @@ function plainName({ group, places }, number) {
 }
 
 /**
- * Returns the numbers of the lines that a word names: one line, or all lines of a part of the board; none if it names no line.
+ * Returns the indices of the lines that a word names: a single line, or all lines of a group.
  * @param {WaveLine[]} lines
  * @param {string} word
  */
@@ -52,9 +52,10 @@ function linesNamed(lines, word) {
 }
 
 /**
- * Chooses the lines that words name; all bits of the board if there are no words.
+ * Returns the lines that words name, or all bits of the board if there are no words. Throws a NoLine if a word names no line, or if a line
+ * is named twice.
  * @param {Board} board
- * @param {string} text of the board, which has names
+ * @param {string} text the board's text, which has names
  * @param {boolean} hasLabels
  * @param {string[]} words
  * @returns {LineChoice}

@@ -1,4 +1,4 @@
-// A recording that continues while time runs: what is kept of it, and what is reported.
+// A recording that continues while time is running: its limits and its status.
 
 import { Waves } from "./wave_recording.js";
 import { grouped } from "./wave_words.js";
@@ -9,14 +9,14 @@ import * as say from "../../words/waves.js";
  * @typedef {import("../engine/live_recorder.js").LivePart} LivePart
  * @typedef {import("../engine/wave_recorder.js").Recorded} Recorded
  *
- * The limits: the cycles in all, and how many of them follow the trigger; the words of the trigger, "" for none; whether time stops at the
- * end.
+ * The settings. `most`: the maximum length in cycles; `behind`: the number of these cycles after the trigger; `trigger`: its text, "" for
+ * none; `stopsTime`: time stops at the end.
  * @typedef {{ most: number, behind: number, trigger: string, stopsTime: boolean }} LiveChoice
  */
 
 export class LiveWaves {
   /**
-   * @param {Recorded} recorded its beginning
+   * @param {Recorded} recorded the beginning of the recording
    * @param {LiveChoice} choice
    */
   constructor(recorded, choice) {
@@ -30,7 +30,7 @@ export class LiveWaves {
     return this.over === "";
   }
 
-  /** @param {LivePart} part what was recorded since */
+  /** @param {LivePart} part the part since the last one */
   take(part) {
     const { waves } = this;
     const { most, behind, trigger } = this.choice;
@@ -42,18 +42,18 @@ export class LiveWaves {
     else waves.beginAt((this.triggered < 0 ? waves.cycles : this.triggered) - (most - behind));
   }
 
-  /** It ends without a last part. */
+  /** Ends the recording without a last part. */
   lose() {
     this.over = "lost";
   }
 
-  /** Returns how much is stored, which changes all the time. */
+  /** The length of the recording as text; it changes with each part. */
   get kept() {
     const { waves } = this;
     return waves.cycles === 0 ? "" : wordsOfCycles(waves.span);
   }
 
-  /** Returns its status, in words that change seldom. */
+  /** The status of the recording as text; it changes rarely. */
   get words() {
     const { waves, triggered, over } = this;
     const { trigger } = this.choice;

@@ -1,4 +1,4 @@
-// The measurements of a line at a moment: for how long it has its value, and of a bit the time from an edge to the next one of its kind.
+// Measures a line at a moment: how long it has its value, and the period of a bit.
 
 import { wordsOfCycles } from "../time/cycles.js";
 import { CYCLE_US } from "../time/mcs4_time.js";
@@ -8,14 +8,16 @@ import * as say from "../../words/waves.js";
 /**
  * @typedef {import("./wave_recording.js").Waves} Waves
  *
- * The line has its value from one moment to another one; `isWhole`: both are changes of the line, not ends of the recording. `period`: from
- * the edge before to the next one of its kind, 0 if there is none.
+ * The measurement: the line has its value from one moment to another. `isWhole`: both moments are changes of the line, not ends of the
+ * recording. `period`: the cycles from the edge before the moment to the next edge in the same direction, 0 if there is none.
  * @typedef {{ from: number, to: number, isWhole: boolean, period: number }} Measure
  */
 
+/** The significant digits of a frequency. */
 const DIGITS = 4;
 
 /**
+ * Measures a line at a moment.
  * @param {Waves} waves
  * @param {number} line
  * @param {number} moment
@@ -37,7 +39,8 @@ export function frequencyText(period) {
 }
 
 /**
- * @param {string} value
+ * Returns the text of a measurement.
+ * @param {string} value the value of the line, as text
  * @param {Measure} measure
  */
 export function measureText(value, { from, to, isWhole, period }) {

@@ -1,8 +1,8 @@
-// A picture as the text of an SVG file: it is drawn on as on the context of a canvas, as far as waves need it.
+// An SVG file that is drawn like the context of a canvas. It has only the methods that waves need.
 
-/** How wide a character of the font is, in pixels: all are alike. */
+/** The width of each character in pixels: the font is monospaced. */
 const CHARACTER = 7.25;
-/** @type {Record<string, string>} where a text begins, by the words of a canvas */
+/** @type {Record<string, string>} SVG's text anchors, by the values of a canvas's `textAlign` */
 const ANCHORS = { left: "start", center: "middle", right: "end" };
 
 /** @param {number} number */
@@ -12,7 +12,7 @@ const short = (number) => String(Math.round(number * 100) / 100);
 const escaped = (text) => text.replace(/[&<>"]/g, (letter) => `&#${letter.charCodeAt(0)};`);
 
 /**
- * The begin of an element.
+ * Returns the name and the attributes of an element, without brackets.
  * @param {string} name
  * @param {Record<string, string | number>} attributes
  */
@@ -21,7 +21,7 @@ function begun(name, attributes) {
 }
 
 /**
- * An element.
+ * Returns an element.
  * @param {string} name
  * @param {Record<string, string | number>} attributes
  * @param {string} [content] its content, escaped
@@ -34,7 +34,7 @@ export class SvgContext {
   /**
    * @param {number} width
    * @param {number} height
-   * @param {string} ground its colour
+   * @param {string} ground the colour of the background
    */
   constructor(width, height, ground) {
     this.size = [width, height];
@@ -101,7 +101,7 @@ export class SvgContext {
   /**
    * @param {string} text
    * @param {number} x
-   * @param {number} y of its middle
+   * @param {number} y the vertical centre of the text
    */
   fillText(text, x, y) {
     const look = { "dy": ".35em", "text-anchor": ANCHORS[this.textAlign], "fill": this.fillStyle };
@@ -118,7 +118,7 @@ export class SvgContext {
     this.dash = lengths.length === 0 ? {} : { "stroke-dasharray": lengths.join(" ") };
   }
 
-  /** Returns the text of the file. */
+  /** The text of the file. */
   get text() {
     const [width, height] = this.size;
     const look = { width, height, "font-family": "monospace", "font-size": 12 };

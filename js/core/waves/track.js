@@ -1,18 +1,19 @@
-// One line of a recording over time: its value at the beginning, and each moment at which it changed. A track without values is a single
-// bit, which alternates.
+// The values of a line in a recording: its first value, and each moment when it changed. The track of a single bit stores no values,
+// because a bit alternates.
 
 import { Growing, countUpTo } from "./growing.js";
 
 /**
- * A track as a message carries it. `values` are those from each moment on; null for one bit.
+ * A track as a message contains it. `values` has the value after each change, null for a single bit.
  * @typedef {{ first: number, moments: Uint32Array, values: Uint16Array | Float64Array | null }} TrackData
  */
 
 /** @typedef {import("./growing.js").Numbers} Numbers */
 
 /**
- * @param {number} width how many bits a value has
- * @returns {TrackData} of a line that was 0 all the time
+ * Returns the track of a line that is always 0.
+ * @param {number} width the number of bits in a value
+ * @returns {TrackData}
  */
 export function emptyTrack(width) {
   const values = width > 16 ? new Float64Array(0) : new Uint16Array(0);
@@ -20,7 +21,7 @@ export function emptyTrack(width) {
 }
 
 export class Track {
-  /** @param {TrackData} data its arrays are the track's own from now on */
+  /** @param {TrackData} data its arrays now belong to the track */
   constructor({ first, moments, values }) {
     this.first = first;
     this.moments = new Growing(moments);
@@ -30,7 +31,7 @@ export class Track {
   }
 
   /**
-   * Returns the value after this many changes.
+   * Returns the value after `count` changes.
    * @param {number} count
    * @returns {number}
    */
@@ -45,9 +46,9 @@ export class Track {
   }
 
   /**
-   * Sets the value from a moment on, which is not before the last one. A change that is undone at the same moment is no change.
+   * Sets the value from a moment on. Changes that cancel each other at the same moment are not stored.
    * @param {number} value
-   * @param {number} moment
+   * @param {number} moment not before the last change
    */
   set(value, moment) {
     if (value === this.now) return;
@@ -62,7 +63,7 @@ export class Track {
   }
 
   /**
-   * Appends what follows.
+   * Appends a later part.
    * @param {TrackData} data
    */
   append({ moments, values }) {
@@ -70,7 +71,7 @@ export class Track {
   }
 
   /**
-   * Moves the beginning to a moment: what was before is forgotten.
+   * Moves the beginning to a moment, and drops earlier changes.
    * @param {number} moment
    */
   beginAt(moment) {
@@ -81,7 +82,7 @@ export class Track {
   }
 
   /**
-   * Moves the end to a moment: what came after is forgotten.
+   * Moves the end to a moment, and drops later changes.
    * @param {number} moment
    */
   endAt(moment) {
@@ -92,7 +93,7 @@ export class Track {
   }
 
   /**
-   * Returns all of it; it continues from its end.
+   * Returns the track, and empties it. It continues with its last value.
    * @returns {TrackData}
    */
   take() {

@@ -1,5 +1,5 @@
-// The trigger of a recording, in words: an edge of a line (`rom0.2 rises`, `lamp 3 falls`, `r5 changes`), or a condition, which must become
-// true (`r9 = 9`, `lamp 3 on`, `display 42`, `@LABEL`: conditions/condition_language.js).
+// Parses the trigger of a recording: an edge of a line (`rom0.2 rises`, `lamp 3 falls`, `r5 changes`), or a condition that becomes true
+// (`r9 = 9`, `lamp 3 on`, `display 42`, `@LABEL`: conditions/condition_language.js).
 
 import { tracedConditionOf } from "../conditions/condition_language.js";
 import { isDecoder } from "./decoders.js";
@@ -11,13 +11,13 @@ import * as say from "../../words/waves.js";
  * @typedef {import("./wave_lines.js").WaveLine} WaveLine
  * @typedef {"rises" | "falls" | "changes"} Edge
  *
- * `edge`: of the lines `members`, by their numbers; otherwise `places` are those of `trace` that decide whether it holds, and `address` is
- * the counter that makes it true if it is that alone, otherwise -1.
+ * A trigger. For an edge, `members` are the indices of its lines. For a condition, `places` are the places of `trace` that it needs. If it
+ * depends only on the program counter, `address` is the value that makes it true, otherwise -1.
  * @typedef {{ edge: Edge | "", members: number[], places: string[], address: number, holds: (values: string[]) => boolean }} Trigger
  */
 
 const EDGE = /^(.*\S)\s+(rises|falls|changes)$/;
-/** A condition that is true in each cycle is none to wait for. */
+/** The condition of a trigger at an edge, which is never true. */
 const NEVER = () => false;
 
 /** @param {string} text */
@@ -26,7 +26,8 @@ export function plain(text) {
 }
 
 /**
- * Returns the line that words name: `rom0.2`, `rom0` (the port), `lamp 3`, `lamp minus`, `minus`, `key 7`, `r5`, `ram 0 0x12`; -1 for none.
+ * Returns the index of the line that a text names, or -1: `rom0.2`, `rom0` (the port), `lamp 3`, `lamp minus`, `minus`, `key 7`, `r5`,
+ * `ram 0 0x12`.
  * @param {string} text
  * @param {WaveLine[]} lines
  */
@@ -47,7 +48,7 @@ export function lineNamed(text, lines) {
 }
 
 /**
- * Returns the line whose edge the words name, or "" if they name no edge.
+ * Returns the name of the line in a text about an edge, or "" for any other text.
  * @param {string} text
  */
 export function namedInEdge(text) {
@@ -56,10 +57,11 @@ export function namedInEdge(text) {
 }
 
 /**
+ * Parses a trigger. An empty text is neither a trigger nor an error.
  * @param {string} text
  * @param {WaveLine[]} lines
  * @param {Names} names
- * @returns {{ trigger: Trigger | null, fault: string }} empty text is no trigger, and no error
+ * @returns {{ trigger: Trigger | null, fault: string }}
  */
 export function readTrigger(text, lines, names) {
   if (text.trim() === "") return { trigger: null, fault: "" };
@@ -72,6 +74,7 @@ export function readTrigger(text, lines, names) {
 }
 
 /**
+ * Returns the trigger at an edge, or the error.
  * @param {string} name
  * @param {Edge} edge
  * @param {WaveLine[]} lines

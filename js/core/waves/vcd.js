@@ -1,22 +1,25 @@
-// A recording as a VCD file (IEEE 1364): the page and `mcs4 wave` write the same bytes for the same lines of the same session.
+// Writes a recording as a VCD file (IEEE 1364). The page and `mcs4 wave` write the same bytes for the same lines of a session.
 
 import { CYCLE_TENTHS_US, CYCLE_US } from "../time/mcs4_time.js";
 import { isDecoder } from "./decoders.js";
 
 /** @typedef {import("./wave_recording.js").Waves} Waves */
 
-/** Units of time in a cycle: a unit is 100 ns. */
+/** The units of time in a cycle. A unit is 100 ns. */
 const UNITS = CYCLE_TENTHS_US;
-/** More lines than a recording can have: a change is one number, of its moment and its line. */
+/** More than the maximum of lines in a recording. A change is encoded as one number: moment times LINES plus line. */
 const LINES = 8192;
-/** The lines in one part of the file: a single text has no room for a long recording. */
+/** The maximum of lines in a part of the file. A long recording does not fit into a single string. */
 const LINES_OF_PART = 100000;
-/** Letters that begin no value in the file: so a reader that does not know one kind of value mistakes nothing else for it. */
+/**
+ * The letters in codes of lines. None of them begins a value, so that a reader that skips an unknown kind of value reads the rest
+ * correctly.
+ */
 const LETTERS = "ACDEFGHIJKLMNOPQSTUVWY";
 
 /**
- * The short name of a line in the file, by its number from 0 on.
- * @param {number} number
+ * Returns the short code of a line in the file.
+ * @param {number} number counts from 0
  */
 function codeOf(number) {
   let text = "";
@@ -25,7 +28,7 @@ function codeOf(number) {
 }
 
 /**
- * Returns the kind of a line in the file.
+ * Returns the type and the width of a line for its declaration in the file.
  * @param {Waves} waves
  * @param {number} line
  */
@@ -33,25 +36,25 @@ function kindOf({ lines }, line) {
   return lines[line].kind === "label" || isDecoder(lines[line]) ? "string 1" : `wire ${lines[line].width}`;
 }
 
-/** Writes a recording as a VCD file, also piece by piece. */
+/** Writes a VCD file in parts, also while the recording grows. */
 export class VcdText {
   /**
    * @param {Waves} waves
-   * @param {number[]} chosen the lines, by their numbers, in the order of the file
+   * @param {number[]} chosen the indices of the lines, in the order of the file
    */
   constructor(waves, chosen) {
     this.waves = waves;
     this.chosen = chosen;
     this.codes = chosen.map((_, at) => codeOf(at));
-    /** The beginning of the recording, which is the file's time 0. */
+    /** The beginning of the recording, which is time 0 in the file. */
     this.begun = waves.from;
-    /** The last moment that the file has. */
+    /** The last moment in the file so far. */
     this.written = waves.from;
   }
 
   /**
-   * Returns the text of a value of a line.
-   * @param {number} index of the line among the chosen ones
+   * Returns the text for a line's value.
+   * @param {number} index an index into the chosen lines
    * @param {number} value
    * @param {number} moment
    */
@@ -66,7 +69,7 @@ export class VcdText {
     return `b${value.toString(2).padStart(width, "0")} ${this.codes[index]}`;
   }
 
-  /** Returns the head of the file, with the values at the beginning of the recording. */
+  /** Returns the header of the file, with the values at the beginning of the recording. */
   head() {
     const { waves, chosen, codes } = this;
     return `${[
@@ -84,7 +87,7 @@ export class VcdText {
     ].join("\n")}\n`;
   }
 
-  /** Yields the changes in the recording, in parts. */
+  /** Yields the changes in parts. */
   * changes() {
     const { waves, chosen } = this;
     const tracks = chosen.map((line) => waves.trackOf(line));
@@ -112,7 +115,7 @@ export class VcdText {
 }
 
 /**
- * Returns the changes of the chosen lines in their order: by moments, then by lines.
+ * Returns the encoded changes of the chosen lines, ordered by moment and then by line.
  * @param {Waves} waves
  * @param {number[]} chosen
  */
@@ -130,9 +133,9 @@ function changesOf(waves, chosen) {
 }
 
 /**
- * Yields the file of a whole recording, in parts.
+ * Yields the file of a complete recording in parts.
  * @param {Waves} waves
- * @param {number[]} chosen the lines, by their numbers, in the order of the file
+ * @param {number[]} chosen the indices of the lines, in the order of the file
  */
 export function* vcdParts(waves, chosen) {
   const text = new VcdText(waves, chosen);

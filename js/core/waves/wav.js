@@ -1,18 +1,20 @@
-// The sound of a line as a WAV file: 16 bits, one channel, a sample for each cycle.
+// Writes the sound of a line as a WAV file: 16 bits, one channel, one sample for each cycle.
 
 import { CYCLES_PER_SECOND } from "../time/mcs4_time.js";
 
+/** Sizes in bytes. */
 const SAMPLE_BYTES = 2;
 const HEAD_BYTES = 44;
 const FORMAT_BYTES = 16;
-/** The samples of a line that is 1 and 0. */
+/** The sample for each level of the line. */
 const LEVELS = { high: 0x2020, low: -0x2020 };
+/** The offsets of names in the file's header. */
 const LETTERS = { riff: 0, kind: 8, format: 12, data: 36 };
 const PCM = 1;
 const CHANNELS = 1;
 
 /**
- * Writes the characters of a name.
+ * Writes a name in ASCII.
  * @param {Uint8Array} bytes
  * @param {number} at
  * @param {string} letters
@@ -24,8 +26,8 @@ function putLetters(bytes, at, letters) {
 }
 
 /**
- * Returns the file of a line.
- * @param {number} level at the beginning
+ * Returns the WAV file of a line.
+ * @param {number} level the level at the beginning
  * @param {number[]} edges the cycles before each change
  * @param {number} cycles
  */

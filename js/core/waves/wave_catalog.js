@@ -1,4 +1,4 @@
-// The lines that a recording can have, and those that are shown.
+// The lines that the user can choose for a recording, and the lines that are shown at first.
 
 import { isDecoder } from "./decoders.js";
 import { plain } from "./trigger.js";
@@ -11,23 +11,23 @@ import * as say from "../../words/waves.js";
  * @typedef {import("./wave_recording.js").Waves} Waves
  */
 
-/** The most lines that are shown before any were chosen. */
+/** The maximum of lines that are shown at first. */
 const MOST_AT_FIRST = 16;
-/** The most RAM nibbles that are offered at once. */
+/** The maximum of RAM nibbles that are listed at once. */
 const MOST_CHARACTERS = 64;
 
 /**
- * All that can be recorded of a board.
+ * Returns all lines that can be recorded on a board.
  * @param {Board} board
- * @param {string} text of the board, which has names
+ * @param {string} text the board's text, which has names
  */
 export function catalogOf(board, text) {
   return linesOfBoard(board, text, true, [...REGISTER_NAMES, ...characterNames(board)]);
 }
 
 /**
- * Returns the lines that are shown at first: the bits that change, in their order, then the decoders that do, the counter and the label; if
- * no bit changes, the first ones.
+ * Returns the lines that are shown at first: the bits that change, the decoders that change, the program counter and the label. If no bit
+ * changes, the first bits are shown.
  * @param {Waves} waves
  */
 export function firstChoice(waves) {
@@ -40,7 +40,7 @@ export function firstChoice(waves) {
 }
 
 /**
- * Returns the names of the values that are recorded on request, among those that are chosen.
+ * Returns the names of the chosen values. Values are recorded only on request.
  * @param {WaveLine[]} offered
  * @param {Set<string>} chosen
  */
@@ -49,8 +49,7 @@ export function valuesAmong(offered, chosen) {
 }
 
 /**
- * Returns the lines that match a text: the one of this name, or those with the text in their name, their title, or the title of their
- * group.
+ * Returns the line whose name is a text, or else the lines with the text in their name, their title, or the title of their group.
  * @param {WaveLine[]} offered
  * @param {string} text
  */
@@ -62,11 +61,12 @@ function fitting(offered, text) {
 }
 
 /**
- * Returns the lines offered for some words. RAM characters are many: only those that match or are chosen are offered.
+ * Returns the lines to list for a search text. RAM has many nibbles, so only some of those that match, and those that are chosen, are
+ * listed.
  * @param {WaveLine[]} offered
  * @param {string} text
  * @param {Set<string>} chosen
- * @returns {{ lines: WaveLine[], more: string }} and a note about those that are not offered
+ * @returns {{ lines: WaveLine[], more: string }} `more` is a note about lines that are not listed
  */
 export function found(offered, text, chosen) {
   const isAll = text.trim() === "";
@@ -81,7 +81,7 @@ export function found(offered, text, chosen) {
 }
 
 /**
- * Returns the name of a group of lines.
+ * Returns the title of a group of lines.
  * @param {string} group
  */
 export function titleOf(group) {

@@ -1,5 +1,5 @@
-// The lines of a board that are recorded, and what else a recording can have: their names, and the places in the bench's reports. The page
-// and `mcs4 wave` have the same names in the same order.
+// The lines of a recording: the lines of a board, decoders, ports as numbers, and requested values, with their names and their places for
+// `trace`. The page and `mcs4 wave` have the same names in the same order.
 
 import { BITS_PER_CHIP } from "../bench/board_form.js";
 import { numberOf, upTo } from "../bench/numbers.js";
@@ -13,21 +13,25 @@ import * as say from "../../words/waves.js";
  * @typedef {import("../board/face.js").FaceText} FaceText
  * @typedef {"level" | "key" | "test" | "value" | "port" | "shift" | "scan" | "pc" | "label"} WaveKind
  *
- * A line, or a number. `title` is its name in the board's text, "" for none; `group` is the part of the board that it belongs to. `places`:
- * for a level the line of the board (for a lamp its line), for a key its row and column, for a value the places of `trace` with its digits,
- * the highest first, for a key scan the names of its keys, row by row; `members`: the levels that it consists of, by their numbers among
- * the lines: for a port its own, the lowest first, for a shift register its clock, its data and its bits, for a key scan its columns and
- * its rows. `width`: its number of bits. `columns`: how many of them are columns of a key scan.
+ * A line of a recording. `title` is its name in the board's text, "" for none; `group` is its part of the board; `width` is its number of
+ * bits.
+ *
+ * `places` depends on the kind. Level: the line of the board. Key: its row and column. Value: the places of `trace` with its digits, the
+ * highest first. Scan: the names of its keys, row by row.
+ *
+ * `members` are the indices of other lines. Port: its lines, the lowest first. Shift register: its clock, its data and its bits. Scan: its
+ * columns and its rows; `columns` is the number of columns.
  * @typedef {{ name: string, title: string, group: string, kind: WaveKind, places: string[], members: number[], width: number,
  *   columns: number }} WaveLine
  */
 
-/** A name of the board's text that is valid in a VCD file. */
+/** A name in the board's text that is valid in a VCD file. */
 const PLAIN = /^[A-Za-z0-9_]+$/;
-/** A number of more bits is not exact. */
+/** The maximum of bits in a number, so that it is exact. */
 const MOST_BITS = 50;
 
 /**
+ * Returns a line with default members.
  * @param {string} name
  * @param {string} group
  * @param {WaveKind} kind
@@ -39,7 +43,7 @@ function made(name, group, kind, rest = {}) {
 }
 
 /**
- * Returns the name of a lamp or a key, from the name in the board's text; one that is not valid in a file is its title.
+ * Returns the name and the title of a lamp or a key. A name in the board's text that is not valid in a VCD file becomes the title.
  * @param {string} group
  * @param {string} ending
  * @param {FaceText | undefined} faceText
@@ -50,7 +54,7 @@ function namesOf(group, ending, faceText) {
 }
 
 /**
- * The lines of a part of the board: `name.0`, `name.1` ..
+ * Returns the lines of a port or a chain: `name.0`, `name.1` ..
  * @param {string} group
  * @param {number} count
  * @param {Face} face
@@ -63,6 +67,7 @@ function levels(group, count, face) {
 }
 
 /**
+ * Returns the lines of a board's chips.
  * @param {Board} board
  * @param {Face} face
  */
@@ -77,6 +82,7 @@ function linesOfChips({ roms, banks, chains }, face) {
 }
 
 /**
+ * Returns the lamps and the keys of a board.
  * @param {Board} board
  * @param {Face} face
  */
@@ -96,8 +102,8 @@ function linesOfFront({ lamps, rows, columns }, face) {
 }
 
 /**
- * The ports and chains as numbers: bit k is line k.
- * @param {WaveLine[]} lines of the board
+ * Returns the ports and chains as numbers: bit k is line k.
+ * @param {WaveLine[]} lines the lines of the board
  * @param {Face} face
  */
 function portsOf(lines, face) {
@@ -114,9 +120,9 @@ function portsOf(lines, face) {
 }
 
 /**
- * The decoders of a board: one for each chain of shift registers, and one for the key matrix.
+ * Returns the decoders of a board: one for each chain of shift registers, and one for the key matrix.
  * @param {Board} board
- * @param {WaveLine[]} lines of the board
+ * @param {WaveLine[]} lines the lines of the board
  * @param {Face} face
  */
 function decodersOf({ chains, matrix }, lines, face) {
@@ -139,7 +145,7 @@ function decodersOf({ chains, matrix }, lines, face) {
     { title: say.KEY_SCAN, places, members, width: members.length, columns: columns.length })];
 }
 
-/** The places that hold one value. */
+/** A place that has a single value. */
 const VALUE = /^(acc|cy|dcl|src|r\d+|p\d|(ram|st)\..*)$/;
 const DIGIT_WIDTH = 4;
 const PAIR_WIDTH = 8;
@@ -147,7 +153,7 @@ const PAIR_WIDTH = 8;
 const WIDTHS = { cy: 1, dcl: 3, src: 8 };
 
 /**
- * Returns a requested value by its name: a register, a pair, a RAM character, a status character; null if there is none.
+ * Returns a requested value by its name: a register, a pair, a RAM nibble or a status nibble. Returns null if the board lacks it.
  * @param {string} text
  * @param {Board} board
  * @returns {WaveLine | null}
@@ -168,7 +174,7 @@ export function valueLine(text, board) {
 export const REGISTER_NAMES = ["acc", "cy", ...upTo(16).map((at) => `r${at}`), ...upTo(8).map((at) => `p${at}`), "dcl", "src"];
 
 /**
- * The names of all characters of a board's RAM.
+ * Returns the names of all nibbles in a board's RAM.
  * @param {Board} board
  */
 export function characterNames({ banks }) {
@@ -179,12 +185,12 @@ export function characterNames({ banks }) {
 }
 
 /**
- * Returns the lines of the board, in their order: those of the ROMs, the RAM chips, the chains, the lamps, the keys, TEST, the ports as
- * numbers, the decoders, the requested values, the counter, and, if the program's labels are known, the label.
+ * Returns the lines of a board in this order: ROMs, RAM chips, chains, lamps, keys, TEST, ports as numbers, decoders, requested values, the
+ * program counter, and, if the labels of the program are known, the label.
  * @param {Board} board
- * @param {string} text of the board, which has names
+ * @param {string} text the board's text, which has names
  * @param {boolean} hasLabels
- * @param {string[]} [values] by their names
+ * @param {string[]} [values] the names of the requested values
  * @returns {WaveLine[]}
  */
 export function linesOfBoard(board, text, hasLabels, values = []) {
@@ -197,7 +203,7 @@ export function linesOfBoard(board, text, hasLabels, values = []) {
 }
 
 /**
- * Returns whether a line is shown as boxes with its values in them, as all that are more than one bit are.
+ * Returns whether a line is drawn as boxes with its values: all lines but single bits are.
  * @param {WaveLine} line
  */
 export function isText({ kind, width }) {

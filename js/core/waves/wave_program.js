@@ -1,4 +1,4 @@
-// The program of a recording: its lines and labels, if its text is what is in ROM.
+// The program of a recording: its source lines and labels, if the source is the program in ROM.
 
 import { SourceMap } from "../machine/source_map.js";
 
@@ -8,7 +8,7 @@ import { SourceMap } from "../machine/source_map.js";
  */
 
 /**
- * Returns the program of a recording, by the map of its text.
+ * Returns the program of a recording from the map of its source.
  * @param {SourceMap} map
  * @param {string} text
  * @returns {RecordedProgram}
@@ -19,9 +19,10 @@ export function programInWaves(map, text) {
 }
 
 /**
+ * Returns the program of a recording, or null if the source is not the program in ROM.
  * @param {Checked} checked
  * @param {string} text
- * @returns {RecordedProgram | null} null if the text is not what is in ROM
+ * @returns {RecordedProgram | null}
  */
 export function recordedProgram({ map, refusal, difference }, text) {
   const source = new SourceMap(map, text);

@@ -1,5 +1,5 @@
-// A recording, as the page reads it: each line at a moment, its changes, and the instruction at a moment. A recording of running time grows
-// at its end, and forgets its beginning.
+// A recording for the page: the value of each line at a moment, its changes, and the instruction at a moment. A recording of running time
+// grows at its end and drops its beginning.
 
 import { ADDRESSES } from "../bench/rom_bytes.js";
 import { deriveShift, lastRise, scanText, shiftText } from "./decoders.js";
@@ -12,16 +12,17 @@ import { valueText } from "./wave_words.js";
  * @typedef {import("../engine/wave_recorder.js").RecordedPart} RecordedPart
  * @typedef {import("./wave_lines.js").WaveLine} WaveLine
  * @typedef {import("./wave_words.js").Base} Base
- * @typedef {{ address: number, listed: string, line: number, source: string, isSecond: boolean, isEnd: boolean }} Instruction the work at a
- * moment: its address, its line of the listing, and its line of the source with its number (0 for none); whether it is the second cycle of
- * an instruction; whether it is the next one, at the end of the recording
+ *
+ * The instruction at a moment: its address, its line of the listing, and its source line with its number (0 for none). `isSecond`: the
+ * moment is the second cycle of an instruction. `isEnd`: it is the next instruction, at the end of the recording.
+ * @typedef {{ address: number, listed: string, line: number, source: string, isSecond: boolean, isEnd: boolean }} Instruction
  */
 
 /** The kinds of lines that are computed from other lines, or from the instructions. */
 const DERIVED = new Set(["pc", "label", "port", "shift", "scan"]);
 
 /**
- * The label at each address or nearest below it, by their numbers; -1 for none.
+ * Returns for each address the index of the label at it or nearest below it, -1 for none.
  * @param {{ address: number }[]} labels by rising address
  */
 function labelsBelow(labels) {
@@ -35,9 +36,9 @@ function labelsBelow(labels) {
 }
 
 export class Waves {
-  /** @param {Recorded} recorded its arrays belong to this from now on */
+  /** @param {Recorded} recorded its arrays now belong to this object */
   constructor({ from, cycles, isStuck, isOwed, lines, tracks, moments, counters, listing, program }) {
-    /** The begin and the end, in cycles. */
+    /** The moments where the recording begins and ends. */
     this.from = from;
     this.cycles = cycles;
     this.isStuck = isStuck;
@@ -50,22 +51,22 @@ export class Waves {
     this.program = program;
     this.sources = program ? program.text.split("\n") : [];
     this.below = labelsBelow(program ? program.labels : []);
-    /** @type {Map<number, Track>} the tracks of computed lines, as far as they were asked for */
+    /** @type {Map<number, Track>} the computed tracks that were requested so far */
     this.derived = new Map();
-    /** @type {Map<number, number>} the last rise of the clock of a shift register, if the recording begins after it */
+    /** @type {Map<number, number>} for each shift register, the last rising edge of its clock before the recording begins */
     this.rises = new Map();
-    /** @type {Base} how numbers are written */
+    /** @type {Base} the base for showing numbers */
     this.base = "hex";
   }
 
-  /** Returns how many cycles there are. */
+  /** The length of the recording in cycles. */
   get span() {
     return this.cycles - this.from;
   }
 
-  // --- more and less of it ---
+  // --- growing and shrinking ---
 
-  /** @param {RecordedPart} part the continuation */
+  /** @param {RecordedPart} part the next part */
   append({ cycles, isStuck, tracks, moments, counters, listing }) {
     const before = this.cycles;
     tracks.forEach((data, line) => this.tracks[line].append(data));
@@ -74,7 +75,7 @@ export class Waves {
     this.cycles = cycles;
     this.isStuck = isStuck;
     for (const [line, track] of this.derived) {
-      // The work at the moment itself may have changed it again.
+      // The part can change the value at the moment where it begins.
       track.endAt(before - 1);
       this.derive(line, track, before - 1);
     }
@@ -93,7 +94,7 @@ export class Waves {
     this.counters.push(counter);
   }
 
-  /** @param {number} moment earlier parts are forgotten */
+  /** @param {number} moment the new beginning; earlier parts are dropped */
   beginAt(moment) {
     if (moment <= this.from) return;
     this.from = moment;
@@ -105,7 +106,7 @@ export class Waves {
     this.counters.drop(count);
   }
 
-  /** @param {number} moment later parts are forgotten */
+  /** @param {number} moment the new end; later parts are dropped */
   endAt(moment) {
     if (moment >= this.cycles) return;
     this.cycles = moment;
@@ -119,6 +120,7 @@ export class Waves {
   // --- values ---
 
   /**
+   * Returns the track of a line. Computes it at the first request.
    * @param {number} line
    * @returns {Track}
    */
@@ -135,8 +137,8 @@ export class Waves {
   }
 
   /**
-   * Returns the value of a computed line: of a port by its lines, of the counter and the label by the instructions. A shift register is at
-   * rest at the beginning.
+   * Returns the value of a computed line: of a port from its lines, of the program counter and the label from the instructions. A shift
+   * register is at rest at the beginning.
    * @param {number} line
    * @param {number} moment
    */
@@ -151,7 +153,7 @@ export class Waves {
   }
 
   /**
-   * Extends the track of such a line by what follows a moment.
+   * Extends the track of a computed line from a moment to the end.
    * @param {number} line
    * @param {Track} track
    * @param {number} after
@@ -172,7 +174,7 @@ export class Waves {
   }
 
   /**
-   * The last rise of the clock of a shift register up to a moment; -1 for none.
+   * Returns the last rising edge of a shift register's clock up to a moment, or -1.
    * @param {number} line
    * @param {number} moment
    */
@@ -182,6 +184,7 @@ export class Waves {
   }
 
   /**
+   * Extends the track of a port or a key scan, whose value consists of its members' bits.
    * @param {Track[]} members
    * @param {Track} track
    * @param {number} after
@@ -205,7 +208,7 @@ export class Waves {
   }
 
   /**
-   * Returns the moments at which a line has changed.
+   * Returns the moments when a line changed.
    * @param {number} line
    */
   changesOf(line) {
@@ -213,7 +216,7 @@ export class Waves {
   }
 
   /**
-   * The number that a line was: of one bit 0 or 1.
+   * Returns the value of a line as a number.
    * @param {number} line
    * @param {number} moment
    */
@@ -221,7 +224,10 @@ export class Waves {
     return this.trackOf(line).valueAt(moment);
   }
 
-  /** @param {number} moment */
+  /**
+   * Returns the index of the last instruction that began at a moment or before it.
+   * @param {number} moment
+   */
   sampleAt(moment) {
     return Math.max(0, countUpTo(this.moments.all, moment) - 1);
   }
@@ -232,7 +238,7 @@ export class Waves {
   }
 
   /**
-   * The label at the counter or nearest below it, "" for none.
+   * Returns the label at the program counter or nearest below it, "" for none.
    * @param {number} moment
    */
   labelAt(moment) {
@@ -241,7 +247,7 @@ export class Waves {
   }
 
   /**
-   * The value of a line, as people read it.
+   * Returns the value of a line as text.
    * @param {number} line
    * @param {number} moment
    */
@@ -256,7 +262,7 @@ export class Waves {
   }
 
   /**
-   * Returns the next change of a line after a moment; undefined if there is none.
+   * Returns the next change of a line after a moment, or undefined.
    * @param {number} line
    * @param {number} moment
    * @returns {number | undefined}
@@ -267,7 +273,7 @@ export class Waves {
   }
 
   /**
-   * The last change of a line before a moment.
+   * Returns the last change of a line before a moment, or undefined.
    * @param {number} line
    * @param {number} moment
    * @returns {number | undefined}
@@ -278,6 +284,7 @@ export class Waves {
   }
 
   /**
+   * Returns the instruction at a moment.
    * @param {number} moment
    * @returns {Instruction}
    */

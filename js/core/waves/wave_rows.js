@@ -1,5 +1,5 @@
-// The arrangement of the rows of waves: their order, their own names and colours, and groups of them. All of it is stored by the names of
-// the lines, so that it applies to the next recording, too.
+// The arrangement of the rows of waves: their order, their titles and colours, and their groups. It is stored by the names of the lines, so
+// that it applies to later recordings.
 
 /**
  * @typedef {import("./wave_lines.js").WaveLine} WaveLine
@@ -7,7 +7,7 @@
  * @typedef {{ title?: string, colour?: RowColour | "", group?: string }} RowLook
  * @typedef {{ order: string[], looks: Record<string, RowLook>, folded: string[] }} KeptRows
  *
- * A row: a line by its number and name, or, with the number -1, the heading of a group. `title` is the displayed text.
+ * A row: a line by its index and name, or the heading of a group, with the index -1. `title` is the displayed text.
  * @typedef {{ line: number, name: string, title: string, colour: RowColour | "", group: string, isFolded: boolean }} WaveRow
  */
 
@@ -17,7 +17,7 @@ export class WaveRows {
   /** @param {Partial<KeptRows>} [kept] */
   constructor(kept = {}) {
     const { order = [], looks = {}, folded = [] } = kept;
-    /** Returns the names of lines in the order of their rows, as far as the user has chosen it. */
+    /** The names of lines in the order of their rows, as far as the user has changed it. */
     this.order = order;
     this.looks = new Map(Object.entries(looks));
     this.folded = new Set(folded);
@@ -42,7 +42,8 @@ export class WaveRows {
   }
 
   /**
-   * @param {string} name of a line
+   * Changes the look of a line's row.
+   * @param {string} name the name of the line
    * @param {RowLook} look the changed properties
    */
   change(name, look) {
@@ -50,7 +51,7 @@ export class WaveRows {
   }
 
   /**
-   * Returns names in the order of their rows: a name without a row follows its predecessor on the board.
+   * Returns names in the order of their rows. A name that is not in the stored order follows its predecessor on the board.
    * @param {string[]} names in the order of the board
    */
   ordered(names) {
@@ -60,7 +61,7 @@ export class WaveRows {
     names.forEach((name, at) => {
       if (!placed.has(name)) found.splice(at === 0 ? 0 : found.indexOf(names[at - 1]) + 1, 0, name);
     });
-    // A group is at its first row.
+    // The rows of a group follow the first of them.
     const groups = [...new Set(found.map((name) => this.groupOf(name) || ` ${name}`))];
     const members = new Map(groups.map((group) => [group, /** @type {string[]} */ ([])]));
     for (const name of found) (members.get(this.groupOf(name) || ` ${name}`) || []).push(name);
@@ -70,7 +71,7 @@ export class WaveRows {
   /**
    * Returns the rows of the lines that are shown.
    * @param {WaveLine[]} lines all lines of the recording
-   * @param {number[]} chosen the visible ones, by their numbers
+   * @param {number[]} chosen the indices of the visible lines
    * @returns {WaveRow[]}
    */
   arrange(lines, chosen) {
@@ -89,9 +90,9 @@ export class WaveRows {
   }
 
   /**
-   * Moves a row, or a group by its heading, to the place of another row. A row that moves into a group joins it.
+   * Moves a row, or a group by its heading, to the position of another row. A row that moves into a group joins it.
    * @param {WaveRow[]} rows
-   * @param {string[]} names of all lines that are shown, in the order of their rows
+   * @param {string[]} names the names of all visible lines, in the order of their rows
    * @param {number} at
    * @param {number} to
    */
@@ -111,7 +112,7 @@ export class WaveRows {
     this.order = [...rest, ...this.order.filter((name) => !rest.includes(name))];
   }
 
-  /** @param {string} group */
+  /** @param {string} group the group to fold or to unfold */
   fold(group) {
     if (!this.folded.delete(group)) this.folded.add(group);
   }

@@ -1,4 +1,4 @@
-// The search of a recording for a value or an edge: `9` of the marked line, `r5 = 9`, `rom0 != 0`, `lamp15 rises`, `@LABEL`.
+// Searches a recording for a value or an edge: `9` of the marked line, `r5 = 9`, `rom0 != 0`, `lamp15 rises`, `@LABEL`.
 
 import { numberOf } from "../bench/numbers.js";
 import { isDecoder, scannedBy } from "./decoders.js";
@@ -9,8 +9,8 @@ import * as say from "../../words/waves.js";
 /**
  * @typedef {import("./wave_recording.js").Waves} Waves
  *
- * A search: a line, by its number, and whether a value matches; with `each` every change to a matching value counts, otherwise only one
- * from a value that does not match.
+ * A search: the index of a line, and a function that returns whether a value matches. If `each` is true, each change to a matching value is
+ * a match. Otherwise it is one only if the value before did not match.
  * @typedef {{ line: number, matches: (value: number) => boolean, each: boolean }} Search
  */
 
@@ -24,6 +24,7 @@ const COMPARISONS = {
 const EDGES = { rises: (value) => value === 1, falls: (value) => value === 0, changes: () => true };
 
 /**
+ * Returns an error.
  * @param {string} fault
  * @returns {{ search: null, fault: string }}
  */
@@ -32,6 +33,7 @@ function no(fault) {
 }
 
 /**
+ * Returns the address of a label and its value in the track of the label, or null.
  * @param {Waves} waves
  * @param {string} name
  */
@@ -41,10 +43,11 @@ function labelOf(waves, name) {
 }
 
 /**
+ * Parses a search. If the text has an error, `fault` is the message.
  * @param {string} text
  * @param {Waves} waves
- * @param {number} marked the line that is marked, -1 for none
- * @returns {{ search: Search | null, fault: string }} an error in words, if it cannot be read
+ * @param {number} marked the index of the marked line, -1 for none
+ * @returns {{ search: Search | null, fault: string }}
  */
 export function readSearch(text, waves, marked) {
   const trimmed = text.trim();
@@ -62,7 +65,7 @@ export function readSearch(text, waves, marked) {
 }
 
 /**
- * Returns the line of a name, or the marked one if there is no name; words if there is no such line.
+ * Returns the index of the line with a name, or of the marked line if there is no name. If there is no such line, `fault` is the message.
  * @param {string} name
  * @param {Waves} waves
  * @param {number} marked
@@ -74,6 +77,7 @@ function lineOf(name, waves, marked) {
 }
 
 /**
+ * Returns the search for an edge.
  * @param {string | undefined} name
  * @param {string} edge
  * @param {Waves} waves
@@ -89,8 +93,9 @@ function readEdge(name, edge, waves, marked) {
 }
 
 /**
+ * Returns the search for a value.
  * @param {string} name
- * @param {string} sign
+ * @param {string} sign the comparison operator
  * @param {string} value
  * @param {Waves} waves
  * @param {number} marked
@@ -111,9 +116,9 @@ function readValue(name, sign, value, waves, marked) {
 }
 
 /**
- * Reads a key that answers a key scan.
+ * Returns the search for a key in a key scan.
  * @param {import("./wave_lines.js").WaveLine} decoder
- * @param {number} line its number
+ * @param {number} line its index
  * @param {string} sign
  * @param {string} key
  * @returns {{ search: Search | null, fault: string }}
@@ -124,7 +129,7 @@ function readDecoded(decoder, line, sign, key) {
 }
 
 /**
- * Returns the next match after a moment, or before it; -1 if there is none.
+ * Returns the moment of the next match after a moment, or of the previous match before it; -1 if there is none.
  * @param {Waves} waves
  * @param {Search} search
  * @param {number} moment
@@ -137,6 +142,6 @@ export function find(waves, { line, matches, each }, moment, isForward) {
   for (let at = isForward ? countUpTo(changes, moment) : countUpTo(changes, moment - 1) - 1; at >= 0 && at < changes.length; at += by) {
     if (matches(track.valueBehind(at + 1)) && (each || !matches(track.valueBehind(at)))) return changes[at];
   }
-  // It may be so from the beginning on.
+  // The first value of the recording can match, too.
   return !isForward && !each && moment > waves.from && matches(track.first) ? waves.from : -1;
 }

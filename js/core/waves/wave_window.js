@@ -1,8 +1,8 @@
-// The visible part of a recording, and the positions of the two cursors. All are moments: numbers of cycles.
+// The visible part of a recording, and the positions of the two cursors, as moments in cycles.
 
-/** The fewest cycles that are visible. */
+/** The minimum of visible cycles. */
 const CLOSEST = 10;
-/** The cycles that are visible of a recording in progress. */
+/** The visible cycles of a recording in progress. */
 const USUAL = 20000;
 /** The distance in pixels within which a click selects an edge. */
 const NEAR = 7;
@@ -10,6 +10,7 @@ const NEAR = 7;
 /** @typedef {import("./wave_recording.js").Waves} Waves */
 
 /**
+ * Returns a number limited to a range.
  * @param {number} number
  * @param {number} least
  * @param {number} most
@@ -31,11 +32,11 @@ export class WaveWindow {
     /** The width in pixels. */
     this.width = 1;
     this.cursors = [begin, begin];
-    /** The cursor that is moved. */
+    /** The index of the cursor that the user moves. */
     this.active = 0;
   }
 
-  /** Returns how many cycles there are. */
+  /** The length of the recording in cycles. */
   get all() {
     return Math.max(1, this.end - this.begin);
   }
@@ -48,7 +49,7 @@ export class WaveWindow {
     return this.cursors[this.active];
   }
 
-  /** Returns how many cycles are between the cursors. */
+  /** The cycles between the cursors. */
   get between() {
     return Math.abs(this.cursors[1] - this.cursors[0]);
   }
@@ -64,9 +65,9 @@ export class WaveWindow {
   }
 
   /**
-   * Zooms out, or in by a factor below 1; the moment stays where it is on the screen.
+   * Zooms in by a factor, or out by a factor below 1. The position of a moment on the screen does not change.
    * @param {number} factor
-   * @param {number} moment in cycles
+   * @param {number} moment
    */
   zoom(factor, moment) {
     const share = (moment - this.from) / this.span;
@@ -74,14 +75,14 @@ export class WaveWindow {
     this.goTo(moment - share * this.span);
   }
 
-  /** @param {number} from in cycles */
+  /** @param {number} from the first visible moment */
   goTo(from) {
     this.from = within(from, this.begin, Math.max(this.begin, this.end - this.span));
   }
 
   /**
-   * Follows a recording that has grown, or has forgotten its beginning: the visible part and the cursors move with the end if they were
-   * there. All is visible as long as it is short.
+   * Follows a recording that grows at its end and drops its beginning. If the visible part or a cursor is at the end, it moves with the
+   * end. A short recording stays completely visible.
    * @param {number} begin
    * @param {number} end
    */
@@ -95,13 +96,13 @@ export class WaveWindow {
     this.goTo(wasAtEnd ? end - this.span : this.from);
   }
 
-  /** Shows all of a finished recording, unless somebody has chosen a part of it. */
+  /** Shows a complete recording, unless the user has chosen a part of it. */
   fit() {
     if (this.to >= this.end && this.span >= Math.min(USUAL, this.all)) this.showAll();
   }
 
   /**
-   * Shows the surroundings of a moment, and puts cursor A there.
+   * Moves cursor A to a moment, and shows the part around it.
    * @param {number} moment
    */
   showAround(moment) {
@@ -111,7 +112,7 @@ export class WaveWindow {
   }
 
   /**
-   * Moves cursors that followed the end, because nobody has moved them, to two moments.
+   * Moves the cursors to two moments, unless the user has moved one away from the end.
    * @param {number} first
    * @param {number} second
    */
@@ -120,14 +121,14 @@ export class WaveWindow {
     this.cursors = [first, second].map((moment) => within(moment, this.begin, this.end));
   }
 
-  /** All is seen. */
+  /** Shows the whole recording. */
   showAll() {
     this.span = this.all;
     this.from = this.begin;
   }
 
   /**
-   * Moves the active cursor, and scrolls so that it is visible.
+   * Moves the active cursor, and scrolls if necessary to make it visible.
    * @param {number} moment
    */
   move(moment) {
@@ -137,10 +138,10 @@ export class WaveWindow {
   }
 
   /**
-   * Returns the moment for a position: that of a near edge of a line, otherwise the cycle there.
+   * Returns the moment at a horizontal position: a near edge of a line, or else the cycle at the position.
    * @param {number} x
    * @param {Waves} waves
-   * @param {number} line -1 for none
+   * @param {number} line its index, -1 for none
    */
   momentAt(x, waves, line) {
     const cycle = within(Math.floor(this.cyclesAt(x)), this.begin, this.end);
@@ -153,9 +154,9 @@ export class WaveWindow {
 }
 
 /**
- * The moments that are written above the waves: so far apart that their numbers have room.
+ * Returns the moments of the ticks above the waves, far enough apart for their numbers.
  * @param {WaveWindow} view
- * @param {number} room in pixels
+ * @param {number} room the width of a number in pixels
  */
 export function ticksOf(view, room) {
   const least = (room / view.width) * view.span;

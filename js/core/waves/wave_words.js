@@ -1,4 +1,4 @@
-// Texts about recordings.
+// Texts about recordings, and parsing of the number of cycles to record.
 
 import { counted, parseCount } from "../bench/numbers.js";
 import { timeOfCycles, wordsOfCycles } from "../time/cycles.js";
@@ -10,13 +10,13 @@ import * as say from "../../words/waves.js";
  * @typedef {"hex" | "decimal" | "binary"} Base
  */
 
-/** The most cycles of a recording. */
+/** The maximum length of a recording in cycles. */
 export const MOST_CYCLES = 10000000;
 
 /**
- * A value as people read it.
+ * Returns a value as text.
  * @param {number} value
- * @param {number} width how many bits it has
+ * @param {number} width its number of bits
  * @param {Base} base
  */
 export function valueText(value, width, base) {
@@ -25,7 +25,7 @@ export function valueText(value, width, base) {
   return value.toString(16).toUpperCase().padStart(Math.ceil(width / 4), "0");
 }
 
-/** @param {number} number */
+/** @param {number} number to write with a comma between groups of three digits */
 export function grouped(number) {
   return String(number).replace(/\B(?=(\d{3})+$)/g, ",");
 }
@@ -36,7 +36,7 @@ export function cyclesText(cycles) {
 }
 
 /**
- * Returns the text about the span between two cursors.
+ * Returns the text about the cycles between the two cursors.
  * @param {number} cycles
  */
 export function betweenText(cycles) {
@@ -52,7 +52,7 @@ export function instructionText({ listed, line, source, isSecond, isEnd }) {
 }
 
 /**
- * A cursor: its moment, and the instruction there.
+ * Returns the text about a cursor: its moment, and the instruction at that moment.
  * @param {string} name
  * @param {number} moment
  * @param {Waves} waves
@@ -62,10 +62,10 @@ export function cursorText(name, moment, waves) {
 }
 
 /**
- * Returns the same for screen readers, with the value of the chosen line.
+ * Returns the text about a cursor for screen readers, with the value of the marked line.
  * @param {number} moment
  * @param {Waves} waves
- * @param {number} line -1 for none
+ * @param {number} line its index, -1 for none
  */
 export function spokenText(moment, waves, line) {
   const value = line < 0 ? "" : say.valueIs(waves.lines[line].name, waves.valueAt(line, moment));
@@ -73,9 +73,10 @@ export function spokenText(moment, waves, line) {
 }
 
 /**
+ * Returns the text about the length of a recording.
  * @param {Pick<Waves, "span" | "isStuck">} waves
- * @param {number} wanted cycles
- * @param {boolean} isBefore whether they are those before a moment
+ * @param {number} wanted the number of cycles that was requested
+ * @param {boolean} isBefore whether the recording is of the past
  */
 export function recordedText({ span, isStuck }, wanted, isBefore) {
   if (span === 0 && isBefore) return say.NOTHING_BEFORE;
