@@ -161,7 +161,7 @@ const USES = {
     const { tests: [{ steps: [{ action }] }], faults } = readTests(`test t\n expect ${text}\n`, names);
     if (faults.length > 0) return faults[0].words;
     const { file } = session.debugger.session;
-    return new TestSession(engine, file, new Account(new Uint8Array(4096)), async () => {}).look(action.condition).holds;
+    return new TestSession(engine, file, new Account(new Uint8Array(4096)), async () => {}).check(action.condition).holds;
   },
   Watch: (text) => {
     const { watched, fault } = readWatched(text, names);

@@ -3,7 +3,7 @@ import assert from "node:assert/strict";
 import { test } from "node:test";
 import { Cancelled } from "../core/bench/faults.js";
 import { pinKey } from "../core/board/key_place.js";
-import { PassingHeat, warmthOf, wordsOfHeat, wordsOfChanges, wordsOfPassing, wordsOfSeen } from "../core/machine/warmth.js";
+import { PassingHeat, heatLevels, wordsOfHeat, wordsOfChanges, wordsOfPassing, wordsOfSeen } from "../core/machine/warmth.js";
 import { bytesOfSource, namesOfCharacters } from "../core/machine/ram_names.js";
 import { SourceMap } from "../core/machine/source_map.js";
 import { readWatched } from "../core/debug/watched.js";
@@ -76,7 +76,7 @@ test("of several chips one is looked at in each frame, and of full speed a sampl
   assert.deepEqual(reported.map(({ cells }) => cells.map(({ place, count }) => `${place} ${count}`)), [
     ["ram.0.0x12 10"], [], [], ["ram.0.0x12 10"], [], []]);
   assert.equal(calls.advance(50000).warmed, null);
-  const { warmed } = calls.bench.session.senseAhead();
+  const { warmed } = calls.bench.session.measureAhead();
   assert.deepEqual([warmed.chips, warmed.cycles, warmed.cells.length], [3, 2778, 1]);
   assert.equal(wordsOfPassing(warmed, false), "Counted while running, in one of 3 chips at a time, at full speed in samples.");
   assert.equal(wordsOfPassing({ chips: 1 }, true), "Counted while running.");
@@ -138,9 +138,9 @@ const HEAT = {
 };
 
 test("five steps of warmth, and words", () => {
-  assert.deepEqual([...warmthOf(HEAT, "often").values()], [1, 5, 3]);
-  assert.deepEqual([...warmthOf(HEAT, "lately").values()], [1, 5, 3]);
-  assert.deepEqual([...warmthOf({ cycles: 5, cells: [{ ...HEAT.cells[0], ago: 0 }] }, "often").values()], [5]);
+  assert.deepEqual([...heatLevels(HEAT, "often").values()], [1, 5, 3]);
+  assert.deepEqual([...heatLevels(HEAT, "lately").values()], [1, 5, 3]);
+  assert.deepEqual([...heatLevels({ cycles: 5, cells: [{ ...HEAT.cells[0], ago: 0 }] }, "often").values()], [5]);
   assert.equal(wordsOfChanges(HEAT.cells[1], null), "100 times, last by 009, 1 cycle, 0.011 ms ago");
   assert.equal(wordsOfChanges({ ...HEAT.cells[2], count: 1, ago: 0 }, null), "once by the line poke c 1");
   assert.equal(wordsOfSeen(HEAT.cells[1], null), "100 times as seen while running, last seen by 009");

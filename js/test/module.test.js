@@ -62,7 +62,7 @@ test("keys are pressed, time passes, and the display shows it", async () => {
   assert.equal(frame.file.byteLength, 163856);
   const next = calls.advance(1000);
   assert.notEqual(next.file, frame.file);
-  calls.bench.spare.push(frame.file);
+  calls.bench.spareBuffers.push(frame.file);
   assert.equal(calls.advance(1000).file, frame.file);
 });
 

@@ -2,7 +2,7 @@ import assert from "node:assert/strict";
 import { test } from "node:test";
 import { matrixKey } from "../core/board/key_place.js";
 import { Debugger } from "../core/debug/debugger.js";
-import { WorkerSession, MOST_ENTRIES } from "../core/engine/worker_session.js";
+import { WorkerSession, MAX_ENTRIES } from "../core/engine/worker_session.js";
 import { FullSpeed } from "../core/engine/full_speed.js";
 import { FakeEngine } from "./fake_engine.js";
 
@@ -48,8 +48,8 @@ test("lines are served piece by piece, as if at once", async () => {
   const result = await session.serve("step\n".repeat(3000), goesOn);
   assert.equal(session.file[0], 3000 % 256);
   assert.equal(result.first, "ok 1");
-  assert.equal(result.entries.length, MOST_ENTRIES);
-  assert.match(result.entries[MOST_ENTRIES - 1].answers[0], /^ok /);
+  assert.equal(result.entries.length, MAX_ENTRIES);
+  assert.match(result.entries[MAX_ENTRIES - 1].answers[0], /^ok /);
   assert.equal(result.snapshot.length, 2);
 });
 

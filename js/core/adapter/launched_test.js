@@ -39,7 +39,7 @@ export function textsOfTest(name, file, read) {
  * Returns what a test did, in lines for a session.
  * @param {TestSession} session
  */
-function linesDone({ all }) {
+function linesDone({ actions: all }) {
   return all.map(({ line, cycles }) => {
     if (line !== "run") return `${line}\n`;
     const whole = `run ${LONGEST_RUN}\n`.repeat(Math.floor(cycles / LONGEST_RUN));

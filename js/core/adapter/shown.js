@@ -3,7 +3,7 @@
 import { readMarks } from "../bench/answers.js";
 import { DisplayText } from "../board/display_text.js";
 import { Face } from "../board/face.js";
-import { SEEN_QUESTION, SeenText, hasScannedDisplay } from "../engine/seen_text.js";
+import { SEEN_QUERY, SeenText, hasScannedDisplay } from "../engine/seen_text.js";
 
 /** @typedef {import("../debug/debug_session.js").DebugSession} DebugSession */
 
@@ -39,7 +39,7 @@ export class Shown {
 
   /** @param {number} count of lamps */
   seen(count) {
-    return new SeenText(this.face, count).read(this.session.debugger.session.ask(SEEN_QUESTION));
+    return new SeenText(this.face, count).read(this.session.debugger.session.ask(SEEN_QUERY));
   }
 
   /** Returns the display if it differs from the last report; otherwise "". */

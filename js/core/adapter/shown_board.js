@@ -7,7 +7,7 @@ import { Face } from "../board/face.js";
 import { printerOf } from "../board/face_board.js";
 import { keyOfText, lineOfKey } from "../board/key_place.js";
 import { Printing } from "../engine/printing.js";
-import { SEEN_QUESTION } from "../engine/seen_text.js";
+import { SEEN_QUERY } from "../engine/seen_text.js";
 import { BrightnessMeter } from "../engine/brightness_meter.js";
 import { fail } from "./dap_protocol.js";
 import * as say from "../../words/adapter.js";
@@ -77,7 +77,7 @@ export class ShownBoard {
     const { machine, face, lampCount, litShares: before } = this;
     this.litShares = "";
     if (!machine.isMoving || lampCount === 0) return {};
-    const litShares = new BrightnessMeter(face, lampCount, 0).take([machine.session.debugger.session.ask(SEEN_QUESTION)]);
+    const litShares = new BrightnessMeter(face, lampCount, 0).take([machine.session.debugger.session.ask(SEEN_QUERY)]);
     this.litShares = JSON.stringify(litShares);
     return this.litShares === before ? {} : { litShares };
   }

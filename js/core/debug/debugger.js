@@ -18,7 +18,7 @@ import { placeOf } from "../conditions/places.js";
 import { Probes } from "../conditions/probes.js";
 import { EMPTY_REPORT, aimBack } from "../engine/going_back.js";
 import { runLines } from "../engine/key_queue.js";
-import { LOOKED_CYCLES } from "../engine/pieces.js";
+import { SEARCHED_CYCLES } from "../engine/pieces.js";
 import { Answers } from "../engine/tracing.js";
 import { CYCLES_PER_SECOND } from "../time/mcs4_time.js";
 import { cyclesToGoal, seek, linesUpTo } from "./ahead.js";
@@ -357,7 +357,7 @@ export class Debugger {
     const { engine, file } = this.session;
     const copy = file.slice();
     for (let done = 0; done < cycles;) {
-      const piece = Math.min(LOOKED_CYCLES, cycles - done);
+      const piece = Math.min(SEARCHED_CYCLES, cycles - done);
       const planned = runLines(piece).trimEnd().split("\n").map((line) => ({ line, change: null }));
       const seen = this.arrivals.look(engine, copy, planned);
       for (const [id, hits] of seen.hits) all.hits.set(id, (all.hits.get(id) || 0) + hits);

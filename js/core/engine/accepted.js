@@ -16,7 +16,7 @@ const RESETS = { reset: true, wire: true };
  * Returns the text that sends a command again.
  * @param {Input} input
  */
-function linesOf({ line, text, kind }) {
+function sentLines({ line, text, kind }) {
   return kind === "wire" || kind === "asm" ? [line, ...text, "."].join("\n") : line;
 }
 
@@ -33,7 +33,7 @@ export function acceptedOf(inputs, answers) {
     const [answer = ""] = answers[at];
     if (!answer.startsWith("ok ")) return;
     const run = readRun(answer);
-    accepted.push({ line: linesOf(input), cycles: run ? run.cycles : 0, resets: RESETS[input.kind] === true });
+    accepted.push({ line: sentLines(input), cycles: run ? run.cycles : 0, resets: RESETS[input.kind] === true });
   });
   return accepted;
 }

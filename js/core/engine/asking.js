@@ -19,7 +19,7 @@ import { Answers } from "./tracing.js";
  * @param {SentLine[]} planned
  * @param {Asker[]} askers
  */
-export function askedLines(planned, askers) {
+export function linesWithQueries(planned, askers) {
   const afterChange = askers.some(({ seesChanges }) => seesChanges) ? "state\n" : "";
   return planned.map((each) => {
     if (each.change) return `${each.line}\n${afterChange}`;
@@ -32,19 +32,19 @@ export function askedLines(planned, askers) {
  * asker's queries, one list for each planned line.
  * @param {SentLine[]} planned
  * @param {Asker[]} askers
- * @param {string[]} all
+ * @param {string[]} allAnswers
  * @returns {{ answers: string[], askerAnswers: string[][][] }}
  */
-export function partedAnswers(planned, askers, all) {
-  const answers = new Answers(all);
+export function splitAnswers(planned, askers, allAnswers) {
+  const answers = new Answers(allAnswers);
   /** @type {string[]} */
-  const own = [];
+  const lineAnswers = [];
   /** @type {string[][][]} */
   const askerAnswers = askers.map(() => []);
   const seesChanges = askers.some((asker) => asker.seesChanges);
   for (const { change } of planned) {
     if (change) {
-      own.push(answers.take());
+      lineAnswers.push(answers.take());
       const state = seesChanges ? [answers.take()] : [];
       askers.forEach((asker, at) => askerAnswers[at].push(asker.seesChanges ? state : []));
       continue;
@@ -52,11 +52,11 @@ export function partedAnswers(planned, askers, all) {
     askers.forEach(({ count }, at) => {
       const from = answers.at;
       for (let question = 0; question < count; question++) answers.takeTrace();
-      askerAnswers[at].push(all.slice(from, answers.at));
+      askerAnswers[at].push(allAnswers.slice(from, answers.at));
     });
-    own.push(answers.take());
+    lineAnswers.push(answers.take());
   }
-  return { answers: [...own, ...all.slice(answers.at)], askerAnswers };
+  return { answers: [...lineAnswers, ...allAnswers.slice(answers.at)], askerAnswers };
 }
 
 /** Marks a line that changes something other than a key. */
@@ -67,6 +67,6 @@ const OTHER_CHANGE = {};
  * @param {Accepted} accepted
  * @returns {SentLine}
  */
-export function sentAgain({ line, cycles }) {
+export function repeatedLine({ line, cycles }) {
   return cycles > 0 ? { line: `run ${cycles}`, change: null } : { line, change: OTHER_CHANGE };
 }

@@ -23,8 +23,8 @@ import { Answers, readTraced } from "./tracing.js";
  *   scanned: number[][] }} LitShares
  */
 
-/** The maximum length of lines that are measured, in cycles. At full speed `senseAhead` measures instead. */
-export const MOST_SHONE = 20000;
+/** The maximum length of lines that are measured, in cycles. At full speed `measureAhead` measures instead. */
+export const MAX_MEASURED_CYCLES = 20000;
 
 /**
  * Returns whether one of `count` lamps has changed.
@@ -33,13 +33,13 @@ export const MOST_SHONE = 20000;
  * @param {number} first the first lamp
  * @param {number} count
  */
-function differ(marks, before, first, count) {
+function lampsDiffer(marks, before, first, count) {
   for (let at = first; at < first + count; at++) if (marks.charCodeAt(at) !== before.charCodeAt(at)) return true;
   return false;
 }
 
 /** Records the times of changes. */
-class Moves {
+class ChangeTimes {
   constructor() {
     this.first = -1;
     this.last = 0;
@@ -68,11 +68,11 @@ class Moves {
 }
 
 /** Measures how long each pattern of a digit is shown. */
-class Digits {
+class PatternTimes {
   /** @param {Group} group a display */
   constructor(group) {
     this.group = group;
-    this.moves = new Moves();
+    this.moves = new ChangeTimes();
     /** @type {number[]} the present patterns; `since` is when they began */
     this.patterns = [];
     this.since = 0;
@@ -93,9 +93,9 @@ class Digits {
    */
   change(marks, before, at) {
     const { first, rows, columns, by } = this.group;
-    const isOther = by < 0 ? differ(marks, before, first, rows * columns)
-      : differ(marks, before, first, columns) || differ(marks, before, by, rows);
-    if (!isOther) return;
+    const hasChanged = by < 0 ? lampsDiffer(marks, before, first, rows * columns)
+      : lampsDiffer(marks, before, first, columns) || lampsDiffer(marks, before, by, rows);
+    if (!hasChanged) return;
     this.addUpTo(at);
     this.moves.add(at);
     this.patterns = patternsAt(this.group, marks);
@@ -129,7 +129,7 @@ class Digits {
 }
 
 /** Measures how long the lamps of a scanned group are on. */
-class ScannedLamps {
+class ScannedLampTimes {
   /** @param {Group} group */
   constructor(group) {
     this.group = group;
@@ -175,15 +175,15 @@ export class BrightnessMeter {
   constructor(face, count, number) {
     this.number = number;
     const groups = fittingGroups(face, count);
-    this.displays = groups.filter(({ kind }) => kind === "display").map((group) => new Digits(group));
-    this.scanned = groups.filter((group) => isScanned(group) && group.kind !== "display").map((group) => new ScannedLamps(group));
+    this.displays = groups.filter(({ kind }) => kind === "display").map((group) => new PatternTimes(group));
+    this.scanned = groups.filter((group) => isScanned(group) && group.kind !== "display").map((group) => new ScannedLampTimes(group));
     this.cycles = 0;
     /** The lamps that are on; "" before the first report. */
     this.marks = "";
     /** @type {number[]} the cycles that each lamp was on, up to `since` */
     this.lit = new Array(count).fill(0);
     this.since = new Array(count).fill(0);
-    this.moves = this.lit.map(() => new Moves());
+    this.moves = this.lit.map(() => new ChangeTimes());
   }
 
   // --- as an asker ---

@@ -21,10 +21,10 @@ import { BenchRefusal, BenchTrap, NO_MEMORY } from "../bench/faults.js";
  */
 
 /** The first size of the buffers for input and answers, in bytes. */
-const ROOM_AT_FIRST = 1 << 20;
+const FIRST_CAPACITY = 1 << 20;
 /** The size of a call's report: a number of 32 bits, and from its eighth byte a count of 64 bits. */
 const REPORT_SIZE = 16;
-const COUNT_AT = 8;
+const COUNT_OFFSET = 8;
 
 /** A running module, with the buffers for its calls. */
 class Instance {
@@ -35,10 +35,10 @@ class Instance {
     this.size = Number(this.calls.bench_file_size());
     this.bytes = new Uint8Array(this.calls.memory.buffer);
     // With one more byte, the module can detect that a file is too long.
-    this.file = this.stretch(this.size + 1);
-    this.input = this.stretch(ROOM_AT_FIRST);
-    this.answers = this.stretch(ROOM_AT_FIRST);
-    this.report = this.stretch(REPORT_SIZE);
+    this.file = this.allocate(this.size + 1);
+    this.input = this.allocate(FIRST_CAPACITY);
+    this.answers = this.allocate(FIRST_CAPACITY);
+    this.report = this.allocate(REPORT_SIZE);
   }
 
   /**
@@ -46,7 +46,7 @@ class Instance {
    * @param {number} room in bytes
    * @returns {Stretch}
    */
-  stretch(room) {
+  allocate(room) {
     const offset = this.calls.bench_buffer(BigInt(room));
     if (offset === BigInt(0)) throw new BenchRefusal(NO_MEMORY);
     return { offset, room };
@@ -57,11 +57,11 @@ class Instance {
    * @param {Stretch} stretch
    * @param {number} room
    */
-  larger(stretch, room) {
+  withRoom(stretch, room) {
     if (room <= stretch.room) return stretch;
-    const found = this.stretch(room);
+    const larger = this.allocate(room);
     this.calls.bench_buffer_back(stretch.offset);
-    return found;
+    return larger;
   }
 
   /**
@@ -86,21 +86,21 @@ class Instance {
       return encoder.encodeInto(lines, this.view(this.input, this.input.room)).written || 0;
     }
     const bytes = encoder.encode(lines);
-    this.input = this.larger(this.input, bytes.length);
+    this.input = this.withRoom(this.input, bytes.length);
     this.view(this.input, bytes.length).set(bytes);
     return bytes.length;
   }
 
   /** @param {Uint8Array} file */
   takeFile(file) {
-    this.file = this.larger(this.file, file.length);
+    this.file = this.withRoom(this.file, file.length);
     this.view(this.file, file.length).set(file);
   }
 
   /** Returns the report of the last call: a number and a count. */
   readReport() {
     const words = new DataView(this.calls.memory.buffer, Number(this.report.offset), REPORT_SIZE);
-    return { number: words.getUint32(0, true), count: Number(words.getBigUint64(COUNT_AT, true)) };
+    return { number: words.getUint32(0, true), count: Number(words.getBigUint64(COUNT_OFFSET, true)) };
   }
 }
 
@@ -197,7 +197,7 @@ export class Engine {
     const size = instance.takeLines(question, this.encoder);
     let { isDone, number, count } = this.tryToProve(size);
     if (!isDone && number === 0) {
-      instance.answers = instance.larger(instance.answers, count);
+      instance.answers = instance.withRoom(instance.answers, count);
       ({ isDone, number, count } = this.tryToProve(size));
     }
     return isDone ? this.decoder.decode(instance.view(instance.answers, count)) : `no ${number}`;
@@ -247,7 +247,7 @@ export class Engine {
     const inputSize = instance.takeLines(lines, this.encoder);
     let report = this.tryToServe(name, file, inputSize);
     if (report.answersNeed > 0) {
-      instance.answers = instance.larger(instance.answers, report.answersNeed);
+      instance.answers = instance.withRoom(instance.answers, report.answersNeed);
       report = this.tryToServe(name, file, inputSize);
     }
     const answers = this.decoder.decode(instance.view(instance.answers, report.count)).split("\n");

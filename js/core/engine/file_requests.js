@@ -33,9 +33,9 @@ export class FileRequests {
    * @param {Uint8Array} file
    */
   settled(file) {
-    const found = new Uint8Array(file.length);
-    this.bench.engine.serve(file, "", found);
-    return found;
+    const settledFile = new Uint8Array(file.length);
+    this.bench.engine.serve(file, "", settledFile);
+    return settledFile;
   }
 
   /**

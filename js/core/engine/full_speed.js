@@ -11,8 +11,8 @@ import { NO_TALLY, bothTallies } from "../debug/debugger.js";
 /** The target duration of a batch, in milliseconds. */
 const BATCH_TIME = 50;
 /** The minimum and the maximum of cycles in a batch. */
-const FIRST_BATCH = 50000;
-const LARGEST_BATCH = 8000000;
+const MIN_BATCH = 50000;
+const MAX_BATCH = 8000000;
 /** The milliseconds between reports to a hidden page. It saves the session at each report. */
 const HIDDEN_TIME = 1000;
 
@@ -21,7 +21,7 @@ const HIDDEN_TIME = 1000;
  * sound and changes of RAM are not measured at full speed.
  * @returns {Omit<DebugFrame, "ran">}
  */
-function nothing() {
+function emptyFrame() {
   return { cycles: 0, end: "", stop: null, tally: NO_TALLY, changesKeys: false, snapshot: [], litShares: null, heard: null, warmed: null };
 }
 
@@ -29,10 +29,10 @@ export class FullSpeed {
   constructor() {
     this.isOn = false;
     this.isHidden = false;
-    this.size = FIRST_BATCH;
+    this.size = MIN_BATCH;
     this.lastReport = 0;
     this.ran = new RunLog();
-    this.since = nothing();
+    this.unreported = emptyFrame();
   }
 
   /** @param {boolean} isHidden whether the page is hidden, and gets fewer reports */
@@ -48,13 +48,13 @@ export class FullSpeed {
 
   /** @param {Machine} machine runs one batch */
   batch(machine) {
-    const begun = performance.now();
+    const start = performance.now();
     const frame = machine.advance(this.size);
-    const time = performance.now() - begun;
+    const time = performance.now() - start;
     this.ran.add(frame.ran);
-    const { cycles, changesKeys, tally } = this.since;
+    const { cycles, changesKeys, tally } = this.unreported;
     const { end, stop, snapshot } = frame;
-    this.since = {
+    this.unreported = {
       cycles: cycles + frame.cycles, end, stop, snapshot, tally: bothTallies(tally, frame.tally),
       changesKeys: changesKeys || frame.changesKeys,
       litShares: null,
@@ -63,13 +63,13 @@ export class FullSpeed {
     };
     if (stop) this.isOn = false;
     const wanted = this.size * Math.min(2, Math.max(0.5, BATCH_TIME / Math.max(1, time)));
-    this.size = Math.round(Math.min(LARGEST_BATCH, Math.max(FIRST_BATCH, wanted)));
+    this.size = Math.round(Math.min(MAX_BATCH, Math.max(MIN_BATCH, wanted)));
   }
 
-  /** @param {boolean} isAwaited whether the page is ready for another report */
-  isReportDue(isAwaited) {
+  /** @param {boolean} isPageReady whether the page is ready for another report */
+  isReportDue(isPageReady) {
     if (!this.isOn) return true;
-    return isAwaited && (!this.isHidden || this.since.changesKeys || performance.now() - this.lastReport >= HIDDEN_TIME);
+    return isPageReady && (!this.isHidden || this.unreported.changesKeys || performance.now() - this.lastReport >= HIDDEN_TIME);
   }
 
   /**
@@ -78,8 +78,8 @@ export class FullSpeed {
    */
   take() {
     this.lastReport = performance.now();
-    const { since } = this;
-    this.since = nothing();
-    return { ...since, ran: this.ran.take() };
+    const { unreported } = this;
+    this.unreported = emptyFrame();
+    return { ...unreported, ran: this.ran.take() };
   }
 }

@@ -6,7 +6,7 @@ import { Cancelled } from "../bench/faults.js";
 import { placeOf } from "../conditions/places.js";
 import { becomesTrue } from "../debug/becoming.js";
 import { changesIn } from "./past_changes.js";
-import { LOOKED_CYCLES, LOOKED_UNITS } from "./pieces.js";
+import { SEARCHED_CYCLES, SEARCHED_UNITS } from "./pieces.js";
 import { valuesOf } from "./tracing.js";
 import { cyclesOf, piecesOf, unitsBetween } from "./units.js";
 
@@ -38,8 +38,8 @@ import { cyclesOf, piecesOf, unitsBetween } from "./units.js";
 
 /** The first block to search: the last cycles before the present. Each further block is longer by a factor. */
 const FIRST_BLOCK = 500;
-const LONGER = 8;
-const LARGEST_BLOCK = 4000000;
+const BLOCK_GROWTH = 8;
+const MAX_BLOCK = 4000000;
 
 /** @type {Omit<Aim, "moment" | "present">} the result if nothing was searched for */
 export const EMPTY_REPORT = { why: "", place: "", from: "", to: "", line: "", end: "", id: 0 };
@@ -116,7 +116,7 @@ export class LastChange {
 }
 
 /** Finds the last time that a condition became true. */
-class LastBecoming extends LastChange {
+class LastTimeTrue extends LastChange {
   /**
    * @param {Engine} engine
    * @param {import("../debug/becoming.js").Asked} asked
@@ -145,7 +145,7 @@ class LastBecoming extends LastChange {
  */
 export async function lastInPast(engine, timeline, finder, goesOn) {
   let to = timeline.end;
-  for (let size = FIRST_BLOCK; ; size = Math.min(LARGEST_BLOCK, size * LONGER)) {
+  for (let size = FIRST_BLOCK; ; size = Math.min(MAX_BLOCK, size * BLOCK_GROWTH)) {
     // From the beginning of a segment, the search continues at the end of the previous one.
     if (to.entry === 0 && to.cycles === 0) {
       if (!timeline.segments[to.segment].follows) return { found: null, beginning: to };
@@ -157,7 +157,7 @@ export async function lastInPast(engine, timeline, finder, goesOn) {
     finder.begin(await timeline.at(engine, from, goesOn));
     /** @type {Aim | null} */
     let found = null;
-    for (const units of piecesOf(unitsBetween(timeline, from, to), LOOKED_CYCLES, LOOKED_UNITS)) {
+    for (const units of piecesOf(unitsBetween(timeline, from, to), SEARCHED_CYCLES, SEARCHED_UNITS)) {
       found = finder.among(units) || found;
       if (!(await goesOn(cyclesOf(units)))) throw new Cancelled();
     }
@@ -193,7 +193,7 @@ export async function aimBack(engine, { timeline, file }, goal, goesOn) {
     return (await lastInPast(engine, timeline, finder, goesOn)).found || aim({ why: "short", place: goal.place });
   }
   if (goal.kind === "when") {
-    const found = goal.asked ? (await lastInPast(engine, timeline, new LastBecoming(engine, goal.asked), goesOn)).found : null;
+    const found = goal.asked ? (await lastInPast(engine, timeline, new LastTimeTrue(engine, goal.asked), goesOn)).found : null;
     return found || aim({ why: "short" });
   }
   if (goal.kind === "instruction") return lastInstruction(engine, timeline, goesOn);

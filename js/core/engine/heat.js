@@ -5,9 +5,9 @@ import { Cancelled } from "../bench/faults.js";
 import { hex, upTo } from "../bench/numbers.js";
 import { CHARACTERS, STATUS } from "../conditions/places.js";
 import { changesIn } from "./past_changes.js";
-import { FIRST_CYCLES, LOOKED_CYCLES, LOOKED_UNITS } from "./pieces.js";
+import { FIRST_CYCLES, SEARCHED_CYCLES, SEARCHED_UNITS } from "./pieces.js";
 import { valuesOf } from "./tracing.js";
-import { cyclesOf, piecesOf, shortUnits, unitsBetween } from "./units.js";
+import { cyclesOf, piecesOf, splitUnits, unitsBetween } from "./units.js";
 
 /**
  * @typedef {import("../bench/answers.js").Board} Board
@@ -36,7 +36,7 @@ export const GROUPS_OF_CHIP = REGISTERS + 1;
  * Returns the places of all nibbles in a board's RAM, in groups for `trace`.
  * @param {Board} board
  */
-export function charactersOf({ banks }) {
+export function nibbleGroups({ banks }) {
   return banks.flatMap(({ bank, chips }) => upTo(chips).flatMap((chip) => [
     ...upTo(REGISTERS).map((register) => (
       upTo(CHARACTERS).map((at) => `ram.${bank}.0x${hex((chip * REGISTERS + register) * CHARACTERS + at, 2)}`))),
@@ -50,7 +50,7 @@ export function charactersOf({ banks }) {
  * @param {number} cycles
  * @returns {Moment}
  */
-function beginOf(timeline, cycles) {
+function beginningOf(timeline, cycles) {
   const found = timeline.before(cycles);
   if (found) return found;
   let { segment } = timeline.end;
@@ -59,7 +59,7 @@ function beginOf(timeline, cycles) {
 }
 
 /** Counts changes by place. */
-export class Counting {
+export class ChangeCounter {
   /** @param {string[][]} groups */
   constructor(groups) {
     this.groups = groups;
@@ -74,9 +74,9 @@ export class Counting {
    * @param {number} begun the cycles before its unit
    */
   add({ group, before, after, cycles, address, line }, begun) {
-    const was = valuesOf(before);
+    const oldValues = valuesOf(before);
     valuesOf(after).forEach((value, number) => {
-      if (value === was[number]) return;
+      if (value === oldValues[number]) return;
       const place = this.groups[group][number];
       const { count } = this.cells.get(place) || { count: 0 };
       this.cells.set(place, { place, count: count + 1, ago: 0, at: begun + cycles, address, line });
@@ -115,17 +115,17 @@ export class Counting {
  * @returns {Promise<Heat>}
  */
 export async function heatOf(engine, timeline, board, cycles, goesOn) {
-  const groups = charactersOf(board);
-  const counting = new Counting(groups);
+  const groups = nibbleGroups(board);
+  const counting = new ChangeCounter(groups);
   if (groups.length === 0) return counting.heat;
-  const most = Math.max(FIRST_CYCLES, Math.floor(LOOKED_CYCLES / groups.length));
+  const maxCycles = Math.max(FIRST_CYCLES, Math.floor(SEARCHED_CYCLES / groups.length));
   const { end } = timeline;
-  let from = beginOf(timeline, cycles);
+  let from = beginningOf(timeline, cycles);
   for (; from.segment <= end.segment; from = { segment: from.segment + 1, entry: 0, cycles: 0 }) {
     const { entries } = timeline.segments[from.segment];
     const to = from.segment === end.segment ? end : { segment: from.segment, entry: entries.length, cycles: 0 };
     const { file } = await timeline.at(engine, from, goesOn);
-    for (const units of piecesOf(shortUnits(unitsBetween(timeline, from, to), most), most, LOOKED_UNITS)) {
+    for (const units of piecesOf(splitUnits(unitsBetween(timeline, from, to), maxCycles), maxCycles, SEARCHED_UNITS)) {
       counting.follow(engine, file, units);
       if (!(await goesOn(cyclesOf(units)))) throw new Cancelled();
     }

@@ -1,7 +1,7 @@
 // The RAM nibbles that change while time is running, from the answers to a `trace` before each run. It watches one chip at a time, so that
 // a frame takes the same time on a board with many chips.
 
-import { Counting, GROUPS_OF_CHIP, charactersOf } from "./heat.js";
+import { ChangeCounter, GROUPS_OF_CHIP, nibbleGroups } from "./heat.js";
 import { Answers, readTraced } from "./tracing.js";
 
 /**
@@ -15,15 +15,15 @@ import { Answers, readTraced } from "./tracing.js";
 export class Heating {
   /** @param {Board} board */
   constructor(board) {
-    const groups = charactersOf(board);
+    const groups = nibbleGroups(board);
     this.chips = groups.length / GROUPS_OF_CHIP;
-    this.all = groups;
+    this.allGroups = groups;
     /** The chip that is watched now. */
     this.chip = 0;
   }
 
   get groups() {
-    return this.all.slice(this.chip * GROUPS_OF_CHIP, (this.chip + 1) * GROUPS_OF_CHIP);
+    return this.allGroups.slice(this.chip * GROUPS_OF_CHIP, (this.chip + 1) * GROUPS_OF_CHIP);
   }
 
   // --- as an asker ---
@@ -47,14 +47,14 @@ export class Heating {
    * @returns {PassedHeat}
    */
   take(answerLists) {
-    const counting = new Counting(this.groups);
-    for (const answers of answerLists) if (answers.length > 0) this.add(counting, new Answers(answers));
+    const counter = new ChangeCounter(this.groups);
+    for (const answers of answerLists) if (answers.length > 0) this.add(counter, new Answers(answers));
     this.chip = (this.chip + 1) % this.chips;
-    return { ...counting.heat, chips: this.chips };
+    return { ...counter.heat, chips: this.chips };
   }
 
   /**
-   * @param {Counting} counting
+   * @param {ChangeCounter} counting
    * @param {Answers} answers to the queries before one run
    */
   add(counting, answers) {

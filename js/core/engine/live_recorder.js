@@ -4,7 +4,7 @@
 import { readBoard, readRun } from "../bench/answers.js";
 import { ADDRESSES } from "../bench/rom_bytes.js";
 import { linesOfBoard } from "../waves/wave_lines.js";
-import { askedLines, partedAnswers, sentAgain } from "./asking.js";
+import { linesWithQueries, splitAnswers, repeatedLine } from "./asking.js";
 import { Answers, readTraced, valuesOf } from "./tracing.js";
 import { listedAt } from "./wave_recorder.js";
 import { WaveTaking } from "./wave_taking.js";
@@ -28,7 +28,7 @@ import { RECORDED_CYCLES, RECORDED_UNITS } from "./pieces.js";
  */
 
 /** The maximum length of a recording in cycles: a moment has 32 bits. */
-const LONGEST = 4000000000;
+const MAX_MOMENT = 4000000000;
 
 export class LiveRecorder {
   /**
@@ -91,9 +91,9 @@ export class LiveRecorder {
    */
   part(file) {
     const taken = this.taking.take();
-    const news = [...new Set(taken.counters)].filter((address) => this.listed[address] === 0);
-    for (const address of news) this.listed[address] = 1;
-    return { ...taken, listing: listedAt(this.engine, file, news), triggered: this.triggered, over: this.over };
+    const newAddresses = [...new Set(taken.counters)].filter((address) => this.listed[address] === 0);
+    for (const address of newAddresses) this.listed[address] = 1;
+    return { ...taken, listing: listedAt(this.engine, file, newAddresses), triggered: this.triggered, over: this.over };
   }
 
   /** @param {string} why the reason for `over` */
@@ -128,7 +128,7 @@ export class LiveRecorder {
   take(planned, traced, answers) {
     const { taking, trigger } = this;
     const begun = taking.elapsed;
-    const counted = taking.moments.count;
+    const instructionCount = taking.moments.count;
     const counts = trigger ? trigger.members.map((member) => taking.tracks[member].moments.count) : [];
     planned.forEach(({ change }, at) => {
       const traceAnswers = new Answers(traced[at]);
@@ -137,14 +137,14 @@ export class LiveRecorder {
         return;
       }
       const from = taking.elapsed;
-      taking.takeQuestions(traceAnswers);
+      taking.takeForecast(traceAnswers);
       if (this.places) this.takeCondition(traceAnswers, from);
       taking.takeEnd(readRun(answers[at]) || { cycles: 0, end: answers[at] });
     });
     taking.takeState(answers[planned.length]);
     if (trigger && trigger.edge) this.takeEdges(trigger, counts);
-    else if (trigger && trigger.address >= 0) this.takeArrival(trigger.address, counted);
-    return this.ended(begun, counted);
+    else if (trigger && trigger.address >= 0) this.takeArrival(trigger.address, instructionCount);
+    return this.endIfComplete(begun, instructionCount);
   }
 
   /**
@@ -154,10 +154,10 @@ export class LiveRecorder {
    */
   takeCondition(answers, from) {
     const { row, lines } = answers.takeTrace();
-    this.look(valuesOf(row), from);
+    this.checkCondition(valuesOf(row), from);
     for (const line of lines) {
       const traced = readTraced(line);
-      this.look(valuesOf(traced.row), from + traced.cycles + 1);
+      this.checkCondition(valuesOf(traced.row), from + traced.cycles + 1);
     }
   }
 
@@ -166,7 +166,7 @@ export class LiveRecorder {
    * @param {string[]} values
    * @param {number} moment
    */
-  look(values, moment) {
+  checkCondition(values, moment) {
     const holds = this.trigger !== null && this.trigger.holds(values);
     if (holds && !this.held && this.triggered < 0) this.triggered = moment;
     this.held = holds;
@@ -206,9 +206,9 @@ export class LiveRecorder {
    * @param {number} begun
    * @param {number} counted the number of instructions before `begun`
    */
-  ended(begun, counted) {
+  endIfComplete(begun, counted) {
     const { taking, end, wanted } = this;
-    if (taking.elapsed >= LONGEST) this.stop("long");
+    if (taking.elapsed >= MAX_MOMENT) this.stop("long");
     if (this.triggered >= 0) this.places = "";
     if (taking.elapsed < end) return -1;
     this.stop("trigger");
@@ -233,9 +233,9 @@ export class LiveRecorder {
       const begun = at;
       const end = Math.min(accepted.length, begun + RECORDED_UNITS);
       for (let cycles = 0; at < end && cycles < RECORDED_CYCLES; at++) cycles += accepted[at].cycles;
-      const planned = accepted.slice(begun, at).map(sentAgain);
-      const served = engine.serve(file, `${askedLines(planned, [this])}state\n`, file);
-      const { askerAnswers: [traced], answers } = partedAnswers(planned, [this], served.answers);
+      const planned = accepted.slice(begun, at).map(repeatedLine);
+      const served = engine.serve(file, `${linesWithQueries(planned, [this])}state\n`, file);
+      const { askerAnswers: [traced], answers } = splitAnswers(planned, [this], served.answers);
       this.take(planned, traced, answers);
       this.stops = false;
     }

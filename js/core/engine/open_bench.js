@@ -34,7 +34,7 @@ export class OpenBench {
   constructor(goesOn) {
     this.goesOn = goesOn;
     /** @type {ArrayBuffer[]} the buffers for sending a file to the page; the page returns each one */
-    this.spare = [];
+    this.spareBuffers = [];
     this.fullSpeed = new FullSpeed();
     /** @type {Engine | null} */
     this.loaded = null;
@@ -70,7 +70,7 @@ export class OpenBench {
    */
   shown(snapshot, showsBoard) {
     const { file, statusQueries, count, timeline, printing, queue } = this.session;
-    const buffer = this.spare.pop() || new ArrayBuffer(file.length);
+    const buffer = this.spareBuffers.pop() || new ArrayBuffer(file.length);
     new Uint8Array(buffer).set(file);
     const board = showsBoard ? statusQueries.board : null;
     const waves = this.recordedPart();
@@ -150,7 +150,7 @@ export class OpenBench {
    * Returns the names and labels for a recording's lines.
    * @param {WaveTexts} texts
    */
-  knownOf({ board, program, values = [] }) {
+  recordingTexts({ board, program, values = [] }) {
     return { board, program: recordedProgram(this.checkProgram(sentText(program, ";")), program), values };
   }
 
@@ -176,8 +176,8 @@ export class OpenBench {
    */
   batch() {
     this.fullSpeed.batch(this.debugger);
-    if (!this.fullSpeed.isReportDue(this.spare.length > 0)) return null;
+    if (!this.fullSpeed.isReportDue(this.spareBuffers.length > 0)) return null;
     const { snapshot, ...result } = this.fullSpeed.take();
-    return { ...result, ...this.session.senseAhead(), ...this.shown(snapshot, false) };
+    return { ...result, ...this.session.measureAhead(), ...this.shown(snapshot, false) };
   }
 }

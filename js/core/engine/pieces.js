@@ -5,8 +5,8 @@ const PIECE_TIME = 40;
 /** The first piece of a search cycle by cycle. */
 export const FIRST_CYCLES = 1000;
 /** The cycles and the units of a piece in a search of the past or the future. */
-export const LOOKED_CYCLES = 400000;
-export const LOOKED_UNITS = 500;
+export const SEARCHED_CYCLES = 400000;
+export const SEARCHED_UNITS = 500;
 /** The cycles and the units of a piece in a recording. */
 export const RECORDED_CYCLES = 50000;
 export const RECORDED_UNITS = 50;
@@ -19,8 +19,8 @@ export class PieceSize {
    */
   constructor(first, least, most) {
     this.size = first;
-    this.least = least;
-    this.most = most;
+    this.min = least;
+    this.max = most;
   }
 
   /**
@@ -30,10 +30,10 @@ export class PieceSize {
    * @returns {Result}
    */
   measure(act) {
-    const begun = performance.now();
+    const start = performance.now();
     const result = act();
-    const wanted = this.size * Math.min(4, Math.max(0.25, PIECE_TIME / Math.max(1, performance.now() - begun)));
-    this.size = Math.round(Math.min(this.most, Math.max(this.least, wanted)));
+    const wanted = this.size * Math.min(4, Math.max(0.25, PIECE_TIME / Math.max(1, performance.now() - start)));
+    this.size = Math.round(Math.min(this.max, Math.max(this.min, wanted)));
     return result;
   }
 }

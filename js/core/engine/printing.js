@@ -1,7 +1,7 @@
 // The codes that a program sends to the board's printer, from the answers to a `trace` before each run. Each code is stored with its cycle.
 // So the printout depends only on the session, and going back removes the later codes.
 
-import { askedLines, partedAnswers, sentAgain } from "./asking.js";
+import { linesWithQueries, splitAnswers, repeatedLine } from "./asking.js";
 import { RECORDED_CYCLES, RECORDED_UNITS } from "./pieces.js";
 import { Answers, readTraced, valuesOf } from "./tracing.js";
 
@@ -14,7 +14,7 @@ import { Answers, readTraced, valuesOf } from "./tracing.js";
  */
 
 /** The maximum of stored codes: some hundred lines of print. */
-const MOST_CODES = 4000;
+const MAX_CODES = 4000;
 
 export class Printing {
   /** @param {Printed} printed */
@@ -95,7 +95,7 @@ export class Printing {
       }
       before += cycles;
     }
-    this.codes.splice(0, this.codes.length - MOST_CODES);
+    this.codes.splice(0, this.codes.length - MAX_CODES);
   }
 
   /**
@@ -112,8 +112,9 @@ export class Printing {
       const end = Math.min(accepted.length, begun + RECORDED_UNITS);
       let cycles = 0;
       for (; at < end && cycles < RECORDED_CYCLES; at++) cycles += accepted[at].cycles;
-      const planned = accepted.slice(begun, at).map(sentAgain);
-      const { askerAnswers: [answerLists] } = partedAnswers(planned, [this], engine.serve(file, askedLines(planned, [this]), file).answers);
+      const planned = accepted.slice(begun, at).map(repeatedLine);
+      const { answers } = engine.serve(file, linesWithQueries(planned, [this]), file);
+      const { askerAnswers: [answerLists] } = splitAnswers(planned, [this], answers);
       this.take(answerLists, before);
       before += cycles;
     }

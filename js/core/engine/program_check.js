@@ -42,23 +42,23 @@ export function faultOfText(text) {
 export function readProgram(engine, text) {
   const fault = faultOfText(text);
   if (fault) return { text, map: [], refusal: fault, bytes: bytesOf([]) };
-  const whole = text === "" || text.endsWith("\n") ? text : `${text}\n`;
-  const lines = `${ALL_ROMS}asm\n${whole}.\nmap\n${whole}.\n${listQueries(PAGES)}`;
+  const endedText = text === "" || text.endsWith("\n") ? text : `${text}\n`;
+  const lines = `${ALL_ROMS}asm\n${endedText}.\nmap\n${endedText}.\n${listQueries(PAGES)}`;
   const [, loaded, map, ...lists] = matchAnswers(readInputs(lines), engine.ask(engine.begin(), lines).answers);
   const refusal = refusalOf(loaded[0]) || refusalOf(map[0]);
   const bytes = bytesOf(refusal ? [] : lists.flat());
-  const isPut = putBy(map);
-  return { text, map: refusal ? [] : map, refusal, bytes: bytes.map((byte, address) => (isPut[address] ? byte : NO_BYTE)) };
+  const isFilled = filledAddresses(map);
+  return { text, map: refusal ? [] : map, refusal, bytes: bytes.map((byte, address) => (isFilled[address] ? byte : NO_BYTE)) };
 }
 
 /**
  * Returns 1 for each address at which a program has a byte, from the answers to `map`.
  * @param {string[]} map
  */
-function putBy(map) {
-  const isPut = new Uint8Array(ADDRESSES);
-  for (const { address, size } of readMap(map).lines) isPut.fill(1, address, address + size);
-  return isPut;
+function filledAddresses(map) {
+  const isFilled = new Uint8Array(ADDRESSES);
+  for (const { address, size } of readMap(map).lines) isFilled.fill(1, address, address + size);
+  return isFilled;
 }
 
 /**

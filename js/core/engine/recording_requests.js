@@ -25,7 +25,7 @@ export class RecordingRequests {
    */
   record(cycles, isBefore, texts) {
     const { engine, session } = this.bench;
-    const known = this.bench.knownOf(texts);
+    const known = this.bench.recordingTexts(texts);
     /** @type {(done: number) => Promise<boolean>} */
     const goesOn = (done) => this.bench.goesOn(done, cycles);
     if (isBefore) return recordBefore(engine, session.timeline, cycles, known, goesOn);
@@ -41,7 +41,7 @@ export class RecordingRequests {
    */
   recordLive(texts, wanted) {
     const { engine, session } = this.bench;
-    const recorder = new LiveRecorder(engine, session.file, this.bench.knownOf(texts));
+    const recorder = new LiveRecorder(engine, session.file, this.bench.recordingTexts(texts));
     const names = this.bench.namesOf(texts);
     const { trigger, fault } = readTrigger(wanted.trigger, recorder.lines, names);
     if (fault) return { recorded: null, fault };

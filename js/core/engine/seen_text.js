@@ -11,7 +11,7 @@ import { BrightnessMeter } from "./brightness_meter.js";
  */
 
 /** The query for these 30 ms. */
-export const SEEN_QUESTION = `trace ${EYE_CYCLES} lamps\n`;
+export const SEEN_QUERY = `trace ${EYE_CYCLES} lamps\n`;
 
 /**
  * Returns whether a front panel has a multiplexed display. At no single instant such a display shows the whole number.

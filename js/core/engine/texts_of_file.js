@@ -14,9 +14,9 @@ import { MAX_LISTED, PAGES, listQueries } from "../bench/rom_bytes.js";
  */
 
 /** Empty tests and properties. */
-const NONE_BESIDE = { testText: "", propertiesText: "" };
+const NO_TESTS = { testText: "", propertiesText: "" };
 /** The queries that list all ROMs. */
-const ALL_ROM = listQueries(PAGES);
+const LIST_ALL_ROMS = listQueries(PAGES);
 
 /**
  * Returns source texts for a session file.
@@ -27,17 +27,17 @@ const ALL_ROM = listQueries(PAGES);
  */
 export function textsOfFile(engine, file, examples) {
   const board = engine.ask(file, "board\n").answers.join("\n");
-  const rom = engine.ask(file, ALL_ROM).answers.join("\n");
-  const like = new Uint8Array(file.length);
+  const rom = engine.ask(file, LIST_ALL_ROMS).answers.join("\n");
+  const exampleFile = new Uint8Array(file.length);
   for (const example of examples.filter((each) => each.board)) {
-    engine.serve(engine.begin(like), linesOfExample(example), like);
-    if (engine.ask(like, "board\n").answers.join("\n") !== board) continue;
-    const isSame = engine.ask(like, ALL_ROM).answers.join("\n") === rom;
+    engine.serve(engine.begin(exampleFile), linesOfExample(example), exampleFile);
+    if (engine.ask(exampleFile, "board\n").answers.join("\n") !== board) continue;
+    const isSame = engine.ask(exampleFile, LIST_ALL_ROMS).answers.join("\n") === rom;
     if (isSame) return textsOfExample(example);
-    return { boardText: example.board, programText: sourceOfRom(engine, file), ...NONE_BESIDE };
+    return { boardText: example.board, programText: sourceOfRom(engine, file), ...NO_TESTS };
   }
   const lines = board.split("\n").slice(1);
-  return { boardText: lines.map((line) => `${line}\n`).join(""), programText: sourceOfRom(engine, file), ...NONE_BESIDE };
+  return { boardText: lines.map((line) => `${line}\n`).join(""), programText: sourceOfRom(engine, file), ...NO_TESTS };
 }
 
 /**
@@ -49,7 +49,7 @@ function textsOfExample({ board, program, tests = "", properties = "" }) {
 }
 
 /** @param {string} line of a listing */
-function isOfTwoBytes(line) {
+function hasTwoBytes(line) {
   return line.slice(7, 9).trim() !== "";
 }
 
@@ -66,13 +66,13 @@ function listAll(engine, file) {
     if (listed.length === 0) throw new BenchRefusal(NO_MEMORY);
     lines.push(...listed);
     const last = listed[listed.length - 1];
-    address = last.address + (isOfTwoBytes(last.line) ? 2 : 1);
+    address = last.address + (hasTwoBytes(last.line) ? 2 : 1);
   }
   return lines;
 }
 
 /** The number of NOPs from which a part of ROM counts as empty. */
-const FEW_NOPS = 4;
+const MIN_EMPTY_NOPS = 4;
 
 /**
  * Returns a source text that assembles to the bytes in ROM. It leaves out empty parts.
@@ -84,10 +84,10 @@ export function sourceOfRom(engine, file) {
   /** @type {string[]} */
   let empty = [];
   for (const { address, line } of listAll(engine, file)) {
-    if (line.slice(4, 6) === "00" && !isOfTwoBytes(line)) {
+    if (line.slice(4, 6) === "00" && !hasTwoBytes(line)) {
       empty.push("\tNOP");
     } else {
-      if (empty.length < FEW_NOPS) text.push(...empty);
+      if (empty.length < MIN_EMPTY_NOPS) text.push(...empty);
       else text.push(`\tORG 0x${hex(address, 3)}`);
       empty = [];
       text.push(`\t${line.slice(10)}`);

@@ -56,7 +56,7 @@ export class TimeRequests {
    * @param {boolean} isHidden whether the page is hidden
    */
   run(isHidden) {
-    if (this.bench.spare.length === 0) this.bench.spare.push(new ArrayBuffer(this.bench.session.file.length));
+    if (this.bench.spareBuffers.length === 0) this.bench.spareBuffers.push(new ArrayBuffer(this.bench.session.file.length));
     this.bench.fullSpeed.start(isHidden);
   }
 

@@ -25,8 +25,8 @@ import { CycleCount } from "./accepted.js";
  * @typedef {{ segment: number, entry: number, cycles: number }} Moment
  * @typedef {{ file: Uint8Array, count: CycleCount }} Present
  *
- * The entries since the last report. If `isAnew` is true, they begin a new past.
- * @typedef {{ isAnew: boolean, entries: Entry[] }} News
+ * The entries since the last report. If `isNewPast` is true, they begin a new past.
+ * @typedef {{ isNewPast: boolean, entries: Entry[] }} News
  *
  * A segment that the page restores: the file and the cycle counts at its beginning, and its entries.
  * @typedef {{ file: Uint8Array, total: number, reset: number, entries: Entry[] }} Recalled
@@ -40,15 +40,15 @@ const SEGMENT_CYCLES = 4000000;
 export const SEGMENT_ENTRIES = 4000;
 const SEGMENT_LETTERS = 200000;
 /** The maximum of segments. Each has a file of 164 KB. */
-const MOST_SEGMENTS = 48;
+const MAX_SEGMENTS = 48;
 /** The distance of marks in the last two segments, in cycles. A step back repeats at most that many. */
 const MARK_CYCLES = 250000;
 /** The maximum of steps forward after going back. */
-export const MOST_FORWARD = 64;
+export const MAX_FORWARD = 64;
 /** The longest command that is repeated, in letters. After a longer one a new segment begins. */
-const LONGEST_LINE = 20000;
+const MAX_LINE_LENGTH = 20000;
 /** The maximum of ends that `recall` tries: several commands without cycles can be at the same cycle count. */
-const MOST_TRIES = 8;
+const MAX_TRIES = 8;
 /** The limits of a piece that is repeated at once. */
 const PIECE_CYCLES = 1000000;
 const PIECE_LINES = 500;
@@ -63,13 +63,13 @@ export class Timeline {
     /** @type {({ segments: Segment[] } & Present)[]} the targets of going forward; the next one is last */
     this.future = [];
     /** @type {News} */
-    this.news = { isAnew: true, entries: [] };
+    this.news = { isNewPast: true, entries: [] };
   }
 
   /** Returns the entries since the last call. */
   takeNews() {
     const { news } = this;
-    this.news = { isAnew: false, entries: [] };
+    this.news = { isNewPast: false, entries: [] };
     return news;
   }
 
@@ -85,12 +85,12 @@ export class Timeline {
     const { total, entries, file } = recalled[recalled.length - 1];
     const wanted = stateOf(engine, first.file);
     let cycles = total + sumOf(entries.map((entry) => entry.cycles));
-    for (let count = entries.length, tries = 0; count >= 0 && cycles >= first.count.total && tries < MOST_TRIES; count--) {
+    for (let count = entries.length, tries = 0; count >= 0 && cycles >= first.count.total && tries < MAX_TRIES; count--) {
       if (cycles === first.count.total) {
         tries += 1;
         const end = file.slice();
         engine.serve(end, entries.slice(0, count).map(({ line }) => `${line}\n`).join(""), end);
-        if (stateOf(engine, end) === wanted) return this.putBefore(recalled, count);
+        if (stateOf(engine, end) === wanted) return this.prepend(recalled, count);
       }
       if (count > 0) cycles -= entries[count - 1].cycles;
     }
@@ -101,7 +101,7 @@ export class Timeline {
    * @param {Recalled[]} recalled
    * @param {number} count the number of entries to use from the last segment
    */
-  putBefore(recalled, count) {
+  prepend(recalled, count) {
     const [first, ...more] = this.segments;
     const before = recalled.map((each, at) => segmentOf(
       at === recalled.length - 1 ? { ...each, entries: each.entries.slice(0, count) } : each, at));
@@ -132,8 +132,8 @@ export class Timeline {
     if (accepted.length === 0) return;
     this.future = [];
     const { last } = this;
-    const isTooLong = accepted.length > SEGMENT_ENTRIES || accepted.some(({ line }) => line.length > LONGEST_LINE);
-    if (isTooLong) this.news = { isAnew: true, entries: [] };
+    const isTooLong = accepted.length > SEGMENT_ENTRIES || accepted.some(({ line }) => line.length > MAX_LINE_LENGTH);
+    if (isTooLong) this.news = { isNewPast: true, entries: [] };
     else {
       for (const { line, cycles, resets } of accepted) {
         const entry = { line, cycles, resets, isStop: this.isStopped };
@@ -149,7 +149,7 @@ export class Timeline {
     if (isTooLong || isFull) {
       this.segments.push(segmentAt(present, !isTooLong));
       if (this.segments.length > 2) this.segments[this.segments.length - 3].marks = [];
-      if (this.segments.length > MOST_SEGMENTS) this.thin();
+      if (this.segments.length > MAX_SEGMENTS) this.dropSegment();
     }
   }
 
@@ -164,7 +164,7 @@ export class Timeline {
   }
 
   /** Removes the oldest segment that has no stop, or else the oldest segment. */
-  thin() {
+  dropSegment() {
     const found = this.segments.findIndex(({ entries }, at) => at < this.segments.length - 1 && !entries.some(({ isStop }) => isStop));
     const at = Math.max(0, found);
     this.segments = this.segments.filter((_, each) => each !== at);
@@ -244,13 +244,13 @@ export class Timeline {
   goBack(moment, present) {
     const { segments } = this;
     this.future.push({ segments, ...present });
-    if (this.future.length > MOST_FORWARD) this.future.shift();
+    if (this.future.length > MAX_FORWARD) this.future.shift();
     const whole = segments[moment.segment];
     const entries = [...whole.entries.slice(0, moment.entry), ...partOf(whole.entries[moment.entry], moment.cycles)];
     const cycles = entries.reduce((sum, entry) => sum + entry.cycles, 0);
     const marks = whole.marks.filter(({ entry }) => entry <= moment.entry);
     this.segments = [...segments.slice(0, moment.segment), { ...whole, entries, cycles, marks }];
-    this.news = { isAnew: true, entries: [] };
+    this.news = { isNewPast: true, entries: [] };
     this.isStopped = true;
   }
 
@@ -262,7 +262,7 @@ export class Timeline {
     const next = this.future.pop();
     if (!next) return null;
     this.segments = next.segments;
-    this.news = { isAnew: true, entries: [] };
+    this.news = { isNewPast: true, entries: [] };
     this.isStopped = true;
     return next;
   }

@@ -16,7 +16,7 @@ import { readRun } from "../bench/answers.js";
  * @typedef {{ cycles: number, end: string }} Ran
  */
 
-const HEAD = /^(?:trace|count) ran (\d+) \w+ lines (\d+)(.*)$/;
+const ANSWER_HEAD = /^(?:trace|count) ran (\d+) \w+ lines (\d+)(.*)$/;
 
 /**
  * Parses a line of a trace, as `5 00A 1 0`.
@@ -76,7 +76,7 @@ export class Answers {
    */
   takeTrace() {
     const answer = this.take();
-    const head = HEAD.exec(answer);
+    const head = ANSWER_HEAD.exec(answer);
     if (!head) throw new Error(`the bench answered a question by: ${answer}`);
     const from = this.at;
     this.at += Number(head[2]);

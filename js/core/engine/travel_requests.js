@@ -51,9 +51,10 @@ export class TravelRequests {
    * @returns {Promise<TravelResult>}
    */
   async goBack(goal) {
-    const all = this.bench.session.timeline.cycles;
+    const totalCycles = this.bench.session.timeline.cycles;
     let done = 0;
-    return gone(this.bench, "back", await this.bench.debugger.goBack(goal, (more = 0) => this.bench.goesOn(done += more, all)));
+    const went = await this.bench.debugger.goBack(goal, (more = 0) => this.bench.goesOn(done += more, totalCycles));
+    return travelResult(this.bench, "back", went);
   }
 
   /**
@@ -61,7 +62,7 @@ export class TravelRequests {
    * @returns {TravelResult}
    */
   goForward() {
-    return gone(this.bench, "forward", this.bench.debugger.goForward());
+    return travelResult(this.bench, "forward", this.bench.debugger.goForward());
   }
 
   /**
@@ -93,7 +94,7 @@ export class TravelRequests {
  * @param {WentBack} went
  * @returns {TravelResult}
  */
-function gone(bench, word, went) {
+function travelResult(bench, word, went) {
   const { session } = bench;
   const { isDone, wires } = went;
   const entries = isDone ? [{ line: `(${word})`, textLines: 0, answers: [bench.engine.ask(session.file, "").opened] }] : [];

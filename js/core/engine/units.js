@@ -32,15 +32,15 @@ export function unitsBetween(timeline, from, to) {
 /**
  * Returns the same units, with long ones split into parts.
  * @param {Unit[]} units
- * @param {number} most the maximum of cycles in a part
+ * @param {number} maxCycles the maximum of cycles in a part
  */
-export function shortUnits(units, most) {
+export function splitUnits(units, maxCycles) {
   return units.flatMap((unit) => {
-    if (unit.cycles <= most) return [unit];
+    if (unit.cycles <= maxCycles) return [unit];
     /** @type {Unit[]} */
     const parts = [];
-    for (let done = 0; done < unit.cycles; done += most) {
-      const cycles = Math.min(most, unit.cycles - done);
+    for (let done = 0; done < unit.cycles; done += maxCycles) {
+      const cycles = Math.min(maxCycles, unit.cycles - done);
       parts.push({ line: `run ${cycles}`, cycles, moment: { ...unit.moment, cycles: unit.moment.cycles + done } });
     }
     return parts;
@@ -53,17 +53,17 @@ export function cyclesOf(units) {
 }
 
 /**
- * Yields units in pieces. A piece ends when it has at least `most` cycles, or `mostUnits` units.
+ * Yields units in pieces. A piece ends when it has at least `maxCycles` cycles, or `maxUnits` units.
  * @param {Unit[]} units
- * @param {number} most
- * @param {number} mostUnits
+ * @param {number} maxCycles
+ * @param {number} maxUnits
  */
-export function* piecesOf(units, most, mostUnits) {
+export function* piecesOf(units, maxCycles, maxUnits) {
   let from = 0;
   let cycles = 0;
   for (let at = 0; at < units.length; at++) {
     cycles += units[at].cycles;
-    if (cycles < most && at + 1 - from < mostUnits && at + 1 < units.length) continue;
+    if (cycles < maxCycles && at + 1 - from < maxUnits && at + 1 < units.length) continue;
     yield units.slice(from, at + 1);
     from = at + 1;
     cycles = 0;

@@ -92,10 +92,10 @@ class WaveRecorder {
  * @returns {[number, string][]}
  */
 export function listedAt(engine, file, addresses) {
-  const all = [...addresses];
-  if (all.length === 0) return [];
-  const { answers } = engine.ask(file, joinLines(all.map((address) => `list ${address} 1`)));
-  return all.map((address, at) => [address, answers[at]]);
+  const addressList = [...addresses];
+  if (addressList.length === 0) return [];
+  const { answers } = engine.ask(file, joinLines(addressList.map((address) => `list ${address} 1`)));
+  return addressList.map((address, at) => [address, answers[at]]);
 }
 
 /**
@@ -111,8 +111,8 @@ export async function recordAfter(engine, file, cycles, texts, goesOn) {
   const { taking } = recorder;
   const piece = new PieceSize(FIRST_CYCLES, FIRST_CYCLES, LONGEST_RUN);
   while (taking.elapsed < cycles && !taking.isStuck) {
-    const some = Math.min(piece.size, cycles - taking.elapsed);
-    piece.measure(() => recorder.record([{ line: `run ${some}`, cycles: some }]));
+    const next = Math.min(piece.size, cycles - taking.elapsed);
+    piece.measure(() => recorder.record([{ line: `run ${next}`, cycles: next }]));
     if (taking.elapsed < cycles && !(await goesOn(taking.elapsed))) throw new Cancelled();
   }
   return recorder.recorded();

@@ -19,7 +19,7 @@ const PIECE = 20000;
  * Returns whether a line follows the program counter.
  * @param {WaveLine} line
  */
-const isOfCounter = ({ kind }) => kind === "pc" || kind === "label";
+const followsCounter = ({ kind }) => kind === "pc" || kind === "label";
 
 /**
  * Returns the chosen lines of a board, and the member lines of chosen ports.
@@ -45,13 +45,13 @@ export function neededLines(lines, chosen) {
  * @param {() => Promise<any>} yieldToMessages is called between pieces
  */
 export async function* recordPieces(engine, state, { lines, program, cycles }, yieldToMessages) {
-  const taking = new WaveTaking(lines, lines.some(isOfCounter));
+  const taking = new WaveTaking(lines, lines.some(followsCounter));
   taking.begin(new Answers(engine.ask(state, `state\n${taking.questions(1)}`).answers));
   const waves = new Waves({ ...taking.take(), lines, listing: [], program });
   yield waves;
   while (taking.elapsed < cycles && !taking.isStuck) {
-    const some = Math.min(PIECE, cycles - taking.elapsed);
-    const answers = new Answers(engine.serve(state, `${taking.questions(some)}run ${some}\nstate\n`, state).answers);
+    const next = Math.min(PIECE, cycles - taking.elapsed);
+    const answers = new Answers(engine.serve(state, `${taking.questions(next)}run ${next}\nstate\n`, state).answers);
     taking.takeRun(answers);
     taking.takeState(answers.take());
     waves.beginAt(waves.cycles);

@@ -18,7 +18,7 @@ import { readTraced, valuesOf } from "./tracing.js";
  * @typedef {{ place: string, readers: Reader[], from: number, to: number }} Asked
  *
  * Places that one query asks for, and the last row of their reports.
- * @typedef {{ asked: Asked[], row: string }} Group
+ * @typedef {{ fields: Asked[], row: string }} Group
  *
  * The part of a recording since the last call of `take`.
  * @typedef {{ from: number, cycles: number, isStuck: boolean, isOwed: boolean, tracks: TrackData[], moments: Uint32Array,
@@ -93,8 +93,8 @@ function placesOfValue(places) {
 function groupsOf(lines) {
   /** @type {Group[]} */
   const groups = [];
-  for (const all of [placesOf(lines, "level"), placesOf(lines, "value")]) {
-    for (let at = 0; at < all.length; at += MOST_PLACES) groups.push({ asked: all.slice(at, at + MOST_PLACES), row: "" });
+  for (const places of [placesOf(lines, "level"), placesOf(lines, "value")]) {
+    for (let at = 0; at < places.length; at += MOST_PLACES) groups.push({ fields: places.slice(at, at + MOST_PLACES), row: "" });
   }
   return groups;
 }
@@ -104,24 +104,24 @@ function groupsOf(lines) {
  * @param {Group} group
  * @param {string} row
  */
-function measure({ asked }, row) {
+function setPositions({ fields }, row) {
   let from = 1;
   valuesOf(row).forEach((value, at) => {
-    asked[at].from = from;
-    asked[at].to = from + value.length;
+    fields[at].from = from;
+    fields[at].to = from + value.length;
     from += value.length + 1;
   });
 }
 
 /**
  * Returns whether two rows are equal between two positions.
- * @param {string} one
- * @param {string} other
+ * @param {string} left
+ * @param {string} right
  * @param {number} from
  * @param {number} to
  */
-function isSame(one, other, from, to) {
-  for (let at = from; at < to; at++) if (one.charCodeAt(at) !== other.charCodeAt(at)) return false;
+function isSame(left, right, from, to) {
+  for (let at = from; at < to; at++) if (left.charCodeAt(at) !== right.charCodeAt(at)) return false;
   return true;
 }
 
@@ -152,7 +152,7 @@ export class WaveTaking {
    * @param {number} cycles the length of the run
    */
   questions(cycles) {
-    const groups = this.groups.map(({ asked }) => `trace ${cycles} ${asked.map(({ place }) => place).join(" ")}\n`);
+    const groups = this.groups.map(({ fields }) => `trace ${cycles} ${fields.map(({ place }) => place).join(" ")}\n`);
     return `${this.hasCounter ? `trace ${cycles}\n` : ""}${groups.join("")}`;
   }
 
@@ -174,14 +174,14 @@ export class WaveTaking {
    * @param {Answers} answers
    */
   takeRun(answers) {
-    this.takeQuestions(answers);
+    this.takeForecast(answers);
     const ran = answers.takeRun();
     if (ran.cycles === 0 && ran.end !== "code") throw new Error(`the bench answered a recording by: ${ran.end}`);
     this.takeEnd(ran);
   }
 
   /** @param {Answers} answers to the queries */
-  takeQuestions(answers) {
+  takeForecast(answers) {
     if (this.hasCounter) for (const line of answers.takeTrace().lines) this.takeBegun(line);
     for (const group of this.groups) {
       const trace = answers.takeTrace();
@@ -254,8 +254,8 @@ export class WaveTaking {
    */
   takeRow(group, row, moment) {
     if (row === group.row) return;
-    if (group.row === "") measure(group, row);
-    for (const { readers, from, to } of group.asked) {
+    if (group.row === "") setPositions(group, row);
+    for (const { readers, from, to } of group.fields) {
       if (isSame(row, group.row, from, to)) continue;
       const field = row.slice(from, to);
       for (const { member, read } of readers) this.tracks[member].set(read(field), moment);

@@ -2,7 +2,7 @@
 // throws and changes nothing.
 
 import { CycleCount, acceptedOf } from "./accepted.js";
-import { askedLines, partedAnswers } from "./asking.js";
+import { linesWithQueries, splitAnswers } from "./asking.js";
 import { cyclesOfLine, linesUpTo } from "../debug/ahead.js";
 import { isStop, readBoard, readMarks, readRun, refusalOf } from "../bench/answers.js";
 import { Cancelled } from "../bench/faults.js";
@@ -12,7 +12,7 @@ import { snapshotOf, snapshotQueries } from "../bench/snapshot.js";
 import { PieceSize } from "./pieces.js";
 import { romCodes } from "./rom_codes.js";
 import { EYE_CYCLES } from "../time/mcs4_time.js";
-import { MOST_SHONE } from "./brightness_meter.js";
+import { MAX_MEASURED_CYCLES } from "./brightness_meter.js";
 import { SEGMENT_ENTRIES, Timeline } from "./timeline.js";
 
 /**
@@ -46,13 +46,13 @@ import { SEGMENT_ENTRIES, Timeline } from "./timeline.js";
  */
 
 /** The maximum of served inputs in a result. */
-export const MOST_ENTRIES = 400;
+export const MAX_ENTRIES = 400;
 /** The maximum of cycles that a recording repeats after lines were served. */
-const MOST_FOLLOWED = 2000000;
+const MAX_FOLLOWED_CYCLES = 2000000;
 /** The size of a piece of lines, in characters. */
 const FIRST_PIECE = 4096;
-const LEAST_PIECE = 256;
-const LARGEST_PIECE = 1 << 20;
+const MIN_PIECE = 256;
+const MAX_PIECE = 1 << 20;
 
 /** @type {Record<string, true>} the kinds of commands that can change ROM */
 const TOUCHES_ROM = { poke: true, wire: true, asm: true };
@@ -90,7 +90,7 @@ export class WorkerSession {
   }
 
   /** Ends the reports, because they belong to another board. */
-  forgetSenses() {
+  forgetMeters() {
     this.brightnessMeter = null;
     this.sounding = null;
     this.heating = null;
@@ -186,7 +186,7 @@ export class WorkerSession {
     this.unrecorded = [];
     this.readCodes = null;
     if (this.recorder) this.recorder.stop("back");
-    if (wires) this.forgetSenses();
+    if (wires) this.forgetMeters();
     return wires;
   }
 
@@ -226,21 +226,21 @@ export class WorkerSession {
     }
     const answers = served.answers.slice(0, done.length);
     const snapshot = snapshotOf(this.statusQueries.inputs, served.answers.slice(done.length));
-    return { done, answers, snapshot, sensed: served.sense() };
+    return { done, answers, snapshot, sensed: served.readMeters() };
   }
 
   /**
    * Returns the meters of lamps, of the buzzer's line and of RAM. Each is null if it is not requested, or if the lines are too long.
    * @param {PlannedLine[]} planned
    */
-  sensesIn(planned) {
-    const areFew = planned.reduce((sum, each) => sum + cyclesOfLine(each), 0) <= MOST_SHONE;
+  metersFor(planned) {
+    const isShort = planned.reduce((sum, each) => sum + cyclesOfLine(each), 0) <= MAX_MEASURED_CYCLES;
     const { brightnessMeter, sounding, heating } = this;
-    return areFew ? { brightnessMeter, sounding, heating } : { brightnessMeter: null, sounding: null, heating: null };
+    return isShort ? { brightnessMeter, sounding, heating } : { brightnessMeter: null, sounding: null, heating: null };
   }
 
   /** Returns the light and the changes of RAM in the next 30 ms. Each is null if it is not requested. */
-  senseAhead() {
+  measureAhead() {
     const { brightnessMeter, heating } = this;
     return {
       litShares: brightnessMeter && brightnessMeter.take([this.ask(brightnessMeter.questions(EYE_CYCLES))]),
@@ -251,14 +251,14 @@ export class WorkerSession {
   /** @param {PlannedLine[]} planned lines to serve in one call, with the queries of all askers; `file` is unchanged */
   tryPlanned(planned) {
     const { recording, printing } = this;
-    const { brightnessMeter, sounding, heating } = this.sensesIn(planned);
+    const { brightnessMeter, sounding, heating } = this.metersFor(planned);
     /** @type {import("./asking.js").Asker[]} */
     const askers = [printing, brightnessMeter, sounding, heating, recording].flatMap((asker) => asker || []);
-    const lines = askedLines(planned, askers) + this.statusQueries.lines;
-    const { answers, askerAnswers } = partedAnswers(planned, askers, this.engine.serve(this.file, lines, this.next).answers);
+    const lines = linesWithQueries(planned, askers) + this.statusQueries.lines;
+    const { answers, askerAnswers } = splitAnswers(planned, askers, this.engine.serve(this.file, lines, this.next).answers);
     /** @type {(asker: import("./asking.js").Asker) => string[][]} */
     const answersTo = (asker) => askerAnswers[askers.indexOf(asker)];
-    const sense = () => {
+    const readMeters = () => {
       if (printing) printing.take(answersTo(printing), this.count.total);
       return {
         litShares: brightnessMeter && brightnessMeter.take(answersTo(brightnessMeter)),
@@ -266,7 +266,7 @@ export class WorkerSession {
         warmed: heating && heating.take(answersTo(heating)),
       };
     };
-    return { answers, sense, traced: recording ? askerAnswers[askers.length - 1] : [] };
+    return { answers, readMeters, traced: recording ? askerAnswers[askers.length - 1] : [] };
   }
 
   /**
@@ -277,7 +277,8 @@ export class WorkerSession {
   follow(before, accepted) {
     const { recording } = this;
     if (!recording) return;
-    if (accepted.length > SEGMENT_ENTRIES || accepted.reduce((sum, { cycles }) => sum + cycles, 0) > MOST_FOLLOWED) recording.stop("lines");
+    const total = accepted.reduce((sum, { cycles }) => sum + cycles, 0);
+    if (accepted.length > SEGMENT_ENTRIES || total > MAX_FOLLOWED_CYCLES) recording.stop("lines");
     else recording.follow(before, accepted);
   }
 
@@ -294,7 +295,7 @@ export class WorkerSession {
     const printing = this.printing && this.printing.copy();
     // The next piece is served on `from`. The session's own file is unchanged until all pieces are done.
     let [from, to] = [this.file, this.next];
-    const size = new PieceSize(FIRST_PIECE, LEAST_PIECE, LARGEST_PIECE);
+    const size = new PieceSize(FIRST_PIECE, MIN_PIECE, MAX_PIECE);
     for (let at = 0; at < lines.length;) {
       const end = endOfInputs(lines, at, size.size);
       const piece = lines.slice(at, end);
@@ -323,7 +324,7 @@ export class WorkerSession {
     this.timeline.stop();
     // The waiting changes of keys belong to the old board.
     if (report.wires) this.queue.clear();
-    if (report.wires) this.forgetSenses();
+    if (report.wires) this.forgetMeters();
     if (before) this.follow(before, report.accepted);
     return { ...report.result(), snapshot };
   }
@@ -387,9 +388,9 @@ class LinesReport {
     this.touchesRom = this.touchesRom || inputs.some((input) => TOUCHES_ROM[input.kind]);
     // A rejected board leaves the present one unchanged.
     this.wires = this.wires || inputs.some((input, at) => input.kind === "wire" && !matched[at].some(isStop));
-    const from = Math.max(0, inputs.length - MOST_ENTRIES);
+    const from = Math.max(0, inputs.length - MAX_ENTRIES);
     const entries = inputs.slice(from).map(({ line, text }, at) => ({ line, textLines: text.length, answers: matched[from + at] }));
-    this.entries = [...this.entries, ...entries].slice(-MOST_ENTRIES);
+    this.entries = [...this.entries, ...entries].slice(-MAX_ENTRIES);
     return accepted;
   }
 

@@ -11,16 +11,16 @@ import * as say from "../../words/machine.js";
  */
 
 /** An address as in listings: three hexadecimal digits, even if all of them are decimal. */
-const OF_LISTING = /^[0-9a-f]{3}$/i;
+const LISTING_ADDRESS = /^[0-9a-f]{3}$/i;
 /** A name plus an offset, as the page writes addresses. */
-const BEHIND = /^([a-z_]\w*)\s*\+\s*(0x[0-9a-f]+|\d+)$/i;
+const NAME_PLUS_OFFSET = /^([a-z_]\w*)\s*\+\s*(0x[0-9a-f]+|\d+)$/i;
 
 /**
  * Returns an error.
  * @param {string} words
  * @returns {Goal}
  */
-function refused(words) {
+function goalError(words) {
   return { address: 0, words };
 }
 
@@ -32,13 +32,13 @@ function refused(words) {
  */
 export function goalOf(text, map) {
   const word = text.trim();
-  const [, name = word, added = "0"] = BEHIND.exec(word) || [];
+  const [, name = word, offset = "0"] = NAME_PLUS_OFFSET.exec(word) || [];
   const value = map ? map.valueInAnyCase(name) : undefined;
-  if (value !== undefined && value + numberOf(added) <= LAST_ADDRESS) return { address: value + numberOf(added), words: "" };
-  const address = OF_LISTING.test(word) ? parseInt(word, 16) : numberOf(word);
+  if (value !== undefined && value + numberOf(offset) <= LAST_ADDRESS) return { address: value + numberOf(offset), words: "" };
+  const address = LISTING_ADDRESS.test(word) ? parseInt(word, 16) : numberOf(word);
   if (address <= LAST_ADDRESS) return { address, words: "" };
-  if (!Number.isNaN(numberOf(word))) return refused(say.beyondLast(word));
-  if (word === "") return refused(say.nothingToGoTo(say.ADDRESS_FORMS));
-  if (map) return refused(say.noNameOrAddress(word, say.ADDRESS_FORMS));
-  return refused(say.noAddress(word, say.ADDRESS_FORMS));
+  if (!Number.isNaN(numberOf(word))) return goalError(say.beyondLast(word));
+  if (word === "") return goalError(say.nothingToGoTo(say.ADDRESS_FORMS));
+  if (map) return goalError(say.noNameOrAddress(word, say.ADDRESS_FORMS));
+  return goalError(say.noAddress(word, say.ADDRESS_FORMS));
 }

@@ -16,7 +16,7 @@ import { ADDRESSES, MAX_LISTED } from "../bench/rom_bytes.js";
  * later.
  */
 const BYTES_BEFORE = 12;
-const TRIES = 4;
+const MAX_TRIES = 4;
 
 /**
  * Returns the addresses at which to begin a listing, the best first. The last one is the anchor itself.
@@ -26,7 +26,7 @@ const TRIES = 4;
 export function beginningsOf({ from, anchor }, rows) {
   // At the end of ROM the last lines fill the view. A line has one or two bytes.
   const base = Math.min(from, ADDRESSES - 2 * rows) - BYTES_BEFORE;
-  const starts = upTo(TRIES).map((later) => Math.max(0, base + later));
+  const starts = upTo(MAX_TRIES).map((later) => Math.max(0, base + later));
   if (anchor !== null) starts.push(anchor);
   return [...new Set(starts)];
 }

@@ -8,8 +8,8 @@ import { hex, upTo } from "../bench/numbers.js";
 const WIDTH = 17;
 const BYTES_IN_ROW = 4;
 const TAB = " ".repeat(8);
-const LABEL_ALONE = /^[A-Za-z_]\w*:$/;
-const NAMED_NUMBER = /^([A-Za-z_]\w*)=/;
+const ONLY_LABEL = /^[A-Za-z_]\w*:$/;
+const NAME_DEFINITION = /^([A-Za-z_]\w*)=/;
 
 /** @type {(left: string, source: string) => string} returns a row without trailing blanks */
 const rowOf = (left, source) => `${left.padEnd(WIDTH)}${source}`.replace(/ +$/, "");
@@ -22,8 +22,8 @@ const rowOf = (left, source) => `${left.padEnd(WIDTH)}${source}`.replace(/ +$/, 
  */
 function rowsOfBytes(address, bytes, source) {
   return upTo(Math.ceil(bytes.length / BYTES_IN_ROW)).map((row) => {
-    const own = bytes.slice(BYTES_IN_ROW * row, BYTES_IN_ROW * (row + 1)).map((byte) => ` ${hex(byte, 2)}`);
-    return rowOf(`${hex(address + BYTES_IN_ROW * row, 3)}${own.join("")}`, row === 0 ? source : "");
+    const rowBytes = bytes.slice(BYTES_IN_ROW * row, BYTES_IN_ROW * (row + 1)).map((byte) => ` ${hex(byte, 2)}`);
+    return rowOf(`${hex(address + BYTES_IN_ROW * row, 3)}${rowBytes.join("")}`, row === 0 ? source : "");
   });
 }
 
@@ -35,8 +35,8 @@ function rowsOfBytes(address, bytes, source) {
  */
 function meaningOf(line, address, map) {
   const code = line.replace(/;.*/, "").replace(/[ \t]/g, "");
-  if (LABEL_ALONE.test(code)) return hex(address, 3);
-  const [, name = ""] = NAMED_NUMBER.exec(code) || [];
+  if (ONLY_LABEL.test(code)) return hex(address, 3);
+  const [, name = ""] = NAME_DEFINITION.exec(code) || [];
   return name === "" ? "" : `  = ${hex(map.valueOf(name) || 0, 3)}`;
 }
 
@@ -58,10 +58,10 @@ function rowsOf(text, map, bytes) {
 /**
  * Returns the names of a program with their values, in alphabetical order.
  * @param {SourceMap} map
- * @param {boolean} labelsAlone whether to return only labels
+ * @param {boolean} onlyLabels whether to return only labels
  */
-export function namesOfProgram(map, labelsAlone) {
-  return [...map.names.values()].filter(({ isLabel }) => isLabel || !labelsAlone)
+export function namesOfProgram(map, onlyLabels) {
+  return [...map.names.values()].filter(({ isLabel }) => isLabel || !onlyLabels)
     .map(({ name, value }) => ({ name, value: hex(value, 3) }))
     .sort((one, other) => (one.name < other.name ? -1 : 1));
 }

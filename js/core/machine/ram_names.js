@@ -18,9 +18,10 @@ export function bytesOfSource(map) {
   const lines = map.sources.map(partsOf).filter(({ head }) => head !== null);
   /** @type {(name: string) => import("../text/assembly.js").Word[][]} */
   const operandsOf = (name) => lines.filter(({ head }) => head && head.text.toUpperCase() === name).map(({ operands }) => operands);
-  const sent = new Set(operandsOf("SRC").flatMap(([pair]) => (pair && PAIR.test(pair.text) ? [pair.text.toUpperCase()] : [])));
-  const put = operandsOf("FIM").flatMap(([pair, value]) => (pair && value && sent.has(pair.text.toUpperCase()) ? [value.text] : []));
-  return [...new Set(put)].flatMap((text) => {
+  const srcPairs = new Set(operandsOf("SRC").flatMap(([pair]) => (pair && PAIR.test(pair.text) ? [pair.text.toUpperCase()] : [])));
+  const loadedValues = operandsOf("FIM")
+    .flatMap(([pair, value]) => (pair && value && srcPairs.has(pair.text.toUpperCase()) ? [value.text] : []));
+  return [...new Set(loadedValues)].flatMap((text) => {
     const name = map.names.get(text);
     return name && !name.isLabel ? [{ name: name.name, byte: name.value }] : [];
   });
@@ -38,8 +39,8 @@ export function namesOfCharacters({ banks }, watched, map) {
   const names = new Map();
   /** @type {(place: string, name: string) => void} */
   const add = (place, name) => {
-    const known = names.get(place) || [];
-    if (!known.includes(name)) names.set(place, [...known, name]);
+    const present = names.get(place) || [];
+    if (!present.includes(name)) names.set(place, [...present, name]);
   };
   // A watched value without a name is called by its place, which is not a word.
   for (const { name, place } of watched) if (place !== "" && /^\w+$/.test(name)) add(place, name);

@@ -30,12 +30,12 @@ export function callBefore(address) {
  * @param {SourceMap | null} map the program in ROM
  */
 export function areLive(addresses, bytes, map) {
-  const firstLeft = addresses.findIndex((address, at) => {
+  const firstStale = addresses.findIndex((address, at) => {
     const call = callBefore(address);
-    const isOfProgram = map !== null && map.lineOf(call) > 0;
-    return bytes[at][0] !== CODE_OF_JMS || (isOfProgram && !map.beginsInstruction(call));
+    const isInProgram = map !== null && map.lineOf(call) > 0;
+    return bytes[at][0] !== CODE_OF_JMS || (isInProgram && !map.beginsInstruction(call));
   });
-  return addresses.map((_, at) => firstLeft < 0 || at < firstLeft);
+  return addresses.map((_, at) => firstStale < 0 || at < firstStale);
 }
 
 /**
@@ -47,7 +47,7 @@ export function areLive(addresses, bytes, map) {
 export function noteOfCounter(address, map) {
   const line = map ? map.lineOf(address) : 0;
   if (!map || line === 0) return { isLive: true, words: "", title: "" };
-  return { isLive: true, words: joined([map.nameOf(address), wordsOfLine(line)]), title: map.sources[line - 1].trim() };
+  return { isLive: true, words: joinWords([map.nameOf(address), wordsOfLine(line)]), title: map.sources[line - 1].trim() };
 }
 
 /**
@@ -61,10 +61,10 @@ export function noteOfReturn(address, isLive, map) {
   if (!isLive) return { isLive, words: say.LEFT_OVER, title: say.NO_CALL_WAITS };
   const line = map ? map.lineOf(callBefore(address)) : 0;
   if (!map || line === 0) return { isLive, words: "", title: "" };
-  return { isLive, words: joined([map.nameOf(address), say.callInLine(line)]), title: map.sources[line - 1].trim() };
+  return { isLive, words: joinWords([map.nameOf(address), say.callInLine(line)]), title: map.sources[line - 1].trim() };
 }
 
 /** @param {string[]} words */
-function joined(words) {
+function joinWords(words) {
   return words.filter((word) => word !== "").join(", ");
 }

@@ -131,8 +131,8 @@ export class SourceMap {
    * @param {number} address
    */
   nameOf(address) {
-    const [own] = this.labelsAt(address);
-    if (own) return own;
+    const [label] = this.labelsAt(address);
+    if (label) return label;
     const owner = address < ADDRESSES ? this.owners[address] : -1;
     return owner < 0 ? "" : `${this.labelsAt(owner)[0]} + ${address - owner}`;
   }
@@ -165,9 +165,9 @@ export class SourceMap {
    * @returns {number | undefined}
    */
   valueInAnyCase(word) {
-    const own = this.valueOf(word);
-    if (own !== undefined) return own;
-    const alike = [...this.names.keys()].filter((name) => name.toLowerCase() === word.toLowerCase());
-    return alike.length === 1 ? this.valueOf(alike[0]) : undefined;
+    const exact = this.valueOf(word);
+    if (exact !== undefined) return exact;
+    const matches = [...this.names.keys()].filter((name) => name.toLowerCase() === word.toLowerCase());
+    return matches.length === 1 ? this.valueOf(matches[0]) : undefined;
   }
 }

@@ -28,7 +28,7 @@ import * as say from "../../words/machine.js";
 const NO_EDITOR = { showNext: () => {}, showAddresses: () => {}, reveal: () => {} };
 
 /** @param {number} address */
-function written(address) {
+function hexAddress(address) {
   return `0x${hex(address, 3)}`;
 }
 
@@ -46,9 +46,9 @@ export class SourceSync {
     /** The text of the last check. */
     this.text = "";
     /** The number of the last check, to discard results of older checks. */
-    this.asked = 0;
+    this.lastCheck = 0;
     /** @type {Promise<void> | null} the check that all callers of `fresh` share */
-    this.freshening = null;
+    this.pendingCheck = null;
     this.next = 0;
   }
 
@@ -64,11 +64,11 @@ export class SourceSync {
 
   /** Checks whether the source is the program in ROM. */
   async check() {
-    this.asked += 1;
-    const { asked } = this;
+    this.lastCheck += 1;
+    const { lastCheck: check } = this;
     const text = this.calls.text();
     const checked = await this.calls.check(text);
-    if (asked === this.asked) this.take(text, checked);
+    if (check === this.lastCheck) this.take(text, checked);
   }
 
   /**
@@ -101,8 +101,8 @@ export class SourceSync {
     }
     if (!difference) return "";
     const line = map.lineOf(difference.address);
-    if (!difference.hasRom) return say.noRomAt(written(difference.address), line);
-    return say.differsAt(written(difference.address), line);
+    if (!difference.hasRom) return say.noRomAt(hexAddress(difference.address), line);
+    return say.differsAt(hexAddress(difference.address), line);
   }
 
   /**
@@ -130,10 +130,10 @@ export class SourceSync {
   async fresh() {
     // A newer check makes the result of an older one useless. So all callers share one check; otherwise none would ever finish.
     while (this.calls.text() !== this.text || !this.checked) {
-      this.freshening = this.freshening || this.check().finally(() => {
-        this.freshening = null;
+      this.pendingCheck = this.pendingCheck || this.check().finally(() => {
+        this.pendingCheck = null;
       });
-      await this.freshening;
+      await this.pendingCheck;
     }
   }
 

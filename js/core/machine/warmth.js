@@ -14,30 +14,31 @@ import * as say from "../../words/machine.js";
  */
 
 /** The highest heat level. */
-export const WARMEST = 5;
+export const MAX_HEAT_LEVEL = 5;
 /** The number of parts in which the last cycles are stored. */
-const MOST_PARTS = 50;
+const MAX_PARTS = 50;
 
 /**
- * Returns the level of a number between 1 and `most` on a logarithmic scale, from 1 to WARMEST.
+ * Returns the level of a number between 1 and `most` on a logarithmic scale, from 1 to MAX_HEAT_LEVEL.
  * @param {number} number
  * @param {number} most
  */
-function degree(number, most) {
-  return most <= 1 ? WARMEST : 1 + Math.min(WARMEST - 1, Math.floor(WARMEST * Math.log(number) / Math.log(most + 1)));
+function levelOf(number, most) {
+  return most <= 1 ? MAX_HEAT_LEVEL : 1 + Math.min(MAX_HEAT_LEVEL - 1, Math.floor(MAX_HEAT_LEVEL * Math.log(number) / Math.log(most + 1)));
 }
 
 /**
- * Returns the heat level of each place that has changed, from 1 to WARMEST. The place that changed most often, or last, has WARMEST.
+ * Returns the heat level of each place that has changed, from 1 to MAX_HEAT_LEVEL. The place that changed most often, or last, has the
+ * highest level.
  * @param {Heat} heat
  * @param {HeatKind} kind
  * @returns {Map<string, number>}
  */
-export function warmthOf({ cycles, cells }, kind) {
+export function heatLevels({ cycles, cells }, kind) {
   const most = Math.max(...cells.map(({ count }) => count));
   const last = Math.min(...cells.map(({ ago }) => ago));
   return new Map(cells.map(({ place, count, ago }) => (
-    [place, kind === "often" ? degree(count, most) : WARMEST + 1 - degree(1 + ago - last, cycles)])));
+    [place, kind === "often" ? levelOf(count, most) : MAX_HEAT_LEVEL + 1 - levelOf(1 + ago - last, cycles)])));
 }
 
 /** The changes in the last cycles while time is running. */
@@ -61,30 +62,30 @@ export class PassingHeat {
   add({ cells }, cycles, most) {
     const from = this.total;
     this.total += cycles;
-    if (this.parts.length === 0 || this.total - this.parts[this.parts.length - 1].from > most / MOST_PARTS) {
+    if (this.parts.length === 0 || this.total - this.parts[this.parts.length - 1].from > most / MAX_PARTS) {
       this.parts.push({ from, cells: new Map() });
     }
-    addTo(this.parts[this.parts.length - 1].cells, cells.map((cell) => ({ ...cell, at: this.total - cell.ago })));
+    addChanges(this.parts[this.parts.length - 1].cells, cells.map((cell) => ({ ...cell, at: this.total - cell.ago })));
     while (this.parts.length > 1 && this.parts[1].from <= this.total - most) this.parts.shift();
   }
 
   /** @returns {Heat} */
   get heat() {
     /** @type {Map<string, Heated & { at: number }>} */
-    const all = new Map();
-    for (const { cells } of this.parts) addTo(all, [...cells.values()]);
+    const changes = new Map();
+    for (const { cells } of this.parts) addChanges(changes, [...cells.values()]);
     const from = this.parts.length > 0 ? this.parts[0].from : this.total;
-    return { cycles: this.total - from, cells: [...all.values()].map(({ at, ...cell }) => ({ ...cell, ago: this.total - at })) };
+    return { cycles: this.total - from, cells: [...changes.values()].map(({ at, ...cell }) => ({ ...cell, ago: this.total - at })) };
   }
 }
 
 /**
  * Adds newer changes to a map by place.
- * @param {Map<string, Heated & { at: number }>} all
+ * @param {Map<string, Heated & { at: number }>} changes
  * @param {(Heated & { at: number })[]} newer
  */
-function addTo(all, newer) {
-  for (const cell of newer) all.set(cell.place, { ...cell, count: cell.count + (all.get(cell.place) || { count: 0 }).count });
+function addChanges(changes, newer) {
+  for (const cell of newer) changes.set(cell.place, { ...cell, count: cell.count + (changes.get(cell.place) || { count: 0 }).count });
 }
 
 /**
@@ -92,7 +93,7 @@ function addTo(all, newer) {
  * @param {Heated} cell
  * @param {SourceMap | null} map
  */
-function whoOf({ address, line }, map) {
+function causeOf({ address, line }, map) {
   return line ? say.theLine(line) : wordsOfAddress(hex(address, 3), map);
 }
 
@@ -101,13 +102,13 @@ function whoOf({ address, line }, map) {
  * @param {Heated} cell
  * @param {SourceMap | null} map
  */
-function lastOf(cell, map) {
-  const who = whoOf(cell, map);
-  return cell.ago === 0 ? say.by(who) : say.byAgo(who, wordsOfCycles(cell.ago));
+function lastChangeText(cell, map) {
+  const cause = causeOf(cell, map);
+  return cell.ago === 0 ? say.by(cause) : say.byAgo(cause, wordsOfCycles(cell.ago));
 }
 
 /** @param {number} count */
-function times(count) {
+function timesText(count) {
   return count === 1 ? say.ONCE : say.manyTimes(count.toLocaleString("en"));
 }
 
@@ -117,7 +118,7 @@ function times(count) {
  * @param {SourceMap | null} map
  */
 export function wordsOfChanges(cell, map) {
-  return `${times(cell.count)}${cell.count === 1 ? "" : say.LAST} ${lastOf(cell, map)}`;
+  return `${timesText(cell.count)}${cell.count === 1 ? "" : say.LAST} ${lastChangeText(cell, map)}`;
 }
 
 /**
@@ -126,7 +127,7 @@ export function wordsOfChanges(cell, map) {
  * @param {SourceMap | null} map
  */
 export function wordsOfSeen(cell, map) {
-  return say.seenBy(times(cell.count), whoOf(cell, map));
+  return say.seenBy(timesText(cell.count), causeOf(cell, map));
 }
 
 /**
@@ -152,6 +153,6 @@ export function wordsOfHeat({ cycles, cells }, wanted, nameOf, map) {
   const most = cells.reduce((one, other) => (other.count > one.count ? other : one));
   if (cells.length === 1) return say.oneChanged(reach, nameOf(most.place), wordsOfChanges(most, map));
   const last = cells.reduce((one, other) => (other.ago < one.ago ? other : one));
-  const often = say.mostOften(nameOf(most.place), times(most.count));
-  return say.manyChanged(reach, cells.length, often, nameOf(last.place), lastOf(last, map));
+  const often = say.mostOften(nameOf(most.place), timesText(most.count));
+  return say.manyChanged(reach, cells.length, often, nameOf(last.place), lastChangeText(last, map));
 }

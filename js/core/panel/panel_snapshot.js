@@ -8,7 +8,7 @@ import { itemsOf, partsOfState, registersOf, valueIn } from "../bench/state_line
 import { FULL_LEVEL, levelOf } from "../board/brightness.js";
 import { KeysDown } from "../board/key_place.js";
 import { wholeText } from "../board/display_text.js";
-import { SEEN_QUESTION, SeenText, seenBrightness } from "../engine/seen_text.js";
+import { SEEN_QUERY, SeenText, seenBrightness } from "../engine/seen_text.js";
 import { ListingReader } from "../machine/listing_reader.js";
 import { stretchOf } from "../machine/listing_stretch.js";
 
@@ -86,7 +86,7 @@ export class PanelSnapshot {
   async take(rows) {
     const banks = new Set(this.shownChips(rows).map(({ bank }) => bank));
     const isShining = rows > 0 && !this.panel.isPaused && this.panel.of.board.lamps.length > 0;
-    const questions = `${joinLines(["state", ...[...banks].map((bank) => `ram ${bank}`)])}${isShining ? SEEN_QUESTION : ""}`;
+    const questions = `${joinLines(["state", ...[...banks].map((bank) => `ram ${bank}`)])}${isShining ? SEEN_QUERY : ""}`;
     const answers = matchAnswers(readInputs(questions), await this.panel.ask(questions));
     this.takeState(answers[0][0]);
     this.takeRam(answers.slice(1, 1 + banks.size));

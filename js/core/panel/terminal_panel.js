@@ -8,7 +8,7 @@ import { keyOfKeyboard, keysOf } from "../board/board_keys.js";
 import { printerOf } from "../board/face_board.js";
 import { isSameKey, lineOfKey } from "../board/key_place.js";
 import { cyclesOfLine } from "../debug/ahead.js";
-import { askedLines, partedAnswers } from "../engine/asking.js";
+import { linesWithQueries, splitAnswers } from "../engine/asking.js";
 import { KeyQueue, LONGEST_RUN } from "../engine/key_queue.js";
 import { Printing } from "../engine/printing.js";
 import { RealTime } from "../time/real_time.js";
@@ -159,7 +159,7 @@ export class Panel {
    */
   async run(planned) {
     const askers = this.printing ? [this.printing] : [];
-    const { answers: [answer], askerAnswers } = partedAnswers([planned], askers, await this.ask(askedLines([planned], askers)));
+    const { answers: [answer], askerAnswers } = splitAnswers([planned], askers, await this.ask(linesWithQueries([planned], askers)));
     if (this.printing) this.printing.take(askerAnswers[0], this.cycles);
     const run = readRun(answer);
     this.cycles += run ? run.cycles : 0;

@@ -46,7 +46,7 @@ class Drawing {
    * @param {number} y
    * @param {number} size
    */
-  lamp(lamp, x, y, size) {
+  drawLamp(lamp, x, y, size) {
     const faceText = this.face.colours.get(lamp);
     const colour = faceText ? faceText.text : "red";
     const isLit = !this.litColours.has(colour);
@@ -59,12 +59,13 @@ class Drawing {
     for (const group of this.face.groups.filter((each) => endOf(each) <= this.lampCount)) {
       for (const lamp of lampsOf(group)) this.drawn.add(lamp);
       if (group.kind === "display") this.drawDisplay(group);
-      else if (group.kind === "die") this.drawAt(upTo(7).map((at) => ({ lamp: group.first + at, column: PIPS[at][0], row: PIPS[at][1] })));
-      else {
+      else if (group.kind === "die") {
+        this.drawGrid(upTo(7).map((at) => ({ lamp: group.first + at, column: PIPS[at][0], row: PIPS[at][1] })));
+      } else {
         const { first, rows, columns } = group;
         // A scanned group has the colours of its columns.
         const lampAt = (/** @type {number} */ at) => first + (isScanned(group) ? at % columns : at);
-        this.drawAt(upTo(rows * columns).map((at) => ({ lamp: lampAt(at), column: at % columns, row: Math.floor(at / columns) })));
+        this.drawGrid(upTo(rows * columns).map((at) => ({ lamp: lampAt(at), column: at % columns, row: Math.floor(at / columns) })));
       }
     }
   }
@@ -82,14 +83,14 @@ class Drawing {
    * Draws lamps in a grid, as large as possible.
    * @param {{ lamp: number, column: number, row: number }[]} cells
    */
-  drawAt(cells) {
+  drawGrid(cells) {
     if (cells.length === 0) return;
     const columns = Math.max(...cells.map(({ column }) => column)) + 1;
     const rows = Math.max(...cells.map(({ row }) => row)) + 1;
     const pitch = Math.min(16, (WIDTH - 2 * GAP) / columns);
     const left = (WIDTH - columns * pitch) / 2;
     for (const { lamp, column, row } of cells) {
-      this.lamp(lamp, left + (column + 0.5) * pitch, this.bottom + (row + 0.5) * pitch, pitch * 0.36);
+      this.drawLamp(lamp, left + (column + 0.5) * pitch, this.bottom + (row + 0.5) * pitch, pitch * 0.36);
     }
     this.bottom += rows * pitch + GAP;
   }
@@ -97,7 +98,7 @@ class Drawing {
   drawOtherLamps() {
     const columns = 8;
     const others = upTo(this.lampCount).filter((lamp) => !this.drawn.has(lamp));
-    this.drawAt(others.map((lamp, at) => ({ lamp, column: at % Math.min(columns, others.length), row: Math.floor(at / columns) })));
+    this.drawGrid(others.map((lamp, at) => ({ lamp, column: at % Math.min(columns, others.length), row: Math.floor(at / columns) })));
   }
 
   drawKeys() {
@@ -123,7 +124,7 @@ class Drawing {
 export function galleryPicture(boardText) {
   const drawing = new Drawing(boardText);
   drawing.drawGroups();
-  drawing.drawAt(drawing.face.grid.filter(({ lamp }) => lamp < drawing.lampCount));
+  drawing.drawGrid(drawing.face.grid.filter(({ lamp }) => lamp < drawing.lampCount));
   drawing.drawOtherLamps();
   drawing.drawKeys();
   return { width: WIDTH, height: Math.max(40, drawing.bottom), shapes: drawing.shapes };

@@ -22,15 +22,15 @@ import * as say from "../../words/session.js";
 export class NotForTheBench extends Error {}
 
 /** The first bytes of a session file. */
-const SESSION_NAME = "MCS4BEN1";
-const IMAGES = /\.(bin|rom)$/i;
+const SESSION_MAGIC = "MCS4BEN1";
+const IMAGE_FILES = /\.(bin|rom)$/i;
 const HEX_FILES = /\.(hex|ihx|ihex)$/i;
-const BOARDS = /\.toml$/i;
-const TESTS = /\.test$/i;
-const PROPERTIES = /\.props$/i;
-const PROGRAMS = /\.(asm|s|src|a4|4004)$/i;
+const BOARD_FILES = /\.toml$/i;
+const TEST_FILES = /\.test$/i;
+const PROPERTY_FILES = /\.props$/i;
+const PROGRAM_FILES = /\.(asm|s|src|a4|4004)$/i;
 /** Names that do not show the kind of text. */
-const TEXTS = /(^[^.]*|\.(txt|text))$/i;
+const TEXT_FILES = /(^[^.]*|\.(txt|text))$/i;
 
 /**
  * Returns the error for a file that the bench cannot use.
@@ -67,8 +67,8 @@ function textsOfLines(script) {
     const found = inputs.filter((input) => input.kind === kind).pop();
     return found ? found.text.map((line) => `${line}\n`).join("") : null;
   };
-  const left = inputs.filter(({ kind }) => kind !== "wire" && kind !== "asm");
-  const lines = left.map(({ line, text }) => [line, ...text, ...(text.length > 0 ? ["."] : [])].map((each) => `${each}\n`).join(""));
+  const otherInputs = inputs.filter(({ kind }) => kind !== "wire" && kind !== "asm");
+  const lines = otherInputs.map(({ line, text }) => [line, ...text, ...(text.length > 0 ? ["."] : [])].map((each) => `${each}\n`).join(""));
   return { board: last("wire"), program: last("asm"), tests: null, properties: null, lines: lines.join("") };
 }
 
@@ -79,15 +79,15 @@ function textsOfLines(script) {
  * @returns {FileTexts}
  */
 function readTexts(name, text) {
-  const alone = { board: null, program: null, tests: null, properties: null, lines: "" };
-  if (BOARDS.test(name)) return { ...alone, board: text };
-  if (TESTS.test(name)) return { ...alone, tests: text };
-  if (PROPERTIES.test(name)) return { ...alone, properties: text };
-  if (PROGRAMS.test(name)) return { ...alone, program: text };
+  const noTexts = { board: null, program: null, tests: null, properties: null, lines: "" };
+  if (BOARD_FILES.test(name)) return { ...noTexts, board: text };
+  if (TEST_FILES.test(name)) return { ...noTexts, tests: text };
+  if (PROPERTY_FILES.test(name)) return { ...noTexts, properties: text };
+  if (PROGRAM_FILES.test(name)) return { ...noTexts, program: text };
   if (/^[ \t]*(wire|asm)[ \t]*\r?$/m.test(text)) return textsOfLines(text);
-  if (/^([ \t]*([#;].*)?\r?\n)*[ \t]*test[ \t]+[^01\s]/.test(text)) return { ...alone, tests: text };
-  if (/^[ \t]*\[\[?(rom|ram|chain|keys|lamp)\]\]?/m.test(text)) return { ...alone, board: text };
-  return { ...alone, program: text, isGuess: true };
+  if (/^([ \t]*([#;].*)?\r?\n)*[ \t]*test[ \t]+[^01\s]/.test(text)) return { ...noTexts, tests: text };
+  if (/^[ \t]*\[\[?(rom|ram|chain|keys|lamp)\]\]?/m.test(text)) return { ...noTexts, board: text };
+  return { ...noTexts, program: text, isGuess: true };
 }
 
 /**
@@ -98,7 +98,8 @@ function readTexts(name, text) {
  */
 function openText(name, text) {
   if (name === PROJECT_FILE) throw new NotForTheBench(say.NAMES_FILES);
-  if (![HEX_FILES, BOARDS, PROGRAMS, TESTS, PROPERTIES, TEXTS].some((ending) => ending.test(name)) && !/^\s*(:|S)[0-9A-F]{9}/i.test(text)) {
+  const kinds = [HEX_FILES, BOARD_FILES, PROGRAM_FILES, TEST_FILES, PROPERTY_FILES, TEXT_FILES];
+  if (!kinds.some((ending) => ending.test(name)) && !/^\s*(:|S)[0-9A-F]{9}/i.test(text)) {
     throw refusal(say.NOT_A_KIND);
   }
   if (HEX_FILES.test(name) || /^\s*:[0-9A-F]{10}/i.test(text)) return { kind: "image", bytes: readHex(text) };
@@ -120,9 +121,9 @@ function openText(name, text) {
  */
 export function openedFile(name, bytes) {
   if (isProject(bytes)) return { kind: "project" };
-  const begin = new TextDecoder("latin1").decode(bytes.subarray(0, SESSION_NAME.length));
-  if (begin === SESSION_NAME || /\.mcs$/i.test(name)) return { kind: "session" };
-  if (IMAGES.test(name)) return { kind: "image", bytes: readBytes(bytes) };
+  const magic = new TextDecoder("latin1").decode(bytes.subarray(0, SESSION_MAGIC.length));
+  if (magic === SESSION_MAGIC || /\.mcs$/i.test(name)) return { kind: "session" };
+  if (IMAGE_FILES.test(name)) return { kind: "image", bytes: readBytes(bytes) };
   const text = textOf(bytes);
   if (text !== null && text.trim() !== "") return openText(name, text);
   throw refusal(text === null ? say.NOT_A_TEXT : say.EMPTY);

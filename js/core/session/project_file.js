@@ -25,11 +25,11 @@ const FIRST_LINE = "fethsaim project 1";
 /** The line that ends a text, as in lines for the bench. */
 const DOT = ".";
 const LAST_LINE = "end";
-const SUM_LINE = /^cksum \d+$/;
+const CHECKSUM_LINE = /^cksum \d+$/;
 /** The bytes in a line of the session's file. Lines of zeros are omitted. */
 const BYTES_OF_LINE = 16;
 /** The maximum size of a project file in bytes. The largest texts and sessions need far less. */
-export const LONGEST_PROJECT = 4 << 20;
+export const MAX_PROJECT_BYTES = 4 << 20;
 
 /** An error: the bytes are not a project. The message says why. */
 export class NotAProject extends Error {}
@@ -67,7 +67,7 @@ function linesOfText(word, text) {
  * @param {Word} word
  * @param {string} text
  */
-function unended(word, text) {
+function unendedLine(word, text) {
   return text === "" || text.endsWith("\n") ? [] : [`unended ${word}`];
 }
 
@@ -103,8 +103,9 @@ function oneLine(text) {
  */
 export function linesOfTexts({ name, boardText, programText, testText = "", propertiesText = "", breakpoints = [], watched = [] }) {
   const [board, program, tests, properties] = [boardText, programText, testText, propertiesText].map(plainLines);
-  const head = [`name ${oneLine(name)}`, ...unended("wire", board), ...unended("asm", program), ...unended("test", tests),
-    ...unended("properties", properties), ...linesOfBreakpoints(breakpoints), ...watched.map((text) => ["value", oneLine(text)].join(" "))];
+  const head = [`name ${oneLine(name)}`, ...unendedLine("wire", board), ...unendedLine("asm", program), ...unendedLine("test", tests),
+    ...unendedLine("properties", properties), ...linesOfBreakpoints(breakpoints),
+    ...watched.map((text) => ["value", oneLine(text)].join(" "))];
   return [...head, ...linesOfText("wire", board), ...linesOfText("asm", program), ...(tests === "" ? [] : linesOfText("test", tests)),
     ...(properties === "" ? [] : linesOfText("properties", properties))];
 }
@@ -132,16 +133,16 @@ export function isProject(bytes) {
 export class Lines {
   /** @param {string} text */
   constructor(text) {
-    this.all = text.split("\n");
+    this.lines = text.split("\n");
     this.at = 0;
   }
 
   get next() {
-    return this.all[this.at];
+    return this.lines[this.at];
   }
 
   take() {
-    const line = this.all[this.at];
+    const line = this.lines[this.at];
     this.at += 1;
     return line;
   }
@@ -161,9 +162,9 @@ export class Lines {
    */
   upToDot(word) {
     if (this.next !== word) throw this.fault(`\`${word}\``);
-    const end = this.all.indexOf(DOT, this.at + 1);
+    const end = this.lines.indexOf(DOT, this.at + 1);
     if (end < 0) throw new NotAProject(say.noEnd(word));
-    const lines = this.all.slice(this.at + 1, end);
+    const lines = this.lines.slice(this.at + 1, end);
     this.at = end + 1;
     return lines;
   }
@@ -226,17 +227,17 @@ function readText(lines, word, open) {
 /**
  * Reads the name, the texts, the breakpoints and the watched values. Throws if a text is too long for the editors.
  * @param {Lines} lines
- * @param {boolean} [takesLong] whether to accept longer texts
+ * @param {boolean} [acceptsLong] whether to accept longer texts
  * @returns {DebuggedTexts}
  */
-export function readTexts(lines, takesLong = false) {
+export function readTexts(lines, acceptsLong = false) {
   const { name, open, breakpoints, watched } = readHead(lines);
   const [boardText, programText] = [readText(lines, "wire", open), readText(lines, "asm", open)];
   const [testText, propertiesText] = (/** @type {Word[]} */ (["test", "properties"])).map((word) => (
     lines.next === word ? readText(lines, word, open) : ""));
   const texts = { name, boardText, programText, testText, propertiesText };
   const words = wordsOfLength(texts);
-  if (words && !takesLong) throw new TextTooLong(words);
+  if (words && !acceptsLong) throw new TextTooLong(words);
   const withBreakpoints = breakpoints.length > 0 ? { ...texts, breakpoints: mostBreakpoints(breakpoints) } : texts;
   return watched.length > 0 ? { ...withBreakpoints, watched } : withBreakpoints;
 }
@@ -266,22 +267,22 @@ function readFile(lines, size) {
  * Returns the content of a project file. Throws if the bytes are not a project.
  * @param {Uint8Array} bytes
  * @param {number} size the size of a session file in bytes
- * @param {boolean} [takesLong] whether to accept texts that are too long for the editors
+ * @param {boolean} [acceptsLong] whether to accept texts that are too long for the editors
  * @returns {Project}
  */
-export function readProject(bytes, size, takesLong = false) {
-  if (bytes.length > LONGEST_PROJECT) throw new NotAProject(say.TOO_MANY_BYTES);
+export function readProject(bytes, size, acceptsLong = false) {
+  if (bytes.length > MAX_PROJECT_BYTES) throw new NotAProject(say.TOO_MANY_BYTES);
   if (bytes.includes(0)) throw new NotAProject(say.HAS_ZERO_BYTES);
   const text = decoded(bytes);
   checkWhole(text);
   const lines = new Lines(text);
   lines.take();
-  if (SUM_LINE.test(lines.next)) lines.take();
-  const texts = readTexts(lines, takesLong);
+  if (CHECKSUM_LINE.test(lines.next)) lines.take();
+  const texts = readTexts(lines, acceptsLong);
   const file = readFile(lines, size);
   if (lines.next !== LAST_LINE) throw lines.fault(say.END_OF_FILE);
   lines.take();
-  if (lines.at !== lines.all.length - 1) throw lines.fault(say.END_OF_FILE);
+  if (lines.at !== lines.lines.length - 1) throw lines.fault(say.END_OF_FILE);
   return { ...texts, file };
 }
 

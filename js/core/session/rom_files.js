@@ -37,10 +37,10 @@ export class RomFiles {
    */
   async load(name, bytes) {
     const chips = await this.chips();
-    const lacked = bytes.findIndex((byte, at) => byte !== NO_BYTE && !chips.includes(Math.floor(at / PAGE_BYTES)));
-    if (lacked >= 0) {
-      const chip = Math.floor(lacked / PAGE_BYTES);
-      throw new LacksRom(say.lacksRom(chip, hex(lacked, 3)));
+    const missing = bytes.findIndex((byte, at) => byte !== NO_BYTE && !chips.includes(Math.floor(at / PAGE_BYTES)));
+    if (missing >= 0) {
+      const chip = Math.floor(missing / PAGE_BYTES);
+      throw new LacksRom(say.lacksRom(chip, hex(missing, 3)));
     }
     await this.calls.stop();
     const answer = await this.calls.act(textsOfBytes(bytes).map((text) => `asm\n${text}.\n`).join(""));
@@ -52,8 +52,8 @@ export class RomFiles {
   /** Resolves to the bytes of all ROMs of the board. The answer to a `list` can continue after the end of a ROM, so this cuts it. */
   async bytes() {
     const chips = await this.chips();
-    const listed = bytesOf(await this.calls.ask(listQueries(PAGES.filter((page) => chips.includes(page)))));
-    return listed.map((byte, at) => (chips.includes(Math.floor(at / PAGE_BYTES)) ? byte : NO_BYTE));
+    const allBytes = bytesOf(await this.calls.ask(listQueries(PAGES.filter((page) => chips.includes(page)))));
+    return allBytes.map((byte, at) => (chips.includes(Math.floor(at / PAGE_BYTES)) ? byte : NO_BYTE));
   }
 
   /** Resolves to the content of ROM in Intel HEX, or to "" if the board has no ROM. */

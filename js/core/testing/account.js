@@ -74,7 +74,7 @@ export class Account {
     const lines = answers.takeTrace().lines;
     if (this.waiting.key !== "") this.followLamps(answers.takeTrace().lines, elapsed);
     // The short trace omits a JMS or a BBL that leaves the return addresses unchanged.
-    this.followLinks(lines.length === links ? lines : askAll().takeTrace().lines, elapsed);
+    this.followCalls(lines.length === links ? lines : askAll().takeTrace().lines, elapsed);
   }
 
   /**
@@ -110,7 +110,7 @@ export class Account {
    * @param {string[]} lines
    * @param {number} elapsed
    */
-  followLinks(lines, elapsed) {
+  followCalls(lines, elapsed) {
     for (const line of lines) {
       const { cycles, address } = readTraced(line);
       const code = this.codes[address];

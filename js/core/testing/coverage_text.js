@@ -20,14 +20,14 @@ const WAYS_WIDTH = 13;
  * Returns a line with blanks in place of tabs.
  * @param {string} text
  */
-function expanded(text) {
+function expandTabs(text) {
   let line = "";
   for (const letter of text) line = letter === "\t" ? line.padEnd(line.length + TAB - (line.length % TAB)) : line + letter;
   return line;
 }
 
 /** @type {(jump: Covered) => boolean} returns whether a conditional jump was run, and always took the same direction */
-const isOneWay = ({ isJump, count, taken }) => isJump && count > 0 && (taken === 0 || taken === count);
+const isOneDirection = ({ isJump, count, taken }) => isJump && count > 0 && (taken === 0 || taken === count);
 
 /**
  * Returns a line of the report.
@@ -37,7 +37,7 @@ const isOneWay = ({ isJump, count, taken }) => isJump && count > 0 && (taken ===
 function rowOf(source, covered) {
   const count = covered ? covered.count || say.NEVER : "";
   const ways = covered && covered.isJump ? `${covered.taken}/${covered.count - covered.taken}` : "";
-  return `${String(count).padStart(COUNT_WIDTH)} ${ways.padEnd(WAYS_WIDTH)}  ${expanded(source)}`.replace(/ +$/, "");
+  return `${String(count).padStart(COUNT_WIDTH)} ${ways.padEnd(WAYS_WIDTH)}  ${expandTabs(source)}`.replace(/ +$/, "");
 }
 
 /**
@@ -49,11 +49,11 @@ export function coverageText(coverage, { text, before }) {
   const covered = new Map(coverage.lines.map((each) => [each.line, each]));
   const rows = text.replace(/\n$/, "").split("\n").map((source, at) => rowOf(source, covered.get(at + 1)));
   const never = coverage.never.map(({ from, to }) => (from === to ? `${from + before}` : say.fromTo(from + before, to + before)));
-  const oneWay = coverage.lines.filter(isOneWay).map(({ line, taken }) => say.wayOf(line + before, taken > 0));
+  const oneDirection = coverage.lines.filter(isOneDirection).map(({ line, taken }) => say.wayOf(line + before, taken > 0));
   const ends = [
     "", wordsOfCoverage(coverage),
     ...(never.length > 0 ? [say.neverRun(never.join(", "), never.length > 1 || never[0].includes(" "))] : []),
-    ...(oneWay.length > 0 ? [say.oneDirectionOnly(oneWay.join(", "), oneWay.length > 1)] : []),
+    ...(oneDirection.length > 0 ? [say.oneDirectionOnly(oneDirection.join(", "), oneDirection.length > 1)] : []),
   ];
   return `${[...rows, ...ends].join("\n")}\n`;
 }

@@ -15,13 +15,13 @@ import * as say from "../../words/testing.js";
  */
 
 /** The maximum of listed instructions, without the next one. */
-const MOST_SHOWN = 12;
+const MAX_INSTRUCTIONS = 12;
 
 /**
  * Returns where the listed part begins: the number of actions before it, and the cycles of its first run before it.
  * @param {Done[]} done
  */
-function beginOf(done) {
+function listedPart(done) {
   let left = SHOWN_CYCLES;
   let begin = { at: done.length, from: 0 };
   for (let at = done.length - 1; at >= 0 && left > 0; at--) {
@@ -42,10 +42,10 @@ export function lastInstructions(session, { board, map }) {
   const { engine, kept } = session;
   const { done } = kept;
   if (done.length === 0) return [];
-  const { at: begin, from } = beginOf(done);
+  const { at: begin, from } = listedPart(done);
   const file = kept.file.slice();
-  const linesOfDone = (/** @type {Done} */ { line, cycles }) => (line === "run" ? runLines(cycles) : `${line}\n`);
-  engine.serve(file, done.slice(0, begin).map(linesOfDone).join("") + (from > 0 ? runLines(from) : ""), file);
+  const linesOfAction = (/** @type {Done} */ { line, cycles }) => (line === "run" ? runLines(cycles) : `${line}\n`);
+  engine.serve(file, done.slice(0, begin).map(linesOfAction).join("") + (from > 0 ? runLines(from) : ""), file);
   let elapsed = kept.elapsed + done.slice(0, begin).reduce((sum, { cycles }) => sum + cycles, from);
   const trace = new TraceLines(engine, board, new InstructionTexts({ map, source: null }));
   const lines = trace.secondCycle(file, elapsed);
@@ -56,6 +56,6 @@ export function lastInstructions(session, { board, map }) {
     engine.serve(file, line === "run" ? runLines(left) : `${line}\n`, file);
     elapsed += left;
   });
-  const last = [...lines.slice(-MOST_SHOWN), say.comesNext(trace.next(session.file, elapsed))];
+  const last = [...lines.slice(-MAX_INSTRUCTIONS), say.comesNext(trace.next(session.file, elapsed))];
   return last.flatMap((each) => each.split("\n"));
 }

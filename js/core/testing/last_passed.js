@@ -32,11 +32,11 @@ function* piecesOf(done) {
  * @param {Set<number>} addresses
  * @returns {Passed | null}
  */
-export function lastPassed({ engine, begun, all }, addresses) {
+export function lastPassed({ engine, begun, actions }, addresses) {
   const file = begun.slice();
   const before = begun.slice();
   let [found, elapsed, from] = [0, 0, 0];
-  for (const { line, cycles } of piecesOf(all)) {
+  for (const { line, cycles } of piecesOf(actions)) {
     if (cycles === 0) {
       engine.serve(file, `${line}\n`, file);
       continue;
@@ -64,11 +64,12 @@ export function lastPassed({ engine, begun, all }, addresses) {
  */
 export function wordsOfPassed(session, map, { address, text }) {
   const labels = [...map.names.values()].filter(({ isLabel }) => isLabel);
-  const any = lastPassed(session, new Set(labels.map(({ value }) => value)));
+  const passedLabel = lastPassed(session, new Set(labels.map(({ value }) => value)));
   const ago = (/** @type {Passed} */ { cycles }) => say.cyclesAgo(session.elapsed - cycles);
-  const named = any && labels.find(({ value }) => value === any.address);
-  const last = any && named ? say.lastLabel(named.name, ago(any)) : "";
+  const named = passedLabel && labels.find(({ value }) => value === passedLabel.address);
+  const last = passedLabel && named ? say.lastLabel(named.name, ago(passedLabel)) : "";
   if (address < 0) return last;
-  const own = lastPassed(session, new Set([address]));
-  return say.wasPassed(last, text.startsWith("@") ? text : `pc ${address}`, own ? say.passedLast(ago(own)) : say.NOT_PASSED);
+  const passedAddress = lastPassed(session, new Set([address]));
+  const when = passedAddress ? say.passedLast(ago(passedAddress)) : say.NOT_PASSED;
+  return say.wasPassed(last, text.startsWith("@") ? text : `pc ${address}`, when);
 }

@@ -1,6 +1,6 @@
 // Makes the lines that press keys of a board by their names, one after the other.
 
-import { SEEN_QUESTION, hasScannedDisplay } from "../engine/seen_text.js";
+import { SEEN_QUERY, hasScannedDisplay } from "../engine/seen_text.js";
 import { TOOL_KEY_DOWN_CYCLES, TOOL_KEY_UP_CYCLES } from "../time/mcs4_time.js";
 import { keysOf } from "./test_text.js";
 
@@ -33,5 +33,5 @@ export function pressLines(face, text, { down, up }) {
     const { press, release } = /** @type {import("./test_text.js").Key} */ (keys.get(name));
     return [press, `run ${down}`, release, `run ${up}`];
   });
-  return { lines: [...lines, hasScannedDisplay(face) ? SEEN_QUESTION.trim() : "lamps"], unknown: null };
+  return { lines: [...lines, hasScannedDisplay(face) ? SEEN_QUERY.trim() : "lamps"], unknown: null };
 }

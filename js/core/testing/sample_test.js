@@ -2,7 +2,7 @@
 // display, or a lamp that is on.
 
 import { shownAnswers } from "../board/shown_answers.js";
-import { SEEN_QUESTION, hasScannedDisplay } from "../engine/seen_text.js";
+import { SEEN_QUERY, hasScannedDisplay } from "../engine/seen_text.js";
 import { cyclesOfMs } from "../time/mcs4_time.js";
 import * as say from "../../words/text.js";
 import { NoAccount } from "./account.js";
@@ -30,7 +30,7 @@ async function shownAfter(engine, { file, names: { face, board }, codes }, press
   const session = new TestSession(engine, file, new NoAccount(codes), async () => {});
   if (press !== "") session.command(press);
   await session.run(cyclesOfMs(HELD_MS));
-  const [display] = shownAnswers(face, board, "", session.ask(hasScannedDisplay(face) ? SEEN_QUESTION : "lamps\n")).lines;
+  const [display] = shownAnswers(face, board, "", session.ask(hasScannedDisplay(face) ? SEEN_QUERY : "lamps\n")).lines;
   const [marks] = session.ask("lamps\n");
   const lit = [...face.lampNumbers].find(([, at]) => marks.slice("lamps ".length)[at] === "*");
   return [...(display ? [`display ${display}`] : []), ...(lit ? [`lamp ${lit[0]} on`] : []), ...say.OTHER_CONDITIONS];

@@ -34,7 +34,7 @@ import * as say from "../../words/testing.js";
  */
 
 /** The interval at which perceived lamps and the printout are checked, in cycles. */
-const LOOK_CYCLES = 1000;
+const CHECK_INTERVAL = 1000;
 
 /** @param {Step} step */
 function placeOf({ source, line, text }) {
@@ -85,8 +85,8 @@ export class TestRun {
       return { name, line, cycles: 0, failure };
     }
     this.account.codes = this.prepared.codes;
-    const paper = this.printer && new Printout(this.printer, begun.codes);
-    const session = new TestSession(this.engine, begun.file, this.account, this.yieldToMessages, paper);
+    const printout = this.printer && new Printout(this.printer, begun.codes);
+    const session = new TestSession(this.engine, begun.file, this.account, this.yieldToMessages, printout);
     // The test that saved the state can have changed ROM.
     if (from !== "" && this.changesRom) session.readCodes();
     this.down = TOOL_KEY_DOWN_CYCLES;
@@ -112,7 +112,7 @@ export class TestRun {
         if (failure) return failure;
         continue;
       }
-      const words = await this.do(session, action);
+      const words = await this.execute(session, action);
       const where = within.length > 0 ? `; in ${within.join(", in ")}` : "";
       if (words !== "") return { ...placeOf(step), words: words + where, ...this.reportOf(session) };
     }
@@ -160,11 +160,11 @@ export class TestRun {
    * @param {Exclude<Action, { steps: Step[] }>} action
    * @returns {Promise<string>}
    */
-  async do(session, action) {
+  async execute(session, action) {
     if (action.kind === "run") return this.advance(session, action.cycles);
     if (action.kind === "until") return this.until(session, action.condition, action.cycles);
-    if (action.kind === "expect") return session.look(action.condition).message;
-    if ("keys" in action) return this.doKeys(session, action.keys, action.kind);
+    if (action.kind === "expect") return session.check(action.condition).message;
+    if ("keys" in action) return this.operateKeys(session, action.keys, action.kind);
     if (action.kind === "set") {
       for (const command of action.commands) session.command(command);
       if (action.changesRom) session.readCodes();
@@ -198,11 +198,11 @@ export class TestRun {
 
   /** @param {TestSession} session has reached a code that is not an instruction */
   wordsOfCode({ counter }) {
-    return say.beforeCode(this.named(counter));
+    return say.beforeCode(this.addressText(counter));
   }
 
   /** @param {number} address */
-  named(address) {
+  addressText(address) {
     const name = this.prepared.names.map.nameOf(address);
     return `${hex(address, 3)}${name && ` (${name})`}`;
   }
@@ -213,13 +213,13 @@ export class TestRun {
    * @param {ChosenKey} chosen
    * @returns {{ key: Key | undefined, words: string }}
    */
-  choose(session, { word, place, probe, keys }) {
+  chooseKey(session, { word, place, probe, keys }) {
     const value = parseInt(valuesOf(new Answers(session.ask(`trace 1 ${probe}\n`)).takeTrace().row)[0], 16);
     const what = say.isAnd(place, value);
     if (keys.length > 0) return { key: keys[value], words: say.hasKeys(what, word, counted(keys.length, "key")) };
-    const own = keysOf(this.prepared.names.face);
+    const boardKeys = keysOf(this.prepared.names.face);
     const digit = hex(value, 1);
-    const key = own.get(String(value)) || own.get(digit);
+    const key = boardKeys.get(String(value)) || boardKeys.get(digit);
     return { key, words: say.hasNoKey(what, value, value > 9 ? say.norKey(digit) : "") };
   }
 
@@ -229,9 +229,9 @@ export class TestRun {
    * @param {(Key | ChosenKey)[]} keys
    * @param {"keys" | "press" | "release"} kind
    */
-  async doKeys(session, keys, kind) {
+  async operateKeys(session, keys, kind) {
     for (const each of keys) {
-      const { key, words } = "word" in each ? this.choose(session, each) : { key: each, words: "" };
+      const { key, words } = "word" in each ? this.chooseKey(session, each) : { key: each, words: "" };
       if (!key) return words;
       const { name, press, release } = key;
       if (kind !== "release") {
@@ -257,10 +257,10 @@ export class TestRun {
   async until(session, condition, within) {
     const begun = session.elapsed;
     const isLabel = condition.address >= 0;
-    if (!isLabel && session.look(condition).holds) return "";
+    if (!isLabel && session.check(condition).holds) return "";
     const end = begun + within;
     const stop = isLabel ? await this.untilLabel(session, condition, end) : await this.untilChange(session, condition, end);
-    const { holds, message } = session.look(condition);
+    const { holds, message } = session.check(condition);
     if (holds) return "";
     if (stop === "code") return say.runStoppedAt(session.elapsed - begun, this.wordsOfCode(session), message);
     return say.didNotCome(within, message, wordsOfPassed(session, this.prepared.names.map, condition));
@@ -300,7 +300,7 @@ export class TestRun {
       piece = Math.min(piece, most);
       const cycles = condition.places.length > 0 ? this.cyclesToChange(session, condition, beside, piece, most) : 0;
       stop = await session.run(cycles || piece);
-      if (cycles > 0 || (piece === 1 && session.look(condition).holds)) break;
+      if (cycles > 0 || (piece === 1 && session.check(condition).holds)) break;
     }
     return stop;
   }
@@ -314,8 +314,8 @@ export class TestRun {
   async untilSeen(session, condition, end) {
     let stop = "end";
     while (session.elapsed < end && stop === "end") {
-      stop = await session.run(Math.min(LOOK_CYCLES, end - session.elapsed));
-      if (session.look(condition).holds) break;
+      stop = await session.run(Math.min(CHECK_INTERVAL, end - session.elapsed));
+      if (session.check(condition).holds) break;
     }
     return stop;
   }

@@ -1,7 +1,7 @@
 // A session under test, in memory. It stores an earlier state and the actions since then, so that the last instructions can be reported.
 // Each run is counted before it is executed.
 
-import { SEEN_QUESTION } from "../engine/seen_text.js";
+import { SEEN_QUERY } from "../engine/seen_text.js";
 import { readCounter, readRegisters } from "../bench/answers.js";
 import { valueIn } from "../bench/state_line.js";
 import { romCodes } from "../engine/rom_codes.js";
@@ -31,37 +31,37 @@ export class TestSession {
    * @param {Uint8Array} file the initial state
    * @param {Account} account
    * @param {() => Promise<void>} yieldToMessages is called between pieces of long work; throws if the work is cancelled
-   * @param {Printout | null} paper the printout, if a test asks for it
+   * @param {Printout | null} printout the printout, if a test asks for it
    */
-  constructor(engine, file, account, yieldToMessages, paper = null) {
+  constructor(engine, file, account, yieldToMessages, printout = null) {
     this.engine = engine;
     this.file = file.slice();
     /** The session before the last run. The next run reuses its buffer. */
-    this.past = file.slice();
+    this.previous = file.slice();
     this.account = account;
     this.yieldToMessages = yieldToMessages;
-    this.paper = paper;
+    this.printout = printout;
     this.elapsed = 0;
     this.marked = 0;
     /** The cycles of the last run, 0 if there was none. */
     this.ran = 0;
     /** @type {Kept} */
     this.kept = { file: file.slice(), elapsed: 0, done: [] };
-    /** The initial state; `all` has the actions since then, with consecutive runs joined. */
+    /** The initial state; `actions` are all actions since then, with consecutive runs joined. */
     this.begun = file;
     /** @type {Done[]} */
-    this.all = [];
+    this.actions = [];
     this.spare = new Uint8Array(file.length);
     this.counter = 0;
     this.owed = "0";
     this.takeRegisters(this.ask("regs\n")[0]);
     account.begin();
-    this.beginsOwing = this.owed === "1";
+    this.beginsInSecondCycle = this.owed === "1";
   }
 
   /** The codes that were printed, if the printout is recorded. */
   get codes() {
-    return this.paper ? this.paper.codes : [];
+    return this.printout ? this.printout.codes : [];
   }
 
   /** @param {string} lines */
@@ -86,7 +86,7 @@ export class TestSession {
     if (!answer.startsWith("ok ")) throw new Error(`the bench answered ${answer} to: ${line}`);
     this.takeRegisters(regs);
     this.kept.done.push({ line, cycles: 0 });
-    this.all.push({ line, cycles: 0 });
+    this.actions.push({ line, cycles: 0 });
   }
 
   /** Reads the bytes in ROM again after they have changed. */
@@ -112,17 +112,17 @@ export class TestSession {
   /** @param {number} cycles at most LONGEST_RUN */
   runPiece(cycles) {
     if (cycles >= SHOWN_CYCLES) this.spare.set(this.file);
-    const { account, engine, file, paper, past } = this;
-    const asked = paper ? paper.questions(cycles) : "";
-    const answers = new Answers(engine.serve(file, `${asked}${account.questions(cycles)}run ${cycles}\nregs\n`, past).answers);
-    if (paper) paper.take(answers, this.elapsed);
+    const { account, engine, file, printout, previous } = this;
+    const asked = printout ? printout.questions(cycles) : "";
+    const answers = new Answers(engine.serve(file, `${asked}${account.questions(cycles)}run ${cycles}\nregs\n`, previous).answers);
+    if (printout) printout.take(answers, this.elapsed);
     account.take(answers, this.elapsed, () => new Answers(engine.ask(file, `trace ${cycles}\n`).answers));
     const ran = answers.takeRun();
-    if (this.beginsOwing && ran.cycles > 0) {
-      this.beginsOwing = false;
+    if (this.beginsInSecondCycle && ran.cycles > 0) {
+      this.beginsInSecondCycle = false;
       account.begunBefore += 1;
     }
-    [this.file, this.past] = [past, file];
+    [this.file, this.previous] = [previous, file];
     this.takeRegisters(answers.take());
     this.ran = ran.cycles;
     if (ran.cycles >= SHOWN_CYCLES) {
@@ -131,23 +131,23 @@ export class TestSession {
       this.spare = old;
     }
     if (ran.cycles > 0) this.kept.done.push({ line: "run", cycles: ran.cycles });
-    this.note(ran.cycles);
+    this.addRun(ran.cycles);
     this.elapsed += ran.cycles;
     return ran;
   }
 
-  /** @param {number} cycles the length of a run to add to `all` */
-  note(cycles) {
-    const last = this.all[this.all.length - 1];
+  /** @param {number} cycles the length of a run to add to `actions` */
+  addRun(cycles) {
+    const last = this.actions[this.actions.length - 1];
     if (last && last.line === "run") last.cycles += cycles;
-    else if (cycles > 0) this.all.push({ line: "run", cycles });
+    else if (cycles > 0) this.actions.push({ line: "run", cycles });
   }
 
   /** Uncounts the last cycle of the last instruction, which will not be completed. */
   cutShort() {
     if (this.ran === 0 || !this.account.keepsTimes) return;
     const before = this.ran > 1 ? `run ${this.ran - 1}\n` : "";
-    const answers = this.engine.ask(this.past, `${before}trace 1\n`).answers.slice(before === "" ? 0 : 1);
+    const answers = this.engine.ask(this.previous, `${before}trace 1\n`).answers.slice(before === "" ? 0 : 1);
     const [line] = new Answers(answers).takeTrace().lines;
     if (line) this.account.cutShort(readTraced(line).address);
   }
@@ -158,21 +158,22 @@ export class TestSession {
    * @returns {{ values: string[], beside: Beside }}
    */
   readCondition({ places, needs }) {
-    const seen = needs.includes("seen") ? this.ask(SEEN_QUESTION) : [];
+    const seen = needs.includes("seen") ? this.ask(SEEN_QUERY) : [];
     const asksKeys = needs.includes("keys");
     const trace = places.length > 0 ? `trace 1 ${places.join(" ")}\n` : "";
     const answers = new Answers(this.ask(`${trace}regs\n${asksKeys ? "state\n" : ""}`));
     const values = places.length > 0 ? valuesOf(answers.takeTrace().row) : [];
     const { owed, test } = readRegisters(answers.take());
     const keys = asksKeys ? valueIn(answers.take(), "keys") : "";
-    return { values, beside: { test, owed, keys, cycles: this.elapsed - this.marked, seen, printed: this.paper ? this.paper.words : [] } };
+    const printed = this.printout ? this.printout.words : [];
+    return { values, beside: { test, owed, keys, cycles: this.elapsed - this.marked, seen, printed } };
   }
 
   /**
    * Returns whether a condition holds now. If not, `message` has the present and the expected value.
    * @param {Condition} condition
    */
-  look(condition) {
+  check(condition) {
     const { values, beside } = this.readCondition(condition);
     return { holds: condition.holds(values, beside), message: condition.explain(values, beside) };
   }

@@ -37,7 +37,7 @@ import { readSources } from "./test_text.js";
  */
 
 /** The minimum time between two calls of `goesOn`, in milliseconds. */
-const BREATH_TIME = 40;
+const YIELD_INTERVAL = 40;
 
 /**
  * Reads the texts. Returns the prepared session and the tests, or the errors.
@@ -69,7 +69,7 @@ function someStep(steps, isWanted) {
  * @param {Test[]} tests
  * @param {Test} test
  */
-function savingOf(tests, { textNumber, from }) {
+function testThatSaves(tests, { textNumber, from }) {
   return tests.find((each) => each.textNumber === textNumber
     && each.steps.some(({ action }) => action.kind === "save" && action.state === from));
 }
@@ -79,15 +79,15 @@ function savingOf(tests, { textNumber, from }) {
  * @param {Test[]} tests
  * @param {(test: Test) => boolean} isWanted
  */
-function leadingTo(tests, isWanted) {
+function withPrerequisites(tests, isWanted) {
   /** @type {Set<Test>} */
   const wanted = new Set();
-  for (let test = tests.find(isWanted); test && !wanted.has(test); test = savingOf(tests, test)) wanted.add(test);
+  for (let test = tests.find(isWanted); test && !wanted.has(test); test = testThatSaves(tests, test)) wanted.add(test);
   return tests.filter((test) => wanted.has(test));
 }
 
 /** @type {(action: Action) => boolean} returns whether the condition of a step is about the printout */
-const asksForPaper = (action) => "condition" in action && action.condition.needs.includes("printed");
+const needsPrintout = (action) => "condition" in action && action.condition.needs.includes("printed");
 
 /** @type {(action: Action) => boolean} */
 const changesRom = (action) => action.kind === "set" && action.changesRom;
@@ -105,24 +105,26 @@ export async function runTests(engine, texts, goesOn, options = {}) {
   const { Counting = Account, ended = () => {}, ran = () => {}, only = null } = options;
   const { prepared, faults, tests: all } = readTested(engine, texts);
   const { sources = [] } = texts;
-  const tests = only ? leadingTo(all, ({ name, textNumber }) => name === only.name && sources[textNumber - 1].name === only.source) : all;
+  const isOnly = only
+    && ((/** @type {Test} */ { name, textNumber }) => name === only.name && sources[textNumber - 1].name === only.source);
+  const tests = isOnly ? withPrerequisites(all, isOnly) : all;
   if (!prepared) return { faults, outcomes: [], coverage: null, profile: null };
   const account = new Counting(prepared.codes);
   /** @type {Outcome[]} */
   const outcomes = [];
-  let last = performance.now();
+  let lastYield = performance.now();
   const yieldToMessages = async () => {
-    if (performance.now() - last < BREATH_TIME) return;
+    if (performance.now() - lastYield < YIELD_INTERVAL) return;
     if (!(await goesOn(outcomes.length, tests.length))) throw new Cancelled();
-    last = performance.now();
+    lastYield = performance.now();
   };
-  const printer = tests.some(({ steps }) => someStep(steps, asksForPaper)) ? prepared.names.face.printer : null;
+  const printer = tests.some(({ steps }) => someStep(steps, needsPrintout)) ? prepared.names.face.printer : null;
   const run = new TestRun(engine, prepared, account, yieldToMessages, printer);
   run.ran = ran;
   run.changesRom = tests.some(({ steps }) => someStep(steps, changesRom));
   if (tests.length > 1) engine.keep(prepared.file);
   for (const test of tests) {
-    const saving = savingOf(tests, test);
+    const saving = testThatSaves(tests, test);
     outcomes.push(await run.run(test, saving ? saving.name : ""));
     ended(outcomes[outcomes.length - 1], outcomes.length, tests.length);
     await yieldToMessages();

@@ -44,8 +44,8 @@ import * as say from "../../words/testing.js";
  */
 
 /** The maximum of repetitions, and of executed lines in a test with all its repetitions. */
-const MOST_TIMES = 100000;
-const MOST_LINES = 1000000;
+const MAX_REPETITIONS = 100000;
+const MAX_LINES = 1000000;
 
 /** An error in a line, with its first column. */
 class BadLine extends Error {
@@ -263,7 +263,7 @@ class TestReader {
     const before = this.lines;
     this.lines += this.repeats.reduce((product, { times }) => product * times, more);
     if (this.sharing) this.sharing.lines = this.lines;
-    if (before <= MOST_LINES && this.lines > MOST_LINES) fail(say.TOO_MANY_LINES);
+    if (before <= MAX_LINES && this.lines > MAX_LINES) fail(say.TOO_MANY_LINES);
   }
 
   /**
@@ -277,7 +277,7 @@ class TestReader {
     const step = { source: this.source, line, text, action: { kind: "mark" } };
     this.steps.push(step);
     if (words[0] === "repeat") {
-      const isCount = words.length === 2 && /^\d{1,6}$/.test(words[1]) && Number(words[1]) >= 1 && Number(words[1]) <= MOST_TIMES;
+      const isCount = words.length === 2 && /^\d{1,6}$/.test(words[1]) && Number(words[1]) >= 1 && Number(words[1]) <= MAX_REPETITIONS;
       const times = isCount ? Number(words[1]) : 1;
       const outer = this.steps;
       this.steps = [];
@@ -301,10 +301,10 @@ class TestReader {
     if (words.length !== 2) fail(say.DO_FORM);
     const [, name] = words;
     if (this.sharing && this.sharing.name === name) fail(say.stepsUseThemselves(name));
-    const there = [...this.shared.keys()].filter((each) => each !== "" && (!this.sharing || each !== this.sharing.name));
+    const knownNames = [...this.shared.keys()].filter((each) => each !== "" && (!this.sharing || each !== this.sharing.name));
     const found = this.shared.get(name);
     if (!found) {
-      const which = say.knownSteps(there.join(" "), name);
+      const which = say.knownSteps(knownNames.join(" "), name);
       return fail(say.noSteps(name, which));
     }
     this.addLines(found.lines);
@@ -348,8 +348,8 @@ class TestReader {
       return { kind, state };
     }
     if (this.test.steps.length > 1 || this.repeats.length > 0) fail(say.FROM_FORM);
-    const there = this.savedBy.size > 0 ? say.knownStates([...this.savedBy.keys()].join(" ")) : "";
-    if (!before) fail(say.noSuchState(state, there));
+    const knownStates = this.savedBy.size > 0 ? say.knownStates([...this.savedBy.keys()].join(" ")) : "";
+    if (!before) fail(say.noSuchState(state, knownStates));
     if (before === this.test) fail(say.OWN_STATE);
     this.test.from = state;
     return { kind, state };
@@ -397,9 +397,9 @@ class TestReader {
    * @returns {never}
    */
   noKey(name, word) {
-    const there = [...this.keys.keys()].join(" ");
+    const keyNames = [...this.keys.keys()].join(" ");
     const what = word.length > name.length ? say.nor(name, word) : name;
-    return fail(say.noKey(what, there));
+    return fail(say.noKey(what, keyNames));
   }
 
   /**

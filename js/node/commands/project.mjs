@@ -1,7 +1,7 @@
 // `mcs4 project`: splits a project of the page into files of a folder, and joins such files.
 import { existsSync, realpathSync } from "node:fs";
 import { basename, join } from "node:path";
-import { LONGEST_PROJECT, NotAProject, projectText, readProject, wordsOfLength } from "../../core/session/project_file.js";
+import { MAX_PROJECT_BYTES, NotAProject, projectText, readProject, wordsOfLength } from "../../core/session/project_file.js";
 import { PART_NAMES, breakpointsIn, partsOfProject, valuesIn } from "../../core/session/project_parts.js";
 import { newSession } from "../../core/testing/prepared.js";
 import * as say from "../../words/commands.js";
@@ -37,7 +37,7 @@ function ofFile(name, act) {
  * @param {string} folder
  */
 function split(name, folder) {
-  const project = ofFile(name, () => readProject(readUserFile(name, LONGEST_PROJECT), SESSION_BYTES, true));
+  const project = ofFile(name, () => readProject(readUserFile(name, MAX_PROJECT_BYTES), SESSION_BYTES, true));
   writeNewFiles(folder, partsOfProject(project), Object.values(PART_NAMES));
 }
 

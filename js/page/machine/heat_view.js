@@ -3,7 +3,7 @@
 
 import { block, byId, field } from "../ui/dom.js";
 import { parseCount } from "../../core/bench/numbers.js";
-import { PassingHeat, warmthOf, wordsOfHeat, wordsOfChanges, wordsOfPassing, wordsOfSeen } from "../../core/machine/warmth.js";
+import { PassingHeat, heatLevels, wordsOfHeat, wordsOfChanges, wordsOfPassing, wordsOfSeen } from "../../core/machine/warmth.js";
 import * as say from "../../words/machine.js";
 
 /**
@@ -167,7 +167,7 @@ export class HeatView {
    */
   showCells(heat, wordsOf) {
     const map = this.calls.map();
-    const warmth = warmthOf(heat, /** @type {HeatKind} */ (this.kind.value));
+    const warmth = heatLevels(heat, /** @type {HeatKind} */ (this.kind.value));
     this.calls.show(new Map(heat.cells.map((cell) => (
       [cell.place, { warmth: warmth.get(cell.place) || 0, words: say.changedHow(wordsOf(cell, map)) }]))));
   }

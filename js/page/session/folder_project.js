@@ -3,7 +3,7 @@
 import { ProjectFault, readProject } from "../../core/project/project_folder.js";
 import { LONGEST_PROJECT_FILE, PROJECT_FILE } from "../../core/project/project_toml.js";
 import { NotForTheBench, openedFile } from "../../core/session/opened_file.js";
-import { LONGEST_PROJECT } from "../../core/session/project_file.js";
+import { MAX_PROJECT_BYTES } from "../../core/session/project_file.js";
 import * as say from "../../words/session.js";
 
 /**
@@ -33,7 +33,7 @@ async function bytesOf(file, limit) {
 async function textIn(files, path, kind) {
   const file = files.get(path);
   if (!file) return "";
-  const opened = openedFile(path, await bytesOf(file, LONGEST_PROJECT));
+  const opened = openedFile(path, await bytesOf(file, MAX_PROJECT_BYTES));
   const text = opened.kind === "texts" ? opened.texts[kind] : null;
   if (text === null) throw new NotForTheBench(say.noText(path, kind.endsWith("s") ? kind : `a ${kind}`));
   return text;

@@ -78,10 +78,10 @@ export class KeptPast {
    * @param {News} news
    * @param {{ file: Uint8Array, total: number, reset: number }} present the session after these entries
    */
-  take({ isAnew, entries }, present) {
+  take({ isNewPast, entries }, present) {
     const cycles = cyclesOf(entries);
     const last = this.segments[this.segments.length - 1];
-    if (isAnew || !last || cycles > MAX_REPORT_CYCLES) {
+    if (isNewPast || !last || cycles > MAX_REPORT_CYCLES) {
       this.segments = [];
       this.add(present);
       return;

@@ -5,7 +5,7 @@ import { runsAtOnce } from "../../core/engine/examples.js";
 import { newRecord } from "./kept_session.js";
 import { textsOfFolder } from "./folder_project.js";
 import { openedFile } from "../../core/session/opened_file.js";
-import { LONGEST_PROJECT, projectText, readProject, wordsOfLength } from "../../core/session/project_file.js";
+import { MAX_PROJECT_BYTES, projectText, readProject, wordsOfLength } from "../../core/session/project_file.js";
 import { NotKept, wordsOfStoreFault } from "./store.js";
 import * as say from "../../words/session.js";
 
@@ -156,7 +156,7 @@ export class SessionManager {
    */
   async openFile(file) {
     try {
-      const bytes = new Uint8Array(await file.slice(0, LONGEST_PROJECT + 1).arrayBuffer());
+      const bytes = new Uint8Array(await file.slice(0, MAX_PROJECT_BYTES + 1).arrayBuffer());
       const opened = openedFile(file.name, bytes);
       if (opened.kind === "texts") await this.calls.texts(file.name, opened.texts);
       else if (opened.kind === "image") await this.calls.image(file.name, opened.bytes);

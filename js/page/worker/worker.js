@@ -54,10 +54,10 @@ class BenchWorker {
   take(message) {
     if (message.kind === "request") {
       this.requests.push(message);
-      this.calls.bench.spare.push(...message.spare);
+      this.calls.bench.spareBuffers.push(...message.spare);
     }
     if (message.kind === "cancel") this.cancelled = message.number;
-    if (message.kind === "spare") this.calls.bench.spare.push(message.buffer);
+    if (message.kind === "spare") this.calls.bench.spareBuffers.push(message.buffer);
     if (message.kind === "ping") this.post({ kind: "pong" });
     this.wake();
   }
