@@ -21,8 +21,8 @@ const HELP = { type: "boolean", short: "h" };
  * @param {string[]} words
  */
 async function meantBy(word, words) {
-  const { mostAlike } = await import("../core/text/alike.js");
-  return mostAlike(word, words);
+  const { similarWords } = await import("../core/text/alike.js");
+  return similarWords(word, words);
 }
 
 /**

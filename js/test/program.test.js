@@ -2,7 +2,7 @@
 import assert from "node:assert/strict";
 import { readFileSync } from "node:fs";
 import { test } from "node:test";
-import { distance, mostAlike } from "../core/text/alike.js";
+import { editDistance, similarWords } from "../core/text/alike.js";
 import { counted } from "../core/bench/numbers.js";
 import { programTexts, wordsOfAssembled } from "../core/text/assembling.js";
 import { namesOf, partsOf, tokensOf, wordAt } from "../core/text/assembly.js";
@@ -41,10 +41,10 @@ test("a line's words have colours, the comment whatever is in it", () => {
 });
 
 test("words that are alike", () => {
-  assert.deepEqual([distance("strat", "start"), distance("LDX", "LDM"), distance("", "abc")], [1, 1, 3]);
-  assert.deepEqual(mostAlike("strat", ["start", "stop", "far"]), ["start"]);
-  assert.deepEqual(mostAlike("Loop", ["loop"]), ["loop"]);
-  assert.deepEqual(mostAlike("xyz", ["start"]), []);
+  assert.deepEqual([editDistance("strat", "start"), editDistance("LDX", "LDM"), editDistance("", "abc")], [1, 1, 3]);
+  assert.deepEqual(similarWords("strat", ["start", "stop", "far"]), ["start"]);
+  assert.deepEqual(similarWords("Loop", ["loop"]), ["loop"]);
+  assert.deepEqual(similarWords("xyz", ["start"]), []);
 });
 
 test("what is not an instruction, and what may be meant", () => {

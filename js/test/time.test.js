@@ -2,7 +2,7 @@ import assert from "node:assert/strict";
 import { test } from "node:test";
 import { Rate } from "../core/time/rate.js";
 import { CYCLES_PER_SECOND, CYCLE_US, EYE_CYCLES, FRAME_CYCLES, FRAME_MS, cyclesOfMs } from "../core/time/mcs4_time.js";
-import { MOST_AHEAD, MOST_DUE, RealTime } from "../core/time/real_time.js";
+import { MAX_AHEAD, MAX_DUE, RealTime } from "../core/time/real_time.js";
 import { wordsOfTime } from "../core/bench/words.js";
 import { PLACES_ARE } from "../words/conditions.js";
 import { cannotBeSought } from "../words/time.js";
@@ -27,7 +27,7 @@ test("a second of frames is 92,593 cycles, whatever their length", () => {
 
 test("a slow frame owes little, and clocks that go back owe nothing", () => {
   const time = new RealTime(0, 0);
-  assert.equal(time.due(900), MOST_DUE);
+  assert.equal(time.due(900), MAX_DUE);
   assert.equal(time.due(900), 0);
   assert.equal(time.due(890), 0);
   assert.equal(time.due(910), 925);
@@ -52,7 +52,7 @@ test("a page that was held up or asleep stood still, though the clock of the fra
 /** Returns the cycles of a second of frames, and of keys at some times, each with the cycles that it runs early. */
 function cyclesOf(frame, keys) {
   const time = new RealTime(0, 0);
-  const events = keys.map((now) => ({ now, ahead: MOST_AHEAD }));
+  const events = keys.map((now) => ({ now, ahead: MAX_AHEAD }));
   for (let now = 0; now <= 1000; now += frame) events.push({ now, ahead: 0 });
   events.push({ now: 1000.5, ahead: 0 });
   let sum = 0;
@@ -60,7 +60,7 @@ function cyclesOf(frame, keys) {
     const due = time.due(now, ahead);
     assert.ok(due >= 0, `${due} at ${now}`);
     sum += due;
-    assert.ok(sum <= ((now + MOST_AHEAD) / 1000) * CYCLES_PER_SECOND, `ahead of its time at ${now}`);
+    assert.ok(sum <= ((now + MAX_AHEAD) / 1000) * CYCLES_PER_SECOND, `ahead of its time at ${now}`);
     assert.ok(Math.abs(time.reached - (sum + Math.max(0, time.owed)) * (1000 / CYCLES_PER_SECOND)) < 0.001, `reached at ${now}`);
   }
   return sum;
@@ -78,7 +78,7 @@ test("a second has as many cycles with keys as without, and no moment is more th
 test("a key is served at once, and frames then wait until it is paid back", () => {
   const time = new RealTime(0, 0);
   assert.equal(time.due(10), 925);
-  assert.equal(time.due(15, MOST_AHEAD), 464 + 1543);
+  assert.equal(time.due(15, MAX_AHEAD), 464 + 1543);
   assert.equal(time.due(20), 0);
   assert.equal(time.due(25), 0);
   assert.equal(time.due(31.6), 0);
@@ -87,13 +87,13 @@ test("a key is served at once, and frames then wait until it is paid back", () =
 
 test("what was lent is forgotten where time stands still", () => {
   const time = new RealTime(0, 0);
-  assert.equal(time.due(0, MOST_AHEAD), 1543);
+  assert.equal(time.due(0, MAX_AHEAD), 1543);
   time.hide();
   time.skipGap(1000, 1000);
   assert.equal(time.reached, 1000);
   assert.equal(time.due(1010), 925);
-  assert.equal(time.due(1010, MOST_AHEAD), 1544);
-  time.goOn(1011, 1011);
+  assert.equal(time.due(1010, MAX_AHEAD), 1544);
+  time.restart(1011, 1011);
   assert.equal(time.due(1021), 925);
 });
 

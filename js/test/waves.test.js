@@ -3,7 +3,7 @@ import assert from "node:assert/strict";
 import { test } from "node:test";
 import { readBoard } from "../core/bench/answers.js";
 import { vcdParts } from "../core/waves/vcd.js";
-import { catalogOf, found, valuesAmong } from "../core/waves/wave_catalog.js";
+import { catalogOf, searchLines, valuesAmong } from "../core/waves/wave_catalog.js";
 import { linesOfBoard, valueLine } from "../core/waves/wave_lines.js";
 import { Answers } from "../core/engine/tracing.js";
 import { WaveTaking } from "../core/engine/wave_taking.js";
@@ -90,15 +90,15 @@ test("titles are what the board's text says of ports, and of names that no file 
 
 test("what is offered, by words", () => {
   const offered = catalogOf(BOARD, TEXT);
-  const named = (text, chosen = []) => found(offered, text, new Set(chosen)).lines.map(({ name }) => name);
+  const named = (text, chosen = []) => searchLines(offered, text, new Set(chosen)).lines.map(({ name }) => name);
   assert.ok(named("").includes("r5") && named("").includes("rom0[3:0]") && !named("").includes("ram.0.0x12"));
   assert.ok(named("", ["ram.0.0x12"]).includes("ram.0.0x12"));
   assert.deepEqual(named("ram 0 0x12"), ["ram.0.0x12"]);
   assert.deepEqual(named("minus"), ["lamp.minus"]);
   assert.deepEqual(named("over.fl"), ["lamp2"]);
   assert.deepEqual(named("p2"), ["p2"]);
-  assert.match(found(offered, "", new Set()).more, /^160 nibbles of RAM are not listed: find one, as in: ram 0 0x12/);
-  assert.equal(found(offered, " rubbish ", new Set()).more, "Nothing here is called rubbish.");
+  assert.match(searchLines(offered, "", new Set()).more, /^160 nibbles of RAM are not listed: find one, as in: ram 0 0x12/);
+  assert.equal(searchLines(offered, " rubbish ", new Set()).more, "Nothing here is called rubbish.");
   assert.deepEqual(valuesAmong(offered, new Set(["r5", "lamp2", "st.1.3.0", "gone"])), ["r5", "st.1.3.0"]);
 });
 

@@ -4,7 +4,7 @@
 import { ANSWER_FORMS } from "./answer_table.js";
 import { INVALID_CHARACTER, LINE_TOO_LONG, MAX_LINE_LENGTH, MOST_PLACES, NOT_ASCII } from "./inputs.js";
 import { upTo } from "./numbers.js";
-import { mostAlike } from "../text/alike.js";
+import { similarWords } from "../text/alike.js";
 import * as say from "../../words/lines.js";
 
 /**
@@ -96,7 +96,7 @@ function isInRange(word, { form, most }) {
 }
 
 /** @type {(word: string, names: string[]) => LineFault} */
-const unknownPlace = (word, names) => ({ number: NOT_A_COMMAND, words: say.noPlace(word, mostAlike(word, names)) });
+const unknownPlace = (word, names) => ({ number: NOT_A_COMMAND, words: say.noPlace(word, similarWords(word, names)) });
 /** @type {(word: string) => LineFault} */
 const noSuchPlace = (word) => ({ number: BAD_NUMBER, words: say.noSuchPlace(word) });
 
@@ -132,7 +132,7 @@ function faultOfTrace(count, places) {
  */
 function faultOfWords([first, ...words]) {
   if (first === undefined) return null;
-  if (!ANSWER_FORMS.has(first)) return { number: NOT_A_COMMAND, words: say.noLine(first, mostAlike(first, ANSWER_FORMS.keys())) };
+  if (!ANSWER_FORMS.has(first)) return { number: NOT_A_COMMAND, words: say.noLine(first, similarWords(first, ANSWER_FORMS.keys())) };
   const otherForm = { number: NOT_A_COMMAND, words: say.otherForm(first) };
   if (first === "trace") return words.length === 0 ? otherForm : faultOfTrace(words[0], words.slice(1));
   if (first === "poke") return words.length === 2 ? faultOfPoke(words[0], words[1]) : otherForm;

@@ -2,7 +2,7 @@
 // is computed from the bench's answers about its places.
 
 import { keysOf, pinOf } from "../explore/explored_inputs.js";
-import { mostAlike } from "../text/alike.js";
+import { similarWords } from "../text/alike.js";
 import { isCondition, parse } from "./parser.js";
 import { placeByOtherName, placeOf } from "./places.js";
 import { Unreadable, fail } from "./scanner.js";
@@ -230,7 +230,7 @@ function proposalFor(text, { map, watched, face }) {
   const meant = meantBy(text);
   if (meant) return meant;
   const known = [...(map ? map.names.keys() : []), ...(watched ? watched.keys() : []), ...face.lampNumbers.keys()];
-  const alike = mostAlike(text, known);
+  const alike = similarWords(text, known);
   return alike.length > 0 ? say.perhaps(alike.join(" ")) : say.PLACES_ARE;
 }
 

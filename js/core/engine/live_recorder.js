@@ -183,7 +183,7 @@ export class LiveRecorder {
     const found = members.flatMap((member, index) => {
       const track = this.taking.tracks[member];
       const moments = [...track.moments.all.subarray(counts[index])];
-      return moments.find((_, at) => wanted < 0 || track.valueBehind(counts[index] + at + 1) === wanted) ?? [];
+      return moments.find((_, at) => wanted < 0 || track.valueAfter(counts[index] + at + 1) === wanted) ?? [];
     });
     if (found.length > 0) this.triggered = Math.min(...found);
   }

@@ -2,7 +2,7 @@
 
 import { MOST_PLACES } from "../bench/inputs.js";
 import { valueIn } from "../bench/state_line.js";
-import { Growing } from "../waves/growing.js";
+import { NumberQueue } from "../waves/growing.js";
 import { Track, emptyTrack } from "../waves/track.js";
 import { readTraced, valuesOf } from "./tracing.js";
 
@@ -141,8 +141,8 @@ export class WaveTaking {
     this.hasBegun = false;
     this.groups = groupsOf(lines);
     this.tracks = lines.map(({ width }) => new Track(emptyTrack(width)));
-    this.moments = new Growing(new Uint32Array(0));
-    this.counters = new Growing(new Uint16Array(0));
+    this.moments = new NumberQueue(new Uint32Array(0));
+    this.counters = new NumberQueue(new Uint16Array(0));
     /** The end of the last part. */
     this.from = 0;
   }

@@ -2,7 +2,7 @@
 // lines are written.
 
 import { LAST_ADDRESS, hex } from "../bench/numbers.js";
-import { LONGEST_NAME } from "../text/assembly.js";
+import { MAX_NAME_LENGTH } from "../text/assembly.js";
 import { evaluate, isAscii } from "./expressions.js";
 import {
   BYTE_WORDS, FOREIGN, LONGEST_SOURCE_LINE, OF_4040, OPERANDS, PROGRAM_RAM, REMARKS, ROOM_WORDS, capitals, lettersOf, partsOfList,
@@ -123,10 +123,10 @@ class ProgramImport {
     for (const [name, line] of this.definedAt) {
       const plain = this.lines[line - 1].label.replace(/[^A-Za-z0-9_]/g, "_").replace(/^(?=[0-9])/, "_");
       const isReserved = OPERANDS.has(capitals(plain)) || RESERVED.test(capitals(plain));
-      const base = (isReserved ? `${plain}_` : plain).slice(0, LONGEST_NAME);
+      const base = (isReserved ? `${plain}_` : plain).slice(0, MAX_NAME_LENGTH);
       let here = base;
       for (let number = next.get(base) || 2; taken.has(here); number++) {
-        here = `${base.slice(0, LONGEST_NAME - `_${number}`.length)}_${number}`;
+        here = `${base.slice(0, MAX_NAME_LENGTH - `_${number}`.length)}_${number}`;
         next.set(base, number + 1);
       }
       taken.add(here);

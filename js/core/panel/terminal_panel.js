@@ -110,7 +110,7 @@ export class Panel {
   goOn(now) {
     this.isPaused = false;
     this.why = "";
-    this.time.goOn(now, now);
+    this.time.restart(now, now);
   }
 
   /**

@@ -7,7 +7,7 @@ import * as say from "../../words/text.js";
  * @param {string} one
  * @param {string} other
  */
-export function distance(one, other) {
+export function editDistance(one, other) {
   /** @type {number[][]} */
   const rows = [[...Array(other.length + 1).keys()]];
   for (let i = 1; i <= one.length; i++) {
@@ -28,18 +28,19 @@ export function distance(one, other) {
  * @param {Iterable<string>} words
  * @returns {string[]}
  */
-export function mostAlike(wanted, words) {
-  const most = wanted.length <= 4 ? 1 : 2;
+export function similarWords(wanted, words) {
+  const maxDistance = wanted.length <= 4 ? 1 : 2;
   const low = wanted.toLowerCase();
-  const found = [...words].map((word) => ({ word, far: distance(low, word.toLowerCase()) })).filter(({ far }) => far <= most);
-  const least = Math.min(...found.map(({ far }) => far));
-  return found.filter(({ far }) => far === least).slice(0, 2).map(({ word }) => word);
+  const found = [...words].map((word) => ({ word, distance: editDistance(low, word.toLowerCase()) }))
+    .filter(({ distance }) => distance <= maxDistance);
+  const minDistance = Math.min(...found.map(({ distance }) => distance));
+  return found.filter(({ distance }) => distance === minDistance).slice(0, 2).map(({ word }) => word);
 }
 
 /**
  * Returns a question that suggests words, or "" if there are none.
  * @param {string[]} words
  */
-export function meant(words) {
+export function suggestion(words) {
   return words.length === 0 ? "" : `; ${words.join(say.OR)}?`;
 }

@@ -25,14 +25,14 @@ import { alignedText, faultsOfLines, sentText } from "./text_fault.js";
  */
 
 /** The highest number of a refusal of a text. */
-const LAST_OF_TEXTS = 42;
+const LAST_TEXT_REFUSAL = 42;
 
 /**
  * Returns a refusal if it is one of a text, otherwise null.
  * @param {Refusal | null} refusal
  */
 export function refusalOfText(refusal) {
-  return refusal && refusal.number <= LAST_OF_TEXTS ? refusal : null;
+  return refusal && refusal.number <= LAST_TEXT_REFUSAL ? refusal : null;
 }
 
 export class AllFaultsOfTexts {

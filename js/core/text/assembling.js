@@ -11,9 +11,9 @@ import * as say from "../../words/text.js";
  */
 
 /** The maximum of bytes in a line: a line has at most 255 characters. */
-const MOST_ON_LINE = 60;
+const MAX_BYTES_IN_LINE = 60;
 /** The maximum of zeros in a line. */
-const MOST_ZEROS = 126;
+const MAX_ZEROS_IN_LINE = 126;
 
 /** @type {(address: number) => number} returns the number of the ROM at an address */
 const pageOf = (address) => Math.floor(address / PAGE_BYTES);
@@ -23,26 +23,26 @@ const pageOf = (address) => Math.floor(address / PAGE_BYTES);
  * @param {number[]} addresses in rising order
  * @returns {{ from: number, count: number }[]}
  */
-function stretchesOf(addresses) {
+function rangesOf(addresses) {
   /** @type {{ from: number, count: number }[]} */
-  const stretches = [];
+  const ranges = [];
   for (const address of addresses) {
-    const last = stretches[stretches.length - 1];
+    const last = ranges[ranges.length - 1];
     if (last && last.from + last.count === address) last.count += 1;
-    else stretches.push({ from: address, count: 1 });
+    else ranges.push({ from: address, count: 1 });
   }
-  return stretches;
+  return ranges;
 }
 
 /**
  * Returns statements that store bytes at an address and after it.
  * @param {number} from
  * @param {number[]} bytes
- * @param {number} most the maximum of bytes in a line
+ * @param {number} maxInLine the maximum of bytes in a line
  */
-function statementsOf(from, bytes, most) {
+function statementsOf(from, bytes, maxInLine) {
   const lines = [`ORG 0x${hex(from, 3)}\n`];
-  for (let done = 0; done < bytes.length; done += most) lines.push(`DB ${bytes.slice(done, done + most).join(",")}\n`);
+  for (let done = 0; done < bytes.length; done += maxInLine) lines.push(`DB ${bytes.slice(done, done + maxInLine).join(",")}\n`);
   return lines.join("");
 }
 
@@ -51,8 +51,8 @@ function statementsOf(from, bytes, most) {
  * @param {number[]} addresses in rising order
  * @returns {string[]}
  */
-function clearing(addresses) {
-  return stretchesOf(addresses).map(({ from, count }) => statementsOf(from, Array(count).fill(0), MOST_ZEROS));
+function clearingTexts(addresses) {
+  return rangesOf(addresses).map(({ from, count }) => statementsOf(from, Array(count).fill(0), MAX_ZEROS_IN_LINE));
 }
 
 /** The room that each of several texts reserves for a byte in each ROM, in characters. */
@@ -80,10 +80,10 @@ function statementsForRoms(bytes, pages) {
  * @returns {string[]}
  */
 export function textsOfBytes(bytes) {
-  const lines = stretchesOf([...bytes.keys()].filter((at) => bytes[at] >= 0)).flatMap(({ from, count }) => {
-    const begins = upTo(Math.ceil(count / MOST_ON_LINE)).map((at) => from + at * MOST_ON_LINE);
-    return begins.map((at) => ({ at, end: Math.min(at + MOST_ON_LINE, from + count) }));
-  }).map(({ at, end }) => ({ text: statementsOf(at, [...bytes.subarray(at, end)], MOST_ON_LINE), pages: [at, end - 1].map(pageOf) }));
+  const lines = rangesOf([...bytes.keys()].filter((at) => bytes[at] >= 0)).flatMap(({ from, count }) => {
+    const begins = upTo(Math.ceil(count / MAX_BYTES_IN_LINE)).map((at) => from + at * MAX_BYTES_IN_LINE);
+    return begins.map((at) => ({ at, end: Math.min(at + MAX_BYTES_IN_LINE, from + count) }));
+  }).map(({ at, end }) => ({ text: statementsOf(at, [...bytes.subarray(at, end)], MAX_BYTES_IN_LINE), pages: [at, end - 1].map(pageOf) }));
   const whole = lines.map(({ text }) => text).join("");
   if (whole.length <= LONGEST_TEXT) return [whole];
   /** @type {{ text: string, pages: Set<number> }[]} */
@@ -106,7 +106,7 @@ export function textsOfBytes(bytes) {
  */
 export function programTexts(program, addresses) {
   const texts = [program];
-  for (const piece of clearing(addresses)) {
+  for (const piece of clearingTexts(addresses)) {
     // The program's lines are first in their text, so that their numbers do not change.
     if (texts[0].length + piece.length <= LONGEST_TEXT) texts[0] += piece;
     else texts.unshift(piece);

@@ -17,7 +17,7 @@ export const REGISTER = /^[Rr](\d|1[0-5])$/;
 export const PAIR = /^[Pp][0-7]$/;
 export const NUMBER = /^(\d+|0x[0-9A-Fa-f]+)$/;
 export const NAME = /^[A-Za-z_][A-Za-z0-9_]*$/;
-export const LONGEST_NAME = 16;
+export const MAX_NAME_LENGTH = 16;
 
 /**
  * Returns the word between two positions of a line, without the blanks around it, or null if there is none.
@@ -53,9 +53,9 @@ function operandsIn(line, from, to) {
 }
 
 /** @type {Map<string, Parts>} a cache of lines, because a text is split again after each edit */
-const known = new Map();
-const MOST_KNOWN = 8192;
-const LONGEST_KNOWN = 255;
+const cache = new Map();
+const MAX_CACHED = 8192;
+const MAX_CACHED_LENGTH = 255;
 
 /**
  * Returns the parts of a line.
@@ -63,12 +63,12 @@ const LONGEST_KNOWN = 255;
  * @returns {Readonly<Parts>}
  */
 export function partsOf(line) {
-  if (line.length > LONGEST_KNOWN) return cut(line);
-  const before = known.get(line);
+  if (line.length > MAX_CACHED_LENGTH) return splitLine(line);
+  const before = cache.get(line);
   if (before) return before;
-  if (known.size >= MOST_KNOWN) known.clear();
-  const parts = cut(line);
-  known.set(line, parts);
+  if (cache.size >= MAX_CACHED) cache.clear();
+  const parts = splitLine(line);
+  cache.set(line, parts);
   return parts;
 }
 
@@ -77,7 +77,7 @@ export function partsOf(line) {
  * @param {string} line
  * @returns {Parts}
  */
-function cut(line) {
+function splitLine(line) {
   const mark = line.indexOf(";");
   const comment = mark < 0 ? line.length : mark;
   const colon = /^[^:=,]*?:/.exec(line.slice(0, comment));

@@ -3,7 +3,7 @@
 import { MAX_PARTS, boardLines } from "../bench/board_form.js";
 import { upTo } from "../bench/numbers.js";
 import { partsWithLines, readBoardText } from "./board_reader.js";
-import { alone, fitting } from "./completion.js";
+import { fitting, withoutDescription } from "./completion.js";
 import { tableAt } from "./text_help.js";
 import { commentAt } from "./text_fault.js";
 import * as say from "../../words/text.js";
@@ -28,7 +28,7 @@ function wordsOfLine({ name, kind, isInput }) {
 }
 
 /** The maximum of characters before the caret that are searched. */
-const MOST_BEFORE = 2000;
+const MAX_CHARACTERS_BEFORE = 2000;
 
 /** The parts of a board's text, as far as the text is valid. */
 class Parts {
@@ -53,7 +53,7 @@ class Parts {
   values(table, key) {
     const lines = (/** @type {BoardLine[]} */ all) => (
       { list: all.map((line) => ({ text: line.name, what: wordsOfLine(line) })), isQuoted: true });
-    const numbers = (/** @type {number[]} */ list) => ({ list: alone(list.map(String)), isQuoted: false });
+    const numbers = (/** @type {number[]} */ list) => ({ list: withoutDescription(list.map(String)), isQuoted: false });
     switch (`${table}.${key}`) {
       case "rom.chip": return numbers(this.chips);
       case "ram.bank": return numbers(this.banks);
@@ -112,12 +112,12 @@ export function completeBoard(lines, line, at, tables) {
   const text = lines[line];
   const before = text.slice(0, at);
   if (commentAt(before, "#") < before.length) return { from: at, to: at, list: [] };
-  if (/^\s*\[+\w*$/.test(before)) return fitting(text, at, alone([...tables.keys()]));
+  if (/^\s*\[+\w*$/.test(before)) return fitting(text, at, withoutDescription([...tables.keys()]));
   const table = tableAt(lines, line);
   const parts = new Parts(lines.map((each, number) => (number === line ? "" : each)).join("\n"));
   // An array can begin some lines before this one.
-  const begun = lines.slice(Math.max(0, line - 9), line).map((each) => each.slice(0, commentAt(each, "#")));
-  const value = VALUE.exec([...begun, before].join("\n").slice(-MOST_BEFORE));
+  const linesBefore = lines.slice(Math.max(0, line - 9), line).map((each) => each.slice(0, commentAt(each, "#")));
+  const value = VALUE.exec([...linesBefore, before].join("\n").slice(-MAX_CHARACTERS_BEFORE));
   if (value && (before.includes(value[1]) || value[0].includes("["))) return completeValue(text, at, value, parts.values(table, value[1]));
   const keys = tables.get(table) || new Map();
   const words = [...keys].map(([name, values]) => ({ text: name, what: values }));

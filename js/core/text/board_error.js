@@ -2,7 +2,7 @@
 // the manual says what each key must be.
 
 import { KEYS, LINE_NAMES, MAX_PARTS, MAX_COLUMNS, BITS_PER_CHIP, RANGES, boardLines } from "../bench/board_form.js";
-import { meant, mostAlike } from "./alike.js";
+import { similarWords, suggestion } from "./alike.js";
 import { partsWithLines, readBoardText } from "./board_reader.js";
 import { faultAt } from "./text_fault.js";
 import * as say from "../../words/text.js";
@@ -16,7 +16,7 @@ import * as say from "../../words/text.js";
  * @typedef {import("./text_fault.js").Fault} Fault
  *
  * The wrong part, as far as the text contains it.
- * @typedef {{ entry: Entry | null, key: Key | null }} Meant
+ * @typedef {{ entry: Entry | null, key: Key | null }} WrongPart
  */
 
 /** The numbers of refusals of a board's text. */
@@ -24,7 +24,7 @@ const NOT_TOML = 20;
 const UNKNOWN_KEY = 21;
 const MISSING_KEY = 22;
 const BAD_VALUE = 23;
-const THERE_TWICE = 24;
+const DUPLICATE = 24;
 const LACKS_LINE = 25;
 const WRONG_DIRECTION = 26;
 const TOO_MANY = 27;
@@ -38,7 +38,7 @@ const LINE_KEYS = ["clock", "data", "line", "columns"];
 const headerOf = (kind) => (kind === "keys" ? "[keys]" : `[[${kind}]]`);
 
 /** Finds the position and the message of an error. */
-class Words {
+class BoardErrorText {
   /**
    * @param {BoardText} text
    * @param {BoardError} error
@@ -60,8 +60,8 @@ class Words {
     return this.text.entries.filter(({ table }) => table.replace(/[[\]]/g, "") === section);
   }
 
-  /** @returns {Meant} the part with the error */
-  meant() {
+  /** @returns {WrongPart} the part with the error */
+  wrongPart() {
     const { section, index, key: name } = this.error;
     const key = (/** @type {Key[]} */ keys) => keys.find((each) => each.name === name) || null;
     if (section === "") {
@@ -76,24 +76,24 @@ class Words {
   /** Returns the error with its position and message. @returns {Fault} */
   fault() {
     const { number } = this.error;
-    if (number === NOT_TOML) return this.noToml();
-    const { entry, key } = this.meant();
-    if (number === UNKNOWN_KEY) return this.unknown(entry, key);
-    const value = key && number !== MISSING_KEY ? this.valueMeant(key) : null;
+    if (number === NOT_TOML) return this.tomlError();
+    const { entry, key } = this.wrongPart();
+    if (number === UNKNOWN_KEY) return this.unknownKey(entry, key);
+    const value = key && number !== MISSING_KEY ? this.wrongValue(key) : null;
     const words = this.words(entry, key, value);
     const place = value || entry;
     return place ? faultAt(number, place, words) : this.wholeLine(words);
   }
 
   /** Returns the error in a text that is not TOML. */
-  noToml() {
+  tomlError() {
     const { number, line } = this.error;
     const found = this.text.faults.find((each) => each.line === line);
     if (found) return found;
     for (const keys of [this.text.keys, ...this.text.entries.map((entry) => entry.keys)]) {
-      const again = keys.find((key) => key.line === line);
-      const first = keys.find(({ name }) => again && name === again.name);
-      if (again && first && first !== again) return faultAt(number, again, say.alreadyThere(again.name, first.line));
+      const second = keys.find((key) => key.line === line);
+      const first = keys.find(({ name }) => second && name === second.name);
+      if (second && first && first !== second) return faultAt(number, second, say.alreadyThere(second.name, first.line));
     }
     return this.wholeLine(this.wordsOf(number));
   }
@@ -103,7 +103,7 @@ class Words {
    * @param {Key} key
    * @returns {Value}
    */
-  valueMeant({ name, value }) {
+  wrongValue({ name, value }) {
     const { number } = this.error;
     if (name !== "columns" || !Array.isArray(value.inner)) return value;
     return value.inner.find(({ inner }) => {
@@ -122,11 +122,11 @@ class Words {
   words(entry, key, value) {
     const { number, section, key: name } = this.error;
     if (number === MISSING_KEY) return say.lacks(section, name);
-    if (number === BAD_VALUE) return this.wordsOfForm(value);
+    if (number === BAD_VALUE) return this.formMessage(value);
     if (number === TOO_MANY) return name === "" ? say.mostTables(MAX_PARTS[section], section) : say.mostColumns(MAX_COLUMNS);
     if (!entry || !key || !value) return this.wordsOf(number);
-    if (number === THERE_TWICE) return say.alreadyThere(`${name} ${value.inner}`, this.lineOfFirst(entry, key));
-    if (number === LACKS_LINE) return name === "rows" ? this.rowsNeed(entry) : this.lacking(String(value.inner));
+    if (number === DUPLICATE) return say.alreadyThere(`${name} ${value.inner}`, this.lineOfFirst(entry, key));
+    if (number === LACKS_LINE) return name === "rows" ? this.rowsNeed(entry) : this.missingLine(String(value.inner));
     const { kind = "" } = this.lines.get(String(value.inner)) || {};
     return name === "columns" ? say.needsInput(String(value.inner)) : say.needsOutput(name, String(value.inner), kind === "bit");
   }
@@ -135,11 +135,11 @@ class Words {
    * Returns a message that says what a key or a table must be.
    * @param {Value | null} value
    */
-  wordsOfForm(value) {
+  formMessage(value) {
     const { section, index, key } = this.error;
     const values = (this.tables.get(section) || new Map()).get(key);
     const inner = value ? value.inner : null;
-    const isLine = LINE_KEYS.includes(key) && typeof inner !== "object" && (key !== "columns" || value !== this.meant().key?.value);
+    const isLine = LINE_KEYS.includes(key) && typeof inner !== "object" && (key !== "columns" || value !== this.wrongPart().key?.value);
     if (isLine) return say.noLineName(String(inner));
     if (typeof inner === "string" && `${section}.${key}` in RANGES && /^\d+$/.test(inner)) return say.withoutQuotes(key, inner);
     if (key) return values ? say.keyMustBe(key, values) : this.wordsOf(BAD_VALUE);
@@ -151,7 +151,7 @@ class Words {
    * Returns a message that says why the board lacks a line or a chain.
    * @param {string} name
    */
-  lacking(name) {
+  missingLine(name) {
     const [, kind = "", number = "", chip = ""] = /^(rom|ram|chain)(\d+)\.(\d+)/.exec(name) || [];
     const { banks, chains } = this.parts;
     if (kind === "") return say.noChain(name, chains.length);
@@ -192,15 +192,15 @@ class Words {
    * @param {Key | null} key
    * @returns {Fault}
    */
-  unknown(entry, key) {
+  unknownKey(entry, key) {
     const { section, key: name } = this.error;
     const known = section === "" ? Object.keys(KEYS) : KEYS[section];
-    const likes = mostAlike(name, known);
-    const instead = meant(likes) || say.whichHas(known.join(", "));
+    const similar = similarWords(name, known);
+    const instead = suggestion(similar) || say.whichHas(known.join(", "));
     const words = section === "" ? say.noPart(name, instead) : say.noKeyOf(name, section, instead);
     const place = key || entry;
     const fault = place ? faultAt(UNKNOWN_KEY, place, words) : this.wholeLine(words);
-    const cures = key ? likes : likes.map(headerOf);
+    const cures = key ? similar : similar.map(headerOf);
     return cures.length > 0 && place ? { ...fault, cures } : fault;
   }
 
@@ -225,7 +225,7 @@ class Words {
  * @returns {Fault}
  */
 export function errorOfBoard(text, error, tables, wordsOf) {
-  const fault = new Words(readBoardText(text), error, tables, wordsOf).fault();
+  const fault = new BoardErrorText(readBoardText(text), error, tables, wordsOf).fault();
   const line = text.split("\n")[fault.line - 1] || "";
   return { ...fault, to: Math.min(fault.to, line.length) };
 }

@@ -29,7 +29,7 @@ import * as say from "../../words/text.js";
 /** The refusal of a text that is not TOML. */
 const NOT_TOML = 20;
 /** The maximum nesting of brackets and braces. A board needs three. */
-const DEEPEST = 32;
+const MAX_DEPTH = 32;
 const INTEGER = /^[+-]?(0|[1-9](_?\d)*)$|^0x[0-9A-Fa-f](_?[0-9A-Fa-f])*$|^0o[0-7]+$|^0b[01]+$/;
 
 /** An error: a text is not TOML at a word. */
@@ -184,8 +184,8 @@ export class BoardReader {
   readValue(key) {
     const { kind, text, line, from, to, fault } = this.word;
     const range = { line, from, to };
-    if (this.isMark("[")) return { inner: this.inside(() => this.readArray(key)), whole: true, ...range, end: this.lastEnd };
-    if (this.isMark("{")) return { inner: this.inside(() => this.readTable()), whole: true, ...range, end: this.lastEnd };
+    if (this.isMark("[")) return { inner: this.nested(() => this.readArray(key)), whole: true, ...range, end: this.lastEnd };
+    if (this.isMark("{")) return { inner: this.nested(() => this.readTable()), whole: true, ...range, end: this.lastEnd };
     if (kind === "end") throw new NotToml(this.word, say.valueMissing(key));
     if (kind === "mark" || kind === "bad") throw new NotToml(this.word, fault || say.noValue(text));
     const inner = this.innerOf(kind, text);
@@ -199,8 +199,8 @@ export class BoardReader {
    * @param {() => Read} read
    * @returns {Read}
    */
-  inside(read) {
-    if (this.depth === DEEPEST) throw new NotToml(this.word, say.tooDeep(DEEPEST));
+  nested(read) {
+    if (this.depth === MAX_DEPTH) throw new NotToml(this.word, say.tooDeep(MAX_DEPTH));
     this.depth += 1;
     try {
       return read();

@@ -14,9 +14,9 @@ import { operandsOfForm } from "./program_words.js";
  */
 
 /** The maximum of completions in a list. */
-const MOST_FITTING = 60;
+const MAX_COMPLETIONS = 60;
 /** The gap between a form and its description. */
-const COLUMN = "   ";
+const GAP = "   ";
 const REGISTERS = [...Array(16).keys()].map((number) => `R${number}`);
 const PAIRS = [...Array(8).keys()].map((number) => `P${number}`);
 
@@ -25,7 +25,7 @@ const PAIRS = [...Array(8).keys()].map((number) => `P${number}`);
  * @param {string[]} words
  * @returns {Fitting[]}
  */
-export function alone(words) {
+export function withoutDescription(words) {
   return words.map((text) => ({ text, what: "" }));
 }
 
@@ -41,7 +41,7 @@ export function fitting(line, at, words, begins = /\w*$/) {
   const found = begins.exec(line.slice(0, at));
   const begun = found ? found[0] : "";
   const low = begun.toLowerCase();
-  const list = words.filter(({ text }) => text.toLowerCase().startsWith(low) && text !== begun).slice(0, MOST_FITTING);
+  const list = words.filter(({ text }) => text.toLowerCase().startsWith(low) && text !== begun).slice(0, MAX_COMPLETIONS);
   return { from: at - begun.length, to: at, list };
 }
 
@@ -59,15 +59,16 @@ export function completeProgram(lines, line, at, instructions) {
   const { head, comment } = partsOf(before);
   if (comment < before.length) return { from: at, to: at, list: [] };
   // The line ends at the caret, so that the word being typed does not complete itself.
-  const others = namesOf(lines.map((each, number) => (number === line ? before : each)));
+  const names = namesOf(lines.map((each, number) => (number === line ? before : each)));
   if (!head || head.to === at) {
-    const mnemonics = [...instructions].map(([name, { form, does }]) => ({ text: name, what: form.slice(name.length) + COLUMN + does }));
-    return fitting(text, at, [...mnemonics, ...alone(DIRECTIVES)]);
+    const mnemonics = [...instructions].map(([name, { form, does }]) => ({ text: name, what: form.slice(name.length) + GAP + does }));
+    return fitting(text, at, [...mnemonics, ...withoutDescription(DIRECTIVES)]);
   }
   const instruction = instructions.get(head.text.toUpperCase());
   const kinds = instruction ? operandsOfForm(instruction.form) : [];
   const kind = kinds[before.slice(head.to).split(",").length - 1] || "";
-  if (kind === "Pk") return fitting(text, at, alone(PAIRS));
-  if (kind === "Rk") return fitting(text, at, alone(REGISTERS));
-  return kind !== "" || head.text.toUpperCase() === "DB" ? fitting(text, at, alone([...others.keys()])) : { from: at, to: at, list: [] };
+  if (kind === "Pk") return fitting(text, at, withoutDescription(PAIRS));
+  if (kind === "Rk") return fitting(text, at, withoutDescription(REGISTERS));
+  if (kind === "" && head.text.toUpperCase() !== "DB") return { from: at, to: at, list: [] };
+  return fitting(text, at, withoutDescription([...names.keys()]));
 }

@@ -2,14 +2,14 @@
 // line.
 
 // eslint-disable-next-line no-control-regex
-const UNSHOWN = /[\u0000-\u0008\u000b-\u001f\u007f-\u009f\u061c\u200e\u200f\u2028-\u202e\u2066-\u2069]/g;
+const UNSAFE_CHARACTERS = /[\u0000-\u0008\u000b-\u001f\u007f-\u009f\u061c\u200e\u200f\u2028-\u202e\u2066-\u2069]/g;
 
 /**
  * Returns a text with control characters as `\x1B` or `\u202E`. Line feeds and tabs stay.
  * @param {string} text
  */
 export function escaped(text) {
-  return text.replace(UNSHOWN, (character) => {
+  return text.replace(UNSAFE_CHARACTERS, (character) => {
     const code = character.charCodeAt(0).toString(16).toUpperCase();
     return code.length > 2 ? `\\u${code.padStart(4, "0")}` : `\\x${code.padStart(2, "0")}`;
   });

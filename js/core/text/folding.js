@@ -46,11 +46,11 @@ function isOuter(lineAt, line, parts) {
  * @param {LineAt} lineAt
  * @param {number} line
  * @param {Parts} parts
- * @param {boolean} isOwn whether the part is an outer part
+ * @param {boolean} isOuterPart whether the part is an outer part
  */
-function ends(lineAt, line, parts, isOwn) {
+function endsBefore(lineAt, line, parts, isOuterPart) {
   const text = lineAt(line) || "";
-  if (parts.head.test(text)) return !isOwn || isOuter(lineAt, line, parts);
+  if (parts.head.test(text)) return !isOuterPart || isOuter(lineAt, line, parts);
   // A comment at the margin after a blank line belongs to the next part.
   return text.startsWith(parts.mark) && isBlank(lineAt(line - 1));
 }
@@ -70,8 +70,8 @@ export function lastFolded(lineAt, line, parts) {
     return end;
   }
   if (!parts.head.test(text)) return line;
-  const isOwn = isOuter(lineAt, line, parts);
-  while (lineAt(end + 1) !== undefined && !ends(lineAt, end + 1, parts, isOwn)) end += 1;
+  const isOuterPart = isOuter(lineAt, line, parts);
+  while (lineAt(end + 1) !== undefined && !endsBefore(lineAt, end + 1, parts, isOuterPart)) end += 1;
   while (isBlank(lineAt(end))) end -= 1;
   return end;
 }

@@ -64,8 +64,8 @@ export async function findProgramFaults(program, instructions, wordsOf, asked) {
   const unsent = faultsOfLines(program, ";");
   if (unsent.some(({ number }) => number === TEXT_TOO_LONG)) return { faults: unsent, areAll: false, rest: null };
   const lines = alignedText(program, ";").split("\n");
-  const gone = new Set(unsent.map(({ line }) => line));
-  const sent = lines.map((line, at) => (gone.has(at + 1) ? "" : sentLine(line, ";"))).join("\n");
+  const unsentLines = new Set(unsent.map(({ line }) => line));
+  const sent = lines.map((line, at) => (unsentLines.has(at + 1) ? "" : sentLine(line, ";"))).join("\n");
   const errors = await asked.errors(sent);
   /** @type {Facts} */
   const facts = { instructions, names: namesOf(lines) };

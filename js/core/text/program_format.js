@@ -2,7 +2,7 @@
 // lines of a valid form, so the program keeps its bytes.
 
 import { MAX_LINE_LENGTH } from "../bench/inputs.js";
-import { LONGEST_KEPT, LONGEST_TEXT, bare, sentText } from "./text_fault.js";
+import { LONGEST_KEPT, LONGEST_TEXT, sentText, trimBlanks } from "./text_fault.js";
 import * as say from "../../words/text.js";
 
 /**
@@ -59,17 +59,18 @@ function gap(from, to, { tabSize, insertSpaces }) {
  * @param {Layout} layout
  * @returns {CutLine | null}
  */
-function cut(line, isHead, layout) {
+function splitLine(line, isHead, layout) {
   const mark = line.indexOf(";");
-  const code = bare(mark < 0 ? line : line.slice(0, mark));
-  const none = { name: "", value: "", label: "", head: "", operands: "" };
-  const rest = { comment: mark < 0 ? "" : bare(line.slice(mark)), indent: mark < 0 ? 0 : columnAfter(line.slice(0, mark), 0, layout) };
+  const code = trimBlanks(mark < 0 ? line : line.slice(0, mark));
+  const empty = { name: "", value: "", label: "", head: "", operands: "" };
+  const comment = mark < 0 ? "" : trimBlanks(line.slice(mark));
+  const rest = { comment, indent: mark < 0 ? 0 : columnAfter(line.slice(0, mark), 0, layout) };
   const definition = DEFINITION.exec(code);
-  if (definition) return { ...none, ...rest, name: definition[1], value: definition[2] };
+  if (definition) return { ...empty, ...rest, name: definition[1], value: definition[2] };
   const found = CODE.exec(code);
   if (!found || (found[2] && !isHead(found[2].toUpperCase()))) return null;
-  const operands = (found[3] || "").split(",").map(bare).join(", ");
-  return { ...none, ...rest, label: found[1] || "", head: found[2] || "", operands };
+  const operands = (found[3] || "").split(",").map(trimBlanks).join(", ");
+  return { ...empty, ...rest, label: found[1] || "", head: found[2] || "", operands };
 }
 
 /**
@@ -121,10 +122,10 @@ function columnOfComment(end, indent, last) {
  * @returns {string[]}
  */
 export function formattedLines(lines, isHead, layout) {
-  const all = lines.map((line) => cut(line, isHead, layout));
-  const widths = widthsOf(all);
+  const parts = lines.map((line) => splitLine(line, isHead, layout));
+  const widths = widthsOf(parts);
   let last = 0;
-  return all.map((line, at) => {
+  return parts.map((line, at) => {
     const code = line ? codeOf(line, widths[at], layout) : "";
     const end = columnAfter(code, 0, layout);
     const column = line && line.comment ? columnOfComment(end, line.indent, last) : 0;
@@ -156,10 +157,10 @@ export function changesOf(before, after) {
   return before.flatMap((old, line) => {
     const text = after[line];
     if (old === text) return [];
-    const least = Math.min(old.length, text.length);
+    const shorter = Math.min(old.length, text.length);
     let [from, suffix] = [0, 0];
-    while (from < least && old[from] === text[from]) from += 1;
-    while (suffix < least - from && old[old.length - 1 - suffix] === text[text.length - 1 - suffix]) suffix += 1;
+    while (from < shorter && old[from] === text[from]) from += 1;
+    while (suffix < shorter - from && old[old.length - 1 - suffix] === text[text.length - 1 - suffix]) suffix += 1;
     return [{ line, from, to: old.length - suffix, text: text.slice(from, text.length - suffix) }];
   });
 }

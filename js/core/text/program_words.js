@@ -1,8 +1,8 @@
 // Explains an error in a line of a program that the bench rejects: the wrong word, and what was expected.
 
-import { meant, mostAlike } from "./alike.js";
+import { similarWords, suggestion } from "./alike.js";
 import { LAST_ADDRESS } from "../bench/numbers.js";
-import { DIRECTIVES, LONGEST_NAME, NAME, NUMBER, PAIR, REGISTER, partsOf } from "./assembly.js";
+import { DIRECTIVES, MAX_NAME_LENGTH, NAME, NUMBER, PAIR, REGISTER, partsOf } from "./assembly.js";
 import * as say from "../../words/text.js";
 
 /**
@@ -87,7 +87,7 @@ function curesOfNumber(text) {
  * @param {string[]} cures
  * @returns {Found}
  */
-function curable(word, words, cures) {
+function foundWith(word, words, cures) {
   return cures.length > 0 ? { word, words, cures } : { word, words };
 }
 
@@ -98,7 +98,7 @@ function curable(word, words, cures) {
  */
 function wordsOfName(text, { instructions }) {
   const upper = text.toUpperCase();
-  if (text.length > LONGEST_NAME) return say.nameTooLong(LONGEST_NAME, text.length);
+  if (text.length > MAX_NAME_LENGTH) return say.nameTooLong(MAX_NAME_LENGTH, text.length);
   if (!NAME.test(text)) return say.NAME_FORM;
   if (instructions.has(upper)) return say.isInstruction(text);
   if (upper === "WPM" || DIRECTIVES.includes(upper)) return say.cannotBeName(text);
@@ -123,7 +123,7 @@ function faultOfOperand(head, kind, word, facts, isFirst) {
   if (kind === "Pk" || kind === "Rk") return { word, words: /\s/.test(text) ? `${takes}; ${wordsOfNumber(text)}` : takes };
   if (NUMBER.test(text)) return null;
   const reason = text === "" || REGISTER.test(text) || PAIR.test(text) ? "" : wordsOfNumber(text) || wordsOfName(text, facts);
-  if (reason) return curable(word, `${takes}; ${reason}`, curesOfNumber(text));
+  if (reason) return foundWith(word, `${takes}; ${reason}`, curesOfNumber(text));
   return NAME.test(text) && !wordsOfName(text, facts) ? null : { word, words: takes };
 }
 
@@ -147,19 +147,19 @@ export function operandsOfForm(form) {
 function faultOfHead({ label, operands }, head, { instructions }) {
   const upper = head.text.toUpperCase();
   if (upper === "WPM") return { word: head, words: say.NO_WPM };
-  const given = operands.length === 1 && NAME.test(head.text) && /^(?:EQU|SET)\s+(.*)$/i.exec(operands[0].text);
-  if (given) return { word: operands[0], words: say.nameGetsNumber(head.text, given[1]), cures: [`= ${given[1]}`] };
+  const definition = operands.length === 1 && NAME.test(head.text) && /^(?:EQU|SET)\s+(.*)$/i.exec(operands[0].text);
+  if (definition) return { word: operands[0], words: say.nameGetsNumber(head.text, definition[1]), cures: [`= ${definition[1]}`] };
   const other = say.ELSEWHERE.get(upper);
   const isName = !label && NAME.test(head.text);
   if (isName && operands.length > 0 && isHead(operands[0].text.split(/\s/)[0], instructions)) {
-    return curable(head, say.noInstruction(head.text, say.labelForm(head.text)), [`${head.text}:`]);
+    return foundWith(head, say.noInstruction(head.text, say.labelForm(head.text)), [`${head.text}:`]);
   }
   const isAlone = isName && operands.length === 0;
-  const likes = other ? [] : mostAlike(upper, [...instructions.keys(), ...DIRECTIVES]);
-  const question = other ? `; ${other}?` : meant(likes);
+  const similar = other ? [] : similarWords(upper, [...instructions.keys(), ...DIRECTIVES]);
+  const question = other ? `; ${other}?` : suggestion(similar);
   const words = say.noInstruction(head.text, question || (isAlone ? say.labelForm(head.text) : ""));
-  const alone = isAlone && !question ? [`${head.text}:`] : likes;
-  return curable(head, words, other ? other.split(" or ").filter((each) => /^[A-Z]+( \d+,?)?$/.test(each)).map(asHead) : alone);
+  const alone = isAlone && !question ? [`${head.text}:`] : similar;
+  return foundWith(head, words, other ? other.split(" or ").filter((each) => /^[A-Z]+( \d+,?)?$/.test(each)).map(fixOf) : alone);
 }
 
 /**
@@ -176,7 +176,7 @@ function isHead(word, instructions) {
  * Returns the fix for an instruction of another assembler. A condition needs a comma before the address.
  * @param {string} other
  */
-function asHead(other) {
+function fixOf(other) {
   return other.startsWith("JCN ") ? `${other},` : other;
 }
 
@@ -193,7 +193,7 @@ function faultOfDirective(head, operands, facts) {
     if (isNumber) return null;
     const reason = operands[0] && !NAME.test(operands[0].text) ? wordsOfNumber(operands[0].text) : "";
     const words = say.orgForm(reason && `; ${reason}`);
-    return curable(operands[0] || head, words, reason ? curesOfNumber(operands[0].text) : []);
+    return foundWith(operands[0] || head, words, reason ? curesOfNumber(operands[0].text) : []);
   }
   if (operands.length === 0) return { word: head, words: say.DB_FORM };
   return operands.map((word) => faultOfOperand("DB", "b", word, facts, true)).find((found) => found !== null) || null;
@@ -212,7 +212,7 @@ function faultOfForm(parts, facts) {
   if (defines) {
     const reason = operands[0] ? wordsOfNumber(operands[0].text) : "";
     const words = say.equalsForm(reason && `; ${reason}`);
-    return curable(operands[0] || label, words, reason ? curesOfNumber(operands[0].text) : []);
+    return foundWith(operands[0] || label, words, reason ? curesOfNumber(operands[0].text) : []);
   }
   if (!head) return { word: label, words: say.COLON_FORM };
   const upper = head.text.toUpperCase();
@@ -255,7 +255,7 @@ function faultOfValue({ head, operands, defines, label }, { instructions }) {
  * Returns the last operand that is a name, or else the last operand.
  * @param {Parts} parts
  */
-function target({ operands }) {
+function lastName({ operands }) {
   return [...operands].reverse().find(({ text }) => NAME.test(text)) || operands[operands.length - 1] || null;
 }
 
@@ -268,10 +268,10 @@ function target({ operands }) {
 function faultOfUnknown({ operands }, { names }) {
   const word = operands.find(({ text }) => NAME.test(text) && !REGISTER.test(text) && !PAIR.test(text) && !names.has(text));
   if (!word) return null;
-  const likes = mostAlike(word.text, names.keys());
-  const isHex = /^[0-9A-Fa-f]+$/.test(word.text) && likes.length === 0;
-  const cures = isHex ? [`0x${word.text.toUpperCase()}`] : likes;
-  return curable(word, say.notDefined(word.text, cures.length > 0 ? meant(cures) : ""), cures);
+  const similar = similarWords(word.text, names.keys());
+  const isHex = /^[0-9A-Fa-f]+$/.test(word.text) && similar.length === 0;
+  const cures = isHex ? [`0x${word.text.toUpperCase()}`] : similar;
+  return foundWith(word, say.notDefined(word.text, cures.length > 0 ? suggestion(cures) : ""), cures);
 }
 
 /**
@@ -290,7 +290,7 @@ export function wordsOfProgramLine(line, number, facts) {
   if (number === 32) return faultOfUnknown(parts, facts);
   if (number === 33) return faultOfValue(parts, facts);
   if (number === 34 && parts.head) {
-    const word = target(parts);
+    const word = lastName(parts);
     const head = parts.head.text.toUpperCase();
     return { word, words: say.otherPage(word ? word.text : say.IT, head) };
   }

@@ -1,6 +1,7 @@
 // Help and completions for a text of properties, from the manual's tables and the names of the board and the program.
 
-import { alone, completeWord, conditionForms, fittings, formsOfTables, saidOf, wordsOfCondition, wordsUpTo } from "./test_words.js";
+import { withoutDescription } from "./completion.js";
+import { completeWord, conditionForms, descriptionIn, fittings, formsOfTables, wordsOfCondition, wordsUpTo } from "./test_words.js";
 import * as say from "../../words/text.js";
 
 /**
@@ -15,11 +16,11 @@ import * as say from "../../words/text.js";
 /** The sections of the manual with forms of properties. */
 const SECTIONS = [say.MAY_CHANGE, say.MUST_HOLD];
 /** The words before a condition at the beginning of a line. */
-const BEFORE = /^(never|always|reach)$/;
+const CONDITION_START = /^(never|always|reach)$/;
 /** The words of tests that properties cannot use. */
-const OF_TESTS = new Set(["cycles", "printed", "test", "key"]);
+const TEST_WORDS = new Set(["cycles", "printed", "test", "key"]);
 /** The words that can follow a condition. */
-const AFTER = ["for", "only after"];
+const CONDITION_END = ["for", "only after"];
 
 /**
  * Returns the manual's forms for lines of properties.
@@ -28,7 +29,7 @@ const AFTER = ["for", "only after"];
  */
 export function propertyForms(manual) {
   const lines = SECTIONS.flatMap((title) => formsOfTables(manual, title).flat());
-  return { lines, conditions: conditionForms(manual).filter(({ word }) => !OF_TESTS.has(word)) };
+  return { lines, conditions: conditionForms(manual).filter(({ word }) => !TEST_WORDS.has(word)) };
 }
 
 /**
@@ -47,7 +48,7 @@ export function firstProperties({ keys, lamps }) {
  */
 function conditionOf(words) {
   const [first, ...rest] = words;
-  if (BEFORE.test(first || "")) return rest;
+  if (CONDITION_START.test(first || "")) return rest;
   return first === "at" && rest.length > 0 ? rest.slice(1) : null;
 }
 
@@ -60,14 +61,14 @@ function conditionOf(words) {
  * @returns {Fitting[]}
  */
 function wordsAfter(before, begun, names, { lines, conditions }) {
-  const labels = alone(names.labels.map((label) => `@${label}`));
+  const labels = withoutDescription(names.labels.map((label) => `@${label}`));
   if (begun.startsWith("@")) return labels;
   if (before.length === 0) return [...fittings(lines.filter(({ word }) => /^[a-z]+$/.test(word))), ...labels];
   const last = before[before.length - 1];
-  if (before[0] === "press" || last === "press") return alone(names.keys);
+  if (before[0] === "press" || last === "press") return withoutDescription(names.keys);
   const condition = conditionOf(before);
-  if (condition) return wordsOfCondition(condition, names, conditions, AFTER);
-  return before[0] === "note" ? alone(["lamps"]) : [];
+  if (condition) return wordsOfCondition(condition, names, conditions, CONDITION_END);
+  return before[0] === "note" ? withoutDescription(["lamps"]) : [];
 }
 
 /**
@@ -94,5 +95,5 @@ export function helpForProperty(lines, line, at, forms) {
   const words = wordsUpTo(lines[line], at);
   if (words.length === 0) return "";
   const known = words.length === 1 && forms.lines.find(({ word }) => word === words[0]);
-  return known ? `${known.form}: ${known.does}` : saidOf(forms.conditions, words[words.length - 1]);
+  return known ? `${known.form}: ${known.does}` : descriptionIn(forms.conditions, words[words.length - 1]);
 }

@@ -1,6 +1,6 @@
 // The references to a name in a program: its definition and its uses. Also checks a new name before renaming.
 
-import { DIRECTIVES, LONGEST_NAME, NAME, PAIR, REGISTER, namesOf, partsOf, wordAt } from "./assembly.js";
+import { DIRECTIVES, MAX_NAME_LENGTH, NAME, PAIR, REGISTER, namesOf, partsOf, wordAt } from "./assembly.js";
 import * as say from "../../words/text.js";
 
 /**
@@ -64,7 +64,7 @@ export function definitionOf(lines, name) {
 export function faultOfRenaming(lines, name, wanted, isInstruction) {
   const upper = wanted.toUpperCase();
   if (!NAME.test(wanted)) return say.NAME_IS;
-  if (wanted.length > LONGEST_NAME) return say.nameHasMost(LONGEST_NAME, wanted.length);
+  if (wanted.length > MAX_NAME_LENGTH) return say.nameHasMost(MAX_NAME_LENGTH, wanted.length);
   if (isInstruction(upper) || upper === "WPM" || DIRECTIVES.includes(upper)) return say.isAnInstruction(wanted);
   if (REGISTER.test(wanted) || PAIR.test(wanted)) return say.isARegister(wanted);
   const line = namesOf(lines).get(wanted);

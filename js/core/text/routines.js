@@ -15,7 +15,7 @@ import { namesOf, partsOf } from "./assembly.js";
  * @typedef {{ line: number, from: number, to: number }} CallPlace
  */
 
-const ENDS = new Set(["BBL", "JIN", "JUN", "DB", "ORG"]);
+const PATH_ENDS = new Set(["BBL", "JIN", "JUN", "DB", "ORG"]);
 const JUMPS = new Set(["JUN", "JCN", "ISZ"]);
 
 export class Routines {
@@ -65,9 +65,9 @@ export class Routines {
    * Returns the lines of the statements that can follow a statement.
    * @param {number} line
    */
-  after(line) {
+  successors(line) {
     const { head, target } = /** @type {Statement} */ (this.statements[line]);
-    const next = ENDS.has(head) ? [] : [this.statementFrom(line + 1)];
+    const next = PATH_ENDS.has(head) ? [] : [this.statementFrom(line + 1)];
     return JUMPS.has(head) && target >= 0 ? [...next, this.statementFrom(target)] : next;
   }
 
@@ -80,12 +80,12 @@ export class Routines {
     const known = this.reached.get(begin);
     if (known) return known;
     const reached = new Set();
-    const waiting = [this.statementFrom(begin)];
-    while (waiting.length > 0) {
-      const line = /** @type {number} */ (waiting.pop());
+    const queue = [this.statementFrom(begin)];
+    while (queue.length > 0) {
+      const line = /** @type {number} */ (queue.pop());
       if (line < 0 || reached.has(line)) continue;
       reached.add(line);
-      waiting.push(...this.after(line));
+      queue.push(...this.successors(line));
     }
     this.reached.set(begin, reached);
     return reached;
@@ -107,10 +107,10 @@ export class Routines {
    * @param {number} line
    */
   routineAt(line) {
-    const own = this.routines.find((each) => each.line === line);
+    const first = this.routines.find((each) => each.line === line);
     const inside = this.routines.filter((each) => this.linesOf(each.line).has(line));
     // If several routines reach the line, the nearest one above it is the best.
-    return own || inside.filter((each) => each.line <= line).pop() || inside[0] || null;
+    return first || inside.filter((each) => each.line <= line).pop() || inside[0] || null;
   }
 
   /**

@@ -1,6 +1,7 @@
 // Help and completions for a text of tests, from the manual's tables and the names of the board and the program.
 
 import { piecesOf, plain } from "../help/manual.js";
+import { withoutDescription } from "./completion.js";
 import * as say from "../../words/text.js";
 
 /**
@@ -66,9 +67,6 @@ export function fittings(forms) {
   return [...words.values()].map(({ word, form, does }) => ({ text: word, what: `${form.slice(word.length)}   ${does}` }));
 }
 
-/** @type {(words: string[]) => Fitting[]} returns words as completions without a description */
-export const alone = (words) => words.map((text) => ({ text, what: "" }));
-
 /**
  * Returns the words that can follow other words in a line.
  * @param {string[]} before
@@ -80,14 +78,14 @@ export const alone = (words) => words.map((text) => ({ text, what: "" }));
 function wordsAfter(before, begun, { keys, lamps, labels }, forms) {
   const [first] = before;
   if (first === undefined) return fittings(forms.steps);
-  if (first === "press" || first === "release" || first === "keys") return alone(keys);
+  if (first === "press" || first === "release" || first === "keys") return withoutDescription(keys);
   if (first !== "until" && first !== "expect") return [];
-  if (begun.startsWith("@")) return alone(labels.map((label) => `@${label}`));
+  if (begun.startsWith("@")) return withoutDescription(labels.map((label) => `@${label}`));
   return wordsOfCondition(before.slice(1), { keys, lamps, labels }, forms.conditions, ["within"]);
 }
 
 /** The words that join conditions. */
-const JOINS = new Set(["and", "or", "&&", "||"]);
+const CONJUNCTIONS = new Set(["and", "or", "&&", "||"]);
 
 /**
  * Returns the words that can be next in a condition.
@@ -98,15 +96,15 @@ const JOINS = new Set(["and", "or", "&&", "||"]);
  * @returns {Fitting[]}
  */
 export function wordsOfCondition(before, { keys, lamps, labels }, conditions, after) {
-  const begin = before.reduce((last, word, at) => (JOINS.has(word) ? at + 1 : last), 0);
+  const begin = before.reduce((last, word, at) => (CONJUNCTIONS.has(word) ? at + 1 : last), 0);
   const words = before.slice(begin).map((word) => word.replace(/^[(!]+/, "")).filter((word) => word !== "not" && word !== "");
   const joins = ["and", "or", ...after];
-  if (words.length === 0) return [...fittings(conditions), ...alone(labels.map((label) => `@${label}`))];
+  if (words.length === 0) return [...fittings(conditions), ...withoutDescription(labels.map((label) => `@${label}`))];
   const [word] = words;
-  if (word === "lamp") return alone(words.length === 1 ? lamps : ["on", "off", ...joins]);
-  if (word === "key") return alone(words.length === 1 ? keys : ["down", "up", ...joins]);
-  if (word === "at" && words.length === 1) return alone(labels);
-  return alone(word === "lamps" ? [...lamps, "none", ...joins] : joins);
+  if (word === "lamp") return withoutDescription(words.length === 1 ? lamps : ["on", "off", ...joins]);
+  if (word === "key") return withoutDescription(words.length === 1 ? keys : ["down", "up", ...joins]);
+  if (word === "at" && words.length === 1) return withoutDescription(labels);
+  return withoutDescription(word === "lamps" ? [...lamps, "none", ...joins] : joins);
 }
 
 /**
@@ -136,7 +134,7 @@ export function completeWord(line, at, fitting) {
 export function completeTest(lines, line, at, names, forms) {
   const shared = lines.slice(0, line).flatMap((each) => (/^\s*steps\s+(\S+)\s*$/.exec(each) || []).slice(1));
   return completeWord(lines[line], at, (before, begun) => (
-    before.length === 1 && before[0] === "do" ? alone(shared) : wordsAfter(before, begun, names, forms)));
+    before.length === 1 && before[0] === "do" ? withoutDescription(shared) : wordsAfter(before, begun, names, forms)));
 }
 
 /**
@@ -156,7 +154,7 @@ export function wordsUpTo(line, at) {
  * @param {Form[]} forms
  * @param {string} word
  */
-export function saidOf(forms, word) {
+export function descriptionIn(forms, word) {
   const known = forms.find((form) => form.word === word) || forms.find((form) => kindOf(form.word) === kindOf(word));
   return known ? `${known.form}: ${known.does}` : "";
 }
@@ -171,7 +169,7 @@ export function saidOf(forms, word) {
 export function helpForTest(lines, line, at, { steps, conditions }) {
   const words = wordsUpTo(lines[line], at);
   if (words.length === 0) return "";
-  if (words.length > 1) return /^(until|expect)$/.test(words[0]) ? saidOf(conditions, words[words.length - 1]) : "";
+  if (words.length > 1) return /^(until|expect)$/.test(words[0]) ? descriptionIn(conditions, words[words.length - 1]) : "";
   const known = steps.find(({ word }) => word === words[0]);
   return known ? `${known.form}: ${known.does}` : "";
 }

@@ -73,7 +73,7 @@ function alignedLine(line, mark) {
  * Removes blanks and tabs from both ends of a text.
  * @param {string} text
  */
-export function bare(text) {
+export function trimBlanks(text) {
   let [from, to] = [0, text.length];
   while (from < to && (text[from] === " " || text[from] === "\t")) from += 1;
   while (to > from && (text[to - 1] === " " || text[to - 1] === "\t")) to -= 1;
@@ -86,7 +86,7 @@ export function bare(text) {
  * @param {CommentMark} mark
  */
 export function sentLine(line, mark) {
-  const left = bare(line.slice(0, commentAt(line, mark)));
+  const left = trimBlanks(line.slice(0, commentAt(line, mark)));
   return left === "." && line !== "." ? " ." : left;
 }
 

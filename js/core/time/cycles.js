@@ -10,7 +10,7 @@ import * as say from "../../words/time.js";
  */
 
 /** @type {KeptCycles} */
-export const NONE = { total: 0, reset: 0, from: 0, marks: [] };
+export const NO_CYCLES = { total: 0, reset: 0, from: 0, marks: [] };
 
 /** @param {number} cycles */
 export function timeOfCycles(cycles) {
@@ -28,14 +28,14 @@ export function wordsOfCycles(cycles) {
 
 export class Cycles {
   /** @param {KeptCycles} [kept] */
-  constructor(kept = NONE) {
+  constructor(kept = NO_CYCLES) {
     const { total, reset, from, marks } = kept;
     this.total = total;
     this.reset = reset;
     this.from = from;
     this.marks = marks;
     /** True if time is paused: then the next cycles begin another run. */
-    this.stands = true;
+    this.isPaused = true;
   }
 
   /**
@@ -43,9 +43,9 @@ export class Cycles {
    * @param {{ total: number, reset: number }} counts
    */
   take({ total, reset }) {
-    if (total !== this.total && this.stands) {
+    if (total !== this.total && this.isPaused) {
       this.from = Math.min(this.total, total);
-      this.stands = false;
+      this.isPaused = false;
     }
     this.total = total;
     this.reset = reset;
@@ -53,7 +53,7 @@ export class Cycles {
 
   /** Notes that time is paused. */
   stop() {
-    this.stands = true;
+    this.isPaused = true;
   }
 
   /** Sets the first mark, or the second one. A third mark replaces both. */

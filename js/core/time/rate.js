@@ -1,7 +1,7 @@
 // The rate of cycles per second, measured over half a second.
 
 /** The duration of a measurement, in milliseconds. */
-const MEASURED = 500;
+const INTERVAL = 500;
 
 export class Rate {
   /** @param {number} now in milliseconds */
@@ -20,7 +20,7 @@ export class Rate {
   add(cycles, now) {
     this.cycles += cycles;
     const time = now - this.since;
-    if (time < MEASURED) return false;
+    if (time < INTERVAL) return false;
     this.perSecond = (this.cycles / time) * 1000;
     this.since = now;
     this.cycles = 0;

@@ -4,9 +4,9 @@
 import { CYCLES_PER_SECOND, FRAME_MS } from "./mcs4_time.js";
 
 /** The maximum of cycles in a frame. A slow browser skips the others. */
-export const MOST_DUE = 20000;
+export const MAX_DUE = 20000;
 /** The maximum that a key press is simulated early, in milliseconds: one frame, because lamps change only in frames. */
-export const MOST_AHEAD = FRAME_MS;
+export const MAX_AHEAD = FRAME_MS;
 /** The gap between frames from which time was paused, in milliseconds. */
 export const LONG_GAP = 1000;
 
@@ -17,8 +17,8 @@ export class RealTime {
    * @param {number} wall the wall clock in milliseconds, which continues while a machine sleeps
    */
   constructor(now, wall) {
-    this.before = now;
-    this.seen = wall;
+    this.lastFrame = now;
+    this.lastWall = wall;
     this.wasHidden = false;
     /** The cycles that are due; negative after an early key press. */
     this.owed = 0;
@@ -28,7 +28,7 @@ export class RealTime {
 
   /** The time up to which cycles were simulated, by the clock of the frames. */
   get reached() {
-    return this.before + (Math.max(0, -this.owed) * 1000) / this.perSecond;
+    return this.lastFrame + (Math.max(0, -this.owed) * 1000) / this.perSecond;
   }
 
   /**
@@ -36,9 +36,9 @@ export class RealTime {
    * @param {number} now
    * @param {number} wall
    */
-  goOn(now, wall) {
-    this.before = now;
-    this.seen = wall;
+  restart(now, wall) {
+    this.lastFrame = now;
+    this.lastWall = wall;
     this.wasHidden = false;
     this.owed = 0;
   }
@@ -56,10 +56,10 @@ export class RealTime {
    */
   skipGap(now, wall) {
     const { wasHidden } = this;
-    const gap = wall - this.seen;
-    this.seen = wall;
+    const gap = wall - this.lastWall;
+    this.lastWall = wall;
     if (!wasHidden && gap < LONG_GAP) return null;
-    this.goOn(now, wall);
+    this.restart(now, wall);
     return { gap, wasHidden };
   }
 
@@ -69,9 +69,9 @@ export class RealTime {
    * @param {number} [ahead] how early to simulate, in milliseconds
    */
   due(now, ahead = 0) {
-    this.owed += (Math.max(0, now - this.before) / 1000) * this.perSecond;
-    this.before = Math.max(now, this.before);
-    if (this.owed > MOST_DUE) this.owed = MOST_DUE;
+    this.owed += (Math.max(0, now - this.lastFrame) / 1000) * this.perSecond;
+    this.lastFrame = Math.max(now, this.lastFrame);
+    if (this.owed > MAX_DUE) this.owed = MAX_DUE;
     const due = Math.max(0, Math.floor(this.owed + (ahead / 1000) * this.perSecond));
     this.owed -= due;
     return due;

@@ -3,8 +3,8 @@
 import * as say from "../../words/time.js";
 
 /**
- * A speed. Time is slower than real time by the factor `part`, or runs one instruction per second (`byInstruction`), or at full speed.
- * @typedef {{ id: string, words: string, part: number, byInstruction: boolean, isFull: boolean }} Speed
+ * A speed. Time is slower than real time by the factor `slowdown`, or runs one instruction per second (`byInstruction`), or at full speed.
+ * @typedef {{ id: string, words: string, slowdown: number, byInstruction: boolean, isFull: boolean }} Speed
  */
 
 /**
@@ -14,7 +14,7 @@ import * as say from "../../words/time.js";
  * @returns {Speed}
  */
 function speed(id, words, some = {}) {
-  return { id, words, part: 1, byInstruction: false, isFull: false, ...some };
+  return { id, words, slowdown: 1, byInstruction: false, isFull: false, ...some };
 }
 
 export const REAL = speed("real", say.REAL_TIME);
@@ -22,9 +22,9 @@ export const REAL = speed("real", say.REAL_TIME);
 /** The speeds in the order of the menu. */
 export const SPEEDS = [
   REAL,
-  speed("tenth", "1/10", { part: 10 }),
-  speed("hundredth", "1/100", { part: 100 }),
-  speed("thousandth", "1/1,000", { part: 1000 }),
+  speed("tenth", "1/10", { slowdown: 10 }),
+  speed("hundredth", "1/100", { slowdown: 100 }),
+  speed("thousandth", "1/1,000", { slowdown: 1000 }),
   speed("instruction", say.ONE_A_SECOND, { byInstruction: true }),
   speed("full", say.FULL_SPEED, { isFull: true }),
 ];
@@ -38,14 +38,14 @@ export function speedOf(id) {
  * Returns whether the eye can follow the marked source line.
  * @param {Speed} each
  */
-export function isFollowed({ part, byInstruction }) {
-  return byInstruction || part >= 100;
+export function canFollowLine({ slowdown, byInstruction }) {
+  return byInstruction || slowdown >= 100;
 }
 
 /**
  * Returns whether a click toggles a key, as while time is paused. At this speed the program is too slow to detect a short press.
  * @param {Speed} each
  */
-export function keepsKeys({ part, byInstruction }) {
-  return byInstruction || part >= 1000;
+export function togglesKeys({ slowdown, byInstruction }) {
+  return byInstruction || slowdown >= 1000;
 }

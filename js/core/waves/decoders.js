@@ -33,7 +33,7 @@ export function isDecoder({ kind }) {
 export function lastRise(clock, until) {
   const edges = clock.moments.all;
   let count = countUpTo(edges, until);
-  while (count > 0 && clock.valueBehind(count) === 0) count -= 1;
+  while (count > 0 && clock.valueAfter(count) === 0) count -= 1;
   return count > 0 ? edges[count - 1] : -1;
 }
 
@@ -47,17 +47,17 @@ export function lastRise(clock, until) {
 export function deriveShift({ clock, data, rise }, track, after, end) {
   const edges = clock.moments.all;
   let last = rise;
-  const rest = (/** @type {number} */ until) => {
+  const addRest = (/** @type {number} */ until) => {
     if (last >= 0 && last + REST > after && last + REST <= until) track.set(AT_REST, last + REST);
   };
   for (let at = countUpTo(edges, after); at < edges.length; at++) {
-    if (clock.valueBehind(at + 1) === 0) continue;
-    rest(edges[at] - 1);
+    if (clock.valueAfter(at + 1) === 0) continue;
+    addRest(edges[at] - 1);
     last = edges[at];
-    const turn = (track.now & BIT) === 0 ? BIT : OTHER_BIT;
-    track.set(turn + data.valueAt(last), last);
+    const code = (track.now & BIT) === 0 ? BIT : OTHER_BIT;
+    track.set(code + data.valueAt(last), last);
   }
-  rest(end);
+  addRest(end);
 }
 
 /**

@@ -3,9 +3,9 @@
 /** @typedef {Uint16Array | Uint32Array | Float64Array} Numbers */
 
 /** The first capacity. */
-const ROOM_AT_FIRST = 64;
+const FIRST_CAPACITY = 64;
 /** The maximum of unused elements at the beginning before the numbers are moved there. */
-const MOST_DROPPED = 4096;
+const MAX_UNUSED = 4096;
 
 /**
  * Returns how many numbers are at most `most`.
@@ -23,7 +23,7 @@ export function countUpTo(numbers, most) {
 }
 
 /** @template {Numbers} Kind */
-export class Growing {
+export class NumberQueue {
   /** @param {Kind} numbers the first numbers; the array now belongs to the queue */
   constructor(numbers) {
     this.numbers = numbers;
@@ -52,7 +52,7 @@ export class Growing {
   }
 
   grow() {
-    const larger = /** @type {Kind} */ (new (/** @type {any} */ (this.numbers.constructor))(Math.max(ROOM_AT_FIRST, this.to * 2)));
+    const larger = /** @type {Kind} */ (new (/** @type {any} */ (this.numbers.constructor))(Math.max(FIRST_CAPACITY, this.to * 2)));
     larger.set(this.numbers);
     this.numbers = larger;
   }
@@ -65,7 +65,7 @@ export class Growing {
   /** @param {number} count how many numbers to remove at the beginning */
   drop(count) {
     this.from += count;
-    if (this.from < MOST_DROPPED || this.from < this.count) return;
+    if (this.from < MAX_UNUSED || this.from < this.count) return;
     this.numbers.copyWithin(0, this.from, this.to);
     this.to -= this.from;
     this.from = 0;

@@ -44,7 +44,7 @@ function plainName({ group, places }, number) {
  * @param {WaveLine[]} lines
  * @param {string} word
  */
-function linesNamed(lines, word) {
+function lineIndices(lines, word) {
   const lamps = lines.findIndex(({ group }) => group === "lamps");
   const named = lines.findIndex((line, at) => line.name === word || plainName(line, at - lamps) === word);
   if (named >= 0) return [named];
@@ -67,14 +67,14 @@ export function chooseLines(board, text, hasLabels, words) {
   /** @type {Set<number>} */
   const chosen = new Set();
   for (const word of words) {
-    let numbers = linesNamed(lines, word);
-    const value = numbers.length === 0 ? valueLine(word, board) : null;
+    let indices = lineIndices(lines, word);
+    const value = indices.length === 0 ? valueLine(word, board) : null;
     if (value) {
       const known = lines.findIndex(({ name }) => name === value.name);
-      numbers = [known < 0 ? lines.push(value) - 1 : known];
+      indices = [known < 0 ? lines.push(value) - 1 : known];
     }
-    if (numbers.length === 0) throw new NoLine(word === "label" ? say.LABEL_NEEDS_PROGRAM : say.noSuchLine(word));
-    for (const number of numbers) {
+    if (indices.length === 0) throw new NoLine(word === "label" ? say.LABEL_NEEDS_PROGRAM : say.noSuchLine(word));
+    for (const number of indices) {
       if (chosen.has(number)) throw new NoLine(say.lineTwice(lines[number].name));
       chosen.add(number);
     }

@@ -57,10 +57,10 @@ export class LiveWaves {
   get words() {
     const { waves, triggered, over } = this;
     const { trigger } = this.choice;
-    const came = triggered < 0 ? "" : say.triggerCame(grouped(triggered));
-    if (over === "trigger") return say.recorded(this.kept, came);
-    if (over !== "") return say.recordedUntil(this.kept || say.NOTHING, say.ENDS[over] || over, came);
-    if (triggered >= 0) return say.recordsAfter(came);
+    const triggerText = triggered < 0 ? "" : say.triggerCame(grouped(triggered));
+    if (over === "trigger") return say.recorded(this.kept, triggerText);
+    if (over !== "") return say.recordedUntil(this.kept || say.NOTHING, say.ENDS[over] || over, triggerText);
+    if (triggered >= 0) return say.recordsAfter(triggerText);
     const begun = waves.cycles === 0 ? say.RECORDS_SOON : say.RECORDS;
     return `${begun}${trigger ? say.waitsFor(trigger) : ""}`;
   }

@@ -6,7 +6,7 @@ const CHARACTER = 7.25;
 const ANCHORS = { left: "start", center: "middle", right: "end" };
 
 /** @param {number} number */
-const short = (number) => String(Math.round(number * 100) / 100);
+const rounded = (number) => String(Math.round(number * 100) / 100);
 
 /** @param {string} text */
 const escaped = (text) => text.replace(/[&<>"]/g, (letter) => `&#${letter.charCodeAt(0)};`);
@@ -16,7 +16,7 @@ const escaped = (text) => text.replace(/[&<>"]/g, (letter) => `&#${letter.charCo
  * @param {string} name
  * @param {Record<string, string | number>} attributes
  */
-function begun(name, attributes) {
+function startTag(name, attributes) {
   return [name, ...Object.entries(attributes).map(([key, value]) => `${key}="${escaped(String(value))}"`)].join(" ");
 }
 
@@ -27,19 +27,19 @@ function begun(name, attributes) {
  * @param {string} [content] its content, escaped
  */
 function tag(name, attributes, content) {
-  return content === undefined ? `<${begun(name, attributes)}/>` : `<${begun(name, attributes)}>${content}</${name}>`;
+  return content === undefined ? `<${startTag(name, attributes)}/>` : `<${startTag(name, attributes)}>${content}</${name}>`;
 }
 
 export class SvgContext {
   /**
    * @param {number} width
    * @param {number} height
-   * @param {string} ground the colour of the background
+   * @param {string} background the colour of the background
    */
-  constructor(width, height, ground) {
+  constructor(width, height, background) {
     this.size = [width, height];
     /** @type {string[]} */
-    this.parts = [tag("rect", { width: "100%", height: "100%", fill: ground })];
+    this.parts = [tag("rect", { width: "100%", height: "100%", fill: background })];
     this.fillStyle = this.strokeStyle = "#000";
     this.lineWidth = 1;
     this.font = "";
@@ -67,29 +67,29 @@ export class SvgContext {
 
   /** @param {number[]} point */
   moveTo(...point) {
-    this.path += `M${point.map(short).join()}`;
+    this.path += `M${point.map(rounded).join()}`;
   }
 
   /** @param {number[]} point */
   lineTo(...point) {
-    this.path += `${this.path === "" ? "M" : "L"}${point.map(short).join()}`;
+    this.path += `${this.path === "" ? "M" : "L"}${point.map(rounded).join()}`;
   }
 
   /** @param {number[]} box */
   rect(...box) {
-    const [x, y, width, height] = box.map(short);
+    const [x, y, width, height] = box.map(rounded);
     this.box = { x, y, width, height };
   }
 
   clip() {
     this.clips += 1;
     const id = `clip${this.clips}`;
-    this.parts.push(tag("clipPath", { id }, tag("rect", this.box)), `<${begun("g", { "clip-path": `url(#${id})` })}>`);
+    this.parts.push(tag("clipPath", { id }, tag("rect", this.box)), `<${startTag("g", { "clip-path": `url(#${id})` })}>`);
   }
 
   stroke() {
-    const look = { "fill": "none", "stroke": this.strokeStyle, "stroke-width": this.lineWidth, ...this.dash };
-    this.parts.push(tag("path", { d: this.path, ...look }));
+    const attributes = { "fill": "none", "stroke": this.strokeStyle, "stroke-width": this.lineWidth, ...this.dash };
+    this.parts.push(tag("path", { d: this.path, ...attributes }));
   }
 
   /** @param {number[]} box */
@@ -104,8 +104,8 @@ export class SvgContext {
    * @param {number} y the vertical centre of the text
    */
   fillText(text, x, y) {
-    const look = { "dy": ".35em", "text-anchor": ANCHORS[this.textAlign], "fill": this.fillStyle };
-    this.parts.push(tag("text", { x: short(x), y: short(y), ...look }, escaped(text)));
+    const attributes = { "dy": ".35em", "text-anchor": ANCHORS[this.textAlign], "fill": this.fillStyle };
+    this.parts.push(tag("text", { x: rounded(x), y: rounded(y), ...attributes }, escaped(text)));
   }
 
   /** @param {string} text */
@@ -121,7 +121,7 @@ export class SvgContext {
   /** The text of the file. */
   get text() {
     const [width, height] = this.size;
-    const look = { width, height, "font-family": "monospace", "font-size": 12 };
-    return `${tag("svg", { xmlns: "http://www.w3.org/2000/svg", ...look }, `\n${this.parts.join("\n")}\n`)}\n`;
+    const attributes = { width, height, "font-family": "monospace", "font-size": 12 };
+    return `${tag("svg", { xmlns: "http://www.w3.org/2000/svg", ...attributes }, `\n${this.parts.join("\n")}\n`)}\n`;
   }
 }

@@ -1,7 +1,7 @@
 // The values of a line in a recording: its first value, and each moment when it changed. The track of a single bit stores no values,
 // because a bit alternates.
 
-import { Growing, countUpTo } from "./growing.js";
+import { NumberQueue, countUpTo } from "./growing.js";
 
 /**
  * A track as a message contains it. `values` has the value after each change, null for a single bit.
@@ -24,10 +24,10 @@ export class Track {
   /** @param {TrackData} data its arrays now belong to the track */
   constructor({ first, moments, values }) {
     this.first = first;
-    this.moments = new Growing(moments);
-    /** @type {Growing<Numbers> | null} */
-    this.values = values && new Growing(values);
-    this.now = this.valueBehind(this.moments.count);
+    this.moments = new NumberQueue(moments);
+    /** @type {NumberQueue<Numbers> | null} */
+    this.values = values && new NumberQueue(values);
+    this.now = this.valueAfter(this.moments.count);
   }
 
   /**
@@ -35,14 +35,14 @@ export class Track {
    * @param {number} count
    * @returns {number}
    */
-  valueBehind(count) {
+  valueAfter(count) {
     if (!this.values) return this.first ^ (count & 1);
     return count === 0 ? this.first : this.values.numbers[this.values.from + count - 1];
   }
 
   /** @param {number} moment */
   valueAt(moment) {
-    return this.valueBehind(countUpTo(this.moments.all, moment));
+    return this.valueAfter(countUpTo(this.moments.all, moment));
   }
 
   /**
@@ -56,7 +56,7 @@ export class Track {
     if (this.moments.last === moment) {
       this.moments.pop();
       if (this.values) this.values.pop();
-      if (this.valueBehind(this.moments.count) === value) return;
+      if (this.valueAfter(this.moments.count) === value) return;
     }
     this.moments.push(moment);
     if (this.values) this.values.push(value);
@@ -76,7 +76,7 @@ export class Track {
    */
   beginAt(moment) {
     const count = countUpTo(this.moments.all, moment);
-    this.first = this.valueBehind(count);
+    this.first = this.valueAfter(count);
     this.moments.drop(count);
     if (this.values) this.values.drop(count);
   }
@@ -89,7 +89,7 @@ export class Track {
     const count = countUpTo(this.moments.all, moment);
     this.moments.cut(count);
     if (this.values) this.values.cut(count);
-    this.now = this.valueBehind(count);
+    this.now = this.valueAfter(count);
   }
 
   /**

@@ -6,11 +6,11 @@ import { isDecoder } from "./decoders.js";
 /** @typedef {import("./wave_recording.js").Waves} Waves */
 
 /** The units of time in a cycle. A unit is 100 ns. */
-const UNITS = CYCLE_TENTHS_US;
-/** More than the maximum of lines in a recording. A change is encoded as one number: moment times LINES plus line. */
-const LINES = 8192;
+const UNITS_PER_CYCLE = CYCLE_TENTHS_US;
+/** More than the maximum of lines in a recording. A change is encoded as one number: moment times MAX_LINES plus line. */
+const MAX_LINES = 8192;
 /** The maximum of lines in a part of the file. A long recording does not fit into a single string. */
-const LINES_OF_PART = 100000;
+const PART_LINES = 100000;
 /**
  * The letters in codes of lines. None of them begins a value, so that a reader that skips an unknown kind of value reads the rest
  * correctly.
@@ -74,7 +74,7 @@ export class VcdText {
     const { waves, chosen, codes } = this;
     return `${[
       "$version Fethsaim $end",
-      `$comment ${UNITS} units of time are a cycle of the 4004, ${CYCLE_US} microseconds $end`,
+      `$comment ${UNITS_PER_CYCLE} units of time are a cycle of the 4004, ${CYCLE_US} microseconds $end`,
       "$timescale 100 ns $end",
       "$scope module board $end",
       ...chosen.map((line, at) => `$var ${kindOf(waves, line)} ${codes[at]} ${waves.lines[line].name} $end`),
@@ -94,13 +94,13 @@ export class VcdText {
     const counts = new Uint32Array(chosen.length);
     let lines = [];
     for (const change of changesOf(waves, chosen)) {
-      const moment = Math.floor(change / LINES);
-      const index = change % LINES;
+      const moment = Math.floor(change / MAX_LINES);
+      const index = change % MAX_LINES;
       counts[index] += 1;
-      if (moment !== this.written) lines.push(`#${(moment - this.begun) * UNITS}`);
+      if (moment !== this.written) lines.push(`#${(moment - this.begun) * UNITS_PER_CYCLE}`);
       this.written = moment;
-      lines.push(this.changeText(index, tracks[index].valueBehind(counts[index]), moment));
-      if (lines.length < LINES_OF_PART) continue;
+      lines.push(this.changeText(index, tracks[index].valueAfter(counts[index]), moment));
+      if (lines.length < PART_LINES) continue;
       yield `${lines.join("\n")}\n`;
       lines = [];
     }
@@ -110,7 +110,7 @@ export class VcdText {
   /** Returns the end of the file. */
   end() {
     const { cycles } = this.waves;
-    return cycles > this.written ? `#${(cycles - this.begun) * UNITS}\n` : "";
+    return cycles > this.written ? `#${(cycles - this.begun) * UNITS_PER_CYCLE}\n` : "";
   }
 }
 
@@ -125,7 +125,7 @@ function changesOf(waves, chosen) {
   let at = 0;
   chosen.forEach((line, index) => {
     for (const moment of waves.changesOf(line)) {
-      changes[at] = moment * LINES + index;
+      changes[at] = moment * MAX_LINES + index;
       at += 1;
     }
   });

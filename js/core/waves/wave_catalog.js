@@ -12,9 +12,9 @@ import * as say from "../../words/waves.js";
  */
 
 /** The maximum of lines that are shown at first. */
-const MOST_AT_FIRST = 16;
+const MAX_FIRST_LINES = 16;
 /** The maximum of RAM nibbles that are listed at once. */
-const MOST_CHARACTERS = 64;
+const MAX_NIBBLES = 64;
 
 /**
  * Returns all lines that can be recorded on a board.
@@ -36,7 +36,7 @@ export function firstChoice(waves) {
   const changing = bits.filter((line) => waves.changesOf(line).length > 0);
   const names = all.filter((line) => waves.lines[line].kind === "pc" || waves.lines[line].kind === "label");
   const decoders = all.filter((line) => isDecoder(waves.lines[line]) && waves.changesOf(line).length > 0);
-  return [...(changing.length > 0 ? changing : bits).slice(0, MOST_AT_FIRST), ...decoders, ...names];
+  return [...(changing.length > 0 ? changing : bits).slice(0, MAX_FIRST_LINES), ...decoders, ...names];
 }
 
 /**
@@ -53,11 +53,11 @@ export function valuesAmong(offered, chosen) {
  * @param {WaveLine[]} offered
  * @param {string} text
  */
-function fitting(offered, text) {
+function matchingLines(offered, text) {
   const wanted = plain(text);
   const exact = offered.filter(({ name }) => plain(name) === wanted);
   if (exact.length > 0) return exact;
-  return offered.filter(({ name, title, group }) => plain(`${name} ${title} ${titleOf(group)}`).includes(wanted));
+  return offered.filter(({ name, title, group }) => plain(`${name} ${title} ${groupTitle(group)}`).includes(wanted));
 }
 
 /**
@@ -68,14 +68,14 @@ function fitting(offered, text) {
  * @param {Set<string>} chosen
  * @returns {{ lines: WaveLine[], more: string }} `more` is a note about lines that are not listed
  */
-export function found(offered, text, chosen) {
+export function searchLines(offered, text, chosen) {
   const isAll = text.trim() === "";
   const isCharacter = (/** @type {WaveLine} */ { group }) => group.startsWith(say.RAM_GROUP);
-  let left = isAll ? 0 : MOST_CHARACTERS;
-  const all = fitting(offered, text);
-  if (all.length === 0 && !isAll) return { lines: all, more: say.noName(text.trim()) };
-  const lines = all.filter((line) => !isCharacter(line) || chosen.has(line.name) || left-- > 0);
-  const hidden = all.length - lines.length;
+  let left = isAll ? 0 : MAX_NIBBLES;
+  const matching = matchingLines(offered, text);
+  if (matching.length === 0 && !isAll) return { lines: matching, more: say.noName(text.trim()) };
+  const lines = matching.filter((line) => !isCharacter(line) || chosen.has(line.name) || left-- > 0);
+  const hidden = matching.length - lines.length;
   if (hidden === 0) return { lines, more: "" };
   return { lines, more: say.notListed(hidden) };
 }
@@ -84,6 +84,6 @@ export function found(offered, text, chosen) {
  * Returns the title of a group of lines.
  * @param {string} group
  */
-export function titleOf(group) {
+export function groupTitle(group) {
   return say.TITLES[group] || say.titleOfChip(group);
 }

@@ -28,7 +28,7 @@ import * as say from "../../words/waves.js";
 /** A name in the board's text that is valid in a VCD file. */
 const PLAIN = /^[A-Za-z0-9_]+$/;
 /** The maximum of bits in a number, so that it is exact. */
-const MOST_BITS = 50;
+const MAX_BITS = 50;
 
 /**
  * Returns a line with default members.
@@ -38,7 +38,7 @@ const MOST_BITS = 50;
  * @param {Partial<WaveLine>} rest
  * @returns {WaveLine}
  */
-function made(name, group, kind, rest = {}) {
+function newLine(name, group, kind, rest = {}) {
   return { name, title: "", group, kind, places: [], members: [], width: 1, columns: 0, ...rest };
 }
 
@@ -63,7 +63,7 @@ function namesOf(group, ending, faceText) {
 function levels(group, count, face) {
   const port = face.ports.get(group);
   return upTo(count).map((line) => (
-    made(`${group}.${line}`, group, "level", { places: [`${group}.${line}`], title: port ? say.lineOf(port.text, line) : "" })));
+    newLine(`${group}.${line}`, group, "level", { places: [`${group}.${line}`], title: port ? say.lineOf(port.text, line) : "" })));
 }
 
 /**
@@ -89,13 +89,13 @@ function linesOfChips({ roms, banks, chains }, face) {
 function linesOfFront({ lamps, rows, columns }, face) {
   const lines = lamps.map((place, at) => {
     const { name, title } = namesOf("lamp", String(at), face.lamps.get(at));
-    return made(name, "lamps", "level", { places: [place], title });
+    return newLine(name, "lamps", "level", { places: [place], title });
   });
   for (const row of upTo(rows)) {
     for (const column of upTo(columns)) {
       const key = `${row}.${column}`;
       const { name, title } = namesOf("key", key, face.keys.get(`${row} ${column}`));
-      lines.push(made(name, "keys", "key", { places: [key], title }));
+      lines.push(newLine(name, "keys", "key", { places: [key], title }));
     }
   }
   return lines;
@@ -112,9 +112,9 @@ function portsOf(lines, face) {
   lines.forEach(({ group, kind }, at) => {
     if (kind === "level" && group !== "lamps") ports.set(group, [...(ports.get(group) || []), at]);
   });
-  return [...ports].filter(([, { length }]) => length <= MOST_BITS).map(([group, members]) => {
+  return [...ports].filter(([, { length }]) => length <= MAX_BITS).map(([group, members]) => {
     const faceText = face.ports.get(group);
-    return made(`${group}[${members.length - 1}:0]`, "numbers", "port", { members, width: members.length,
+    return newLine(`${group}[${members.length - 1}:0]`, "numbers", "port", { members, width: members.length,
     title: faceText ? faceText.text : "" });
   });
 }
@@ -132,7 +132,7 @@ function decodersOf({ chains, matrix }, lines, face) {
   const decoders = chains.map(({ clock, data, chips }, at) => {
     const bits = bitsOf(at, 0, BITS_PER_CHIP * chips);
     const members = numbers([clock, data, ...bits]);
-    return made(`shift.chain${at}`, "decoders", "shift", { title: say.shiftOf(at), members, width: bits.length });
+    return newLine(`shift.chain${at}`, "decoders", "shift", { title: say.shiftOf(at), members, width: bits.length });
   });
   if (!matrix) return decoders;
   const { chain, first, rows, columns } = matrix;
@@ -141,7 +141,7 @@ function decodersOf({ chains, matrix }, lines, face) {
     return faceText ? faceText.text : `${row}.${column}`;
   }));
   const members = numbers([...columns, ...bitsOf(chain, first, rows)]);
-  return [...decoders, made("scan.keys", "decoders", "scan",
+  return [...decoders, newLine("scan.keys", "decoders", "scan",
     { title: say.KEY_SCAN, places, members, width: members.length, columns: columns.length })];
 }
 
@@ -167,7 +167,7 @@ export function valueLine(text, board) {
   const title = word === "src" ? say.SRC_OF_ROMS : word === "ram" ? say.inBank(bank, wordsOfCharacter(numberOf(at)))
     : isMemory ? say.STATUS_CHARACTER : "";
   const width = /^p\d$/.test(word) ? PAIR_WIDTH : WIDTHS[word] || DIGIT_WIDTH;
-  return made(place.name, isMemory ? say.ramGroup(bank) : "registers", "value", { places, width, title });
+  return newLine(place.name, isMemory ? say.ramGroup(bank) : "registers", "value", { places, width, title });
 }
 
 /** The names of all registers and pairs. */
@@ -195,10 +195,10 @@ export function characterNames({ banks }) {
  */
 export function linesOfBoard(board, text, hasLabels, values = []) {
   const face = new Face(text);
-  const bits = [...linesOfChips(board, face), ...linesOfFront(board, face), made("test", "test", "test")];
+  const bits = [...linesOfChips(board, face), ...linesOfFront(board, face), newLine("test", "test", "test")];
   const others = values.flatMap((name) => valueLine(name, board) || []);
-  const counter = made("pc", "pc", "pc", { width: 12 });
-  const labels = hasLabels ? [made("label", "label", "label", { width: 16 })] : [];
+  const counter = newLine("pc", "pc", "pc", { width: 12 });
+  const labels = hasLabels ? [newLine("label", "label", "label", { width: 16 })] : [];
   return [...bits, ...portsOf(bits, face), ...decodersOf(board, bits, face), ...others, counter, ...labels];
 }
 

@@ -3,7 +3,7 @@
 
 import { ADDRESSES } from "../bench/rom_bytes.js";
 import { deriveShift, lastRise, scanText, shiftText } from "./decoders.js";
-import { Growing, countUpTo } from "./growing.js";
+import { NumberQueue, countUpTo } from "./growing.js";
 import { Track, emptyTrack } from "./track.js";
 import { valueText } from "./wave_words.js";
 
@@ -45,8 +45,8 @@ export class Waves {
     this.isOwed = isOwed;
     this.lines = lines;
     this.tracks = tracks.map((data) => new Track(data));
-    this.moments = new Growing(moments);
-    this.counters = new Growing(counters);
+    this.moments = new NumberQueue(moments);
+    this.counters = new NumberQueue(counters);
     this.listing = new Map(listing);
     this.program = program;
     this.sources = program ? program.text.split("\n") : [];
@@ -201,7 +201,7 @@ export class Waves {
       let value = 0;
       for (let bit = members.length - 1; bit >= 0; bit--) {
         if (moments[bit][next[bit]] === moment) next[bit] += 1;
-        value = 2 * value + members[bit].valueBehind(next[bit]);
+        value = 2 * value + members[bit].valueAfter(next[bit]);
       }
       track.set(value, moment);
     }

@@ -100,16 +100,16 @@ export class WaveRows {
     const [moved, target] = [rows[at], rows[to]];
     if (!moved || !target || moved === target || (moved.line < 0 && target.group === moved.group)) return;
     const isDown = to > at;
-    const own = moved.line < 0 ? names.filter((name) => this.groupOf(name) === moved.group) : [moved.name];
-    const rest = names.filter((name) => !own.includes(name));
+    const movedNames = moved.line < 0 ? names.filter((name) => this.groupOf(name) === moved.group) : [moved.name];
+    const otherNames = names.filter((name) => !movedNames.includes(name));
     const isWhole = target.group !== "" && (moved.line < 0 || target.line < 0);
-    const near = isWhole ? rest.filter((name) => this.groupOf(name) === target.group) : [target.name];
+    const near = isWhole ? otherNames.filter((name) => this.groupOf(name) === target.group) : [target.name];
     const joins = moved.line >= 0 && target.group !== "" && (target.line >= 0 || (isDown && !target.isFolded));
     if (moved.line >= 0) this.change(moved.name, { group: joins ? target.group : "" });
-    const isBehind = isDown && !(joins && target.line < 0);
-    const place = near.length === 0 ? rest.length : rest.indexOf(near[isBehind ? near.length - 1 : 0]) + Number(isBehind);
-    rest.splice(place, 0, ...own);
-    this.order = [...rest, ...this.order.filter((name) => !rest.includes(name))];
+    const isAfter = isDown && !(joins && target.line < 0);
+    const place = near.length === 0 ? otherNames.length : otherNames.indexOf(near[isAfter ? near.length - 1 : 0]) + Number(isAfter);
+    otherNames.splice(place, 0, ...movedNames);
+    this.order = [...otherNames, ...this.order.filter((name) => !otherNames.includes(name))];
   }
 
   /** @param {string} group the group to fold or to unfold */

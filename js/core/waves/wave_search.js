@@ -28,7 +28,7 @@ const EDGES = { rises: (value) => value === 1, falls: (value) => value === 0, ch
  * @param {string} fault
  * @returns {{ search: null, fault: string }}
  */
-function no(fault) {
+function searchError(fault) {
   return { search: null, fault };
 }
 
@@ -51,11 +51,11 @@ function labelOf(waves, name) {
  */
 export function readSearch(text, waves, marked) {
   const trimmed = text.trim();
-  if (trimmed === "") return no(say.searchQuestion(say.SEARCH_FORMS));
+  if (trimmed === "") return searchError(say.searchQuestion(say.SEARCH_FORMS));
   if (trimmed.startsWith("@")) {
     const label = labelOf(waves, trimmed.slice(1));
     const counter = waves.lines.findIndex(({ kind }) => kind === "pc");
-    if (!label) return no(say.noLabel(trimmed.slice(1)));
+    if (!label) return searchError(say.noLabel(trimmed.slice(1)));
     return { search: { line: counter, matches: (value) => value === label.address, each: false }, fault: "" };
   }
   const edge = /^(?:(.*\S)\s+)?(rises|falls|changes)$/.exec(trimmed);
@@ -85,10 +85,10 @@ function lineOf(name, waves, marked) {
  */
 function readEdge(name, edge, waves, marked) {
   const { line, fault } = lineOf(name || "", waves, marked);
-  if (fault) return no(fault);
+  if (fault) return searchError(fault);
   const { width } = waves.lines[line];
-  if (edge !== "changes" && isDecoder(waves.lines[line])) return no(say.isDecoded(waves.lines[line].name));
-  if (edge !== "changes" && width > 1) return no(say.isNumber(waves.lines[line].name));
+  if (edge !== "changes" && isDecoder(waves.lines[line])) return searchError(say.isDecoded(waves.lines[line].name));
+  if (edge !== "changes" && width > 1) return searchError(say.isNumber(waves.lines[line].name));
   return { search: { line, matches: EDGES[edge], each: true }, fault: "" };
 }
 
@@ -102,16 +102,16 @@ function readEdge(name, edge, waves, marked) {
  */
 function readValue(name, sign, value, waves, marked) {
   const { line, fault } = lineOf(name, waves, marked);
-  if (fault) return no(fault);
+  if (fault) return searchError(fault);
   const { kind, width, name: called } = waves.lines[line];
   if (isDecoder(waves.lines[line])) return readDecoded(waves.lines[line], line, sign, value);
   const label = kind === "label" || kind === "pc" ? labelOf(waves, value.replace(/^@/, "")) : null;
   const binary = /^0b([01]+)$/i.exec(value);
   const number = label ? (kind === "pc" ? label.address : label.number) : binary ? parseInt(binary[1], 2) : numberOf(value);
-  if (kind === "label" && !label) return no(say.noLabel(value));
-  if (Number.isNaN(number)) return no(say.noNumber(value, say.SEARCH_FORMS));
+  if (kind === "label" && !label) return searchError(say.noLabel(value));
+  if (Number.isNaN(number)) return searchError(say.noNumber(value, say.SEARCH_FORMS));
   const most = 2 ** width - 1;
-  if (kind !== "label" && number > most) return no(say.hasBits(called, width, most));
+  if (kind !== "label" && number > most) return searchError(say.hasBits(called, width, most));
   return { search: { line, matches: (/** @type {number} */ is) => COMPARISONS[sign](is, number), each: false }, fault: "" };
 }
 
@@ -124,7 +124,7 @@ function readValue(name, sign, value, waves, marked) {
  * @returns {{ search: Search | null, fault: string }}
  */
 function readDecoded(decoder, line, sign, key) {
-  if (sign !== "=" || !decoder.places.includes(key)) return no(say.isDecoded(decoder.name));
+  if (sign !== "=" || !decoder.places.includes(key)) return searchError(say.isDecoded(decoder.name));
   return { search: { line, matches: (value) => scannedBy(decoder, value).keys.includes(key), each: false }, fault: "" };
 }
 
@@ -140,7 +140,7 @@ export function find(waves, { line, matches, each }, moment, isForward) {
   const changes = track.moments.all;
   const by = isForward ? 1 : -1;
   for (let at = isForward ? countUpTo(changes, moment) : countUpTo(changes, moment - 1) - 1; at >= 0 && at < changes.length; at += by) {
-    if (matches(track.valueBehind(at + 1)) && (each || !matches(track.valueBehind(at)))) return changes[at];
+    if (matches(track.valueAfter(at + 1)) && (each || !matches(track.valueAfter(at)))) return changes[at];
   }
   // The first value of the recording can match, too.
   return !isForward && !each && moment > waves.from && matches(track.first) ? waves.from : -1;

@@ -1,11 +1,11 @@
 // The visible part of a recording, and the positions of the two cursors, as moments in cycles.
 
 /** The minimum of visible cycles. */
-const CLOSEST = 10;
+const MIN_CYCLES = 10;
 /** The visible cycles of a recording in progress. */
-const USUAL = 20000;
+const DEFAULT_CYCLES = 20000;
 /** The distance in pixels within which a click selects an edge. */
-const NEAR = 7;
+const NEAR_PIXELS = 7;
 
 /** @typedef {import("./wave_recording.js").Waves} Waves */
 
@@ -15,7 +15,7 @@ const NEAR = 7;
  * @param {number} least
  * @param {number} most
  */
-function within(number, least, most) {
+function clamp(number, least, most) {
   return Math.min(Math.max(number, least), most);
 }
 
@@ -37,7 +37,7 @@ export class WaveWindow {
   }
 
   /** The length of the recording in cycles. */
-  get all() {
+  get length() {
     return Math.max(1, this.end - this.begin);
   }
 
@@ -71,13 +71,13 @@ export class WaveWindow {
    */
   zoom(factor, moment) {
     const share = (moment - this.from) / this.span;
-    this.span = within(this.span / factor, Math.min(CLOSEST, this.all), this.all);
+    this.span = clamp(this.span / factor, Math.min(MIN_CYCLES, this.length), this.length);
     this.goTo(moment - share * this.span);
   }
 
   /** @param {number} from the first visible moment */
   goTo(from) {
-    this.from = within(from, this.begin, Math.max(this.begin, this.end - this.span));
+    this.from = clamp(from, this.begin, Math.max(this.begin, this.end - this.span));
   }
 
   /**
@@ -88,17 +88,17 @@ export class WaveWindow {
    */
   stretch(begin, end) {
     const wasAtEnd = this.to >= this.end;
-    const isShort = this.span >= this.all && this.all < USUAL;
-    this.cursors = this.cursors.map((cursor) => (cursor === this.end ? end : within(cursor, begin, end)));
+    const isShort = this.span >= this.length && this.length < DEFAULT_CYCLES;
+    this.cursors = this.cursors.map((cursor) => (cursor === this.end ? end : clamp(cursor, begin, end)));
     this.begin = begin;
     this.end = end;
-    this.span = isShort ? Math.min(USUAL, this.all) : Math.min(this.span, this.all);
+    this.span = isShort ? Math.min(DEFAULT_CYCLES, this.length) : Math.min(this.span, this.length);
     this.goTo(wasAtEnd ? end - this.span : this.from);
   }
 
   /** Shows a complete recording, unless the user has chosen a part of it. */
   fit() {
-    if (this.to >= this.end && this.span >= Math.min(USUAL, this.all)) this.showAll();
+    if (this.to >= this.end && this.span >= Math.min(DEFAULT_CYCLES, this.length)) this.showAll();
   }
 
   /**
@@ -106,8 +106,8 @@ export class WaveWindow {
    * @param {number} moment
    */
   showAround(moment) {
-    this.cursors[0] = within(moment, this.begin, this.end);
-    this.span = Math.min(USUAL, this.all);
+    this.cursors[0] = clamp(moment, this.begin, this.end);
+    this.span = Math.min(DEFAULT_CYCLES, this.length);
     this.goTo(moment - this.span / 2);
   }
 
@@ -118,12 +118,12 @@ export class WaveWindow {
    */
   placeCursors(first, second) {
     if (this.cursors.some((cursor) => cursor !== this.end)) return;
-    this.cursors = [first, second].map((moment) => within(moment, this.begin, this.end));
+    this.cursors = [first, second].map((moment) => clamp(moment, this.begin, this.end));
   }
 
   /** Shows the whole recording. */
   showAll() {
-    this.span = this.all;
+    this.span = this.length;
     this.from = this.begin;
   }
 
@@ -132,7 +132,7 @@ export class WaveWindow {
    * @param {number} moment
    */
   move(moment) {
-    const to = within(Math.round(moment), this.begin, this.end);
+    const to = clamp(Math.round(moment), this.begin, this.end);
     this.cursors[this.active] = to;
     if (to < this.from || to > this.to) this.goTo(to - this.span / 2);
   }
@@ -144,10 +144,10 @@ export class WaveWindow {
    * @param {number} line its index, -1 for none
    */
   momentAt(x, waves, line) {
-    const cycle = within(Math.floor(this.cyclesAt(x)), this.begin, this.end);
+    const cycle = clamp(Math.floor(this.cyclesAt(x)), this.begin, this.end);
     if (line < 0) return cycle;
     const edges = [waves.changeBefore(line, cycle + 1), waves.changeAfter(line, cycle)];
-    const near = edges.filter((edge) => edge !== undefined && Math.abs(this.xOf(edge) - x) <= NEAR);
+    const near = edges.filter((edge) => edge !== undefined && Math.abs(this.xOf(edge) - x) <= NEAR_PIXELS);
     const [nearest] = near.sort((one, other) => Math.abs(this.xOf(Number(one)) - x) - Math.abs(this.xOf(Number(other)) - x));
     return nearest === undefined ? cycle : nearest;
   }

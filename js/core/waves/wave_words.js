@@ -11,7 +11,7 @@ import * as say from "../../words/waves.js";
  */
 
 /** The maximum length of a recording in cycles. */
-export const MOST_CYCLES = 10000000;
+export const MAX_CYCLES = 10000000;
 
 /**
  * Returns a value as text.
@@ -90,5 +90,5 @@ export function recordedText({ span, isStuck }, wanted, isBefore) {
  * @param {string} text
  */
 export function readCycles(text) {
-  return parseCount(text, MOST_CYCLES);
+  return parseCount(text, MAX_CYCLES);
 }

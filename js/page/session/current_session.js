@@ -2,7 +2,7 @@
 
 import { field, block } from "../ui/dom.js";
 import { wordsOfBroken } from "../../words/stops.js";
-import { NONE } from "../../core/time/cycles.js";
+import { NO_CYCLES } from "../../core/time/cycles.js";
 import { addressOf } from "./address.js";
 import { KeptSession } from "./kept_session.js";
 import { shortName } from "../../core/session/names.js";
@@ -132,7 +132,7 @@ export class CurrentSession {
    * @param {SessionRecord} record
    * @returns {Promise<Shown>}
    */
-  callOpen({ file, cycles = NONE, printed }) {
+  callOpen({ file, cycles = NO_CYCLES, printed }) {
     return this.bench.call("open", [file, cycles.total, cycles.reset, printed || null]);
   }
 

@@ -3,8 +3,8 @@
 // real time a key press does not wait for the next frame: its cycles are simulated early.
 
 import { CYCLES_PER_SECOND } from "../../core/time/mcs4_time.js";
-import { LONG_GAP, MOST_AHEAD, RealTime } from "../../core/time/real_time.js";
-import { REAL, isFollowed, keepsKeys } from "../../core/time/speeds.js";
+import { LONG_GAP, MAX_AHEAD, RealTime } from "../../core/time/real_time.js";
+import { REAL, canFollowLine, togglesKeys } from "../../core/time/speeds.js";
 
 /**
  * @typedef {import("../../core/board/key_place.js").Key} Key
@@ -44,12 +44,12 @@ export class Clock {
 
   /** True if time is running so slowly that the page shows each line that runs. */
   get isSlow() {
-    return this.isRunning && isFollowed(this.speed);
+    return this.isRunning && canFollowLine(this.speed);
   }
 
   /** True if key presses are queued until their time. Otherwise a press toggles the key. */
   get movesKeys() {
-    return this.isRunning && !keepsKeys(this.speed);
+    return this.isRunning && !togglesKeys(this.speed);
   }
 
   /** The time up to which cycles are simulated, in milliseconds. */
@@ -82,7 +82,7 @@ export class Clock {
    */
   setSpeed(speed) {
     this.speed = speed;
-    this.time.perSecond = speed.byInstruction ? 1 : CYCLES_PER_SECOND / speed.part;
+    this.time.perSecond = speed.byInstruction ? 1 : CYCLES_PER_SECOND / speed.slowdown;
     if (this.isRunning) this.goOn();
   }
 
@@ -92,7 +92,7 @@ export class Clock {
       this.calls.runFull().catch(this.calls.failed);
       return;
     }
-    this.time.goOn(performance.now(), Date.now());
+    this.time.restart(performance.now(), Date.now());
     if (document.hidden) this.time.hide();
     this.requestFrame();
   }
@@ -122,7 +122,7 @@ export class Clock {
 
   /** The milliseconds by which a key press can be simulated early. */
   get ahead() {
-    return this.speed === REAL ? MOST_AHEAD : 0;
+    return this.speed === REAL ? MAX_AHEAD : 0;
   }
 
   /**

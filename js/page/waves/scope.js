@@ -9,7 +9,7 @@ import { WaveChoice } from "./wave_choice.js";
 import { pngOf, svgOf } from "./wave_pictures.js";
 import { find, readSearch } from "../../core/waves/wave_search.js";
 import { WaveView } from "./wave_view.js";
-import { MOST_CYCLES, grouped, readCycles, recordedText } from "../../core/waves/wave_words.js";
+import { MAX_CYCLES, grouped, readCycles, recordedText } from "../../core/waves/wave_words.js";
 import { Waves } from "../../core/waves/wave_recording.js";
 import * as say from "../../words/waves.js";
 
@@ -134,7 +134,7 @@ export class Scope {
     const cycles = input.value.trim() === "0" && min === 0 ? 0 : readCycles(input.value) || -1;
     input.setAttribute("aria-invalid", String(cycles < 0));
     if (cycles < 0) {
-      this.status.set(say.howManyCycles(min, MOST_CYCLES.toLocaleString("en")));
+      this.status.set(say.howManyCycles(min, MAX_CYCLES.toLocaleString("en")));
       byId("wave-settings", HTMLDetailsElement).open = true;
     }
     return cycles;

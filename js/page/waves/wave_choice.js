@@ -1,7 +1,7 @@
 // The choice of lines and values to show: a check box for each of them, grouped by the parts of the board, and a search.
 
 import { Cell, block, button, element, field, onClick } from "../ui/dom.js";
-import { firstChoice, found, titleOf, valuesAmong } from "../../core/waves/wave_catalog.js";
+import { firstChoice, groupTitle, searchLines, valuesAmong } from "../../core/waves/wave_catalog.js";
 import * as say from "../../words/waves.js";
 
 /**
@@ -89,12 +89,12 @@ export class WaveChoice {
   /** Draws the check boxes of the lines that match the search, if the boxes are visible. */
   draw() {
     if (!block("wave-choice").hasAttribute("open")) return;
-    const { lines, more } = found(this.calls.offered(), field("signal-search").value, this.chosen);
+    const { lines, more } = searchLines(this.calls.offered(), field("signal-search").value, this.chosen);
     /** @type {Map<string, HTMLElement>} */
     const groups = new Map();
     this.boxes.clear();
     for (const line of lines) {
-      const root = groups.get(line.group) || element("fieldset", {}, element("legend", {}, titleOf(line.group)));
+      const root = groups.get(line.group) || element("fieldset", {}, element("legend", {}, groupTitle(line.group)));
       root.append(this.boxOf(line));
       groups.set(line.group, root);
     }
