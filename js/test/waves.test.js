@@ -56,9 +56,9 @@ test("what each line is asked for by: a lamp by the line that it is at, a key by
 });
 
 test("ports and chains are asked for as wholes, sixteen places at once, each one once", () => {
-  const asked = new WaveTaking(linesWith()).questions(100).split("\n");
+  const asked = new WaveTaking(linesWith()).queries(100).split("\n");
   assert.deepEqual(asked, ["trace 100", "trace 100 rom0 rom1 rom2 ram0.0 ram1.0 chain0", ""]);
-  const more = new WaveTaking(linesWith(false, ["p2", "r4", ...[..."0123456789"].map((at) => `ram.0.0x0${at}`)])).questions(7).split("\n");
+  const more = new WaveTaking(linesWith(false, ["p2", "r4", ...[..."0123456789"].map((at) => `ram.0.0x0${at}`)])).queries(7).split("\n");
   assert.deepEqual(more.map((line) => line.split(" ").length), [2, 8, 14, 1]);
   const characters = [..."0123456789"].map((at) => `ram.0.0x0${at}`).join(" ");
   assert.equal(more[2], `trace 7 r4 r5 ${characters}`);
@@ -106,7 +106,7 @@ test("what is offered, by words", () => {
 const LEVELS = { "rom0.0": 1, "rom0.1": 1, "rom1.1": 1, "rom1.2": 1, "chain0.0": 1, "chain0.1": 1 };
 
 /**
- * Returns the answers to the questions of a recording: each instruction by the cycles before it, its address, and its changes.
+ * Returns the answers to the queries of a recording: each instruction by the cycles before it, its address, and its changes.
  */
 function answersOf({ groups }, levels, instructions = []) {
   const now = { ...levels };

@@ -9,9 +9,9 @@ import { Answers } from "./tracing.js";
  * A line to send. `change` is null for a run; for any other line it is the change that the line makes.
  * @typedef {{ line: string, change: object | null }} SentLine
  *
- * An asker has queries before each run. `questions` returns the query lines for a run of that many cycles; `count` is the number of
+ * An asker has queries before each run. `queries` returns the query lines for a run of that many cycles; `count` is the number of
  * queries, and each is answered like `trace`. `seesChanges` is true if the asker also needs the state after each change of a key.
- * @typedef {{ questions: (cycles: number) => string, count: number, seesChanges: boolean }} Asker
+ * @typedef {{ queries: (cycles: number) => string, count: number, seesChanges: boolean }} Asker
  */
 
 /**
@@ -23,7 +23,7 @@ export function linesWithQueries(planned, askers) {
   const afterChange = askers.some(({ seesChanges }) => seesChanges) ? "state\n" : "";
   return planned.map((each) => {
     if (each.change) return `${each.line}\n${afterChange}`;
-    return `${askers.map((asker) => asker.questions(cyclesOfLine(each))).join("")}${each.line}\n`;
+    return `${askers.map((asker) => asker.queries(cyclesOfLine(each))).join("")}${each.line}\n`;
   }).join("");
 }
 

@@ -197,7 +197,7 @@ export class BrightnessMeter {
   }
 
   /** @param {number} cycles */
-  questions(cycles) {
+  queries(cycles) {
     return `trace ${cycles} lamps\n`;
   }
 

@@ -37,7 +37,7 @@ export class Heating {
   }
 
   /** @param {number} cycles */
-  questions(cycles) {
+  queries(cycles) {
     return this.groups.map((places) => `trace ${cycles} ${places.join(" ")}\n`).join("");
   }
 

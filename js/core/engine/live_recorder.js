@@ -41,7 +41,7 @@ export class LiveRecorder {
     this.texts = texts;
     this.lines = linesOfBoard(readBoard(engine.ask(file, "board\n").answers), texts.board, texts.program !== null, texts.values);
     this.taking = new WaveTaking(this.lines);
-    this.taking.begin(new Answers(engine.ask(file, `state\n${this.taking.questions(1)}`).answers));
+    this.taking.begin(new Answers(engine.ask(file, `state\n${this.taking.queries(1)}`).answers));
     /** @type {Trigger | null} */
     this.trigger = null;
     /** @type {LiveWanted} */
@@ -107,8 +107,8 @@ export class LiveRecorder {
    * Returns the queries before a run.
    * @param {number} cycles the length of the run
    */
-  questions(cycles) {
-    return `${this.taking.questions(cycles)}${this.places ? `trace ${cycles} ${this.places}\n` : ""}`;
+  queries(cycles) {
+    return `${this.taking.queries(cycles)}${this.places ? `trace ${cycles} ${this.places}\n` : ""}`;
   }
 
   get count() {

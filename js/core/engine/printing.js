@@ -71,7 +71,7 @@ export class Printing {
   }
 
   /** @param {number} cycles */
-  questions(cycles) {
+  queries(cycles) {
     return `trace ${cycles} ${this.strobe} ${this.port}\n`;
   }
 

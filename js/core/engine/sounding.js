@@ -24,7 +24,7 @@ export class Sounding {
   }
 
   /** @param {number} cycles */
-  questions(cycles) {
+  queries(cycles) {
     return `trace ${cycles} ${this.line}\n`;
   }
 

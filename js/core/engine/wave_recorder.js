@@ -54,7 +54,7 @@ class WaveRecorder {
     this.program = texts.program;
     const board = readBoard(engine.ask(file, "board\n").answers);
     this.taking = new WaveTaking(linesOfBoard(board, texts.board, texts.program !== null, texts.values));
-    this.taking.begin(new Answers(engine.ask(file, `state\n${this.taking.questions(1)}`).answers));
+    this.taking.begin(new Answers(engine.ask(file, `state\n${this.taking.queries(1)}`).answers));
   }
 
   /**
@@ -63,7 +63,7 @@ class WaveRecorder {
    */
   record(units) {
     const { engine, file, taking } = this;
-    const lines = units.map(({ line, cycles }) => (cycles > 0 ? `${taking.questions(cycles)}${line}\n` : `${line}\nstate\n`)).join("");
+    const lines = units.map(({ line, cycles }) => (cycles > 0 ? `${taking.queries(cycles)}${line}\n` : `${line}\nstate\n`)).join("");
     const answers = new Answers(engine.serve(file, lines, file).answers);
     for (const { cycles } of units) {
       if (cycles > 0) {

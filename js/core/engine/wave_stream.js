@@ -46,12 +46,12 @@ export function neededLines(lines, chosen) {
  */
 export async function* recordPieces(engine, state, { lines, program, cycles }, yieldToMessages) {
   const taking = new WaveTaking(lines, lines.some(followsCounter));
-  taking.begin(new Answers(engine.ask(state, `state\n${taking.questions(1)}`).answers));
+  taking.begin(new Answers(engine.ask(state, `state\n${taking.queries(1)}`).answers));
   const waves = new Waves({ ...taking.take(), lines, listing: [], program });
   yield waves;
   while (taking.elapsed < cycles && !taking.isStuck) {
     const next = Math.min(PIECE, cycles - taking.elapsed);
-    const answers = new Answers(engine.serve(state, `${taking.questions(next)}run ${next}\nstate\n`, state).answers);
+    const answers = new Answers(engine.serve(state, `${taking.queries(next)}run ${next}\nstate\n`, state).answers);
     taking.takeRun(answers);
     taking.takeState(answers.take());
     waves.beginAt(waves.cycles);

@@ -151,7 +151,7 @@ export class WaveTaking {
    * Returns the queries before a run: a `trace` of each instruction, and a `trace` for each group of places.
    * @param {number} cycles the length of the run
    */
-  questions(cycles) {
+  queries(cycles) {
     const groups = this.groups.map(({ fields }) => `trace ${cycles} ${fields.map(({ place }) => place).join(" ")}\n`);
     return `${this.hasCounter ? `trace ${cycles}\n` : ""}${groups.join("")}`;
   }

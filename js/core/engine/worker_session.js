@@ -243,8 +243,8 @@ export class WorkerSession {
   measureAhead() {
     const { brightnessMeter, heating } = this;
     return {
-      litShares: brightnessMeter && brightnessMeter.take([this.ask(brightnessMeter.questions(EYE_CYCLES))]),
-      warmed: heating && heating.take([this.ask(heating.questions(EYE_CYCLES))]),
+      litShares: brightnessMeter && brightnessMeter.take([this.ask(brightnessMeter.queries(EYE_CYCLES))]),
+      warmed: heating && heating.take([this.ask(heating.queries(EYE_CYCLES))]),
     };
   }
 

@@ -172,7 +172,7 @@ export class Panel {
   async step() {
     this.isPaused = true;
     this.why = "";
-    if (this.printing) this.printing.take([await this.ask(this.printing.questions(STEP_CYCLES))], this.cycles);
+    if (this.printing) this.printing.take([await this.ask(this.printing.queries(STEP_CYCLES))], this.cycles);
     const run = readRun(await this.act("step"));
     this.cycles += run ? run.cycles : 0;
     if (run && run.end !== "end") this.why = REASONS[run.end];

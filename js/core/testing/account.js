@@ -59,7 +59,7 @@ export class Account {
    * Returns the queries before a run.
    * @param {number} cycles the length of the run
    */
-  questions(cycles) {
+  queries(cycles) {
     return `count ${cycles}\ntrace ${cycles} ret\n${this.waiting.key === "" ? "" : `trace ${cycles} lamps\n`}`;
   }
 
@@ -195,7 +195,7 @@ export class LineAccount extends Account {
   }
 
   /** @param {number} cycles */
-  questions(cycles) {
+  queries(cycles) {
     return `count ${cycles}\n`;
   }
 
@@ -211,7 +211,7 @@ export class NoAccount extends Account {
     return false;
   }
 
-  questions() {
+  queries() {
     return "";
   }
 

@@ -95,8 +95,8 @@ export function prepare(engine, { boardText, programText }) {
   const { file, faults: refused } = newSession(engine, { boardText, programText });
   if (refused.length > 0) return { prepared: null, faults: refused };
   const program = sentText(programText, ";");
-  const questions = `board\nmap\n${program}.\n`;
-  const [board, map] = matchAnswers(readInputs(questions), engine.ask(file, questions).answers);
+  const queries = `board\nmap\n${program}.\n`;
+  const [board, map] = matchAnswers(readInputs(queries), engine.ask(file, queries).answers);
   const names = { face: new Face(boardText), board: readBoard(board), map: new SourceMap(map, program) };
   const faults = faultsOfNames(names.face, names.board);
   return { prepared: faults.length > 0 ? null : { file, names, codes: romCodes(engine, file) }, faults };

@@ -19,8 +19,8 @@ export class Printout {
   }
 
   /** @param {number} cycles */
-  questions(cycles) {
-    return this.printing.questions(cycles);
+  queries(cycles) {
+    return this.printing.queries(cycles);
   }
 
   /**

@@ -113,8 +113,8 @@ export class TestSession {
   runPiece(cycles) {
     if (cycles >= SHOWN_CYCLES) this.spare.set(this.file);
     const { account, engine, file, printout, previous } = this;
-    const asked = printout ? printout.questions(cycles) : "";
-    const answers = new Answers(engine.serve(file, `${asked}${account.questions(cycles)}run ${cycles}\nregs\n`, previous).answers);
+    const asked = printout ? printout.queries(cycles) : "";
+    const answers = new Answers(engine.serve(file, `${asked}${account.queries(cycles)}run ${cycles}\nregs\n`, previous).answers);
     if (printout) printout.take(answers, this.elapsed);
     account.take(answers, this.elapsed, () => new Answers(engine.ask(file, `trace ${cycles}\n`).answers));
     const ran = answers.takeRun();
