@@ -72,7 +72,7 @@ class PatternTimes {
   /** @param {Group} group a display */
   constructor(group) {
     this.group = group;
-    this.moves = new ChangeTimes();
+    this.changeTimes = new ChangeTimes();
     /** @type {number[]} the present patterns; `since` is when they began */
     this.patterns = [];
     this.since = 0;
@@ -97,7 +97,7 @@ class PatternTimes {
       : lampsDiffer(marks, before, first, columns) || lampsDiffer(marks, before, by, rows);
     if (!hasChanged) return;
     this.addUpTo(at);
-    this.moves.add(at);
+    this.changeTimes.add(at);
     this.patterns = patternsAt(this.group, marks);
   }
 
@@ -118,7 +118,7 @@ class PatternTimes {
    */
   take(cycles) {
     const { patterns } = this;
-    const moved = this.moves.take(cycles);
+    const moved = this.changeTimes.take(cycles);
     if (moved) this.addUpTo(cycles);
     this.since = 0;
     if (!moved) return { patterns, moved, shown: [] };
@@ -183,7 +183,7 @@ export class BrightnessMeter {
     /** @type {number[]} the cycles that each lamp was on, up to `since` */
     this.lit = new Array(count).fill(0);
     this.since = new Array(count).fill(0);
-    this.moves = this.lit.map(() => new ChangeTimes());
+    this.changeTimes = this.lit.map(() => new ChangeTimes());
   }
 
   // --- as an asker ---
@@ -208,13 +208,13 @@ export class BrightnessMeter {
    */
   take(answerLists) {
     for (const answers of answerLists) if (answers.length > 0) this.add(answers);
-    const { number: face, cycles, marks, lit, since, moves } = this;
+    const { number: face, cycles, marks, lit, since, changeTimes } = this;
     for (let at = 0; at < lit.length; at++) {
       if (isLit(marks, at)) lit[at] += cycles - since[at];
       since[at] = 0;
     }
     const litShares = {
-      face, cycles, marks, lamps: lit.slice(), moved: moves.map((each) => each.take(cycles)),
+      face, cycles, marks, lamps: lit.slice(), moved: changeTimes.map((each) => each.take(cycles)),
       displays: this.displays.map((each) => each.take(cycles)), scanned: this.scanned.map((each) => each.take(marks, cycles)),
     };
     lit.fill(0);
@@ -240,7 +240,7 @@ export class BrightnessMeter {
    * @param {number} cycles the cycles before the change
    */
   change(marks, cycles) {
-    const { marks: before, lit, since, moves } = this;
+    const { marks: before, lit, since, changeTimes } = this;
     if (marks === before) return;
     this.marks = marks;
     if (before === "") {
@@ -251,7 +251,7 @@ export class BrightnessMeter {
       if (marks.charCodeAt(at) === before.charCodeAt(at)) continue;
       if (isLit(before, at)) lit[at] += cycles - since[at];
       since[at] = cycles;
-      moves[at].add(cycles);
+      changeTimes[at].add(cycles);
     }
     for (const display of this.displays) display.change(marks, before, cycles);
     for (const group of this.scanned) group.addUpTo(before, cycles);

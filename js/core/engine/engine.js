@@ -8,7 +8,7 @@ import { BenchRefusal, BenchTrap, NO_MEMORY } from "../bench/faults.js";
  * @typedef {{ status: number, opened: string, answers: string[] }} Served
  *
  * A buffer in the module's memory.
- * @typedef {{ offset: bigint, room: number }} Stretch
+ * @typedef {{ offset: bigint, room: number }} ModuleBuffer
  *
  * @typedef {"bench_serve_and_settle" | "bench_ask"} ServingCall
  * @typedef {(file: bigint, fileSize: bigint, input: bigint, inputSize: bigint, answers: bigint, room: bigint, report: bigint) => number}
@@ -44,7 +44,7 @@ class Instance {
   /**
    * Allocates a buffer. Throws a BenchRefusal if the allocation fails.
    * @param {number} room in bytes
-   * @returns {Stretch}
+   * @returns {ModuleBuffer}
    */
   allocate(room) {
     const offset = this.calls.bench_buffer(BigInt(room));
@@ -54,19 +54,19 @@ class Instance {
 
   /**
    * Returns a buffer of at least `room` bytes: the given buffer, or a larger one that replaces it.
-   * @param {Stretch} stretch
+   * @param {ModuleBuffer} buffer
    * @param {number} room
    */
-  withRoom(stretch, room) {
-    if (room <= stretch.room) return stretch;
+  withRoom(buffer, room) {
+    if (room <= buffer.room) return buffer;
     const larger = this.allocate(room);
-    this.calls.bench_buffer_back(stretch.offset);
+    this.calls.bench_buffer_back(buffer.offset);
     return larger;
   }
 
   /**
    * Returns the first bytes of a buffer. When the module's memory grows, its old array is detached.
-   * @param {Stretch} stretch
+   * @param {ModuleBuffer} buffer
    * @param {number} count
    */
   view({ offset }, count) {

@@ -54,7 +54,7 @@ export function aim(some) {
 }
 
 /**
- * Resolves to the beginning of the last instruction. It is the last one or two cycles back: the one at which no second cycle is pending.
+ * Resolves to the beginning of the last instruction. It is one cycle back, or two if a second cycle is pending there.
  * @param {Engine} engine
  * @param {Timeline} timeline
  * @param {GoesOn} goesOn

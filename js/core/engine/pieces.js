@@ -14,13 +14,13 @@ export const RECORDED_UNITS = 50;
 export class PieceSize {
   /**
    * @param {number} first the size of the first piece
-   * @param {number} least the minimum size
-   * @param {number} most the maximum size
+   * @param {number} min the minimum size
+   * @param {number} max the maximum size
    */
-  constructor(first, least, most) {
+  constructor(first, min, max) {
     this.size = first;
-    this.min = least;
-    this.max = most;
+    this.min = min;
+    this.max = max;
   }
 
   /**

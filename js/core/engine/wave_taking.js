@@ -15,10 +15,10 @@ import { readTraced, valuesOf } from "./tracing.js";
  * @typedef {{ member: number, read: (answer: string) => number }} Reader
  *
  * A place, the lines to read from it, and the position of its report in each row.
- * @typedef {{ place: string, readers: Reader[], from: number, to: number }} Asked
+ * @typedef {{ place: string, readers: Reader[], from: number, to: number }} Field
  *
  * Places that one query asks for, and the last row of their reports.
- * @typedef {{ fields: Asked[], row: string }} Group
+ * @typedef {{ fields: Field[], row: string }} Group
  *
  * The part of a recording since the last call of `take`.
  * @typedef {{ from: number, cycles: number, isStuck: boolean, isOwed: boolean, tracks: TrackData[], moments: Uint32Array,

@@ -351,7 +351,7 @@ function statusQueriesOf(engine, file) {
  * Returns a snapshot of a session file.
  * @param {Engine} engine
  * @param {Uint8Array} file
- * @param {StatusQueries} lookQuestions
+ * @param {StatusQueries} statusQueries
  */
 function snapshotAt(engine, file, { lines, inputs }) {
   return snapshotOf(inputs, engine.ask(file, lines).answers);

@@ -189,13 +189,13 @@ function checkWhole(text) {
 }
 
 /**
- * Reads the lines before the first text: the name, the breakpoints, the watched values, and in `open` which texts do not end with a line
- * feed.
+ * Reads the lines before the first text: the name, the breakpoints and the watched values. `unended` are the texts that do not end with a
+ * line feed.
  * @param {Lines} lines
  */
 function readHead(lines) {
   let name = "";
-  const open = new Set();
+  const unended = new Set();
   /** @type {KeptBreakpoint[]} */
   const breakpoints = [];
   /** @type {string[]} */
@@ -206,22 +206,22 @@ function readHead(lines) {
     if (breakpoint) breakpoints.push(breakpoint);
     else if (isOfHead === undefined) throw lines.fault(say.ONE_OF_HEAD);
     if (word === "name") name = shortName(rest);
-    if (word === "unended") open.add(rest);
+    if (word === "unended") unended.add(rest);
     if (word === "value") watched.push(rest);
     lines.take();
   }
-  return { name, open, breakpoints, watched };
+  return { name, unended, breakpoints, watched };
 }
 
 /**
  * Reads a text of the project.
  * @param {Lines} lines
  * @param {Word} word
- * @param {Set<string>} open the texts that do not end with a line feed
+ * @param {Set<string>} unended the texts that do not end with a line feed
  */
-function readText(lines, word, open) {
+function readText(lines, word, unended) {
   const text = lines.upToDot(word).map((line) => `${/^\.\.+$/.test(line) ? line.slice(1) : line}\n`).join("");
-  return open.has(word) ? text.slice(0, -1) : text;
+  return unended.has(word) ? text.slice(0, -1) : text;
 }
 
 /**
@@ -231,10 +231,10 @@ function readText(lines, word, open) {
  * @returns {DebuggedTexts}
  */
 export function readTexts(lines, acceptsLong = false) {
-  const { name, open, breakpoints, watched } = readHead(lines);
-  const [boardText, programText] = [readText(lines, "wire", open), readText(lines, "asm", open)];
+  const { name, unended, breakpoints, watched } = readHead(lines);
+  const [boardText, programText] = [readText(lines, "wire", unended), readText(lines, "asm", unended)];
   const [testText, propertiesText] = (/** @type {Word[]} */ (["test", "properties"])).map((word) => (
-    lines.next === word ? readText(lines, word, open) : ""));
+    lines.next === word ? readText(lines, word, unended) : ""));
   const texts = { name, boardText, programText, testText, propertiesText };
   const words = wordsOfLength(texts);
   if (words && !acceptsLong) throw new TextTooLong(words);

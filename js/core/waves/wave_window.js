@@ -12,11 +12,11 @@ const NEAR_PIXELS = 7;
 /**
  * Returns a number limited to a range.
  * @param {number} number
- * @param {number} least
- * @param {number} most
+ * @param {number} min
+ * @param {number} max
  */
-function clamp(number, least, most) {
-  return Math.min(Math.max(number, least), most);
+function clamp(number, min, max) {
+  return Math.min(Math.max(number, min), max);
 }
 
 export class WaveWindow {
