@@ -1,18 +1,18 @@
-// The arguments of commands: their count, numbers, and the files of a project if they are left out.
+// Checks of command arguments: their count and their numbers. A project supplies file names that are left out.
 import { existsSync } from "node:fs";
 import * as say from "../words/commands.js";
 import { CommandError, UsageError } from "./output.mjs";
 
 const PROJECT_FILE = "mcs4.toml";
-/** Arguments that name no file. */
+/** The names of arguments that are not file names. */
 const NO_FILES = new Set(["CYCLES", "N", "KEYS", "FIRST", "LAST", "COUNT"]);
 
 /**
- * Rejects too few and too many arguments, and empty ones.
+ * Throws a UsageError if there are too few or too many arguments, or if a file name is empty.
  * @param {string[]} words
- * @param {string[]} names of the required ones; an optional one ends with a question mark
+ * @param {string[]} names of the arguments in the help; the name of an optional argument ends with a question mark
  * @param {number} most
- * @param {boolean} [hasProject] whether a project could name the missing ones
+ * @param {boolean} [hasProject] whether a project can name the missing files
  */
 export function needWords(words, names, most = names.length, hasProject = false) {
   const lack = names.slice(words.length).filter((name) => !name.endsWith("?"));
@@ -22,7 +22,7 @@ export function needWords(words, names, most = names.length, hasProject = false)
 }
 
 /**
- * Returns a decimal number from 1 to a limit.
+ * Parses a decimal number from 1 to `most`; throws a UsageError for anything else.
  * @param {string} name its name in the help
  * @param {string} word
  * @param {number} most
@@ -34,10 +34,11 @@ export function needCount(name, word, most) {
 }
 
 /**
- * Returns the project that a command uses: that of the folder (`-C`), or of this folder if fewer arguments are given than it needs; else null.
+ * Returns the project in `folder` (option `-C`). Without the option, returns the project in the current folder if there are fewer than
+ * `fewest` arguments, and null otherwise.
  * @param {string | undefined} folder
  * @param {string[]} words
- * @param {number} fewest
+ * @param {number} fewest the number of arguments of a command that needs no project
  */
 export async function projectFor(folder, words, fewest) {
   if (folder === undefined && (words.length >= fewest || !existsSync(PROJECT_FILE))) return null;
@@ -50,7 +51,7 @@ export async function projectFor(folder, words, fewest) {
 }
 
 /**
- * Returns the files of a project, some of which a command needs.
+ * Returns the test files or the properties files of a project; throws an error if it has none.
  * @param {import("./project_on_disk.mjs").DiskProject} project
  * @param {"tests" | "properties"} what
  */
@@ -60,7 +61,7 @@ export function needNamed(project, what) {
 }
 
 /**
- * Returns the names of board, program and properties: the given ones, and those of the project.
+ * Returns the file names of board, program and properties, from the arguments or from the project.
  * @param {string | undefined} folder
  * @param {string[]} words
  */
@@ -73,7 +74,7 @@ export async function namesWithProperties(folder, words) {
   return [project.board, project.program, ...properties];
 }
 
-/** Waits for the end of a command that ends the process itself. */
+/** Never resolves: the command ends the process itself. */
 export function untilItEnds() {
   return new Promise(() => {});
 }

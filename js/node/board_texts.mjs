@@ -1,5 +1,4 @@
-// The text of a board for commands: the bench's answer to it, and its front panel. A rejected text is an error that names its file and
-// line.
+// The board file of a command: its wiring as the bench reads it, and its front panel. The error for a rejected text names file and line.
 import { readBoard } from "../core/bench/answers.js";
 import { Face } from "../core/board/face.js";
 import { faultsOfNames, wiredBoard } from "../core/testing/prepared.js";
@@ -11,7 +10,7 @@ import { CommandError } from "./output.mjs";
 /** @typedef {import("./given_texts.mjs").GivenText} GivenText */
 
 /**
- * Reads a board and its front panel; returns them with the answers to `board`.
+ * Reads a board and its front panel; returns them with the answer lines to `board`.
  * @param {import("../core/engine/engine_host.js").EngineHost} engine
  * @param {GivenText} given
  */
@@ -25,7 +24,7 @@ export async function boardAndFace(engine, given) {
 }
 
 /**
- * Returns lines that press keys.
+ * Returns the session lines that press some keys of a front panel.
  * @param {Face} face
  * @param {string} boardName
  * @param {string} keys

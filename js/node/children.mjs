@@ -1,24 +1,25 @@
-// Commands that a Node tool starts: each has a process group of its own, so that a signal to the tool ends all that it started.
+// Child processes of the Node tools. Each has its own process group, so that a signal to the tool also ends the processes that a child
+// started.
 import { processes } from "./processes.mjs";
 
-/** The most bytes that a command may print. */
+/** The maximum output of a child, in characters; a child that prints more is stopped. */
 const MOST_OUTPUT = 1048576;
-/** An environment variable of the commands that are run here: messages that appear once are not printed to them. */
+/** An environment variable that children get. With it, a command does not print messages that each user sees only once. */
 export const IS_RUN_BY_COMMAND = "MCS4_IS_RUN_BY_COMMAND";
 /** Windows has no process groups. */
 const HAS_GROUPS = process.platform !== "win32";
-/** A command that ignores the signal is killed after this time, in milliseconds; this tool itself, which ends its children, later. */
+/** The milliseconds until a child that ignores SIGTERM is killed. A copy of this tool gets more time, because it ends its own children. */
 const PATIENCE = { command: 1000, tool: 10000 };
 
-/** @type {Map<number, { child: import("node:child_process").ChildProcess, hasGroup: boolean }>} the running ones, by their process ids */
+/** @type {Map<number, { child: import("node:child_process").ChildProcess, hasGroup: boolean }>} the running children by process id */
 const running = new Map();
 let isEnding = false;
 
-/** Waits forever: the process is ending. */
+/** Returns a promise that never resolves, for callers while the process ends. */
 const never = () => new Promise(() => {});
 
 /**
- * Sends a signal to a command, and to all that it has started if it has a group of its own.
+ * Sends a signal to a child, and to its whole process group if it has its own.
  * @param {number} pid
  * @param {NodeJS.Signals} signal
  */
@@ -27,12 +28,12 @@ function send(pid, signal) {
   try {
     process.kill(hasGroup && HAS_GROUPS ? -pid : pid, signal);
   } catch {
-    // It has ended.
+    // The child has ended.
   }
 }
 
 /**
- * Notes a command that runs, up to its end.
+ * Registers a child until it ends; resolves to its status, its signal and the error message if it did not start.
  * @param {import("node:child_process").ChildProcess} child
  * @param {boolean} hasGroup
  */
@@ -50,7 +51,7 @@ function follow(child, hasGroup) {
 }
 
 /**
- * Runs a command with an input; returns its status or its signal, and its output. A command that prints too much is ended.
+ * Runs a command with an input; returns its status or its signal, and its output. A command that prints too much is stopped.
  * @param {string} command
  * @param {string[]} words
  * @param {string} [input]
@@ -76,8 +77,8 @@ export async function runCommand(command, words, input = "") {
 }
 
 /**
- * Runs this command again, without its arguments, in a process of its own, which gets the same Ctrl-C; returns its status, null if a signal
- * ended it.
+ * Runs this command again in another process, without its arguments; returns its status, or null if a signal ended it. Both processes are
+ * in one group, so Ctrl-C reaches both.
  * @param {Record<string, string | undefined>} env
  */
 export async function runAgain(env) {
@@ -87,12 +88,12 @@ export async function runAgain(env) {
   return status;
 }
 
-/** Ends the commands that have a group of their own, which Ctrl-C does not reach. */
+/** Sends SIGINT to the children with their own process group, which Ctrl-C does not reach. */
 export function interrupt() {
   for (const [pid, { hasGroup }] of running) if (hasGroup) send(pid, "SIGINT");
 }
 
-/** Yields to others, and never returns if the process is ending. */
+/** Lets pending events run; never resolves once the process is ending. */
 export function yieldToMessages() {
   return new Promise((resume) => {
     setImmediate(() => {
@@ -102,7 +103,7 @@ export function yieldToMessages() {
 }
 
 /**
- * Ends all commands, then the process.
+ * Ends all children, then this process.
  * @param {number} status
  */
 async function end(status) {

@@ -1,4 +1,4 @@
-// The help of commands for a terminal, from their table and their words.
+// The help of commands for a terminal, built from the command table and from js/words/commands.js.
 import { folded as foldedTo } from "../core/text/folded.js";
 import * as say from "../words/commands.js";
 import { COMMANDS } from "./commands/table.mjs";
@@ -11,7 +11,7 @@ const DEEP = INDENT.repeat(3);
 const folded = (text, first = "", others = first) => foldedTo(text, WIDTH, first, others);
 
 /**
- * Returns the paragraphs of a text.
+ * Returns the paragraphs of a text, each as one line.
  * @param {string} text
  */
 export function paragraphsOf(text) {
@@ -19,7 +19,7 @@ export function paragraphsOf(text) {
 }
 
 /**
- * Returns the usage of a command, each form on its own line.
+ * Returns the command lines that a command accepts, as in its usage.
  * @param {string} name
  */
 export function formsOf(name) {
@@ -27,20 +27,20 @@ export function formsOf(name) {
 }
 
 /**
- * Returns the use of a command.
+ * Returns the usage text of a command.
  * @param {string} name
  */
 export function usageLines(name) {
   return say.usageOf(formsOf(name));
 }
 
-/** Returns the use of mcs4. */
+/** Returns the usage text of mcs4. */
 export function usageOfAll() {
   return say.usageOf(say.MCS4_FORMS.map(([form]) => form).filter((form) => !form.endsWith("refusals")));
 }
 
 /**
- * Returns the options of a command as they are typed, each with its description.
+ * Returns the options of a command as rows of the typed form and its description.
  * @param {string} name
  */
 export function optionsOf(name) {
@@ -51,7 +51,7 @@ export function optionsOf(name) {
   return [...rows, ["-h, --help", say.HELP_OPTION]];
 }
 
-/** @type {(head: string, rows: string[][]) => string} a list of words, each with its description */
+/** @type {(head: string, rows: string[][]) => string} a headed list of words, each with its description */
 const listed = (head, rows) => `${head}\n${rows.map(([word, does]) => `${INDENT}${word}\n${folded(does, DEEP)}`).join("\n")}`;
 
 /** @type {(head: string, lines: string[]) => string} */
@@ -72,7 +72,7 @@ export function helpOf(name) {
   ].join("\n\n")}\n`;
 }
 
-/** Returns all commands by their groups: the title of each group, and names with descriptions. */
+/** Returns the groups of commands: the title of each group, and its commands with their descriptions. */
 export function commandsByGroup() {
   const all = Object.entries(COMMANDS).map(([name, { group }]) => ({ name, group, does: say.COMMAND_WORDS[name].summary }));
   return Object.entries(say.GROUPS).map(([each, title]) => ({ title, commands: all.filter(({ group }) => group === each) }));
@@ -80,7 +80,7 @@ export function commandsByGroup() {
 
 /**
  * Returns the help of mcs4 itself.
- * @param {string} top its location
+ * @param {string} top the folder that mcs4 is in, "" to leave out where the manual is
  */
 export function helpOfAll(top) {
   const width = Math.max(...say.MCS4_FORMS.map(([form]) => form.length));

@@ -1,5 +1,5 @@
-// Reads the arguments of a command by the table, runs it, and reports errors: the exit status is 0 if all was done, 1 for an error or a failed
-// test, 2 for wrong arguments.
+// Parses the arguments of a command by the command table, runs the command, and reports errors. The exit status is 0 for success, 1 for an
+// error or a failed test, 2 for wrong arguments.
 import { parseArgs } from "node:util";
 import * as say from "../words/commands.js";
 import { COMMANDS } from "./commands/table.mjs";
@@ -16,7 +16,7 @@ const WRONG_ARGUMENTS = 2;
 const HELP = { type: "boolean", short: "h" };
 
 /**
- * Returns suggestions for a mistyped word. (They are searched for only then.)
+ * Returns the most similar words, as suggestions for a mistyped one. (The module is loaded only then.)
  * @param {string} word
  * @param {string[]} words
  */
@@ -26,8 +26,8 @@ async function meantBy(word, words) {
 }
 
 /**
- * Returns the error of an option that a command lacks.
- * @param {string} word as it was typed
+ * Returns the error for an unknown option.
+ * @param {string} word the option as typed
  * @param {Command["options"]} options
  */
 async function noOption(word, options) {
@@ -36,11 +36,11 @@ async function noOption(word, options) {
   return new UsageError(say.noOption(word, meant.map((name) => `--${name}`)));
 }
 
-/** @type {(value: string | undefined, isInline: boolean) => boolean} whether the value is missing: the next option is in its place */
+/** @type {(value: string | undefined, isInline: boolean) => boolean} true if an option has no value, or the next option instead of one */
 const isMissing = (value, isInline) => value === undefined || value === "" || (!isInline && /^-[^\d]/.test(value));
 
 /**
- * Throws the error of an option.
+ * Throws a UsageError if an option is unknown, lacks its value, or has a value that it does not take.
  * @param {{ name: string, rawName: string, value?: string, inlineValue?: boolean }} token
  * @param {Command["options"]} options
  */
@@ -73,7 +73,7 @@ async function parsed(command, words) {
 }
 
 /**
- * Prints an error, each of its lines after the command's name.
+ * Prints an error; each line starts with the command's name.
  * @param {string} name
  * @param {string} message
  */
@@ -123,7 +123,7 @@ export async function runCommand(name, words, load = COMMANDS[name].load) {
 }
 
 /**
- * Reports a command that is not there.
+ * Reports an unknown command; returns the exit status.
  * @param {string} word
  */
 async function refuseCommand(word) {
@@ -133,7 +133,7 @@ async function refuseCommand(word) {
 }
 
 /**
- * Prints help; returns the exit status.
+ * Prints the help of a command, or of mcs4 if none is named; returns the exit status.
  * @param {string[]} words
  */
 async function help([name, ...others]) {

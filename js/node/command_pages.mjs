@@ -1,5 +1,5 @@
-// Makes the installed files of the help of mcs4: `node command_pages.mjs FOLDER` writes texts for systems without Node (help/), manual
-// pages (man/) and completions (completions/) into a folder. tools/ship calls it.
+// Makes the help files that are installed: `node command_pages.mjs FOLDER` writes texts for systems without Node (help/), manual pages
+// (man/) and shell completions (completions/) into a folder. tools/ship calls it.
 import { mkdirSync, writeFileSync } from "node:fs";
 import { join } from "node:path";
 import * as say from "../words/commands.js";
@@ -15,7 +15,7 @@ const PLAIN = "\\fR";
 const ROFF = { "\\": "\\e", "-": "\\-", "`": "\\(ga", "^": "\\(ha", "~": "\\(ti", "'": "\\(aq" };
 
 /**
- * Writes a text for roff; text between back quotes is bold.
+ * Escapes a text for roff; text between back quotes becomes bold.
  * @param {string} text
  */
 function roff(text) {
@@ -33,7 +33,7 @@ const tagged = (rows) => rows.flatMap(([tag, does]) => [".TP", `.B ${roff(tag)}`
 const joined = (lines, between) => lines.flatMap((line, at) => (at > 0 ? [between, line] : [line]));
 /** @type {(text: string) => string[]} */
 const paragraphs = (text) => joined(paragraphsOf(text).map(roff), ".PP");
-/** @type {(lines: string[]) => string[][]} `0: all was done.` */
+/** @type {(lines: string[]) => string[][]} splits lines such as `0: all was done.` into the status and its meaning */
 const statusRows = (lines) => lines.map((line) => [line.slice(0, 1), line.slice(2)]);
 
 /**
@@ -76,7 +76,7 @@ function manualPageOfAll() {
 
 // --- completions ---
 
-/** Returns all words after `mcs4`, with the description of each and the words that may follow it. */
+/** Returns all words that can follow `mcs4`, each with its description and the words that can follow it. */
 function completedWords() {
   const commands = Object.entries(COMMANDS).map(([name, { options, usage }]) => ({
     name,
@@ -151,7 +151,7 @@ function fishCompletion(words) {
 
 // --- all files ---
 
-/** Returns all files by their names. */
+/** Returns the names and the contents of all files. */
 export function commandPages() {
   const names = Object.keys(COMMANDS);
   const words = completedWords();

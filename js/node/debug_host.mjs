@@ -1,4 +1,5 @@
-// The host functions of a debugger that runs on Node: files, and session files that the program itself writes (`mcs4 open`).
+// The functions that the debugger needs from its host, for Node: access to files, and to session files, which only the native program
+// writes (`mcs4 open`).
 import { closeSync, existsSync, fsyncSync, openSync, realpathSync } from "node:fs";
 import { dirname, isAbsolute, join, resolve, sep } from "node:path";
 import { holderOf, readUnlocked } from "./file_locks.mjs";
@@ -7,10 +8,10 @@ import { openProgram } from "./program_on_file.mjs";
 import { heldBy } from "../words/adapter.js";
 import { isInside, readUserFile, readUserText, replacementOf } from "./user_files.mjs";
 
-/** The most bytes that a session can have. */
+/** The maximum size of a session file, in bytes. */
 const MOST_SESSION = 1048576;
 
-/** The file of a session, complete at each moment: it is replaced by a new file, under a lock that the program holds already. */
+/** A session file and the program that serves it. `replace` puts a new file in its place, so it is complete at every moment. */
 class SessionFile {
   constructor(name, program) {
     this.name = name;
@@ -45,7 +46,7 @@ class SessionFile {
   }
 }
 
-/** @type {(name: string) => string} Windows accepts names with slashes, too, and all parts of the debugger use them */
+/** @type {(name: string) => string} a path with slashes only: all parts of the debugger use them, and Windows accepts them */
 const withSlashes = (name) => (sep === "/" ? name : name.split(sep).join("/"));
 
 function syncFolder(name) {
@@ -54,7 +55,7 @@ function syncFolder(name) {
   closeSync(folder);
 }
 
-/** Starts the program on a session file; an error says which process has the file, if one has. */
+/** Starts the program on a session file. If another process has the file open, the error names that process. */
 async function openFile(name) {
   try {
     return await openProgram("open", name);
@@ -64,7 +65,7 @@ async function openFile(name) {
   }
 }
 
-/** The host functions that a debugger needs; see js/core/adapter/launching.js. */
+/** The host functions of a debugger; js/core/adapter/launching.js describes them. */
 export const host = {
   nameOf: (name, folder) => {
     const whole = isAbsolute(name) ? name : resolve(folder || ".", name);

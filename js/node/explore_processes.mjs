@@ -1,4 +1,4 @@
-// The search of `mcs4 explore`: one in this process, or several, each a job in a process of its own; `mcs4 test` confirms each
+// The search of `mcs4 explore`: one search in this process, or several jobs, each in its own process. `mcs4 test` confirms each
 // counterexample.
 import { createHash } from "node:crypto";
 import { writeFileSync } from "node:fs";
@@ -20,25 +20,25 @@ import { readUserText, writeUserFile } from "./user_files.mjs";
 /**
  * @typedef {import("./given_texts.mjs").GivenText} GivenText
  *
- * The subject of a search, and its texts; `folder` is a temporary one. A job has the name of the file for its report.
+ * The settings of a search, with its texts. `folder` is a temporary folder. `report` is the file that a job writes its report to.
  * @typedef {{ seconds: number, jobs: number, seed: number, allowsModel: boolean, folder: string,
  *   texts: { board: GivenText, program: GivenText, properties: { name: string, text: string } }, report?: string }} Settings
  */
 
-/** The milliseconds between two checks of the clock and of the requests. */
+/** The milliseconds of search between two checks of the clock and of signals. */
 const SLICE = 50;
-/** The most bytes of a text of tests, and of a report. */
+/** The maximum size of a test file and of a report, in bytes. */
 const MOST_TESTS = 1048576;
 const MOST_REPORT = 16777216;
-/** Passes the name of its settings to a job. */
+/** The environment variable that names the settings file of a job. */
 const JOB = "MCS4_EXPLORE_JOB";
 
 let isStopped = false;
 
 /**
- * Returns the text of the tests from which a campaign continues: in the file that it names, or the one next to the properties.
+ * Returns the text of the tests that a campaign continues from. They are in the file that the campaign names, or else next to the properties.
  * @param {{ from: { file: string, line: number, state: string } | null }} campaign
- * @param {string} name of the properties
+ * @param {string} name of the properties file
  */
 function testsFor({ from }, name) {
   if (!from) return "";
@@ -50,7 +50,7 @@ function testsFor({ from }, name) {
   }
 }
 
-/** Returns a model's answers about chains of keys, a line each. */
+/** Asks a model (a command) about key sequences; returns its answers, one line for each sequence. */
 async function askModel(command, chains) {
   const { status, stdout, stderr, signal } = await runCommand("sh", ["-c", command], `${chains.join("\n")}\n`);
   const lines = stdout.split("\n").slice(0, -1);
@@ -59,7 +59,7 @@ async function askModel(command, chains) {
   return { shown: lines, fault: lines.length === chains.length ? "" : say.modelPrinted(lines.length, chains.length) };
 }
 
-/** A search of one campaign. */
+/** The search for one campaign. */
 class Exploration {
   /**
    * @param {Engine} engine
@@ -73,7 +73,7 @@ class Exploration {
     this.files = { board: join(settings.folder, "board_text"), program: join(settings.folder, "program_text") };
   }
 
-  /** Reads the texts; returns the subject of the search, its starting state, and all texts that it depends on. */
+  /** Reads the texts; returns the subject of the search, its starting state, and all texts that the result depends on. */
   async begin() {
     const { engine, settings: { texts: { board, program, properties } } } = this;
     const { prepared, faults: wrong } = prepare(engine, { boardText: board.text, programText: program.text });
@@ -87,14 +87,14 @@ class Exploration {
     return { ...readable, texts: [board.text, program.text, properties.text, testText] };
   }
 
-  /** Prints the command of a model before it is run for the first time. */
+  /** Prints the command of a model before it runs for the first time. */
   announce({ command, properties }) {
     if (command === "" || !this.settings.allowsModel) return;
     const { line } = properties.find(({ form }) => form === "model");
     printError(`# ${say.runsModel(this.names.properties, line, command)}\n`);
   }
 
-  /** Returns whether `mcs4 test` judges a test as expected; a run that a key stopped, as it stops all, is repeated once. */
+  /** Resolves to true if `mcs4 test` judges a test as expected. A run that Ctrl-C stopped along with the search is repeated once. */
   async confirm(test, isGoal) {
     const name = join(this.settings.folder, `find.${process.pid}.test`);
     writeFileSync(name, test);
@@ -125,12 +125,12 @@ class Exploration {
     return run.report({ names, sums, seconds: (user + system) / 1e6, isStopped });
   }
 
-  /** Prints the counterexamples. */
+  /** Prints a counterexample as it is found. */
   show(property, { steps }) {
     printError(`# ${say.wasFound(lineOfProperty(property, { names: this.names }), property.text, property.isGoal, stepsOf(steps))}\n`);
   }
 
-  /** Runs one search in a process of its own; returns its status and the name of its report. */
+  /** Runs one search in another process; returns the exit status and the name of the report. */
   async searchApart(seed) {
     const { settings } = this;
     const report = join(settings.folder, `report.${seed}`);
@@ -139,7 +139,7 @@ class Exploration {
     return { status: await runAgain({ ...process.env, [JOB]: name }), report };
   }
 
-  /** Runs all jobs at a time; returns the joined report. */
+  /** Runs all jobs in parallel; returns the joined report. */
   async searchAll() {
     const { files, settings: { jobs, seed, texts } } = this;
     writeFileSync(files.board, texts.board.text);
@@ -154,20 +154,20 @@ class Exploration {
   }
 }
 
-/** Reads a report that another search has written. */
+/** Reads a report file of another search; throws an error if the file is not a report. */
 function readReport(name) {
   const text = readUserText(name, MOST_REPORT);
   try {
     const report = JSON.parse(text);
     if (report.form === "explore 1") return report;
   } catch {
-    // It is reported below.
+    // The error is thrown below.
   }
   throw new CommandError(say.noReport(name));
 }
 
 /**
- * Joins the reports of searches for the same texts.
+ * Joins the reports of searches with the same texts; throws an error if the texts differ.
  * @param {string[]} names
  */
 export function mergeReports(names) {
@@ -187,21 +187,21 @@ async function explorationBy(settings) {
 }
 
 /**
- * Searches; returns the report.
+ * Runs a search with all its jobs; returns the report.
  * @param {Settings} settings
  */
 export async function exploreTexts(settings) {
   return (await explorationBy(settings)).searchAll();
 }
 
-/** Returns the settings of this process if it is a job of another one; otherwise null. */
+/** Returns the settings of this process if another process started it as a job; otherwise null. */
 export function jobOf() {
   const name = process.env[JOB];
   return name ? JSON.parse(readUserText(name, 2 * MOST_REPORT)) : null;
 }
 
 /**
- * Searches as a job of another process, and writes the report; returns the exit status.
+ * Runs a search as a job of another process, and writes the report; returns the exit status.
  * @param {Settings & { report: string }} settings
  */
 export async function exploreAsJob(settings) {

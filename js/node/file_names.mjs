@@ -1,4 +1,4 @@
-// Names of files that complete a line at a prompt.
+// Completion of file names at a prompt.
 import { readdirSync, statSync } from "node:fs";
 import { homedir } from "node:os";
 import { join } from "node:path";
@@ -6,7 +6,7 @@ import { escaped } from "../core/text/escaped.js";
 
 const MOST = 1000;
 
-/** Returns a name with the user's folder in place of `~`. */
+/** Returns a path with the home folder in place of a leading `~`. */
 export function withoutTilde(name) {
   return name === "~" || name.startsWith("~/") ? homedir() + name.slice(1) : name;
 }
@@ -21,7 +21,7 @@ function isFolder(name) {
 }
 
 /**
- * Returns the names with this beginning, of folders with a slash at their ends; hidden ones if the dot is typed.
+ * Returns the paths that start with `begin`; a folder ends with a slash. Hidden files are included only if their dot is typed.
  * @param {string} begin
  */
 export function fileNames(begin) {

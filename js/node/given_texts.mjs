@@ -1,25 +1,25 @@
-// The texts that are given to a tool by their names: files, pipes, and `-`, standard input.
+// The texts that the arguments of a command name: files, pipes, and `-` for standard input.
 import { closeSync, openSync } from "node:fs";
 import { CommandError } from "./output.mjs";
 import { readStream, readUserFile, statOfInput } from "./user_files.mjs";
 import { noAnswers } from "../words/commands.js";
 
-/** The most bytes of a script of lines, and of a text. */
+/** The maximum sizes, in bytes, of a script of session lines, of answers, and of one text. */
 export const MOST_SCRIPT = 16777216;
 export const MOST_ANSWERS = 67108864;
 export const MOST_GIVEN = 1048576;
 export const STANDARD_INPUT = 0;
 const MARK = Buffer.from([0xEF, 0xBB, 0xBF]);
-/** @type {Record<string, string>} the byte order marks of UTF-16, in which PowerShell writes, each with the name of its encoding */
+/** @type {Record<string, string>} the encodings by their byte order marks in hex; PowerShell writes UTF-16 */
 const UTF_16 = { fffe: "utf-16le", feff: "utf-16be" };
 
 /**
- * The text of a board or a program, with the name of its file, the number of lines before it, and the encoding of its bytes.
+ * The text of a board or a program, with the name of its file, the number of lines before it in the file, and the encoding of the file.
  * @typedef {{ name: string, text: string, before: number, encoding: BufferEncoding }} GivenText
  */
 
 /**
- * Returns bytes as a text, without a byte order mark; bytes that are neither UTF-8 nor have a mark of UTF-16 are read as Latin 1.
+ * Decodes a text, without its byte order mark. UTF-16 is known by its mark. Bytes that are not UTF-8 either are read as Latin 1.
  * @param {Buffer} bytes
  * @returns {{ text: string, encoding: BufferEncoding }}
  */
@@ -35,7 +35,7 @@ function decoded(bytes) {
 }
 
 /**
- * Returns the text of a regular file.
+ * Reads and decodes a regular file.
  * @param {string} name
  * @param {number} most bytes
  */
@@ -51,12 +51,12 @@ function isPipe(name) {
 
 export class GivenTexts {
   constructor() {
-    /** @type {Buffer | null} what standard input had: it can be read once */
+    /** @type {Buffer | null} the content of standard input, which can be read only once */
     this.standardInput = null;
   }
 
   /**
-   * Returns the target of a name.
+   * Returns the bytes of the file, the pipe or standard input that an argument names; throws an error if there are none.
    * @param {string} name
    * @param {number} most bytes
    */
@@ -87,7 +87,7 @@ export class GivenTexts {
   }
 
   /**
-   * Returns a text of tests.
+   * Returns a text of tests or of properties.
    * @param {string} name
    */
   source(name) {
@@ -95,7 +95,7 @@ export class GivenTexts {
   }
 
   /**
-   * Returns the text of a board (`wire`) or a program (`asm`): the file, or the first such text of a script of lines.
+   * Returns the text of a board (`wire`) or a program (`asm`): the whole file, or the first such text in a script of session lines.
    * @param {string} name
    * @param {"wire" | "asm"} word
    * @returns {GivenText}
@@ -120,8 +120,8 @@ export class GivenTexts {
   }
 
   /**
-   * Returns the answers of mcs4 on standard input, line by line. A last line that was cut off is not an answer.
-   * @param {string} command that reads them
+   * Returns the lines of mcs4's answers on standard input. A last line without a line feed is cut off, so it is left out.
+   * @param {string} command that reads the answers
    */
   answers(command) {
     if (this.readStandardInput(MOST_ANSWERS).length === 0) throw new CommandError(noAnswers(command));
@@ -129,7 +129,7 @@ export class GivenTexts {
   }
 
   /**
-   * Returns a script of lines.
+   * Returns a script of session lines.
    * @param {string} name
    */
   script(name) {

@@ -1,10 +1,9 @@
-// The joined files of commands, which start faster than their modules: tools/join_commands.mjs makes them. A joined file is used if its
-// checksums match the sources that are there. Comparing these takes longer than comparing sizes and times, so the sizes and times are
-// remembered in the user's cache; while they are the same, the checksums are not compared again. (tools/lib/start.sh does so for the
-// program.)
+// Loads the joined file of a command, which starts faster than the modules that it was made from (by tools/join_commands.mjs). A joined
+// file is used only if its checksum matches the sources in the tree. Computing checksums is slow, so the user's cache stores the sizes and
+// times of the sources. While these are unchanged, the checksum is not computed again. (tools/lib/start.sh does the same for the program.)
 //
-// Compiling a joined file takes a tenth of a start. So the user's cache also has its compiled code, for each command of the version that
-// ran last.
+// Compiling a joined file takes a tenth of the start-up time. So the cache also stores the compiled code of each command, for the version
+// that ran last.
 "use strict";
 const {
   closeSync, existsSync, fsyncSync, lstatSync, mkdirSync, openSync, readFileSync, renameSync, rmSync, statSync, writeFileSync,
@@ -18,18 +17,21 @@ const IS_WINDOWS = process.platform === "win32";
 const OWNER_ALONE = 0o700;
 const OWNER_ALONE_FILE = 0o600;
 const OTHERS = 0o077;
-/** The milliseconds in which a change is not remembered: a clock that ticks by seconds might not show its next change. */
+/** Files that changed within this time, in milliseconds, are not stored: a clock that ticks by seconds might not show their next change. */
 const YOUNG = 3000;
-/** So many bytes stand before compiled code. */
+/** The number of bytes before the compiled code. */
 const HEAD = 80;
-/** @typedef {"done" | "asked"} Kind what has run: the command, or only its help or its words on wrong arguments; that code is of fewer functions */
+/**
+ * The kind of a run: "done" if the command ran, "asked" if it only printed its help or an error. Such a run compiles fewer functions.
+ * @typedef {"done" | "asked"} Kind
+ */
 /** @type {Kind[]} */
 const KINDS = ["done", "asked"];
-/** A command that was called rightly ends with at most this status. */
+/** The highest exit status of a command that ran. */
 const MOST_DONE = 1;
 
 /**
- * Returns the checksum of files, one after the other. (Cryptography takes a while to load.)
+ * Returns the checksum of the joined contents of files. (node:crypto is loaded only here, because loading it is slow.)
  * @param {string[]} names
  */
 function sumOfFiles(names) {
@@ -39,16 +41,16 @@ function sumOfFiles(names) {
 }
 
 /**
- * Returns whether a folder is there, and is the user's own.
+ * Returns whether a folder exists and belongs to the user.
  * @param {string} name
  */
 function isOwn(name) {
   const stat = lstatSync(name, { throwIfNoEntry: false });
-  // Windows has no numbers of users; a home is the user's own there.
+  // Windows has no user ids; the home folder there belongs to the user.
   return stat !== undefined && stat.isDirectory() && (!process.getuid || stat.uid === process.getuid());
 }
 
-/** Returns the private cache folder; "" if there is none. */
+/** Returns the private cache folder of mcs4, which is made if necessary; "" if there cannot be one. */
 function rememberedFolder() {
   const { XDG_CACHE_HOME = "", HOME = "", LOCALAPPDATA = "" } = process.env;
   const cache = IS_WINDOWS ? LOCALAPPDATA : XDG_CACHE_HOME.startsWith("/") ? XDG_CACHE_HOME : /^\/./.test(HOME) ? join(HOME, ".cache") : "";
@@ -65,7 +67,7 @@ function rememberedFolder() {
 }
 
 /**
- * Returns what files look like, and whether one of them has just changed.
+ * Returns the sizes and times of files as one text, and whether one of the files has just changed.
  * @param {string[]} names
  */
 function lookOf(names) {
@@ -75,8 +77,8 @@ function lookOf(names) {
 }
 
 /**
- * Writes to the cache; if there is no room, the next start compares or compiles again.
- * @param {string} place
+ * Writes a file of the cache. Errors are ignored: the next start then computes or compiles again.
+ * @param {string} place the path of the file
  * @param {...(string | Uint8Array)} parts
  */
 function remember(place, ...parts) {
@@ -96,7 +98,7 @@ function remember(place, ...parts) {
 }
 
 /**
- * Returns whether files have a checksum, or look as they did when they had it.
+ * Returns whether files have a checksum, or the sizes and times that they had when they had it.
  * @param {string} folder the cache
  * @param {string} name of a command
  * @param {string[]} files
@@ -113,12 +115,12 @@ function areThose(folder, name, files, sum) {
   return true;
 }
 
-/** @type {(sum: string, kind: Kind, length: number) => string} what stands before compiled code: which file it is of, and how long it is */
+/** @type {(sum: string, kind: Kind, length: number) => string} the header of compiled code: the checksum of its source, its kind and its length */
 const headOf = (sum, kind, length) => `${sum} ${kind} ${length}\n`.padEnd(HEAD);
 
 /**
- * Returns the compiled code that is remembered of a joined file with a checksum, and its kind; undefined if there is none.
- * @param {string} place
+ * Returns the cached compiled code of the joined file with a checksum, and its kind; undefined if there is none.
+ * @param {string} place its path in the cache
  * @param {string} sum
  * @returns {{ code: Uint8Array, kind: Kind } | undefined}
  */
@@ -135,11 +137,11 @@ function codeAt(place, sum) {
 }
 
 /**
- * Remembers the compiled code of a joined file when the command ends, unless code of this kind is known.
+ * Stores the compiled code of a joined file when the command ends, unless the cache already has code of that kind.
  * @param {Script} script
- * @param {string} place
+ * @param {string} place its path in the cache
  * @param {string} sum
- * @param {Kind | undefined} known
+ * @param {Kind | undefined} known the kind of the cached code
  */
 function rememberCode(script, place, sum, known) {
   process.on("exit", (status) => {
@@ -152,9 +154,9 @@ function rememberCode(script, place, sum, known) {
 }
 
 /**
- * Returns what a joined file exports. It is ASCII, so it is not decoded.
+ * Runs a joined file; returns its exports. The file is ASCII, so it is not decoded.
  * @param {string} file
- * @param {string} place of its compiled code; "" for none
+ * @param {string} place the path of its compiled code in the cache; "" if there is no cache
  * @param {string} sum
  */
 function load(file, place, sum) {
@@ -169,7 +171,7 @@ function load(file, place, sum) {
 }
 
 /**
- * Returns the checksum of a joined file and its sources; "" if it is of others than those that are there.
+ * Returns the checksum of a joined file with its sources; "" if the sources in the tree differ from those that it was made from.
  * @param {string} folder the cache
  * @param {string} name of a command
  * @param {string} file
@@ -185,7 +187,7 @@ function sumOfJoined(folder, name, file) {
 }
 
 /**
- * Returns the module that runs one command, from its joined file; null if there is none, or none of these sources.
+ * Loads the joined file of a command; returns null if there is none, or if it was made from other sources.
  * @param {string} name
  * @returns {{ run: (words: string[]) => Promise<number> } | null}
  */

@@ -1,6 +1,6 @@
-// The commands of mcs4 by Node: `node mcs4.cjs COMMAND ..`, which the starter at the top calls. This file itself is read by older ones, too:
-// it requires nothing before it knows the version, and they have no names with `node:`. It and the joined files are CommonJS, which node starts
-// faster than ES modules.
+// Runs a command of mcs4: `node mcs4.cjs COMMAND ..`, as the script mcs4 in the top folder calls it. Old versions of Node also read this
+// file, to report that they are too old. They do not know the prefix `node:`, so nothing is required before the version is checked. This
+// file and the joined files are CommonJS, which Node starts faster than ES modules.
 "use strict";
 
 const LOWEST_NODE = 18;
@@ -21,7 +21,7 @@ async function runCommand(name, words) {
 const [, , name = "", ...words] = process.argv;
 const isOld = Number(process.versions.node.split(".")[0]) < LOWEST_NODE;
 if (isOld && process.env.MCS4 && (name === "new" || name === "open")) {
-  // The program needs no Node.
+  // The native program runs without Node.
   const { spawnSync } = require("child_process");
   process.exitCode = spawnSync(process.env.MCS4, [name, ...words.slice(-1)], { stdio: "inherit" }).status;
 } else if (isOld) {

@@ -1,16 +1,16 @@
-// The common part of `mcs4 lsp` and `mcs4 dap` on standard input and output: bytes go to a connection, and the process ends, with the
-// reason on standard error, once no message can follow.
+// The common part of `mcs4 lsp` and `mcs4 dap`: bytes of standard input go to a connection. When no message can follow, the process ends
+// with the reason on standard error.
 import { isatty } from "node:tty";
 import { escaped } from "../core/text/escaped.js";
 import { WAITS_FOR_EDITOR } from "../words/commands.js";
 import { printError } from "./output.mjs";
 
-/** The milliseconds after each part in which it waits for the rest of a message. */
+/** The milliseconds to wait for the rest of an incomplete message after each part. */
 const PATIENCE = 10000;
 const INPUT = 0;
 
 /**
- * Prints at a terminal what the command waits for; an editor is not a terminal.
+ * Explains at a terminal that the command waits for an editor. (An editor starts it without a terminal.)
  * @param {string} name of the command
  */
 export function sayAtTerminal(name) {
@@ -18,7 +18,7 @@ export function sayAtTerminal(name) {
 }
 
 /**
- * Returns a function that ends the process once all output is written.
+ * Returns a function that ends the process once all output is written. Its arguments are the exit status and the reason.
  * @param {string} name of the command
  * @returns {(status: number, words?: string) => void}
  */
@@ -34,7 +34,7 @@ export function endOf(name) {
 /**
  * Passes the bytes of standard input to a connection.
  * @param {import("../core/server/message_stream.js").MessageStream} connection
- * @param {(words: string) => void} lost is called once, with the reason: the stream has ended ("" between messages), or no message can follow
+ * @param {(words: string) => void} lost is called once, when no message can follow, with the reason; "" if the stream ends between messages
  */
 export function listen(connection, lost) {
   let isLost = false;
@@ -46,7 +46,7 @@ export function listen(connection, lost) {
     if (!isLost) lost(words);
     isLost = true;
   };
-  // If this process itself was stopped or busy, the rest is in the pipe, and is read before anything is rejected.
+  // If this process itself was stopped or busy, the rest of the message is in the pipe. setImmediate lets it be read first.
   const refuse = (seen) => setImmediate(() => seen === parts && !isLost && lose(connection.refuseIncomplete()));
   process.stdin.on("data", (bytes) => {
     if (isLost) return;

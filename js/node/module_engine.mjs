@@ -1,4 +1,4 @@
-// The proved module as the engine of commands, if there is no native program for this system. A message says so once to each user.
+// The proved WebAssembly module as the engine of commands, for systems without a native program. A message reports that once to each user.
 /* global WebAssembly */
 import { closeSync, existsSync, openSync } from "node:fs";
 import { join } from "node:path";
@@ -11,7 +11,7 @@ import { moduleOfPage } from "./page_parts.mjs";
 const OWNER_ALONE = 0o600;
 
 /**
- * Returns whether a message appears for the first time to this user; if that cannot be noted, it does not appear, as in tools/lib/start.sh.
+ * Returns true once for each user, and records that in the cache. If it cannot be recorded, returns false, as tools/lib/start.sh does.
  */
 function isFirstTime() {
   try {
@@ -26,8 +26,8 @@ function isFirstTime() {
 }
 
 /**
- * Starts the module.
- * @param {string} words says that it is used, and why; "" if that need not be said
+ * Starts the module; returns the engine.
+ * @param {string} words the message that the module is used, and why; "" for no message
  */
 export function startModule(words) {
   const engine = new Engine(new WebAssembly.Module(moduleOfPage()));

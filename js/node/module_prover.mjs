@@ -1,4 +1,4 @@
-// The search of `mcs4 prove` by the proved module, if no program that searches is for this system.
+// The search of `mcs4 prove` by the proved WebAssembly module, for systems without the program mcs4-prove.
 import { startModule } from "./module_engine.mjs";
 
 const SIGNALS = /** @type {const} */ (["SIGHUP", "SIGINT", "SIGTERM"]);

@@ -1,11 +1,11 @@
 // The native program as a host of sessions (the interface is in js/core/engine/engine_host.js), by blocking system calls.
 //
-// A state is a token here, the number of a node in a tree: its parent, and the commands that lead from there. A process is at a
-// state; serving lines moves it to the next one. A state without a process is rebuilt from a copy of a session file above it and the
-// commands since. So files are copied only when a state is needed a second time.
+// A state is a token: the index of a node in a tree. A node has its parent and the commands that lead from the parent to it. Each running
+// process is at one state; lines that it serves move it to the next state. A state without a process is rebuilt: from the nearest copy of
+// a session file above it in the tree, and the commands since then. So files are copied only when a state is needed a second time.
 //
-// One shell starts the program for each session, which costs a tenth of a fork by node; node communicates with it over named pipes. All
-// files are in a private folder of the user. The shell removes it when node has ended, by whatever signal.
+// A shell starts the program for each session, which takes a tenth of the time of a fork by node. Node and the program communicate over
+// named pipes. All files are in a private folder of the user. The shell removes the folder when node has ended, even by a signal.
 import {
   closeSync, constants, copyFileSync, openSync, readFileSync, readSync, renameSync, rmSync, writeFileSync, writeSync,
 } from "node:fs";
@@ -23,32 +23,33 @@ import { TOP } from "./top.mjs";
  * @typedef {import("../core/engine/engine_host.js").EngineHost} EngineHost
  * @typedef {import("../core/engine/engine_host.js").State} State
  *
- * A node of the tree. `copy` is a session file of it, "" for none; `count` is the number of its commands, -1 if not asked for yet.
+ * A node of the tree. `copy` is the path of its session file, "" for none; `count` is the session's number of commands, -1 if not known yet.
  * @typedef {{ parent: number, commands: string, copy: string, count: number }} StateNode
  *
- * The parts of lines: their commands with their texts, how many `seq` among them are answered, and whether the last line and text have
- * ended.
+ * An analysis of session lines: the commands among them, with their texts, and the number of `seq` lines. `isWhole` is true if the last
+ * line and the last text are complete.
  * @typedef {{ commands: string, seqs: number, isWhole: boolean }} Judged
  */
 
-/** The most processes, each at a state. */
+/** The maximum number of processes, each at one state. */
 const MOST_PROCESSES = 3;
-/** The number of states with a copy that was never asked for. */
+/** The maximum number of copies that were made without a call of `keep`. */
 const MOST_COPIES = 32;
-/** A pipe accepts at least this many bytes while nobody reads. */
+/** The bytes that a pipe accepts at least while nobody reads from it. */
 const PIPE_ROOM = 4096;
 const BUFFER_SIZE = 1 << 16;
 const TOKEN_SIZE = 4;
 export const SESSION_BYTES = 163856;
-/** Lines that were judged are remembered: the same ones come again. */
+/** The maximum number of cached analyses: the same lines are often served again. */
 const MOST_JUDGED = 500;
 
-/** The program cannot be used: it is missing, it does not answer, or it has ended. */
+/** An error of the program itself: it is missing, it does not answer, or it has ended. */
 export class ProgramError extends CommandError {}
 
 // --- lines ---
 
 /**
+ * Analyses session lines.
  * @param {string} lines
  * @returns {Judged}
  */
@@ -68,7 +69,8 @@ function judge(lines) {
 }
 
 /**
- * Cuts lines before a pipe is full: each piece fits into a pipe, or is one text, which is answered only at its end.
+ * Splits lines into pieces that a pipe can hold, so that no write blocks forever. A piece can be longer only if it is a single text, which
+ * the program reads whole before it answers.
  * @param {string} lines
  */
 function piecesOf(lines) {
@@ -90,7 +92,10 @@ function piecesOf(lines) {
 
 // --- processes ---
 
-/** The shell's script. A line is a word of the program, the name of a file, and the number of its pipes. */
+/**
+ * The loop of the shell's script. Each line of its control pipe starts a program: `new` or `open`, the name of the session file, and the
+ * number of the pipes to use.
+ */
 const STARTING = `while read -r word name slot; do
     eval "ended=\\\${pid$slot-}"
     if [ -n "$ended" ]; then wait "$ended"; fi
@@ -99,11 +104,11 @@ const STARTING = `while read -r word name slot; do
 done < "$folder/control"
 if [ -e "$folder" ]; then rm -rf -- "$folder"; fi`;
 
-/** The name of the shell, which its messages begin with. */
+/** The name of the shell; its own messages begin with it. */
 const SHELL = "starter";
-/** The shell's status if it must find the program and does not know it. */
+/** The shell's exit status if no program is named and start.sh does not know one. */
 const NOT_KNOWN = 3;
-/** The first part of the shell's script: it finds the program if none is named, makes the pipes, and prints the program. */
+/** The shell's script: it finds the program if none is named, makes the pipes, starts the loop, and prints the program's path. */
 const BEGINNING = `trap "" HUP INT TERM
 program=$1 top=$2 folder=$3
 shift 3
@@ -116,9 +121,9 @@ mkfifo -- "$@" || exit 1
 } > /dev/null 2>> "$folder/words" &
 printf %s "$program"`;
 
-/** The shell that starts the program. */
+/** The shell that starts the program, and its folder. */
 class Starter {
-  /** @param {string} program "" for the one that ./mcs4 starts, if that is known: otherwise nothing is checked */
+  /** @param {string} program its path; "" for the program that ./mcs4 starts, if that is known without comparing sources */
   constructor(program) {
     this.place = temporaryPlace();
     this.folder = temporaryFolder("mcs4");
@@ -126,7 +131,7 @@ class Starter {
     const pipes = ["control", ...this.free.flatMap((slot) => [`in${slot}`, `out${slot}`])].map((name) => join(this.folder, name));
     const { status, signal, stdout } = processes().spawnSync(
       "/bin/sh", ["-c", BEGINNING, SHELL, program, TOP, this.folder, ...pipes], { encoding: "utf8", stdio: ["ignore", "pipe", "ignore"] });
-    // A signal to the group, as of Ctrl-C, may end the shell before it ignores signals. This process has got the same one.
+    // A signal to the process group, such as Ctrl-C, can end the shell before it ignores signals. This process got the same signal.
     if (signal) {
       removeFolder(this.folder);
       process.exit(128 + system.signals[signal]);
@@ -139,7 +144,7 @@ class Starter {
   }
 
   /**
-   * Starts the program on a file; returns the number of its pipes, and their ends.
+   * Starts the program on a session file; returns the number of its pipes, and the open pipes.
    * @param {"new" | "open"} word
    * @param {string} name
    */
@@ -149,7 +154,7 @@ class Starter {
     return { slot, input: openSync(join(this.folder, `in${slot}`), "w"), output: openSync(join(this.folder, `out${slot}`), "r") };
   }
 
-  /** Returns the program's output on standard error, without the shell's own messages, and without lines that name this folder. */
+  /** The program's lines on standard error, without the shell's own messages, and without lines that name this folder. */
   get words() {
     const lines = readFileSync(join(this.folder, "words"), "latin1").split("\n");
     return lines.filter((line) => line !== "" && !line.startsWith(`${SHELL}: `) && !line.includes(this.folder));
@@ -161,18 +166,18 @@ class Starter {
   }
 }
 
-/** The program at work on a session file. */
+/** A running program on a session file. */
 class Session {
   /**
    * @param {Starter} starter
    * @param {"new" | "open"} word
-   * @param {string} name of the file, in the folder
+   * @param {string} name of the file, in the starter's folder
    */
   constructor(starter, word, name) {
     this.starter = starter;
     this.name = name;
     this.file = join(starter.folder, name);
-    /** The number of the state that it is at, -1 for none. */
+    /** The index of the state that the session is at, -1 for none. */
     this.at = -1;
     this.buffer = Buffer.allocUnsafe(BUFFER_SIZE);
     const { slot, input, output } = starter.start(word, name);
@@ -183,7 +188,7 @@ class Session {
     this.count = this.takeOpening();
   }
 
-  /** Reads the first line; returns how many commands the session has. */
+  /** Reads the first line of the answers; returns the session's number of commands. Throws an error if the session was not opened. */
   takeOpening() {
     const line = this.readUntil((text) => text.endsWith("\n")).trimEnd();
     if (this.hasEnded || !/^session \d+$/.test(line)) {
@@ -194,20 +199,20 @@ class Session {
     return Number(line.slice("session ".length));
   }
 
-  /** The error of a program that does not begin as mcs4 does. */
+  /** Returns the error for a program whose first line is not mcs4's. */
   noAnswer() {
     const { program, words } = this.starter;
     return new ProgramError([...words, `${program} does not answer; MCS4 names the program where it is not the mcs4 at the top`].join("\n"));
   }
 
-  /** The error of a program that ends before it has answered. */
+  /** Returns the error for a program that ends before it has answered. */
   noMoreAnswers() {
     return new ProgramError(`the session has ended; the program said: ${this.starter.words.join("; ") || "nothing"}`);
   }
 
   /**
-   * Reads answers until they are complete, or the program has ended.
-   * @param {(text: string) => boolean} isWhole
+   * Reads answers until they are complete, or until the program has ended.
+   * @param {(text: string) => boolean} isWhole true if the answers so far are complete
    */
   readUntil(isWhole) {
     let text = "";
@@ -220,8 +225,8 @@ class Session {
   }
 
   /**
-   * Serves lines, and `seq` after them, whose answer marks the end of theirs. Of lines that are answered by counts, too, each count is
-   * awaited.
+   * Serves lines; returns the lines of their answers. A `seq` is sent after them, because its answer marks the end. If the lines contain
+   * `seq` themselves, their answers are counted, too.
    * @param {string} lines
    */
   talk(lines) {
@@ -241,7 +246,7 @@ class Session {
   }
 
   /**
-   * Serves lines whose last one has no end, and ends the session.
+   * Serves lines that end without a line feed, or within a text, and ends the session; returns the lines of the answers.
    * @param {string} lines
    */
   talkLast(lines) {
@@ -256,8 +261,9 @@ class Session {
   }
 
   /**
+   * Sends lines; returns the text of their answers. If the program has ended, reads what it still answered.
    * @param {string} lines
-   * @param {(text: string) => boolean} isWhole
+   * @param {(text: string) => boolean} isWhole true if the answers so far are complete
    */
   send(lines, isWhole) {
     try {
@@ -268,7 +274,7 @@ class Session {
     return this.readUntil(isWhole);
   }
 
-  /** Reads the rest that a program that ended too soon left in its pipe: the next one at this pipe would read it. */
+  /** Empties the input pipe after a program that ended too soon: the next program at this pipe must not read its lines. */
   drain() {
     const rest = openSync(join(this.starter.folder, `in${this.slot}`), constants.O_RDONLY | constants.O_NONBLOCK);
     try {
@@ -280,7 +286,7 @@ class Session {
     }
   }
 
-  /** The program ends when nobody writes to it any more. */
+  /** Closes the input, so that the program ends, and waits for its end. */
   end() {
     if (this.hasEnded) this.drain();
     closeSync(this.input);
@@ -288,7 +294,10 @@ class Session {
     this.close(this.output);
   }
 
-  /** @param {number} pipe the last open one */
+  /**
+   * Closes the last open pipe, and frees the slot of the pipes.
+   * @param {number} pipe
+   */
   close(pipe) {
     closeSync(pipe);
     this.starter.free.push(this.slot);
@@ -297,30 +306,33 @@ class Session {
 
 // --- states ---
 
-/** @implements {EngineHost} */
+/**
+ * The engine on native programs.
+ * @implements {EngineHost}
+ */
 export class NativeEngine {
   /** @param {string} program its path */
   constructor(program, starter = new Starter(program)) {
     this.size = TOKEN_SIZE;
     this.starter = starter;
-    /** @type {StateNode[]} the first one is a new session */
+    /** @type {StateNode[]} the tree; node 0 is a new session */
     this.states = [{ parent: -1, commands: "", copy: "", count: 0 }];
-    /** @type {Session[]} the one that was used last is first */
+    /** @type {Session[]} the running sessions, the most recently used first */
     this.sessions = [];
-    /** @type {number[]} states with copies that were never asked for, the oldest first */
+    /** @type {number[]} the states with copies that were made without a call of `keep`, the oldest first */
     this.copied = [];
     this.files = 0;
     /** @type {Map<string, Judged>} */
     this.judged = new Map();
   }
 
-  /** Returns the engine on the program that ./mcs4 starts, if that can be known without a comparison of all sources; else null. */
+  /** Returns an engine on the program that ./mcs4 starts, if start.sh knows it without comparing all sources; otherwise null. */
   static ofKnown() {
     const starter = new Starter("");
     return starter.control < 0 ? null : new NativeEngine(starter.program, starter);
   }
 
-  // --- the form of an engine ---
+  // --- the interface EngineHost ---
 
   /** @param {State} [into] */
   begin(into = new Uint8Array(this.size)) {
@@ -383,7 +395,7 @@ export class NativeEngine {
     return this.setNumber(new Uint8Array(this.size), this.addState({ parent: -1, commands: "", copy, count: -1 }));
   }
 
-  /** Returns why there is no room for a session among the temporary files, in words; "" if there is. */
+  /** The message that there is no room for a session among the temporary files; "" if there is room. */
   get lackOfRoom() {
     const { folder, place } = this.starter;
     const room = join(folder, "room");
@@ -403,9 +415,12 @@ export class NativeEngine {
     this.starter.end();
   }
 
-  // --- how states are reached ---
+  // --- reaching a state ---
 
-  /** @param {State} state */
+  /**
+   * Returns the index of a state's node.
+   * @param {State} state
+   */
   numberOf(state) {
     const number = new DataView(state.buffer, state.byteOffset).getUint32(0);
     if (state.length !== this.size || number >= this.states.length) throw new Error("these bytes are not a state of this engine");
@@ -413,6 +428,7 @@ export class NativeEngine {
   }
 
   /**
+   * Writes the index of a node into a state; returns the state.
    * @param {State} state
    * @param {number} number
    */
@@ -421,12 +437,18 @@ export class NativeEngine {
     return state;
   }
 
-  /** @param {StateNode} state */
+  /**
+   * Adds a node to the tree; returns its index.
+   * @param {StateNode} state
+   */
   addState(state) {
     return this.states.push(state) - 1;
   }
 
-  /** @param {string} lines */
+  /**
+   * Analyses session lines, with a cache.
+   * @param {string} lines
+   */
   judge(lines) {
     const known = this.judged.get(lines);
     if (known) return known;
@@ -437,7 +459,7 @@ export class NativeEngine {
   }
 
   /**
-   * Serves lines; a session that has ended is not used again.
+   * Serves lines on a session; returns the lines of the answers. If that fails, drops the session.
    * @param {Session} session
    * @param {string} lines
    */
@@ -451,8 +473,8 @@ export class NativeEngine {
   }
 
   /**
-   * Serves lines whose last one has no end.
-   * @param {number} number
+   * Serves lines that end without a line feed, or within a text. The new state is a copy of the session file.
+   * @param {number} number of the state
    * @param {string} lines
    * @param {State} into
    */
@@ -468,8 +490,8 @@ export class NativeEngine {
   }
 
   /**
-   * Returns a session at a state.
-   * @param {number} number
+   * Returns a session at a state; starts one if none is there.
+   * @param {number} number of the state
    */
   sessionAt(number) {
     const found = this.sessions.findIndex(({ at }) => at === number);
@@ -479,8 +501,8 @@ export class NativeEngine {
   }
 
   /**
-   * Starts the program on a state.
-   * @param {number} number
+   * Starts the program, and brings it to a state.
+   * @param {number} number of the state
    */
   newSession(number) {
     const { lines, copy } = this.wayTo(number);
@@ -498,8 +520,8 @@ export class NativeEngine {
   }
 
   /**
-   * Returns the nearest copy above a state, "" for a new session, and the commands from there.
-   * @param {number} number
+   * Returns the nearest copy at a state or above it ("" for a new session), and the commands from there to the state.
+   * @param {number} number of the state
    */
   wayTo(number) {
     const commands = [];
@@ -509,8 +531,8 @@ export class NativeEngine {
   }
 
   /**
-   * Stores a copy of a state that was needed again: the next time needs no commands. Only the last ones are stored.
-   * @param {number} number
+   * Stores a copy of a state that had to be rebuilt, so that the next time needs no commands. Only the last MOST_COPIES copies are stored.
+   * @param {number} number of the state
    * @param {string} file
    */
   copyForNext(number, file) {
@@ -523,7 +545,8 @@ export class NativeEngine {
   }
 
   /**
-   * @param {number} number
+   * Copies a session file for a state.
+   * @param {number} number of the state
    * @param {string} file
    */
   copy(number, file) {
@@ -532,14 +555,16 @@ export class NativeEngine {
     this.states[number].copy = copy;
   }
 
+  /** Returns the path of a new session file. */
   newFile() {
     this.files += 1;
     return join(this.starter.folder, `${this.files}.mcs`);
   }
 
   /**
+   * Removes a session and its file.
    * @param {Session} session
-   * @param {boolean} isOpen whether its pipes are
+   * @param {boolean} isOpen whether its pipes are still open
    */
   drop(session, isOpen) {
     this.sessions = this.sessions.filter((each) => each !== session);

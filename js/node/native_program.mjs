@@ -1,5 +1,5 @@
-// The program that runs the sessions of commands, and the engine on it: the native program, or the proved module if there is no program for
-// this system.
+// Finds the native program that runs sessions for commands, and starts the engine: on that program, or on the proved WebAssembly module if
+// there is no program for this system. Also the steps that many commands share: opening a session, reading a program.
 import { existsSync } from "node:fs";
 import { type } from "node:os";
 import { join } from "node:path";
@@ -16,7 +16,7 @@ import {
 /**
  * @typedef {import("../core/engine/engine_host.js").EngineHost} EngineHost
  *
- * A program: its path, "" for none, and why there is none; whether none can be built for this system.
+ * The result of looking for a program: its path ("" if there is none), the reason, and `isForOthers`: no program is made for this system.
  * @typedef {{ program: string, fault: string, isForOthers: boolean }} Found
  */
 
@@ -29,7 +29,7 @@ const IS_WINDOWS = process.platform === "win32";
 const hasStarter = existsSync(join(TOP, "tools/lib/start.sh"));
 
 /**
- * Runs a script of the starter, which prints a program and why there is none; null if the starter or the shell is missing.
+ * Runs a script of the starter that prints a program's path, or why there is none. Returns null if the starter or the shell is missing.
  * @param {string} script
  * @returns {Found | null}
  */
@@ -42,20 +42,20 @@ function ask(script) {
   return { program, fault, isForOthers: program === "" && isForOthers === "1" };
 }
 
-/** @returns {Found} the result if no starter runs: an editor's extension has none, and Windows has no shell for it */
+/** @returns {Found} the result without a starter: an editor's extension has none, and Windows has no shell for it */
 const noneHere = () => ({ program: "", fault: hasStarter ? notForSystem(type(), process.arch) : NO_PROGRAM_IN_COPY, isForOthers: true });
 
-/** @type {Found | null} the program, once it was searched for */
+/** @type {Found | null} the result of the first search for the program */
 let found = null;
 
-/** Finds the program: MCS4 names it, or it is the one that ./mcs4 starts, which is built first if necessary. */
+/** Finds the program: the variable MCS4 names it, or it is the one that ./mcs4 starts, which is built first if necessary. */
 function findProgram() {
   if (process.env.MCS4) return { program: process.env.MCS4, fault: "", isForOthers: false };
   found ||= ask(FIND_PROGRAM) || noneHere();
   return found;
 }
 
-/** Returns the program; throws an error if there is none for this system. */
+/** Returns the path of the program; throws an error if there is none for this system. */
 export function programPath() {
   const { program, fault } = findProgram();
   if (program === "") throw new CommandError(needsProgram(fault));
@@ -63,8 +63,8 @@ export function programPath() {
 }
 
 /**
- * Returns the program that searches for `mcs4 prove`: MCS4_PROVE names it, or it was built here, or it is the shipped one; "" if there is
- * none for this system.
+ * Returns the path of the prover: the program that MCS4_PROVE names, a local build, or the shipped one; "" if there is none for this
+ * system.
  */
 export function proverPath() {
   const { MCS4_PROVE: named } = process.env;
@@ -79,12 +79,12 @@ export function proverPath() {
 let started = null;
 
 /**
- * Starts the engine: the native program, or the proved module if there is no program for this system, which is reported once to each user.
- * (The module is loaded only then.) Its processes and files are removed when this process ends.
+ * Starts the engine: the native program, or the proved module if there is no program for this system. The use of the module is reported
+ * once to each user. The engine's processes and files are removed when this process ends.
  * @returns {Promise<EngineHost>}
  */
 export async function startEngine() {
-  // Before the folder exists: a signal while it is made must not leave it.
+  // First of all, so that a signal cannot leave the engine's folder behind.
   endOnSignals();
   const { NativeEngine } = await import("./native_engine.mjs");
   const known = process.env.MCS4 || found || !hasStarter || IS_WINDOWS ? null : NativeEngine.ofKnown();
@@ -99,18 +99,18 @@ export async function startEngine() {
   return engine;
 }
 
-/** Ends the engine that was started, and removes its files. */
+/** Ends the native engine, if one was started, and removes its files. */
 export function endEngine() {
   if (started) started.end();
   started = null;
 }
 
-/** @type {((status: number) => void) | null} what a signal does */
+/** @type {((status: number) => void) | null} the action on a signal */
 let atSignal = null;
 
 /**
- * Ends the process on a signal, but not in the middle of a piece of work: unfinished files are removed then.
- * @param {(status: number) => void} [act] ends the process
+ * Ends the process on a signal by `act`, not by the signal itself, so that unfinished files are removed.
+ * @param {(status: number) => void} [act] ends the process with a status
  */
 export function endOnSignals(act = process.exit) {
   const isFirst = atSignal === null;
@@ -119,19 +119,19 @@ export function endOnSignals(act = process.exit) {
   for (const [signal, status] of Object.entries(SIGNALS)) process.on(signal, () => atSignal(status));
 }
 
-/** Returns why the present engine has no room among the temporary files, in words; "" if it has, or none was started. */
+/** Returns the message that the native engine has no room for temporary files; "" if it has room, or if none was started. */
 export function lackOfRoom() {
   return started ? started.lackOfRoom : "";
 }
 
 /**
- * Opens a session, of which a copy is used; an error names the file.
+ * Returns the state of a session file. The engine works on a copy of the file. An error names the file.
  * @param {EngineHost} engine
  * @param {import("./given_texts.mjs").GivenTexts} texts
  * @param {string} session its file
  */
 export async function openSession(engine, texts, session) {
-  // A pipe without a writer would block the process for good, with its signals; and a session is read twice.
+  // A pipe without a writer would block the process forever, even for signals. Also, the file is read twice.
   if (statOfInput(session)?.isFIFO()) throw new CommandError(`cannot read ${session}: it is not a regular file`);
   const bytes = texts.read(session, MOST_GIVEN);
   if (!bytes.equals(texts.read(session, MOST_GIVEN))) throw new CommandError(inUse(session));
@@ -147,7 +147,7 @@ export async function openSession(engine, texts, session) {
 }
 
 /**
- * Returns the error of texts that are rejected. (The modules for its words are loaded only then.)
+ * Returns the error for rejected texts. (The modules that word it are loaded only then.)
  * @param {EngineHost} engine
  * @param {ConstructorParameters<typeof import("./refused_texts.mjs").RefusedTexts>[1]} given
  * @param {import("../core/testing/prepared.js").TextFault[]} faults
@@ -158,7 +158,7 @@ export async function errorOfTexts(engine, given, faults) {
 }
 
 /**
- * Returns the map of a program that must be the one in ROM.
+ * Returns the source map of a program; throws an error if the bytes in ROM are not those of the program.
  * @param {EngineHost} engine
  * @param {Uint8Array} codes the bytes in ROM
  * @param {import("./given_texts.mjs").GivenText} program
@@ -171,7 +171,7 @@ export async function programOf(engine, codes, program) {
   return map;
 }
 
-/** Lets signals be heard between pieces of long work. */
+/** Lets signal handlers run between the pieces of a long computation; resolves to true. */
 export async function yieldToMessages() {
   await new Promise((resume) => {
     setImmediate(resume);
@@ -180,7 +180,7 @@ export async function yieldToMessages() {
 }
 
 /**
- * Reads a program alone, on a board with all ROMs; returns its map, and the byte at each address.
+ * Assembles a program without its board, on a board with all ROMs; returns its source map, and the byte at each address.
  * @param {EngineHost} engine
  * @param {import("./given_texts.mjs").GivenText} program
  */
@@ -192,7 +192,7 @@ export async function mappedProgram(engine, program) {
 }
 
 /**
- * Reads a program that must be the one in the ROM of a session; returns the function that names addresses by it.
+ * Reads a program, which must be the one in the ROM of a session; returns a function that describes an address by the program's source.
  * @param {import("./given_texts.mjs").GivenTexts} texts
  * @param {EngineHost} engine
  * @param {string} programName

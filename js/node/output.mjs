@@ -1,20 +1,20 @@
-// The output of Node tools. They continue or end only after all of it is written; control characters of texts are shown as `\x1B`.
+// The output of the Node tools. Each call returns only after everything is written. Control characters in texts are printed as `\x1B`.
 import { fstatSync, writeSync } from "node:fs";
 import { escaped } from "../core/text/escaped.js";
 
 const OUTPUT = 1;
 const ERRORS = 2;
-/** Standard output is read no further: the status that a shell has for SIGPIPE. */
+/** The exit status if nobody reads standard output any more: the shell's status for SIGPIPE. */
 const PIPE_STATUS = 141;
 
-/** A command cannot continue; each line of the message is printed after its name, and the exit status is 1. */
+/** An error that ends a command with status 1. Each line of the message is printed after the command's name. */
 export class CommandError extends Error {}
 
-/** The arguments of a command are wrong: its use is printed below the message, and the exit status is 2. */
+/** An error in the arguments of a command. The usage is printed below the message, and the exit status is 2. */
 export class UsageError extends Error {}
 
 /**
- * Writes all bytes; a pipe that is full for now is tried again.
+ * Writes all bytes; waits while a pipe is full.
  * @param {number} stream
  * @param {Uint8Array} bytes
  */
@@ -31,7 +31,10 @@ function writeAll(stream, bytes) {
 
 const NOT_WRITTEN = "not all was written; is there room where it goes to?";
 
-/** Rejects a standard output that is closed: the starter gives `is_closed` to a tool, since Node opens another file in its place. */
+/**
+ * Throws an error if standard output is closed. Node opens another file in its place, so the starter reports it by the variable
+ * `is_closed`.
+ */
 export function needOutput() {
   if (process.env.is_closed) throw new CommandError("standard output is closed");
 }
@@ -51,7 +54,7 @@ export function printBytes(bytes) {
 }
 
 /**
- * Ends the process with its status if a stream to standard output takes no more.
+ * Ends the process when a write to the stream `process.stdout` fails.
  * @param {string} name of the command
  */
 export function endWithoutOutput(name) {
@@ -72,19 +75,19 @@ export function print(text) {
 }
 
 /**
- * Writes to standard error; if that is closed, nobody is informed.
+ * Writes a text to standard error; errors are ignored.
  * @param {string} text
  */
 export function printError(text) {
   try {
     writeAll(ERRORS, Buffer.from(escaped(text)));
   } catch {
-    // There is no other place for it.
+    // There is no other place to report the text.
   }
 }
 
 /**
- * Writes a text for other programs to standard output, byte for byte, unless that is a terminal.
+ * Writes a text for other programs to standard output, byte for byte. For a terminal, control characters are escaped.
  * @param {string} text
  * @param {BufferEncoding} encoding
  */

@@ -1,4 +1,4 @@
-// The terminal of the panel: it draws on the whole screen, reads keys one by one, and is restored however the panel ends.
+// The terminal of the panel. It draws on the whole screen and reads keys one by one. It is restored however the panel ends.
 import { writeSync } from "node:fs";
 import { keysIn } from "../core/panel/terminal_keys.js";
 import { LEAST_SIZE, hasRoom } from "../core/panel/screen.js";
@@ -13,20 +13,20 @@ import { isDumb } from "./terminal.mjs";
  */
 
 const OUTPUT = 1;
-/** The alternate screen without a cursor and without wrapping; and the former screen. */
+/** Switches to the alternate screen, without a cursor and without wrapping; END switches back. */
 const BEGIN = "\x1b[?1049h\x1b[?25l\x1b[?7l\x1b[2J";
 const END = "\x1b[0m\x1b[?7h\x1b[?25h\x1b[?1049l";
 const CLEAR = "\x1b[2J";
 const PLAIN = "\x1b[0m";
 const INVERSE = "\x1b[7m";
 const LEAST = say.columnsByRows(LEAST_SIZE.columns, LEAST_SIZE.rows);
-/** From this many bits for a colour on, a terminal has 256 of them, or 8. */
+/** The least bits for a colour of a terminal with 256 colours, and of one with 8. */
 const BITS = { many: 8, few: 4 };
-/** Three levels of each colour, dim, half and full, of 256 colours. */
+/** Each colour on a terminal with 256 colours, in three levels: dim, half and full. */
 const OF_MANY = {
   red: [88, 160, 196], amber: [94, 172, 214], yellow: [100, 184, 226], green: [22, 34, 46], blue: [19, 27, 33], white: [240, 248, 231],
 };
-/** The colours of eight. Amber is yellow that is not bright. */
+/** Each colour on a terminal with 8 colours. Amber is yellow that is never bright. */
 const OF_FEW = { red: 31, amber: 33, yellow: 33, green: 32, blue: 34, white: 37 };
 
 /** @type {(colour: string, level: number) => string} */
@@ -35,7 +35,7 @@ const paintOfMany = (colour, level) => `\x1b[${level === 3 ? "1;" : ""}38;5;${OF
 const paintOfFew = (colour, level) => `\x1b[${["2;", "", colour === "amber" ? "" : "1;"][level - 1]}${OF_FEW[colour]}m`;
 
 /**
- * Returns the function that sets the colour of a lamp on this terminal, null if it has no colours or none are wanted.
+ * Returns the function that sets the colour of a lamp on a terminal; null if it has no colours, or if NO_COLOR is set.
  * @param {import("node:tty").WriteStream} output
  * @param {Record<string, string | undefined>} env
  */
@@ -57,12 +57,13 @@ export class PanelTerminal {
     if (!hasRoom(this.size)) throw new CommandError(say.tooSmall(LEAST, this.size.columns, this.size.rows));
     this.paint = paintFor(stdout, env);
     this.isOn = false;
-    /** True if the terminal is gone; and whether it cannot even be restored. */
+    /** True if the terminal is gone or the panel must end. */
     this.isGone = false;
+    /** True if restoring the terminal has failed. */
     this.isLost = false;
-    /** @type {TypedKey[]} keys that are not read yet */
+    /** @type {TypedKey[]} the typed keys that are not handled yet */
     this.keys = [];
-    /** @type {string[]} the rows that are shown */
+    /** @type {string[]} the rows on the screen */
     this.shown = [];
     this.wake = () => {};
     this.resized = () => {};
@@ -74,8 +75,8 @@ export class PanelTerminal {
   }
 
   /**
-   * Takes over the whole screen, and keys from now on.
-   * @param {() => void} resized is called when the terminal has another size
+   * Switches to the whole screen, and starts to read keys.
+   * @param {() => void} resized is called when the size of the terminal changes
    */
   begin(resized) {
     const gone = () => {
@@ -100,7 +101,7 @@ export class PanelTerminal {
     this.output.write(BEGIN);
   }
 
-  /** The panel must end: the terminal is restored at once. */
+  /** Restores the terminal at once, and makes the panel end. */
   leave() {
     this.isGone = true;
     this.end();
@@ -120,7 +121,7 @@ export class PanelTerminal {
     this.input.destroy();
   }
 
-  /** Ends the process as a hangup does, if the terminal is lost: node crashes if it exits then. */
+  /** If the terminal is lost, ends the process by SIGHUP, as a hangup does: node would crash at a normal exit. */
   hangUp() {
     if (!this.isLost) return;
     process.removeAllListeners("SIGHUP");
@@ -128,7 +129,7 @@ export class PanelTerminal {
   }
 
   /**
-   * Waits until a key is there, something else happens, or a time is over.
+   * Waits until a key is typed, the terminal changes, or the time has passed.
    * @param {number} milliseconds
    */
   async wait(milliseconds) {
@@ -144,7 +145,7 @@ export class PanelTerminal {
   }
 
   /**
-   * Writes the rows that have changed, at once; nothing if the terminal is restored already.
+   * Writes the rows that have changed, in one write; nothing if the terminal is restored already.
    * @param {ScreenRow[]} rows
    */
   draw(rows) {
@@ -156,7 +157,7 @@ export class PanelTerminal {
     if (changed !== "") this.output.write(begin + changed);
   }
 
-  /** Reports that there is no room, unless the terminal is restored already. */
+  /** Prints that the terminal is too small, unless the terminal is restored already. */
   drawLack() {
     if (!this.isOn) return;
     const { columns, rows } = this.size;

@@ -1,4 +1,5 @@
-// Node's module for child processes, loaded when it is first used: that takes a tenth of a start, and many commands start no process.
+// Node's module for child processes, loaded at its first use. Loading it takes a tenth of the start-up time, and many commands start no
+// process.
 import { createRequire } from "node:module";
 
 const require = createRequire(import.meta.url);

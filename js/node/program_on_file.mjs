@@ -1,4 +1,4 @@
-// The native program on a session file of the user: lines go in, and answers come out.
+// The native program on a user's session file, with asynchronous reads. It gets session lines and returns their answers.
 import { spawn } from "node:child_process";
 import { constants } from "node:os";
 import { refusalOf } from "../core/bench/answers.js";
@@ -7,24 +7,25 @@ import { programPath } from "./native_program.mjs";
 import { CommandError } from "./output.mjs";
 import { programEnded, sessionWasRefused } from "../words/commands.js";
 
-/** A shell has this status for a program that a signal has ended, and the number of the signal. */
+/** Shells add this number to the number of the signal that has ended a program; the sum is the exit status. */
 const SIGNALLED = 128;
 
-/** The program has ended before it has answered. */
+/** An error: the program has ended before it has answered. */
 export class ProgramEnded extends CommandError {}
 
-/** The program with a session file open. */
+/** A running program on a session file. */
 export class SessionProgram {
   /**
    * @param {"new" | "open"} word
    * @param {string} name
-   * @param {boolean} [isAtTerminal] whether it prints its errors on standard error itself; signals of the terminal do not reach it then
+   * @param {boolean} [isAtTerminal] whether the program shares this process's standard error; signals from the terminal do not reach it then
    */
   constructor(word, name, isAtTerminal = false) {
     this.child = spawn(programPath(), [word, name], { stdio: ["pipe", "pipe", isAtTerminal ? "inherit" : "pipe"], detached: isAtTerminal });
     this.child.stdout.setEncoding("utf8");
-    /** @type {string[]} answers that are not read yet */
+    /** @type {string[]} the lines of answers that are not read yet */
     this.lines = [];
+    /** The beginning of an incomplete line. */
     this.rest = "";
     /** The program's output on standard error. */
     this.words = "";
@@ -32,7 +33,7 @@ export class SessionProgram {
     this.opened = "";
     this.wake = () => {};
     this.hasEnded = false;
-    /** Its exit status, once it has ended. */
+    /** The program's exit status, once it has ended. */
     this.status = 1;
     this.child.stdout.on("data", (text) => {
       const lines = (this.rest + text).split("\n");
@@ -62,7 +63,7 @@ export class SessionProgram {
   }
 
   /**
-   * Returns the next lines of its answers; throws if the program ends before.
+   * Returns the next lines of the answers; throws ProgramEnded if the program ends before it has printed them.
    * @param {number} count
    */
   async take(count) {
@@ -78,7 +79,7 @@ export class SessionProgram {
   /**
    * Serves lines; returns their answers.
    * @param {string} lines
-   * @param {number} count of the answers' lines
+   * @param {number} count the number of answer lines
    */
   ask(lines, count) {
     this.child.stdin.write(lines);
@@ -86,9 +87,10 @@ export class SessionProgram {
   }
 
   /**
-   * Serves one input, or several that do not ask for the count, however long the answer is; a `seq` after it shows where the answer ends.
+   * Serves one input, or several inputs without `seq`. A `seq` is sent after them, because its answer marks the end, however long the
+   * answers are.
    * @param {string} input
-   * @param {(line: string) => void} each is called with each line of the answer, as it arrives
+   * @param {(line: string) => void} each is called with each line of the answers, as it arrives
    */
   async serve(input, each) {
     this.child.stdin.write(`${input}seq\n`);
@@ -103,12 +105,12 @@ export class SessionProgram {
     }
   }
 
-  /** Lets the program end. */
+  /** Closes the input, so that the program ends. */
   close() {
     this.child.stdin.end();
   }
 
-  /** Lets the program end, and waits for that. */
+  /** Closes the input, and waits until the program has ended. */
   async end() {
     this.close();
     await this.ended;
@@ -116,7 +118,7 @@ export class SessionProgram {
 }
 
 /**
- * Returns a refusal with its message. (The messages are loaded only then.)
+ * Returns an answer; if it is a refusal, with its message. (The messages are loaded only then.)
  * @param {string} answer
  */
 async function inWords(answer) {
@@ -127,7 +129,7 @@ async function inWords(answer) {
 }
 
 /**
- * Starts the program on a session file; throws its message if it rejects the file.
+ * Starts the program on a session file; if it rejects the file, throws an error with its message.
  * @param {"new" | "open"} word
  * @param {string} name
  */

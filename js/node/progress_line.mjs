@@ -1,10 +1,10 @@
-// A line at a terminal that says what a long command is doing, rewritten each second. Where standard error is no terminal, there is none.
+// A line on standard error that shows the progress of a long command, rewritten each second. It is shown only on a terminal.
 import { escaped } from "../core/text/escaped.js";
 
-/** The first one appears after this time, in milliseconds; a command that is quicker shows none. */
+/** The milliseconds until the line first appears, and between two updates. A shorter command shows no line. */
 const INTERVAL = 1000;
 const MILLISECONDS = 1000;
-/** Takes the line away: back to its start, and cleared from there on. */
+/** Moves to the start of the line, and clears it. */
 const CLEAR = "\r\u001b[K";
 
 export class ProgressLine {
@@ -22,14 +22,15 @@ export class ProgressLine {
   }
 
   /**
-   * Begins something.
-   * @param {(seconds: number) => string} words what is said of it after so many seconds
+   * Begins a step of the command.
+   * @param {(seconds: number) => string} words returns the text of the line, by the seconds since the step began
    */
   begin(words) {
     this.words = words;
     this.begun = performance.now();
   }
 
+  /** Writes the line. */
   show() {
     const seconds = Math.round((performance.now() - this.begun) / MILLISECONDS);
     const text = escaped(this.words(seconds)).slice(0, (process.stderr.columns || 80) - 1);
@@ -38,13 +39,13 @@ export class ProgressLine {
     this.isShown = true;
   }
 
-  /** Takes the line away, before something else is printed. */
+  /** Clears the line, before something else is printed. */
   clear() {
     if (this.isShown) process.stderr.write(CLEAR);
     this.isShown = false;
   }
 
-  /** Ends the line. */
+  /** Clears the line, and stops updating it. */
   end() {
     this.clear();
     if (this.timer) clearInterval(this.timer);

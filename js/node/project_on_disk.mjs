@@ -1,4 +1,4 @@
-// A project in a folder of the disk, for the Node tools: its `mcs4.toml`, and the files that it names, which must exist.
+// A project in a folder on disk, for the Node tools: its `mcs4.toml`, and the files that it names, which must exist.
 import { existsSync, statSync } from "node:fs";
 import { join } from "node:path";
 import { ProjectFault, readProject } from "../core/project/project_folder.js";
@@ -6,7 +6,7 @@ import { PROJECT_FILE } from "../core/project/project_toml.js";
 import { leadsOut } from "../words/server.js";
 import { MOST_TEXT, isInside, readUserFile, statOfInput } from "./user_files.mjs";
 
-/** Returns why a path names no file of a folder, in words; "" if it does. */
+/** Returns the error of a path that does not name a file in a folder; "" if it does. */
 export function lookInFolder(folder, path) {
   const place = join(folder, path);
   if (!existsSync(place)) return `there is no file ${path}`;
@@ -17,7 +17,7 @@ export function lookInFolder(folder, path) {
 /** @typedef {ReturnType<typeof projectIn>} DiskProject */
 
 /**
- * Returns the project in a folder, its paths relative to the process's folder. Throws a ProjectFault with file, line and words.
+ * Returns the project in a folder, with paths relative to the current folder. Throws a ProjectFault with file, line and message.
  */
 export function projectIn(folder) {
   const file = join(folder, PROJECT_FILE);

@@ -1,33 +1,35 @@
-// The lines that were typed at prompts, in a file of the user's alone: $XDG_STATE_HOME/mcs4/history. Several prompts add lines at the same
-// time, each under a lock. A prompt that begins shortens a file that has become too long. If there can be no such file, lines are
-// remembered up to the end of the prompt.
+// The history of lines typed at prompts, in a private file of the user: $XDG_STATE_HOME/mcs4/history. Several prompts can add lines at the
+// same time, each under a lock. A new prompt shortens a file that has become too long. If the file cannot be made or used, readline
+// remembers lines until the prompt ends.
 import { closeSync, constants, existsSync, fchmodSync, fstatSync, mkdirSync, openSync, readSync, rmSync, statSync, writeSync } from "node:fs";
 import { dirname, isAbsolute, join } from "node:path";
 import { escaped } from "../core/text/escaped.js";
 import { replacementOf } from "./user_files.mjs";
 
-/** This many lines are recalled. */
+/** The maximum number of lines in the history. */
 export const MOST_LINES = 1000;
-/** A longer line is not remembered. */
+/** The maximum length of a line in the history, in characters. */
 const LONGEST = 1000;
-/** A longer file is shortened, to this many bytes at most. */
+/** A file of more than MOST_BYTES is shortened to at most KEPT_BYTES. */
 const MOST_BYTES = 262144;
 const KEPT_BYTES = 131072;
-/** A lock is this old, in milliseconds, if its owner was killed; a line is added without it if it cannot be had. */
+/** A lock file older than this, in milliseconds, belongs to a killed process, and is removed. */
 const STALE = 10000;
+/** The milliseconds to wait for the lock; after that, the line is added without it. */
 const PATIENCE = 1000;
+/** The milliseconds between two attempts. */
 const TURN = 3;
 const OWNER_ALONE = 0o600;
 const FOR_OTHERS = 0o077;
 const APPEND = constants.O_RDWR | constants.O_APPEND | constants.O_CREAT | constants.O_NONBLOCK | constants.O_NOCTTY;
 
-/** Returns the name of the file; "" if the environment names no folder of the user. */
+/** Returns the path of the history file; "" if the environment names no home folder. */
 function nameOfFile({ XDG_STATE_HOME = "", HOME = "" }) {
   if (isAbsolute(XDG_STATE_HOME)) return join(XDG_STATE_HOME, "mcs4/history");
   return isAbsolute(HOME) ? join(HOME, ".local/state/mcs4/history") : "";
 }
 
-/** Makes a missing folder, in one of this user's own: root leaves no files in the home of others. */
+/** Makes a missing folder and its parents. Throws an error if another user owns the place, so that root leaves no files in other homes. */
 function makeFolder(folder) {
   const lacking = [];
   for (let at = folder; !existsSync(at); at = dirname(at)) lacking.unshift(at);
@@ -35,7 +37,7 @@ function makeFolder(folder) {
   for (const each of lacking) mkdirSync(each, 0o700);
 }
 
-/** Opens the file, which is regular, the user's own, and not accessible to others. */
+/** Opens the file. It must be a regular file of the user; access by others is removed. */
 function openFile(name) {
   const file = openSync(name, APPEND, OWNER_ALONE);
   const stat = fstatSync(file);
@@ -47,20 +49,20 @@ function openFile(name) {
   return file;
 }
 
-/** Reads an open file from a byte on, to its end. */
+/** Reads an open file from an offset to its end. */
 function readFrom(file, first) {
   const bytes = Buffer.alloc(Math.max(0, fstatSync(file).size - first));
   return bytes.subarray(0, readSync(file, bytes, 0, bytes.length, first));
 }
 
-/** Returns the last complete lines of bytes. */
+/** Returns the last complete lines that fit into `most` bytes. */
 function lastLines(bytes, most) {
   if (bytes.length <= most) return bytes;
   const tail = bytes.subarray(bytes.length - most);
   return tail.subarray(tail.indexOf("\n") + 1);
 }
 
-/** Takes the lock of a file; returns false if others hold it for too long. */
+/** Takes the lock; returns false if it cannot be taken in time. */
 function takeLock(lock) {
   for (let waited = 0; waited < PATIENCE; waited += TURN) {
     try {
@@ -76,20 +78,21 @@ function takeLock(lock) {
   return false;
 }
 
-/** Replaces a file that is too long by a shorter one. */
+/** Shortens a file that is too long to its last lines. */
 function shorten(name, file) {
   if (fstatSync(file).size > MOST_BYTES) replacementOf(name, lastLines(readFrom(file, 0), KEPT_BYTES)).put();
 }
 
-/** Lines that can be shown at a terminal; others may come from a file that the user has edited. */
+/** Returns whether a terminal can show a line as it is. Others can be in a file that the user has edited. */
 const isShown = (line) => line !== "" && escaped(line) === line;
 
 export class PromptHistory {
   /** @param {Record<string, string | undefined>} env */
   constructor(env) {
     this.name = nameOfFile(env);
-    /** The lines, the newest first. */
+    /** The lines of the file when the prompt started, the newest first. */
     this.lines = [];
+    /** The last line that was added. */
     this.last = "";
     this.withFile((file, isLocked) => {
       this.lines = lastLines(readFrom(file, 0), KEPT_BYTES).toString("utf8").split("\n").filter(isShown).slice(-MOST_LINES).reverse();
@@ -98,7 +101,7 @@ export class PromptHistory {
     });
   }
 
-  /** Runs an act on the file, under its lock; a file that cannot be used is not used again. */
+  /** Calls `act` with the open file, under its lock. After an error, the file is not used again. */
   withFile(act) {
     if (this.name === "") return;
     const lock = `${this.name}.lock`;

@@ -1,5 +1,5 @@
-// The search of `mcs4 prove`: questions to the program mcs4-prove, or to the proved module if there is no such program for this system; and
-// counterexamples on the bench, which `mcs4 test` must confirm.
+// The search of `mcs4 prove`. Its questions go to the program mcs4-prove, or to the proved module if there is no such program for this
+// system. `mcs4 test` must confirm a counterexample.
 import { writeFileSync } from "node:fs";
 import { join } from "node:path";
 import { Judging } from "../core/prove/judging.js";
@@ -18,10 +18,11 @@ import { removeFolder, temporaryFolder } from "./temporary.mjs";
  * @typedef {import("./given_texts.mjs").GivenText} GivenText
  * @typedef {{ board: GivenText, program: GivenText, properties: { name: string, text: string } }} Texts
  *
- * The most states, and the most memory for them in MB; 0 is all that there is.
+ * The limits of a search: the maximum number of states, and of memory for them in MB, 0 for all memory.
  * @typedef {{ most: number, memory: number }} Limits
  */
 
+/** The texts, the limits and the prover of one call of `mcs4 prove`. */
 class Proving {
   /**
    * @param {Texts} texts
@@ -31,13 +32,13 @@ class Proving {
     this.texts = texts;
     this.limits = limits;
     this.program = proverPath();
-    /** @type {((question: string) => string) | null} */
+    /** @type {((question: string) => string) | null} the module's answer to a question; null if the program answers */
     this.module = null;
-    // Runs before the engine's own handler of this signal: the search has a group of its own, which Ctrl-C does not reach.
+    // This handler runs before the engine's handler. The search has its own process group, which Ctrl-C does not reach.
     process.on("SIGINT", interrupt);
   }
 
-  /** Reads the texts; returns the judgement of their properties. */
+  /** Reads the texts; returns the object that judges their properties. */
   async begin() {
     const engine = await startEngine();
     if (this.program === "") this.module = (await import("./module_prover.mjs")).moduleProver();
@@ -57,7 +58,7 @@ class Proving {
   }
 
   /**
-   * Returns why an answer decides nothing.
+   * Returns the reason why the prover's answer decides nothing.
    * @param {import("../core/prove/question.js").NoAnswer} answer
    */
   reason(answer) {
@@ -69,7 +70,7 @@ class Proving {
   }
 
   /**
-   * Returns the prover's output for a question, and its report about itself.
+   * Asks the prover a question; returns its output, its errors, and the signal that ended it, if any.
    * @param {string} question
    */
   async search(question) {
@@ -77,9 +78,9 @@ class Proving {
   }
 
   /**
-   * Asks the prover; returns its answer.
+   * Asks the prover about conditions that must never hold, and about common mistakes; returns its parsed answer.
    * @param {import("../core/prove/cells.js").All[]} nevers
-   * @param {string[]} mistakes their words
+   * @param {string[]} mistakes the names of the mistakes
    * @param {import("../core/prove/question.js").QuestionLimits} limits
    */
   async ask(nevers, mistakes, limits) {
@@ -92,7 +93,7 @@ class Proving {
   }
 
   /**
-   * Resolves to whether `mcs4 test` judges a counterexample as it should; lines of a session were run on the bench as they are.
+   * Resolves to true if `mcs4 test` confirms a counterexample. One that consists of session lines was already run on the bench.
    * @param {import("../core/prove/counterexample.js").Counterexample} found
    * @param {boolean} isGoal
    */
@@ -111,7 +112,7 @@ class Proving {
 }
 
 /**
- * Begins to prove properties.
+ * Reads the texts and prepares the proof of their properties; the caller then judges one property at a time.
  * @param {Texts} texts
  * @param {Limits} limits
  * @returns {Promise<Judging>}

@@ -1,4 +1,4 @@
-// The rejected parts of a script of lines: the line, the wrong line of its text or part of its board, and the reason.
+// The report of `mcs4 explain` about the rejected lines of a script: the line, the wrong line of its text, and the reason.
 import { refusalOf } from "../core/bench/answers.js";
 import { INVALID_CHARACTER, LINE_TOO_LONG, MAX_LINE_LENGTH, NOT_ASCII, opensText } from "../core/bench/inputs.js";
 import { numberOf } from "../core/bench/numbers.js";
@@ -12,7 +12,7 @@ import { LONGEST_SHOWN, NO_FORM, RefusedTexts, spellingHint, wordsOfRefusal } fr
 
 const TEXTS = { wire: "board", wiring: "board", asm: "program", map: "program", errors: "program" };
 
-/** @type {(line: string) => string} the character for which a line is rejected, in words */
+/** @type {(line: string) => string} a description of the first character that is not allowed in a line; "" if there is none */
 function foreignCharacter(line) {
   const [character = ""] = INVALID_CHARACTER.exec(line) || [];
   if (character === "") return "";
@@ -24,18 +24,18 @@ export class RefusedLines {
   /**
    * @param {import("../core/engine/engine_host.js").EngineHost} engine
    * @param {string[]} lines of the script
-   * @param {((address: number) => string) | null} placeOf names an address by a source
+   * @param {((address: number) => string) | null} placeOf describes an address by a program's source
    */
   constructor(engine, lines, placeOf) {
     this.engine = engine;
     this.lines = lines;
     this.placeOf = placeOf;
-    /** The text of the last wired board; null if the session had one before that is not known. */
+    /** The text of the last wired board; null if the session already had a board, whose text is not known. */
     this.boardText = null;
   }
 
   /**
-   * Returns the error of a text, with its line, counted in the text; null if no line is known.
+   * Returns the error in a rejected text, with its line number in that text; null if no line is known.
    * @param {AnsweredInput} answered
    * @param {{ number: number, line: number }} refusal
    */
@@ -54,7 +54,7 @@ export class RefusedLines {
   }
 
   /**
-   * Returns the line about the address that an input names; none if it names none, or no source is known.
+   * Returns a report line about the address in an input, in a list; an empty list if there is no address, or no source is known.
    * @param {AnsweredInput} answered
    */
   placeOfInput({ input: { line, words: [kind, first = "", second = ""] } }) {
@@ -66,7 +66,7 @@ export class RefusedLines {
   }
 
   /**
-   * Returns the lines about a rejected input.
+   * Returns the report lines about a rejected input.
    * @param {AnsweredInput} answered
    * @param {{ number: number, line: number }} refusal
    */
@@ -83,7 +83,7 @@ export class RefusedLines {
   }
 
   /**
-   * Returns the lines about all inputs that were rejected, or not answered.
+   * Returns the report lines about all rejected inputs, and about the first input without an answer.
    * @param {AnsweredInput[]} inputs
    * @param {string} opened the first line of the answers
    */

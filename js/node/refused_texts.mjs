@@ -1,4 +1,4 @@
-// Why texts are rejected, in lines for a terminal: the file, the line, the number of the refusal with its message, and the line itself.
+// Messages about rejected texts for a terminal: the file, the line number, the number of the refusal with its message, and the line itself.
 import { readFileSync } from "node:fs";
 import { readBoard } from "../core/bench/answers.js";
 import { readWiring } from "../core/bench/text_judgement.js";
@@ -23,7 +23,7 @@ import { dataOfPage } from "./page_parts.mjs";
 const MOST_FAULTS = 20;
 export const LONGEST_SHOWN = 120;
 export const NO_FORM = 30;
-/** The spellings of other assemblers. */
+/** Matches a line in the spelling of another assembler. */
 const OTHER_SPELLING = new RegExp("[ \\t,][0-7]P([ \\t,]|$)|[0-9]<|[ \\t,][0-9][0-9A-F]*H([ \\t,]|$)|[ \\t,][$][0-9A-F]|^[A-Z_][A-Z0-9_]*,|"
   + "[ \\t]/|[ \\t](TZ|TN|CZ|CN|AZ|AN)[ \\t,]");
 
@@ -34,7 +34,7 @@ let tables = null;
 /** @type {ReturnType<typeof instructionsOf> | null} */
 let instructions = null;
 
-/** Returns the tables and instructions of the manual. */
+/** Returns the manual's tables about boards, and its instructions. */
 function readManual() {
   if (!tables || !instructions) {
     const { manual } = dataOfPage();
@@ -43,7 +43,7 @@ function readManual() {
   return { tables, instructions };
 }
 
-/** Returns the meaning of a refusal. */
+/** Returns the message of a refusal, by its number. */
 export function wordsOfRefusal(number) {
   if (!words) {
     const rows = readFileSync(new URL("../../tools/lib/refusals.txt", import.meta.url), "utf8").split("\n");
@@ -53,14 +53,14 @@ export function wordsOfRefusal(number) {
 }
 
 /**
- * Returns advice on a line in the spelling of another assembler, "" for another line.
+ * Returns a hint for a line in the spelling of another assembler; "" for any other line.
  * @param {string} line
  */
 export function spellingHint(line) {
   return OTHER_SPELLING.test(line.replace(/;.*/, "").toUpperCase()) ? "; mcs4 import takes programs in Intel's and AS's spelling" : "";
 }
 
-/** The texts that were tried, on an engine. */
+/** The messages about some texts, which an engine checks again for details. */
 export class RefusedTexts {
   /**
    * @param {EngineHost} engine
@@ -72,7 +72,7 @@ export class RefusedTexts {
   }
 
   /**
-   * Returns the error of a board's text, with its line and words; null if the bench names no part.
+   * Returns the error of a board's text, with its line and its message; null if the bench names no line.
    * @param {string} text
    */
   errorOfBoard(text) {
@@ -82,7 +82,7 @@ export class RefusedTexts {
   }
 
   /**
-   * Returns the error of the first line of a program that puts bytes into a ROM that the board lacks.
+   * Returns the error for the first line of a program that puts bytes into a ROM that the board lacks; null if there is none.
    * @param {string} text
    */
   lineWithoutRom(text) {
@@ -98,7 +98,7 @@ export class RefusedTexts {
   }
 
   /**
-   * Returns the error of a text, with its line and words; null if no line is known.
+   * Returns the error in a text, with its line and its message; null if no line is known.
    * @param {TextFault} fault
    * @param {string} text
    * @returns {Fault | null}
@@ -113,7 +113,7 @@ export class RefusedTexts {
   }
 
   /**
-   * Returns the message of an error.
+   * Returns the message about an error, with the wrong line below it.
    * @param {TextFault} fault
    */
   messageOf(fault) {
@@ -130,7 +130,7 @@ export class RefusedTexts {
   }
 
   /**
-   * Returns the message of all errors.
+   * Returns the message about all errors, at most MOST_FAULTS in detail.
    * @param {TextFault[]} faults
    */
   message(faults) {

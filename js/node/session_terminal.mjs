@@ -1,5 +1,5 @@
-// `mcs4 new` and `mcs4 open` at a terminal: the program serves the lines, and its answers go to standard output, as they arrive. The
-// prompt, and all other words, go to standard error.
+// `mcs4 new` and `mcs4 open` at a terminal. The native program serves the lines, and its answers go to standard output as they arrive. The
+// prompt and all messages go to standard error.
 import { joinLines } from "../core/bench/inputs.js";
 import { SessionPrompt } from "../core/prompt/bench_prompt.js";
 import { BEGINNING } from "../words/session_prompt.js";
@@ -12,7 +12,7 @@ import { ProgramEnded, SessionProgram } from "./program_on_file.mjs";
 import { TerminalPrompt } from "./terminal_prompt.mjs";
 
 /**
- * Returns the calls of a prompt on a program.
+ * Returns the functions that the prompt calls, for a program and a terminal.
  * @param {SessionProgram} program
  * @param {{ print: (words: string) => void, complain: (words: string) => void }} terminal
  */
@@ -49,7 +49,7 @@ function callsOn(program, terminal) {
   };
 }
 
-/** Ends the program: it receives the rest of input, and its last answers are printed. */
+/** Ends the program: sends it the rest of the input, waits for its end, and prints its last answers. */
 async function finish(program, rest) {
   program.child.stdin.write(rest);
   await program.end();
@@ -57,7 +57,7 @@ async function finish(program, rest) {
 }
 
 /**
- * Serves lines of a terminal by the program; returns the exit status of the program.
+ * Serves the lines typed at a terminal; returns the exit status.
  * @param {"new" | "open"} word
  * @param {string} name of the session's file
  */

@@ -1,18 +1,18 @@
-// Temporary folders of commands: in memory if possible, private to the user, and removed when the process exits.
+// Temporary folders for commands: in memory if possible, private to the user, removed when the process exits.
 import { accessSync, constants, mkdtempSync, rmSync } from "node:fs";
 import { tmpdir } from "node:os";
 import { join } from "node:path";
 import { noFolderIn } from "../words/commands.js";
 import { CommandError } from "./output.mjs";
 
-/** @type {Set<string>} */
+/** @type {Set<string>} the folders that exist */
 const folders = new Set();
 
 process.on("exit", () => {
   for (const folder of folders) rmSync(folder, { recursive: true, force: true });
 });
 
-/** Returns the folder of temporary files: in memory, unless the user names another one. */
+/** Returns the folder for temporary files: the one that TMPDIR names, or else one in memory if possible. */
 export function temporaryPlace() {
   if (process.env.TMPDIR) return process.env.TMPDIR;
   try {
@@ -24,7 +24,7 @@ export function temporaryPlace() {
 }
 
 /**
- * Makes a folder.
+ * Makes a temporary folder; returns its path.
  * @param {string} name the beginning of its name
  */
 export function temporaryFolder(name) {
@@ -39,7 +39,7 @@ export function temporaryFolder(name) {
 }
 
 /**
- * Removes a folder.
+ * Removes a temporary folder.
  * @param {string} folder
  */
 export function removeFolder(folder) {

@@ -1,13 +1,13 @@
-// The abilities of a terminal, by its name and the environment.
+// The capabilities of a terminal, by its name in TERM and by NO_COLOR.
 
-/** Returns whether a terminal moves no cursor. */
+/** Returns whether a terminal cannot move its cursor. */
 export function isDumb({ TERM = "" }) {
   return /^(|dumb|unknown)$/.test(TERM);
 }
 
 /**
- * Returns a function that colours texts, by the number of the colour; without colours on the terminal, or with NO_COLOR, it leaves them
- * unchanged.
+ * Returns a function that takes the number of a colour or style and returns a function that applies it to a text. If the terminal has no
+ * colours, or with NO_COLOR, texts stay unchanged.
  */
 export function painter(env) {
   const isPlain = isDumb(env) || Boolean(env.NO_COLOR);

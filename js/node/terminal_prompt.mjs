@@ -1,8 +1,8 @@
-// A prompt at a terminal. Lines are edited by readline of Node, completed, recalled from a history, and served one after the other; input
-// that is typed or pasted meanwhile waits. A terminal that cannot move its cursor edits its lines itself.
+// A prompt at a terminal. Node's readline edits, completes and recalls lines. Lines are served one after the other; input that is typed or
+// pasted meanwhile waits. A terminal that cannot move its cursor edits its lines itself.
 //
 //     const terminal = new TerminalPrompt(prompt, { output: process.stderr });
-//     await terminal.run();      up to `prompt.isEnded`, the end of input, or a signal; resolves to the status of a signal, 0 without one
+//     await terminal.run();      ends at `prompt.isEnded`, the end of input, or a signal; resolves to the signal's status, or 0
 import { constants } from "node:os";
 import { createInterface } from "node:readline";
 import { PassThrough } from "node:stream";
@@ -12,9 +12,9 @@ import { MOST_LINES, PromptHistory } from "./prompt_history.mjs";
 import { isDumb, painter } from "./terminal.mjs";
 
 /**
- * The receiver of typed lines: `label` precedes a line; `take` serves one; `complete` returns the completions of a line, and the end of it
- * that they replace. `interrupt` stops the line that is being served, and returns false if it cannot; `drop` discards unfinished input, and
- * returns words about it.
+ * The receiver of typed lines. `label` is the text of the prompt. `take` serves a line. `complete` returns the completions of a line, and the
+ * end of the line that they replace. `interrupt` stops the line that is being served, and returns false if it cannot. `drop` discards
+ * unfinished input, and returns a message about it.
  * @typedef {{ label: string, isEnded: boolean, take: (line: string) => Promise<boolean>,
  *   complete: (line: string) => Promise<[string[], string]>, interrupt: () => boolean, drop: () => string }} PromptOfLines
  */
@@ -22,24 +22,25 @@ import { isDumb, painter } from "./terminal.mjs";
 /**
  * The streams and calls of a prompt at a terminal.
  * @typedef {object} TerminalCalls
- * @property {import("node:tty").WriteStream} output The terminal, which gets the prompt and messages.
- * @property {() => void} [served] A line was served.
- * @property {() => void} [left] The terminal belongs to other programs for a while (Ctrl-Z).
- * @property {() => void} [entered] The terminal belongs to the prompt again.
+ * @property {import("node:tty").WriteStream} output the terminal that shows the prompt and the messages
+ * @property {() => void} [served] is called after a line was served
+ * @property {() => void} [left] is called when the prompt gives the terminal back: at Ctrl-Z and at its end
+ * @property {() => void} [entered] is called when the prompt has the terminal again after Ctrl-Z
  */
 
-/** The marks that a terminal puts around a paste, and the request for them. */
+/** The escape sequences around pasted text, and those that switch them on and off (bracketed paste). */
 const PASTE = { begins: "\x1b[200~", ends: "\x1b[201~", on: "\x1b[?2004h", off: "\x1b[?2004l" };
-/** The beginning of such a mark, whose rest is not read yet. */
+/** Matches the beginning of such a mark at the end of the input read so far. */
 const CUT_MARK = /\x1b\[(2(0[01]?)?)?$/;
 const CTRL_C = "\x03";
 const BOLD = 1;
 const RED = 31;
-/** Terminals that do not say how wide they are. */
+/** The columns of a terminal that does not report its width. */
 const USUAL_WIDTH = 80;
+/** Messages are never folded to fewer columns. */
 const LEAST_WIDTH = 20;
 
-/** The keys of a terminal as readline gets them: in pieces, at once. */
+/** The input stream of readline, which gets the terminal's input piece by piece. */
 class Keys extends PassThrough {
   isTTY = true;
 
@@ -48,7 +49,7 @@ class Keys extends PassThrough {
   }
 }
 
-/** Returns a pasted text without characters that would move the cursor; their replacement is rejected with its line. */
+/** Replaces control characters in a pasted text by U+FFFD, so that they cannot move the cursor. The bench rejects a line with U+FFFD. */
 function harmless(text) {
   // eslint-disable-next-line no-control-regex
   return text.replace(/[\x00-\x08\x0b-\x1f\x7f-\x9f]/g, "\ufffd");
@@ -66,9 +67,9 @@ export class TerminalPrompt {
     this.isDumb = isDumb(process.env);
     this.paint = painter(process.env);
     this.history = new PromptHistory(process.env);
-    /** The typed input that waits for its turn. (A single tab completes; one within a text is pasted.) */
+    /** The pieces of input that are not handled yet. */
     this.waiting = [];
-    /** True if a line is being served, or completed. */
+    /** True while a line is served or completed, and before the first prompt. */
     this.isBusy = true;
     this.isPasting = false;
     this.hasInputEnded = false;
@@ -86,7 +87,7 @@ export class TerminalPrompt {
 
   // --- output ---
 
-  /** The columns that words are folded to. */
+  /** The columns that messages are folded to. */
   get width() {
     return Math.max(LEAST_WIDTH, (this.output.columns || USUAL_WIDTH) - 1);
   }
@@ -96,7 +97,7 @@ export class TerminalPrompt {
     this.output.write(`${foldedMessage(escaped(words), this.width)}\n`);
   }
 
-  /** Prints why a line is rejected; lines that are quoted have no colour. */
+  /** Prints an error message in red; quoted lines have no colour. */
   complain(words) {
     const lines = foldedMessage(escaped(words), this.width).split("\n");
     const paint = this.paint(RED);
@@ -105,6 +106,7 @@ export class TerminalPrompt {
 
   // --- from the first line to the last ---
 
+  /** Runs the prompt; resolves to the exit status of a signal that ended it, or 0. */
   async run() {
     process.stdin.setEncoding("utf8");
     process.stdin.on("data", (text) => this.typed(text));
@@ -121,6 +123,7 @@ export class TerminalPrompt {
     return this.status;
   }
 
+  /** Registers the handlers of lines and signals. */
   listen() {
     const { terminal } = this;
     terminal.on("line", (line) => this.serve(line));
@@ -128,7 +131,7 @@ export class TerminalPrompt {
     terminal.on("SIGINT", () => this.dropLine());
     terminal.on("SIGTSTP", () => this.suspend());
     if (this.isDumb) process.on("SIGINT", () => (this.isBusy ? this.prompt.interrupt() : this.dropLine()));
-    // Ctrl-C is a key where the terminal moves its cursor: SIGINT comes from another program then.
+    // Readline reads Ctrl-C as a key, unless the terminal is dumb. So a SIGINT is from another process.
     for (const signal of ["SIGTERM", "SIGHUP", ...(this.isDumb ? [] : ["SIGINT"])]) {
       process.on(signal, () => {
         this.status = 128 + constants.signals[signal];
@@ -137,7 +140,7 @@ export class TerminalPrompt {
     }
   }
 
-  /** Shows the prompt, and reads waiting input. */
+  /** Shows the prompt, and handles waiting input. */
   next() {
     this.isBusy = false;
     this.show();
@@ -163,14 +166,14 @@ export class TerminalPrompt {
     else if (!this.isOver) this.next();
   }
 
-  /** Ends the prompt with an unexpected error, which is thrown to whoever awaits it. */
+  /** Ends the prompt with an unexpected error, which rejects the promise of `run`. */
   fail(thrown) {
     const settle = this.settle;
     this.settle = () => settle(Promise.reject(thrown));
     this.end();
   }
 
-  /** Ends the prompt; the terminal is as it was before. */
+  /** Ends the prompt, and restores the terminal. */
   end() {
     if (this.isOver) return;
     this.isOver = true;
@@ -181,7 +184,7 @@ export class TerminalPrompt {
     this.settle();
   }
 
-  /** Restores the terminal. (Its mode is restored once readline is closed, or node ends.) */
+  /** Switches off bracketed paste, and calls `left`. (Closing readline, or the end of node, restores the terminal's mode.) */
   leave() {
     if (this.hasLeft) return;
     this.hasLeft = true;
@@ -191,7 +194,7 @@ export class TerminalPrompt {
 
   // --- input ---
 
-  /** Handles input from the terminal. Ctrl-C while a line is served stops it, and discards waiting input. */
+  /** Handles input from the terminal. Ctrl-C while a line is served stops that line, and discards the input before the key. */
   typed(text) {
     const stop = this.isBusy && !this.isDumb && !this.isPasting ? text.lastIndexOf(CTRL_C) : -1;
     if (stop >= 0) {
@@ -209,7 +212,7 @@ export class TerminalPrompt {
       const rest = this.takePiece(this.waiting[0]);
       if (rest !== "") this.waiting[0] = rest;
       else this.waiting.shift();
-      // The begin of a mark waits for its end.
+      // The beginning of a paste mark waits for the rest of the mark.
       if (rest !== "" && CUT_MARK.exec(rest)?.index === 0) {
         if (this.waiting.length < 2) return;
         this.waiting.splice(0, 2, rest + this.waiting[1]);
@@ -218,7 +221,7 @@ export class TerminalPrompt {
     if (this.hasInputEnded && !this.isBusy && !this.isOver) this.end();
   }
 
-  /** Reads a mark of a paste, or characters up to the end of a line; returns the rest. */
+  /** Handles one piece of input: a paste mark, or the characters up to the end of a line. Returns the rest of the input. */
   takePiece(text) {
     const mark = this.isPasting ? PASTE.ends : PASTE.begins;
     if (text.startsWith(mark)) {
@@ -252,9 +255,9 @@ export class TerminalPrompt {
     }
   }
 
-  // --- keys that are no text ---
+  // --- control keys ---
 
-  /** Handles Ctrl-C: discards the line, or if there is none, the unfinished input of earlier lines. */
+  /** Handles Ctrl-C: discards the line. If the line is empty, discards the unfinished input of earlier lines. */
   dropLine() {
     const { terminal, output } = this;
     const isEmpty = this.isDumb || terminal.line === "";

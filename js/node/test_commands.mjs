@@ -1,4 +1,4 @@
-// The common part of `mcs4 test`, `cover` and `profile`: runs tests, or counts the next cycles of a session.
+// The common part of `mcs4 test`, `cover` and `profile`: runs tests, or counts over the next cycles of a session.
 import { runTests } from "../core/testing/test_suite.js";
 import { failureLine } from "../core/testing/tap.js";
 import { excludeEachOther, otherProgram, sessionStopped } from "../words/commands.js";
@@ -14,7 +14,8 @@ import { CommandError, UsageError, print, printError } from "./output.mjs";
  * @typedef {import("../core/testing/test_run.js").Outcome} Outcome
  * @typedef {import("./given_texts.mjs").GivenText} GivenText
  *
- * The steps of a command: with the names of files before they are read, with each result as its test ends, and with the counts at the end.
+ * The callbacks of a command: `checkNames` gets the file names before the files are read, `outcome` turns the result of each test into
+ * output, and `report` prints the counts at the end. `Counting` is the class that counts.
  * @typedef {{ name: string, Counting: typeof Account, checkNames?: (names: string[]) => void,
  *   outcome?: (outcome: Outcome, number: number, total: number) => string,
  *   report?: (counts: { coverage: Coverage | null, profile: Profile | null }, program: GivenText) => void }} Tool
@@ -23,7 +24,7 @@ import { CommandError, UsageError, print, printError } from "./output.mjs";
 const MOST_CYCLES = 100000000;
 
 /**
- * Returns the names of board, program and tests: the given ones, and those of the project.
+ * Returns the file names of board, program and tests, from the arguments or from the project.
  * @param {string | undefined} folder
  * @param {string[]} given
  */
@@ -35,7 +36,7 @@ async function namesOf(folder, given) {
 }
 
 /**
- * Runs tests; returns the exit status.
+ * Runs tests; returns the exit status: 0 if all pass, otherwise 1.
  * @param {Tool} tool
  * @param {string | undefined} folder
  * @param {string[]} given
@@ -60,7 +61,7 @@ export async function testBy({ Counting, checkNames = () => {}, outcome: tapOf =
 }
 
 /**
- * Counts the next cycles of a session; returns the exit status.
+ * Runs a copy of a session for some cycles, and counts; returns the exit status.
  * @param {Tool} tool
  * @param {string} session
  * @param {string[]} given
@@ -84,7 +85,7 @@ export async function countBy({ name, Counting, checkNames = () => {}, report = 
 }
 
 /**
- * Runs tests, or counts the next cycles of a session if one is named; returns the exit status.
+ * Runs tests, or counts over the next cycles of a session if one is named; returns the exit status.
  * @param {Tool} tool
  * @param {{ folder?: string, session?: string }} values
  * @param {string[]} given

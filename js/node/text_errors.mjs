@@ -1,4 +1,4 @@
-// All errors of a text that the bench has rejected, with the words of the page.
+// Finds all errors in a text that the bench has rejected, with the same messages as on the page.
 import { instructionsOf } from "../core/help/manual.js";
 import { TextBench } from "../core/server/text_bench.js";
 import { AllFaultsOfTexts } from "../core/text/all_faults.js";
@@ -15,7 +15,7 @@ async function textBench() {
 }
 
 /**
- * Returns the errors of a text, each with its line.
+ * Returns the errors in a text, each with its line.
  * @param {import("../core/prompt/bench_prompt.js").TextWord} word
  * @param {string} text
  * @param {string} board the text of the program's board

@@ -1,4 +1,4 @@
-// The top folder of Fethsaim, both for the modules and for the joined files, which are two folders below it.
+// The top folder of Fethsaim. Modules and joined files find it in the same way, because both are two folders below it.
 import { fileURLToPath } from "node:url";
 
 export const TOP = fileURLToPath(new URL("../..", import.meta.url)).replace(/\/$/, "");

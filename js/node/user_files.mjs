@@ -1,5 +1,5 @@
-// The files of users, for the Node tools: input files are regular and of a bounded size; an output file replaces its target at once and
-// leaves nothing else behind.
+// Access to users' files for the Node tools. An input file must be regular and not larger than a limit. An output file replaces its target
+// atomically, and no temporary file remains.
 import { constants } from "node:fs";
 import {
   accessSync, closeSync, existsSync, fchmodSync, fchownSync, fstatSync, fsyncSync, lstatSync, mkdirSync, openSync, readSync, readlinkSync,
@@ -11,22 +11,22 @@ import { LONGEST_KEPT } from "../core/text/text_fault.js";
 import * as say from "../words/commands.js";
 import { CommandError } from "./output.mjs";
 
-/** The most bytes that a text of a user can have: a character has four of them at most. */
+/** The maximum size of a user's text, in bytes; a character has at most four bytes. */
 export const MOST_TEXT = 4 * LONGEST_KEPT;
-/** Longer chains of links are rejected, as the system does. */
+/** The maximum number of symbolic links that are followed, as in Linux. */
 const MOST_LINKS = 40;
 const PART_BYTES = 65536;
 const ANY_WRITER = 0o222;
 const ALL_MODES = 0o7777;
 const OWNER_ALONE = 0o600;
 
-/** Why a file cannot be read or written, with its name. */
+/** An error: a file cannot be read or written. The message has the file's name. */
 export class UserFileError extends CommandError {}
 
-/** The same without the name. */
+/** The reason for such an error, without the name; `tried` adds it. */
 class Reason extends Error {}
 
-/** @type {Record<string, string>} the system's errors, in words */
+/** @type {Record<string, string>} the messages of the system's error codes */
 const REASONS = {
   ENOENT: "there is no such file", EACCES: "no permission", EPERM: "no permission", ENOSPC: "no space left on the device",
   EDQUOT: "the disk quota is used up", EFBIG: "it would exceed the size limit for files", EROFS: "the file system is read-only",
@@ -41,9 +41,9 @@ function reasonOf(thrown) {
 }
 
 /**
- * Runs an action on a file; an error of the system becomes a UserFileError.
+ * Calls `act`; turns an error of the system into a UserFileError.
  * @template Result
- * @param {string} what is tried, as `cannot read NAME`
+ * @param {string} what the beginning of the message, such as `cannot read NAME`
  * @param {() => Result} act
  * @returns {Result}
  */
@@ -58,7 +58,7 @@ function tried(what, act) {
 // --- reading ---
 
 /**
- * Returns what is known of a file that is going to be read; undefined if there is none.
+ * Returns the stat of a file that is going to be read; undefined if there is no such file.
  * @param {string} name
  */
 export function statOfInput(name) {
@@ -66,7 +66,7 @@ export function statOfInput(name) {
 }
 
 /**
- * Returns whether a file is in a folder, with all links followed.
+ * Returns whether a file is in a folder, after following all links.
  * @param {string | URL} name
  * @param {string | URL} folder
  */
@@ -75,7 +75,8 @@ export function isInside(name, folder) {
 }
 
 /**
- * Reads an open file up to a limit; more is rejected. A file of /proc has no size before it is read, and others may grow meanwhile.
+ * Reads an open file to its end; throws a Reason if it is larger than a limit. The size is counted while reading, because files in /proc
+ * report no size, and other files can grow meanwhile.
  * @param {number} file
  * @param {number} most bytes
  */
@@ -92,7 +93,7 @@ function readUpTo(file, most) {
 }
 
 /**
- * Reads an open regular file up to a limit.
+ * Reads an open file to its end; throws a Reason if it is not regular, or larger than a limit.
  * @param {number} file
  * @param {number} most bytes
  */
@@ -104,7 +105,7 @@ function readRegular(file, most) {
 }
 
 /**
- * Reads a regular file of a bounded size. A FIFO or a device is rejected without a wait.
+ * Reads a regular file of limited size. A FIFO or a device is rejected at once, without blocking.
  * @param {string | URL} name
  * @param {number} most bytes
  */
@@ -120,7 +121,7 @@ export function readUserFile(name, most) {
 }
 
 /**
- * Reads an open pipe or standard input to its end, and waits for that.
+ * Reads an open pipe or standard input to its end; blocks until then.
  * @param {number} stream
  * @param {string} name
  * @param {number} most bytes
@@ -140,7 +141,7 @@ export function readUserText(name, most = MOST_TEXT) {
 
 // --- writing ---
 
-/** @type {Set<string>} the names of files that are not in their places yet: they are removed when the process exits */
+/** @type {Set<string>} the paths of temporary files, which are removed when the process exits */
 const pending = new Set();
 
 process.on("exit", () => {
@@ -148,7 +149,8 @@ process.on("exit", () => {
 });
 
 /**
- * Follows the links of a name, also to a file that does not exist yet; those of /proc name a file that a process has open.
+ * Follows the symbolic links of a path, even to a file that does not exist yet. Links in /proc are not followed: they stand for the open
+ * files of a process.
  * @param {string} name
  */
 function followed(name) {
@@ -162,12 +164,12 @@ function followed(name) {
   }
 }
 
-/** Returns an unpredictable name. (Cryptography takes a while to load.) */
+/** Returns an unpredictable name. (node:crypto is loaded only here, because loading it is slow.) */
 function randomName() {
   return createRequire(import.meta.url)("node:crypto").randomBytes(12).toString("hex");
 }
 
-/** A new file in the folder of another one, which it is going to replace. It has the mode and the owner of that one. */
+/** A temporary file that is going to replace a target file in the same folder. It gets the mode and the owner of the target. */
 export class Replacement {
   /**
    * @param {string} target a path without links
@@ -192,7 +194,7 @@ export class Replacement {
     }
   }
 
-  /** Replaces the other file by it. */
+  /** Renames the temporary file to the target. */
   put() {
     try {
       renameSync(this.name, this.target);
@@ -203,7 +205,7 @@ export class Replacement {
     }
   }
 
-  /** Removes it; the other file is unchanged. */
+  /** Removes the temporary file; the target is unchanged. */
   drop() {
     rmSync(this.name, { force: true });
     pending.delete(this.name);
@@ -211,7 +213,7 @@ export class Replacement {
 }
 
 /**
- * Rejects a target that is read-only, also for root, who could replace it.
+ * Throws a Reason if a target is read-only, even for root, who could replace it.
  * @param {string} target
  * @param {import("node:fs").Stats} before
  */
@@ -221,7 +223,7 @@ function needWritable(target, { mode }) {
 }
 
 /**
- * Gives a new file the owner and the mode of the one that it replaces.
+ * Gives a new file the owner and the mode of its target; throws a Reason if that is not allowed.
  * @param {number} file
  * @param {import("node:fs").Stats} before
  */
@@ -238,7 +240,7 @@ function keepOwner(file, { uid, gid, mode }) {
 }
 
 /**
- * Makes the file that is going to replace another one, following links.
+ * Makes the temporary file that is going to replace another file; follows links.
  * @param {string} name
  * @param {string | Uint8Array} bytes
  */
@@ -247,7 +249,7 @@ export function replacementOf(name, bytes) {
 }
 
 /**
- * Returns whether a name is a device, a pipe or a stream of a process: there is nothing to replace.
+ * Returns whether a name is a device, a pipe or a stream of a process, which cannot be replaced.
  * @param {string} name
  */
 function isStream(name) {
@@ -255,7 +257,7 @@ function isStream(name) {
 }
 
 /**
- * Writes a file of a user: it has the old bytes or the new ones at each moment. A device or a pipe is written directly.
+ * Writes a user's file atomically: it has either the old bytes or the new bytes at every moment. A device or a pipe is written directly.
  * @param {string} name
  * @param {string | Uint8Array} bytes
  */
@@ -267,7 +269,7 @@ export function writeUserFile(name, bytes) {
 }
 
 /**
- * Returns whether two names lead to one file.
+ * Returns whether two names lead to the same file.
  * @param {string} one
  * @param {string} other
  */
@@ -277,7 +279,7 @@ function isSameFile(one, other) {
 }
 
 /**
- * Returns whether a folder is there and can be written.
+ * Returns whether a folder exists and is writable.
  * @param {string} folder
  */
 function isWritable(folder) {
@@ -290,7 +292,7 @@ function isWritable(folder) {
 }
 
 /**
- * Returns the first bytes of a file.
+ * Returns the first bytes of a file, as Latin 1.
  * @param {string} name
  * @param {number} count
  */
@@ -307,12 +309,12 @@ function beginOf(name, count) {
 }
 
 /**
- * Rejects a file that a command is going to write: it must be new, empty or a file of the same kind, which begins with a text, and none of the
- * files that the command reads. A device or a pipe is accepted.
+ * Throws a UserFileError if a command must not overwrite a file. It may overwrite an empty file and a file of its own kind, but none of its
+ * inputs. A new file, a device and a pipe are accepted.
  * @param {string} name
- * @param {string} begin the beginning of the name of such a file
- * @param {string} why another file is rejected, in words
- * @param {string[]} inputs the names of files that are read
+ * @param {string} begin the text that files of this kind begin with
+ * @param {string} why the reason to reject another file
+ * @param {string[]} inputs the names of the files that the command reads
  */
 export function needOwnFile(name, begin, why, inputs) {
   const stat = tried(`cannot write ${name}`, () => statSync(name, { throwIfNoEntry: false }));
@@ -327,10 +329,10 @@ export function needOwnFile(name, begin, why, inputs) {
   if (stat && stat.isFile() && stat.size > 0 && beginOf(name, begin.length) !== begin) throw new UserFileError(say.isForeign(name, why));
 }
 
-// --- new files of a folder ---
+// --- new files in a folder ---
 
 /**
- * Makes a missing folder, and those above it; returns the ones that were made, the innermost first.
+ * Makes a missing folder and its missing parents; returns the folders that were made, the innermost first.
  * @param {string} folder
  */
 function makeFolder(folder) {
@@ -350,7 +352,7 @@ function makeFolder(folder) {
 }
 
 /**
- * Moves new files into their places; none of them stays if one fails.
+ * Renames temporary files to their targets; if one fails, removes the others again.
  * @param {Replacement[]} replacements
  */
 function putAll(replacements) {
@@ -367,10 +369,10 @@ function putAll(replacements) {
 }
 
 /**
- * Writes new files into a folder, which is made if it does not exist: all of them or none.
+ * Writes new files into a folder, all of them or none. The folder is made if it does not exist.
  * @param {string} folder
  * @param {{ name: string, content: string | Uint8Array }[]} files
- * @param {string[]} names that must not be there
+ * @param {string[]} names of files that must not exist in the folder
  */
 export function writeNewFiles(folder, files, names) {
   const inFolder = (/** @type {() => any} */ act) => tried(`cannot write in ${folder}`, act);
@@ -391,7 +393,7 @@ export function writeNewFiles(folder, files, names) {
 }
 
 /**
- * Rejects a file that does not exist, or cannot be replaced.
+ * Throws a UserFileError if a file does not exist, or is not writable.
  * @param {string} name
  */
 export function needWritableFile(name) {

@@ -1,5 +1,5 @@
-// The view of the debugger (js/core/prompt/view.js) on a terminal: it occupies the upper rows, and commands scroll in those below it. A
-// terminal that moves no cursor (TERM=dumb) gets it as lines, after each command. There, and with NO_COLOR, it has no colours.
+// The debugger's view (js/core/prompt/view.js) on a terminal. It occupies the upper rows; commands scroll in the rows below it. On a
+// terminal that cannot move its cursor (TERM=dumb), it is printed as lines after each command. There, and with NO_COLOR, it has no colours.
 import { LEAST_COLUMNS, LEAST_ROWS, View, sizeOf } from "../core/prompt/view.js";
 import { isDumb, painter } from "./terminal.mjs";
 
@@ -9,7 +9,7 @@ const YELLOW = 33;
 const NO_ROOM = `the view needs a terminal of ${LEAST_COLUMNS} columns and ${LEAST_ROWS} rows at least`;
 
 export class ViewOnTerminal {
-  /** `prompted` shows the prompt again, at the cursor. */
+  /** The callback `prompted` shows the prompt again, at the cursor. */
   constructor(prompt, output, env, prompted) {
     this.view = new View(prompt);
     this.output = output;
@@ -18,7 +18,7 @@ export class ViewOnTerminal {
     const paint = painter(env);
     this.marks = { head: paint(REVERSE), here: paint(BOLD), other: paint(YELLOW) };
     this.isOn = false;
-    /** The rows that it uses now, 0 for none. */
+    /** The number of rows that the view uses now. */
     this.rows = 0;
   }
 
@@ -26,7 +26,7 @@ export class ViewOnTerminal {
     return sizeOf(this.output.rows, this.output.columns);
   }
 
-  /** Shows or hides the view; returns why it cannot be shown. */
+  /** Shows or hides the view; returns the reason why it cannot be shown, or "". */
   turn(isOn) {
     if (isOn === this.isOn) return "";
     if (isOn && !this.size) return NO_ROOM;
@@ -36,11 +36,12 @@ export class ViewOnTerminal {
     return "";
   }
 
+  /** Shows the view if it is hidden, and hides it if it is shown; returns the reason why it cannot be shown, or "". */
   toggle() {
     return this.turn(!this.isOn);
   }
 
-  /** The terminal is cleared, and scrolls below the view from now on. */
+  /** Clears the terminal, and makes only the rows below the view scroll. */
   place() {
     const { size, output } = this;
     if (this.isDumb) return;
@@ -52,7 +53,7 @@ export class ViewOnTerminal {
     output.write(`\x1b[2J\x1b[${size.rows + 1};${output.rows}r\x1b[${output.rows};1H`);
   }
 
-  /** Draws the present view; the cursor stays where it is. */
+  /** Draws the view; the cursor does not move. */
   draw() {
     const { size, output } = this;
     if (!this.isOn || !size) return;
@@ -61,7 +62,7 @@ export class ViewOnTerminal {
     output.write(this.isDumb ? `${lines.join("\n")}\n` : `\x1b7\x1b[?7l${placed}\x1b[?7h\x1b8`);
   }
 
-  /** The terminal has another size, or was cleared by other programs. */
+  /** Draws the view and the prompt again, after the terminal was resized or other programs have used it. */
   again() {
     if (!this.isOn || this.isDumb) return;
     this.place();
@@ -69,7 +70,7 @@ export class ViewOnTerminal {
     this.prompted();
   }
 
-  /** The whole terminal scrolls again; the view's rows are cleared. */
+  /** Clears the view's rows, and makes the whole terminal scroll again. */
   leave() {
     if (this.rows === 0) return;
     const rows = Array.from({ length: this.rows }, (_, at) => `\x1b[${at + 1};1H\x1b[K`).join("");

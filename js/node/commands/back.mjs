@@ -1,4 +1,4 @@
-// `mcs4 back`: restores a session to its state some commands ago.
+// `mcs4 back`: restores a session to its state before the last N commands.
 import { spawn } from "node:child_process";
 import { once } from "node:events";
 import { closeSync, constants, fsyncSync, openSync, writeSync } from "node:fs";
@@ -10,14 +10,15 @@ import { CommandError, print } from "../output.mjs";
 import { needWritableFile } from "../user_files.mjs";
 
 const MOST_COMMANDS = 99999;
-/** The places in a session file, as docs/FORMAT.md has them. */
+/** The offsets in a session file, from docs/FORMAT.md. */
 const PLACES = { active: 8, slots: [16, 81936], log: 16384, logSize: 65536 };
 const COMMITTED = 1;
-/** The status of flock if another process has the lock. */
+/** The exit status of flock if another process has the lock. */
 const IS_LOCKED = 75;
 
 /**
- * Takes the lock that mcs4 takes on a file that it serves, until it is released or this process ends.
+ * Takes the lock of a session file, as the native program does while it serves the file; returns a function that releases the lock. The
+ * lock is also released when this process ends.
  * @param {string} session its file
  */
 async function lock(session) {
@@ -35,7 +36,7 @@ async function lock(session) {
 }
 
 /**
- * Returns the places of the bytes that commit the records in the log of the active slot.
+ * Returns the offsets of the commit bytes of all records in the log of the active slot.
  * @param {Uint8Array} bytes of a session file
  */
 function commitPlaces(bytes) {
@@ -46,9 +47,9 @@ function commitPlaces(bytes) {
 }
 
 /**
- * Ends the log of a session file at a place: one byte is written.
+ * Ends the log of a session file at a record, by clearing the record's commit byte.
  * @param {string} session its file
- * @param {number} place
+ * @param {number} place the offset of the commit byte
  */
 function endLog(session, place) {
   try {
@@ -65,9 +66,9 @@ function endLog(session, place) {
 }
 
 /**
- * Goes back, or reports how far that is possible.
+ * Removes the last commands of a session; returns the line to print.
  * @param {string} session its file
- * @param {number} count of the commands, 0 to say how far
+ * @param {number} count the number of commands to remove; 0 only returns how many can be removed
  */
 async function goBack(session, count) {
   const engine = await startEngine();

@@ -6,7 +6,7 @@ import { print } from "../output.mjs";
 import { testOrCount } from "../test_commands.mjs";
 import { needOwnFile, writeUserFile } from "../user_files.mjs";
 
-/** Begins a file in LCOV's format. */
+/** The beginning of a file in LCOV's format. */
 const LCOV_BEGIN = "TN:";
 
 /** @type {import("./table.mjs").CommandModule["run"]} */

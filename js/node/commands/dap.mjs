@@ -1,4 +1,4 @@
-// `mcs4 dap`: the debug adapter of js/core/adapter on the bench that is in the page, over standard input and output.
+// `mcs4 dap`: the debug adapter of js/core/adapter over standard input and output. It runs on the WebAssembly module from the page.
 import { AdapterConnection } from "../../core/adapter/adapter_connection.js";
 import { DebugAdapter } from "../../core/adapter/debug_adapter.js";
 import { Engine } from "../../core/engine/engine.js";
@@ -12,7 +12,7 @@ const end = endOf("dap");
 async function serve() {
   const connection = new AdapterConnection((bytes) => process.stdout.write(bytes));
   const adapter = new DebugAdapter(connection, await Engine.load(moduleOfPage()), dataOfPage(), { ...host, end });
-  // The client has gone without a disconnect, or sends unreadable data: the work so far is saved.
+  // The client has ended without a disconnect request, or sent unreadable data. The work so far is saved.
   listen(connection, (words) => {
     connection.turn.then(() => adapter.leave()).then((left) => end(1, words || left));
   });

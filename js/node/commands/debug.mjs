@@ -1,4 +1,5 @@
-// `mcs4 debug`: the prompt of js/core/prompt on the bench that is in the page, at a terminal, or with commands from standard input.
+// `mcs4 debug`: the debugger prompt of js/core/prompt, at a terminal or with commands from standard input. It runs on the WebAssembly module
+// from the page.
 import { createInterface } from "node:readline";
 import { Prompt } from "../../core/prompt/debugger_prompt.js";
 import { launch } from "../../core/adapter/launching.js";
@@ -19,7 +20,7 @@ import { NO_BREAKPOINTS_FILE, noSessionToDebug } from "../../words/commands.js";
 
 const isByHand = process.stdin.isTTY === true && process.stdout.isTTY === true;
 
-/** The commands of a script: a rejected line is reported with its number. */
+/** Runs commands from standard input, and counts their lines in `at`; returns the exit status, 1 if a command was rejected. */
 async function runScript(prompt, at) {
   let isRefused = false;
   for await (const line of createInterface({ input: process.stdin, crlfDelay: Infinity })) {
@@ -30,10 +31,10 @@ async function runScript(prompt, at) {
   return isRefused ? 1 : 0;
 }
 
-/** The view for the commands of the prompt, once it exists. */
+/** Passes the calls of the prompt to the view, which is made later. */
 const views = { toggle: () => views.own.toggle(), turn: (isOn) => views.own.turn(isOn), own: null };
 
-/** Serves lines of a terminal; Ctrl-L and another size draw the view again. Returns the exit status. */
+/** Serves the lines typed at a terminal; returns the exit status. Ctrl-L and a resize draw the view again. */
 async function runByHand(prompt, holder) {
   const terminal = new TerminalPrompt(prompt, {
     output: process.stdout, served: () => view.draw(), left: () => view.leave(), entered: () => view.again(),
@@ -54,7 +55,7 @@ async function runByHand(prompt, holder) {
   return status;
 }
 
-/** Debugs the given files (undefined for none); returns the exit status. */
+/** Debugs the files of a board, a program and a session, each undefined if there is none; returns the exit status. */
 async function serve(given) {
   const engine = await Engine.load(moduleOfPage());
   const data = dataOfPage();
@@ -85,7 +86,7 @@ async function serve(given) {
   }
 }
 
-/** Returns the names of board, program and session: the given ones, and those of the project. */
+/** Returns the file names of board, program and session, from the arguments or from the project. */
 async function namesOf(folder, words) {
   if (words.length > 1 && folder !== undefined) needWords(words, [], 1);
   const project = await projectFor(folder, words, 2);

@@ -1,4 +1,4 @@
-// `mcs4 display`: prints the text of a board's display, from answers about its lamps.
+// `mcs4 display`: prints the text that a board's display shows, from answers about the lamps.
 import { joinLines } from "../../core/bench/inputs.js";
 import { shownAnswers } from "../../core/board/shown_answers.js";
 import { needWords, projectFor } from "../arguments.mjs";
@@ -15,7 +15,7 @@ export async function run({ folder }, positionals) {
   const [name] = words;
   const texts = new GivenTexts();
   const given = texts.text(name, "wire");
-  // While it waits for standard input a signal ends it at once: nothing is started yet.
+  // Standard input is read before the engine starts, so a signal ends the process at once while it waits.
   const answers = texts.answers("display");
   const { board, face } = await boardAndFace(await startEngine(), given);
   const { lines, words: wrong } = shownAnswers(face, board, name, answers);

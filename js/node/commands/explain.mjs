@@ -1,4 +1,4 @@
-// `mcs4 explain`: prints which lines of a script were rejected, and why.
+// `mcs4 explain`: prints the rejected lines of a script, with the reasons.
 import { answeredScript } from "../../core/bench/answered_script.js";
 import { joinLines } from "../../core/bench/inputs.js";
 import { otherAnswers } from "../../words/commands.js";

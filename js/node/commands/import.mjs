@@ -1,4 +1,4 @@
-// `mcs4 import`: brings a program in the spelling of Intel's assembler or of AS into the bench's spelling.
+// `mcs4 import`: converts a program from the spelling of Intel's assembler or of AS to the bench's spelling.
 import { importProgram } from "../../core/import/program_import.js";
 import { readProgram } from "../../core/engine/program_check.js";
 import { faultsOfText } from "../../core/testing/prepared.js";
@@ -11,17 +11,17 @@ import { CommandError, printFile } from "../output.mjs";
 const MARK = /^\u00ef\u00bb\u00bf/;
 
 /**
- * Rejects what the bench rejects; its lines are those of the source.
- * @param {string} name
+ * Throws the error for a converted program that the bench rejects. Its lines have the same numbers as those of the source.
+ * @param {string} name of the source
  * @param {string} source
- * @param {string} text
+ * @param {string} text the converted program
  */
 async function tryOnBench(name, source, text) {
   const engine = await startEngine();
   const unsent = faultsOfText("program", text);
   const { refusal } = unsent.length > 0 ? { refusal: null } : readProgram(engine, sentText(text, ";"));
   if (!refusal && unsent.length === 0) return;
-  // The message of a refusal: that of a line would be about our own spelling.
+  // Uses the message of the refusal. The message about the line would be about the bench's spelling.
   const { wordsOfRefusal } = await import("../refused_texts.mjs");
   const faults = refusal ? [{ text: /** @type {const} */ ("program"), ...refusal, words: wordsOfRefusal(refusal.number) }] : unsent;
   throw await errorOfTexts(engine, { program: { name, text: source, before: 0 } }, faults);
@@ -31,7 +31,7 @@ async function tryOnBench(name, source, text) {
 export async function run(values, words) {
   needWords(words, ["PROGRAM"]);
   const [name] = words;
-  // One character for each byte: comments keep theirs.
+  // Latin 1 has one character for each byte, so comments in any encoding keep their bytes.
   const source = new GivenTexts().read(name, MOST_GIVEN).toString("latin1").replace(MARK, "").replace(/\r\n?/g, "\n");
   const { text, faults } = importProgram(source);
   if (faults.length > 0) throw new CommandError(faults.map(({ line, words: why }) => `${name}:${line}: ${why}`).join("\n"));

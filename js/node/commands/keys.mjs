@@ -1,4 +1,4 @@
-// `mcs4 keys`: prints makes lines that press keys by their names, or presses them on a session up to a stop.
+// `mcs4 keys`: prints session lines that press keys by their names, or presses the keys on a session until a run stops.
 import { isStop, refusalOf } from "../../core/bench/answers.js";
 import { joinLines } from "../../core/bench/inputs.js";
 import { USUAL_PACE } from "../../core/testing/press_lines.js";
@@ -12,7 +12,7 @@ import { CommandError, print, printFile } from "../output.mjs";
 const MOST_CYCLES = 100000;
 
 /**
- * Presses keys on a session, and prints its answers, up to the first stop; returns the exit status.
+ * Serves lines on a session and prints the answers, up to the first run that stops; returns the exit status.
  * @param {string} session its file
  * @param {string[]} lines
  */

@@ -1,4 +1,4 @@
-// `mcs4 names`: puts the addresses of a program's names into lines.
+// `mcs4 names`: replaces the names of a program in session lines by their addresses.
 import { replaceNames } from "../../core/bench/names_in_lines.js";
 import { inLine } from "../../words/commands.js";
 import { needWords, projectFor } from "../arguments.mjs";

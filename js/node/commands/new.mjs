@@ -1,4 +1,4 @@
-// `mcs4 new` at a terminal. (Without one the starter runs the program itself.)
+// `mcs4 new` at a terminal. (Without a terminal, the starter runs the native program directly.)
 import { needWords } from "../arguments.mjs";
 import { servePrompt } from "../session_terminal.mjs";
 

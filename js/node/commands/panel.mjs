@@ -1,4 +1,4 @@
-// `mcs4 panel`: the front panel of a board in a terminal, with live keys. All that is done goes into the session's file, by the program itself.
+// `mcs4 panel`: the front panel of a board in a terminal, with live keys. The native program writes every command into the session's file.
 import { basename } from "node:path";
 import { codesOf } from "../../core/engine/rom_codes.js";
 import { listQueries, PAGES } from "../../core/bench/rom_bytes.js";
@@ -24,11 +24,11 @@ import { openProgram } from "../program_on_file.mjs";
  */
 
 const FAILED = 1;
-/** The milliseconds between two pictures. */
+/** The milliseconds between two frames. */
 const FRAME = 100;
 
 /**
- * Returns the names of board, session and program: the given ones, and those of the project.
+ * Returns the file names of board, session and program, from the arguments or from the project.
  * @param {import("./table.mjs").Values} values
  * @param {string[]} words
  */
@@ -43,7 +43,7 @@ async function namesOf({ folder, source }, words) {
 }
 
 /**
- * Serves lines; returns all their answers.
+ * Serves lines; returns the lines of their answers.
  * @param {SessionProgram} session
  * @param {string} lines
  */
@@ -55,7 +55,7 @@ async function answersOf(session, lines) {
 }
 
 /**
- * Reads the texts, which must be those of the session: its board and the bytes in its ROM.
+ * Reads board and program; throws an error if they differ from the session's board or from the bytes in its ROM.
  * @param {SessionProgram} session
  * @param {string} name of the session
  * @param {{ board: GivenText, program: GivenText | null }} texts
@@ -72,9 +72,9 @@ async function knowTexts(session, name, texts) {
 }
 
 /**
- * Returns the first part that the front panel mentions and the board lacks, if nothing depends on it; "" for none.
+ * Returns a message about the first part that the front panel mentions and the board lacks; "" if there is none.
  * @param {Awaited<ReturnType<typeof knowTexts>>} known
- * @param {number} before the lines of the file before the text
+ * @param {number} before the number of lines before the text in its file
  */
 function noteOf({ board, face }, before) {
   const [note] = byLine([...face.faults, ...missingOf(face, board)]);
@@ -82,7 +82,7 @@ function noteOf({ board, face }, before) {
 }
 
 /**
- * Draws the present picture.
+ * Draws a frame.
  * @param {PanelTerminal} terminal
  * @param {Panel} panel
  * @param {Screen} screen
@@ -95,10 +95,10 @@ async function show(terminal, panel, screen) {
 }
 
 /**
- * Reads the keys that are typed until the next picture is due; if time is paused, each key has a picture of its own.
+ * Handles the keys that are typed until the next frame is due. While the machine is paused, a frame is due after each key.
  * @param {PanelTerminal} terminal
  * @param {Panel} panel
- * @param {number} next when that is
+ * @param {number} next the time of the next frame, in milliseconds
  */
 async function takeKeys(terminal, panel, next) {
   for (let isDrawn = false; !isDrawn && !panel.isEnded && !terminal.isGone;) {
@@ -134,7 +134,7 @@ export async function run(values, words) {
   const board = texts.text(names.board, "wire");
   const program = names.program === undefined ? null : texts.text(names.program, "asm");
   texts.read(names.session, MOST_GIVEN);
-  // If there is none, the terminal is unchanged.
+  // Throws an error if there is no program, before the terminal changes.
   programPath();
   const terminal = new PanelTerminal();
   const session = await openProgram("open", names.session);

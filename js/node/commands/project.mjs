@@ -1,4 +1,4 @@
-// `mcs4 project`: splits a project of the page into files of a folder, and joins such files.
+// `mcs4 project`: splits a project file of the page into files in a folder, and joins such files into a project file.
 import { existsSync, realpathSync } from "node:fs";
 import { basename, join } from "node:path";
 import { MAX_PROJECT_BYTES, NotAProject, projectText, readProject, wordsOfLength } from "../../core/session/project_file.js";
@@ -14,11 +14,11 @@ import { isInside, needOwnFile, readUserFile, statOfInput, writeNewFiles, writeU
 
 const PROJECT_BEGINS = "fethsaim project ";
 const SESSION_BEGINS = "MCS4BEN1";
-/** The kinds of texts of which a project of the page has one. */
+/** The kinds of texts that a folder can have several of, and a project file only one. */
 const LISTED = /** @type {const} */ (["tests", "properties"]);
 
 /**
- * Returns the result of an action; if a text is not a project, throws an error with the name of its file.
+ * Calls `act` and returns its result; if a text is not a project, throws an error with the name of its file.
  * @template Result
  * @param {string} name
  * @param {() => Result} act
@@ -32,8 +32,8 @@ function ofFile(name, act) {
 }
 
 /**
- * Splits a project into files.
- * @param {string} name
+ * Splits a project file into files in a new folder.
+ * @param {string} name of the project file
  * @param {string} folder
  */
 function split(name, folder) {
@@ -44,9 +44,9 @@ function split(name, folder) {
 // --- join ---
 
 /**
- * Reads a file of a folder; a link must not lead out of it.
+ * Reads a file in a folder; throws an error if a link leads out of the folder.
  * @param {string} folder
- * @param {string} name with the folder
+ * @param {string} name the path of the file, with the folder
  */
 function readPart(folder, name) {
   const bytes = readUserFile(name, MOST_GIVEN);
@@ -55,9 +55,9 @@ function readPart(folder, name) {
 }
 
 /**
- * Reads a text of a folder, which is UTF-8.
+ * Reads a UTF-8 text in a folder; throws an error if the file is not a text.
  * @param {string} folder
- * @param {string} name with the folder
+ * @param {string} name the path of the file, with the folder
  */
 function readText(folder, name) {
   const bytes = readPart(folder, name);
@@ -70,9 +70,9 @@ function readText(folder, name) {
 }
 
 /**
- * Returns the names of the texts: those in the project file, or those that exist.
+ * Returns the paths of the texts: those in `mcs4.toml`, or without it the standard names of the files that exist.
  * @param {string} folder
- * @returns {Promise<{ board: string, program: string, tests: string, properties: string }>} "" for a text that there is not
+ * @returns {Promise<{ board: string, program: string, tests: string, properties: string }>} "" for a text that does not exist
  */
 async function textNames(folder) {
   const place = (/** @type {string} */ name) => join(folder, name);
@@ -86,9 +86,9 @@ async function textNames(folder) {
 }
 
 /**
- * Returns the session of a folder; without one, a new session of the texts.
+ * Returns the bytes of the session file in a folder. If there is none, makes a new session from the texts.
  * @param {string} folder
- * @param {{ board: string, program: string }} names of the texts
+ * @param {{ board: string, program: string }} names the paths of the texts
  * @param {{ boardText: string, programText: string }} texts
  */
 async function sessionOf(folder, names, texts) {
@@ -107,7 +107,7 @@ async function sessionOf(folder, names, texts) {
 }
 
 /**
- * Returns the name of a folder's session.
+ * Returns the name of the project in a folder: the line in its name file, or the name of the folder.
  * @param {string} folder
  */
 function nameOf(folder) {
@@ -119,7 +119,7 @@ function nameOf(folder) {
 }
 
 /**
- * Reads the list in a text of a folder; nothing if the text does not exist.
+ * Reads the list in a text in a folder; returns an empty list if the text does not exist.
  * @template Item
  * @param {string} folder
  * @param {string} part
@@ -131,9 +131,9 @@ function listIn(folder, part, read) {
 }
 
 /**
- * Joins files into a project.
+ * Joins the files in a folder into a project file.
  * @param {string} folder
- * @param {string} name of the project
+ * @param {string} name of the project file
  */
 async function joinFiles(folder, name) {
   if (!statOfInput(folder)?.isDirectory()) throw new CommandError(say.noFolder(folder));

@@ -1,4 +1,4 @@
-// `mcs4 prove`: proves that properties hold for all inputs, by the program mcs4-prove; a counterexample is confirmed by the bench.
+// `mcs4 prove`: proves that properties hold for all inputs. The program mcs4-prove searches, and the bench confirms each counterexample.
 import { statusOf, tapHead, tapOfJudged } from "../../core/prove/verdicts.js";
 import { namesWithProperties, needCount, needWords } from "../arguments.mjs";
 import { GivenTexts } from "../given_texts.mjs";
@@ -7,10 +7,10 @@ import { ProgressLine } from "../progress_line.mjs";
 import { beginProving } from "../proving.mjs";
 import { provingSoFar } from "../../words/prove.js";
 
-/** The most states that are searched, and the default. */
+/** The maximum number of states to search, and the default. */
 const STATES = { most: 999999999, usual: 1000000 };
 
-/** The most memory for them, in MB. */
+/** The maximum memory for the states, in MB. */
 const MOST_MEMORY = 1000000;
 
 /** @type {import("./table.mjs").CommandModule["run"]} */
@@ -28,7 +28,7 @@ export async function run({ folder, most: word, memory: size }, positionals) {
 /**
  * Judges all properties, and prints the result of each as soon as it is known; returns the exit status.
  * @param {import("../../core/prove/judging.js").Judging} judging
- * @param {string} file of the properties
+ * @param {string} file the name of the properties file
  */
 async function proveAll(judging, file) {
   const { total } = judging;

@@ -1,4 +1,4 @@
-// `mcs4 resume`: continues a script that was killed.
+// `mcs4 resume`: continues a script that was interrupted.
 import { spawn } from "node:child_process";
 import { once } from "node:events";
 import { refusalOf } from "../../core/bench/answers.js";
@@ -13,7 +13,7 @@ import { wordsOfRefusal } from "../refused_texts.mjs";
 const OPENED = /^session \d+\n/;
 
 /**
- * Prints answers as they arrive; returns the first line, if that says that the session is not open.
+ * Prints answers as they arrive; returns null. If the first line is a refusal to open the session, returns that line instead.
  * @param {import("node:stream").Readable} stream
  */
 async function printAnswers(stream) {
@@ -49,9 +49,9 @@ async function serveOn(session, bytes) {
 }
 
 /**
- * Returns the bytes after some lines.
+ * Returns the bytes after the first lines.
  * @param {Buffer} bytes
- * @param {number} lines
+ * @param {number} lines the number of lines to skip
  */
 function behindLines(bytes, lines) {
   let at = 0;
@@ -69,7 +69,7 @@ export async function run(_, positionals) {
   const texts = new GivenTexts();
   const bytes = texts.read(scriptName, MOST_SCRIPT);
   const before = texts.read(session, MOST_GIVEN);
-  // If there is none, that is reported first.
+  // Throws an error if there is no program, before anything else.
   programPath();
   const engine = await startEngine();
   const { lines, words, differing } = await begunScript(

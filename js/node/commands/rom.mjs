@@ -1,4 +1,4 @@
-// `mcs4 rom`: images of ROM in and out, as lines for a session and from its answers.
+// `mcs4 rom`: converts ROM images to session lines, and answers to ROM images.
 import { refusalOf } from "../../core/bench/answers.js";
 import { hex, numberOf } from "../../core/bench/numbers.js";
 import { ADDRESSES, MAX_LISTED, NO_BYTE, bytesOf } from "../../core/bench/rom_bytes.js";
@@ -13,12 +13,12 @@ import { readStream } from "../user_files.mjs";
 
 /** @typedef {import("../../core/bench/rom_formats.js").ImageForm} ImageForm */
 
-/** @type {Record<string, ImageForm[]>} the forms that each action accepts */
+/** @type {Record<string, ImageForm[]>} the image formats that each action accepts */
 const FORMS = { load: ["hex", "srec", "bnpf", "binary"], ask: [], save: ["hex", "bnpf"] };
 const READERS = { hex: readHex, srec: readSRecords, bnpf: readBnpf };
 
 /**
- * Returns the form that the options say; null for none.
+ * Returns the image format that an option names; null if none does.
  * @param {string} action
  * @param {import("./table.mjs").Values} values
  * @returns {ImageForm | null}
@@ -32,7 +32,7 @@ function formGiven(action, values) {
 }
 
 /**
- * Returns the bytes of an image.
+ * Parses an image; returns its bytes, from an address on.
  * @param {ImageForm} form
  * @param {Buffer} file
  * @param {number} address
@@ -42,7 +42,7 @@ function bytesOfImage(form, file, address) {
 }
 
 /**
- * Prints the lines that put an image into ROM.
+ * Prints the session lines that put an image into ROM.
  * @param {ImageForm | null} given
  * @param {string[]} words
  */
@@ -64,7 +64,7 @@ function load(given, words) {
 }
 
 /**
- * Returns the first address of a range and how many bytes it has.
+ * Parses the first address and the number of bytes of a range.
  * @param {string[]} words
  */
 function rangeOf(words) {
@@ -76,7 +76,7 @@ function rangeOf(words) {
 }
 
 /**
- * Prints the questions for the bytes of a range.
+ * Prints the session lines that ask for the bytes of a range.
  * @param {string[]} words
  */
 function ask(words) {
@@ -89,12 +89,12 @@ function ask(words) {
 }
 
 /**
- * Returns the bytes of a range in answers; later ones take precedence.
+ * Returns the bytes of a range from answers; a later answer overrides an earlier one.
  * @param {string} answers
  * @param {{ first: number, count: number }} range
  */
 function bytesInAnswers(answers, { first, count }) {
-  // A last line that was cut off is none.
+  // A last line without a line feed is cut off, so it is left out.
   const lines = answers.split("\n").slice(0, -1).map((line) => line.replace(/\r$/, ""));
   const refused = lines.findIndex((line) => refusalOf(line));
   if (refused >= 0) throw new CommandError(say.answersRefusal(refused + 1, lines[refused]));
@@ -106,7 +106,7 @@ function bytesInAnswers(answers, { first, count }) {
 }
 
 /**
- * Prints the bytes in answers as an image.
+ * Reads answers from standard input, and prints the bytes of a range as an image.
  * @param {ImageForm} form
  * @param {string[]} words
  */

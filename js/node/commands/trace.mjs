@@ -1,4 +1,4 @@
-// `mcs4 trace`: prints the next instructions of a session, one a line.
+// `mcs4 trace`: prints the next instructions of a session, one per line.
 import { romCodes } from "../../core/engine/rom_codes.js";
 import { SessionTrace } from "../../core/trace/session_trace.js";
 import { excludeEachOther } from "../../words/commands.js";
@@ -12,7 +12,7 @@ const MOST_LAST = 10000;
 const MOST_CYCLES_OF_LAST = 100000000;
 
 /**
- * Returns the program whose names or lines are wanted, if there is one.
+ * Returns the name of the program that labels or lines come from; undefined if there is none.
  * @param {import("./table.mjs").Values} values
  */
 async function programFor({ folder, names, source }) {

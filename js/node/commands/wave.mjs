@@ -1,4 +1,4 @@
-// `mcs4 wave`: prints the lines of a board over time as a VCD file, or writes the sound of one as a WAV file.
+// `mcs4 wave`: prints the lines of a board over time as a VCD file, or writes the sound of a buzzer as a WAV file.
 import { readBoard } from "../../core/bench/answers.js";
 import { hasOutput } from "../../core/board/face_board.js";
 import { Face } from "../../core/board/face.js";
@@ -21,17 +21,17 @@ import { needOwnFile, writeUserFile } from "../user_files.mjs";
  * @typedef {import("../given_texts.mjs").GivenText} GivenText
  * @typedef {import("./table.mjs").Values} Values
  *
- * The session without stops, its board, the texts of board and program if they are given, and the program for its labels.
+ * An opened session: its state without breakpoints and watches, its board, and the board's text. `program` is the program with its labels.
  * @typedef {{ engine: import("../../core/engine/engine_host.js").EngineHost, state: Uint8Array, board: import("../../core/bench/answers.js").Board,
  *   boardText: GivenText | null, face: Face, program: import("../../core/engine/wave_recorder.js").RecordedProgram | null }} Wired
  */
 
 const MOST_CYCLES = 10000000;
-/** Begins a WAV file. */
+/** The beginning of a WAV file. */
 const WAV_BEGINS = "RIFF";
 
 /**
- * Returns the names of the texts of board and program: the given ones, or those of the named project.
+ * Returns the file names of board and program, from the options or from the named project; undefined if there is none.
  * @param {Values} values
  */
 async function textsFor({ folder, board, names }) {
@@ -40,10 +40,10 @@ async function textsFor({ folder, board, names }) {
 }
 
 /**
- * Rejects a board's text that differs from the session's board, or whose comments name parts that the board lacks.
+ * Throws an error if a board's text differs from the session's board, or if its front panel names parts that the board lacks.
  * @param {Wired["engine"]} engine
  * @param {GivenText} given
- * @param {string[]} wanted the answers to `board`
+ * @param {string[]} wanted the session's answers to `board`
  */
 async function needBoard(engine, given, wanted) {
   const { faults, answers } = wiredBoard(engine, given.text);
@@ -54,7 +54,7 @@ async function needBoard(engine, given, wanted) {
 }
 
 /**
- * Opens the session, with its board and its program.
+ * Opens a session, and reads its board and its program.
  * @param {string} session
  * @param {{ board: string | undefined, program: string | undefined }} names
  * @returns {Promise<Wired>}
@@ -77,7 +77,7 @@ async function wired(session, { board: boardName, program: programName }) {
 const textOf = ({ boardText }) => (boardText ? boardText.text : "");
 
 /**
- * Returns the result of `choose`; a line that the board lacks is an error.
+ * Calls `choose` and returns its result; throws a CommandError for a line that the board lacks.
  * @template Result
  * @param {() => Result} choose
  */
@@ -119,7 +119,7 @@ async function printVcd(opened, cycles, words) {
 }
 
 /**
- * Returns the name of the buzzer's line.
+ * Returns the name of the line that drives the buzzer: `word`, or the line that the board's front panel names.
  * @param {Wired} opened
  * @param {string | undefined} word
  */
