@@ -11,37 +11,37 @@ const NO_FILES = new Set(["CYCLES", "N", "KEYS", "FIRST", "LAST", "COUNT"]);
  * Throws a UsageError if there are too few or too many arguments, or if a file name is empty.
  * @param {string[]} words
  * @param {string[]} names of the arguments in the help; the name of an optional argument ends with a question mark
- * @param {number} most
+ * @param {number} max the maximum number of arguments
  * @param {boolean} [hasProject] whether a project can name the missing files
  */
-export function needWords(words, names, most = names.length, hasProject = false) {
-  const lack = names.slice(words.length).filter((name) => !name.endsWith("?"));
-  if (lack.length > 0) throw new UsageError(say.missing(lack, hasProject && words.length === 0 && !existsSync(PROJECT_FILE)));
-  if (words.length > most) throw new UsageError(say.oneTooMany(words[most]));
+export function checkArguments(words, names, max = names.length, hasProject = false) {
+  const missing = names.slice(words.length).filter((name) => !name.endsWith("?"));
+  if (missing.length > 0) throw new UsageError(say.missing(missing, hasProject && words.length === 0 && !existsSync(PROJECT_FILE)));
+  if (words.length > max) throw new UsageError(say.oneTooMany(words[max]));
   if (words.some((word, at) => word === "" && !NO_FILES.has((names[at] || "").replace("?", "")))) throw new UsageError(say.EMPTY_ARGUMENT);
 }
 
 /**
- * Parses a decimal number from 1 to `most`; throws a UsageError for anything else.
- * @param {string} name its name in the help
+ * Parses a decimal number from 1 to `max`; throws a UsageError for anything else.
+ * @param {string} name of the argument in the help
  * @param {string} word
- * @param {number} most
+ * @param {number} max
  */
-export function needCount(name, word, most) {
+export function parseCount(name, word, max) {
   const number = /^[1-9]\d{0,8}$/.test(word) ? Number(word) : 0;
-  if (number < 1 || number > most) throw new UsageError(say.notInRange(name, word, most));
+  if (number < 1 || number > max) throw new UsageError(say.notInRange(name, word, max));
   return number;
 }
 
 /**
  * Returns the project in `folder` (option `-C`). Without the option, returns the project in the current folder if there are fewer than
- * `fewest` arguments, and null otherwise.
+ * `needed` arguments, and null otherwise.
  * @param {string | undefined} folder
  * @param {string[]} words
- * @param {number} fewest the number of arguments of a command that needs no project
+ * @param {number} needed the number of arguments with which the command needs no project
  */
-export async function projectFor(folder, words, fewest) {
-  if (folder === undefined && (words.length >= fewest || !existsSync(PROJECT_FILE))) return null;
+export async function projectFor(folder, words, needed) {
+  if (folder === undefined && (words.length >= needed || !existsSync(PROJECT_FILE))) return null;
   const [{ projectIn }, { ProjectFault }] = await Promise.all([import("./project_on_disk.mjs"), import("../core/project/project_folder.js")]);
   try {
     return projectIn(folder === undefined ? "." : folder);
@@ -55,7 +55,7 @@ export async function projectFor(folder, words, fewest) {
  * @param {import("./project_on_disk.mjs").DiskProject} project
  * @param {"tests" | "properties"} what
  */
-export function needNamed(project, what) {
+export function projectFiles(project, what) {
   if (project[what].length === 0) throw new CommandError(say.projectLacks(project.file, what));
   return project[what];
 }
@@ -69,12 +69,12 @@ export async function namesWithProperties(folder, words) {
   const project = await projectFor(folder, words, 3);
   if (!project) return words;
   if (words.length > 0) return [project.board, project.program, ...words];
-  const properties = needNamed(project, "properties");
+  const properties = projectFiles(project, "properties");
   if (properties.length > 1) throw new CommandError(say.oneText(project.file, properties));
   return [project.board, project.program, ...properties];
 }
 
 /** Never resolves: the command ends the process itself. */
-export function untilItEnds() {
+export function waitForExit() {
   return new Promise(() => {});
 }

@@ -4,7 +4,7 @@ import { Face } from "../core/board/face.js";
 import { faultsOfNames, wiredBoard } from "../core/testing/prepared.js";
 import { pressLines } from "../core/testing/press_lines.js";
 import { keysWithoutNames, noKeyOnBoard } from "../words/commands.js";
-import { errorOfTexts } from "./native_program.mjs";
+import { rejectedTextsError } from "./native_program.mjs";
 import { CommandError } from "./output.mjs";
 
 /** @typedef {import("./given_texts.mjs").GivenText} GivenText */
@@ -19,7 +19,7 @@ export async function boardAndFace(engine, given) {
   const face = new Face(given.text);
   const board = readBoard(answers);
   const found = faults.length > 0 ? faults : faultsOfNames(face, board);
-  if (found.length > 0) throw await errorOfTexts(engine, { board: given }, found);
+  if (found.length > 0) throw await rejectedTextsError(engine, { board: given }, found);
   return { board, face, answers };
 }
 

@@ -3,20 +3,20 @@
 import { processes } from "./processes.mjs";
 
 /** The maximum output of a child, in characters; a child that prints more is stopped. */
-const MOST_OUTPUT = 1048576;
+const MAX_OUTPUT = 1048576;
 /** An environment variable that children get. With it, a command does not print messages that each user sees only once. */
 export const IS_RUN_BY_COMMAND = "MCS4_IS_RUN_BY_COMMAND";
 /** Windows has no process groups. */
 const HAS_GROUPS = process.platform !== "win32";
 /** The milliseconds until a child that ignores SIGTERM is killed. A copy of this tool gets more time, because it ends its own children. */
-const PATIENCE = { command: 1000, tool: 10000 };
+const KILL_DELAYS = { command: 1000, tool: 10000 };
 
 /** @type {Map<number, { child: import("node:child_process").ChildProcess, hasGroup: boolean }>} the running children by process id */
 const running = new Map();
 let isEnding = false;
 
 /** Returns a promise that never resolves, for callers while the process ends. */
-const never = () => new Promise(() => {});
+const waitForever = () => new Promise(() => {});
 
 /**
  * Sends a signal to a child, and to its whole process group if it has its own.
@@ -41,12 +41,12 @@ function follow(child, hasGroup) {
   const { pid } = child;
   if (pid !== undefined) running.set(pid, { child, hasGroup });
   return new Promise((settle) => {
-    const over = (result) => {
+    const finish = (result) => {
       if (pid !== undefined) running.delete(pid);
       settle(result);
     };
-    child.on("error", ({ message }) => over({ status: null, signal: null, words: message }));
-    child.on("close", (status, signal) => over({ status, signal, words: "" }));
+    child.on("error", ({ message }) => finish({ status: null, signal: null, words: message }));
+    child.on("close", (status, signal) => finish({ status, signal, words: "" }));
   });
 }
 
@@ -61,18 +61,18 @@ export async function runCommand(command, words, input = "") {
   const child = processes().spawn(command, words, { detached: HAS_GROUPS, env, stdio: ["pipe", "pipe", "pipe"] });
   const ended = follow(child, true);
   const printed = [child.stdout, child.stderr].map((stream) => {
-    const taken = { text: "" };
+    const output = { text: "" };
     stream.setEncoding("utf8");
     stream.on("data", (text) => {
-      taken.text += text;
-      if (taken.text.length > MOST_OUTPUT && child.pid !== undefined) send(child.pid, "SIGTERM");
+      output.text += text;
+      if (output.text.length > MAX_OUTPUT && child.pid !== undefined) send(child.pid, "SIGTERM");
     });
-    return taken;
+    return output;
   });
   child.stdin.on("error", () => {});
   child.stdin.end(input);
   const { status, signal, words: fault } = await ended;
-  if (isEnding) await never();
+  if (isEnding) await waitForever();
   return { status, signal, stdout: printed[0].text, stderr: printed[1].text || fault };
 }
 
@@ -84,7 +84,7 @@ export async function runCommand(command, words, input = "") {
 export async function runAgain(env) {
   const child = processes().spawn(process.execPath, process.argv.slice(1, 3), { env, stdio: ["ignore", "ignore", "inherit"] });
   const { status } = await follow(child, false);
-  if (isEnding) await never();
+  if (isEnding) await waitForever();
   return status;
 }
 
@@ -112,7 +112,7 @@ async function end(status) {
   await Promise.all([...running].map(([pid, { child, hasGroup }]) => new Promise((settle) => {
     child.on("close", settle);
     send(pid, "SIGTERM");
-    setTimeout(() => send(pid, "SIGKILL"), hasGroup ? PATIENCE.command : PATIENCE.tool);
+    setTimeout(() => send(pid, "SIGKILL"), hasGroup ? KILL_DELAYS.command : KILL_DELAYS.tool);
   })));
   process.exit(status);
 }

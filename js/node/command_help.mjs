@@ -22,7 +22,7 @@ export function paragraphsOf(text) {
  * Returns the command lines that a command accepts, as in its usage.
  * @param {string} name
  */
-export function formsOf(name) {
+export function usageLines(name) {
   return COMMANDS[name].usage.map((form) => `mcs4 ${name}${form && ` ${form}`}`);
 }
 
@@ -30,12 +30,12 @@ export function formsOf(name) {
  * Returns the usage text of a command.
  * @param {string} name
  */
-export function usageLines(name) {
-  return say.usageOf(formsOf(name));
+export function usageText(name) {
+  return say.usageOf(usageLines(name));
 }
 
 /** Returns the usage text of mcs4. */
-export function usageOfAll() {
+export function mcs4Usage() {
   return say.usageOf(say.MCS4_FORMS.map(([form]) => form).filter((form) => !form.endsWith("refusals")));
 }
 
@@ -43,7 +43,7 @@ export function usageOfAll() {
  * Returns the options of a command as rows of the typed form and its description.
  * @param {string} name
  */
-export function optionsOf(name) {
+export function optionRows(name) {
   /** @type {Record<string, string>} */
   const words = say.COMMAND_WORDS[name].options;
   const rows = Object.entries(COMMANDS[name].options).map(([option, { short, value }]) => (
@@ -61,12 +61,12 @@ const itemized = (head, lines) => `${head}\n${lines.map((line) => folded(line, I
  * Returns the help of a command.
  * @param {string} name
  */
-export function helpOf(name) {
+export function commandHelp(name) {
   const { text, examples, status } = say.COMMAND_WORDS[name];
   return `${[
-    usageLines(name),
+    usageText(name),
     ...paragraphsOf(text).map((paragraph) => folded(paragraph)),
-    listed(say.OPTIONS_HEAD, optionsOf(name)),
+    listed(say.OPTIONS_HEAD, optionRows(name)),
     listed(say.EXAMPLES_HEAD, examples),
     itemized(say.STATUS_HEAD, status),
   ].join("\n\n")}\n`;
@@ -74,15 +74,15 @@ export function helpOf(name) {
 
 /** Returns the groups of commands: the title of each group, and its commands with their descriptions. */
 export function commandsByGroup() {
-  const all = Object.entries(COMMANDS).map(([name, { group }]) => ({ name, group, does: say.COMMAND_WORDS[name].summary }));
-  return Object.entries(say.GROUPS).map(([each, title]) => ({ title, commands: all.filter(({ group }) => group === each) }));
+  const commands = Object.entries(COMMANDS).map(([name, { group }]) => ({ name, group, does: say.COMMAND_WORDS[name].summary }));
+  return Object.entries(say.GROUPS).map(([groupName, title]) => ({ title, commands: commands.filter(({ group }) => group === groupName) }));
 }
 
 /**
  * Returns the help of mcs4 itself.
  * @param {string} top the folder that mcs4 is in, "" to leave out where the manual is
  */
-export function helpOfAll(top) {
+export function mcs4Help(top) {
   const width = Math.max(...say.MCS4_FORMS.map(([form]) => form.length));
   const groups = commandsByGroup().map(({ title, commands }) => (
     `${title}:\n${commands.map(({ name, does }) => folded(does, `${INDENT}${name.padEnd(9)} `, " ".repeat(12))).join("\n")}`));

@@ -20,7 +20,7 @@ const HELP = { type: "boolean", short: "h" };
  * @param {string} word
  * @param {string[]} words
  */
-async function meantBy(word, words) {
+async function suggestionsFor(word, words) {
   const { similarWords } = await import("../core/text/alike.js");
   return similarWords(word, words);
 }
@@ -30,25 +30,25 @@ async function meantBy(word, words) {
  * @param {string} word the option as typed
  * @param {Command["options"]} options
  */
-async function noOption(word, options) {
+async function unknownOption(word, options) {
   const isLong = word.startsWith("--");
-  const meant = isLong ? await meantBy(word.slice(2), Object.keys(options)) : [];
+  const meant = isLong ? await suggestionsFor(word.slice(2), Object.keys(options)) : [];
   return new UsageError(say.noOption(word, meant.map((name) => `--${name}`)));
 }
 
 /** @type {(value: string | undefined, isInline: boolean) => boolean} true if an option has no value, or the next option instead of one */
-const isMissing = (value, isInline) => value === undefined || value === "" || (!isInline && /^-[^\d]/.test(value));
+const lacksValue = (value, isInline) => value === undefined || value === "" || (!isInline && /^-[^\d]/.test(value));
 
 /**
  * Throws a UsageError if an option is unknown, lacks its value, or has a value that it does not take.
  * @param {{ name: string, rawName: string, value?: string, inlineValue?: boolean }} token
  * @param {Command["options"]} options
  */
-async function needOption({ name, rawName, value, inlineValue }, options) {
+async function checkOption({ name, rawName, value, inlineValue }, options) {
   const option = options[name];
-  if (!option) throw await noOption(rawName, options);
+  if (!option) throw await unknownOption(rawName, options);
   if (option.type === "boolean" && value !== undefined) throw new UsageError(say.noValue(rawName));
-  if (option.type === "string" && isMissing(value, inlineValue === true)) {
+  if (option.type === "string" && lacksValue(value, inlineValue === true)) {
     throw new UsageError(say.valueMissing(option.value || name.toUpperCase(), rawName));
   }
 }
@@ -65,7 +65,7 @@ async function parsed(command, words) {
   const seen = new Set();
   for (const token of tokens) {
     if (token.kind !== "option") continue;
-    await needOption(token, options);
+    await checkOption(token, options);
     if (seen.has(token.name) && !options[token.name].multiple) throw new UsageError(say.optionTwice(token.rawName));
     seen.add(token.name);
   }
@@ -88,15 +88,15 @@ function complain(name, message) {
  */
 async function report(name, thrown) {
   if (thrown instanceof UsageError) {
-    const { usageLines } = await import("./command_help.mjs");
+    const { usageText } = await import("./command_help.mjs");
     complain(name, thrown.message);
-    printError(`${usageLines(name)}\n`);
+    printError(`${usageText(name)}\n`);
     return WRONG_ARGUMENTS;
   }
-  const { lackOfRoom } = await import("./native_program.mjs");
-  const lack = lackOfRoom();
-  if (!lack && !(thrown instanceof CommandError)) throw thrown;
-  complain(name, lack || thrown.message);
+  const { noRoomMessage } = await import("./native_program.mjs");
+  const noRoom = noRoomMessage();
+  if (!noRoom && !(thrown instanceof CommandError)) throw thrown;
+  complain(name, noRoom || thrown.message);
   return FAILED;
 }
 
@@ -111,8 +111,8 @@ export async function runCommand(name, words, load = COMMANDS[name].load) {
   try {
     const { values, positionals } = await parsed(command, words);
     if (values.help) {
-      const { helpOf } = await import("./command_help.mjs");
-      print(helpOf(name));
+      const { commandHelp } = await import("./command_help.mjs");
+      print(commandHelp(name));
       return 0;
     }
     const { run } = await load();
@@ -126,9 +126,9 @@ export async function runCommand(name, words, load = COMMANDS[name].load) {
  * Reports an unknown command; returns the exit status.
  * @param {string} word
  */
-async function refuseCommand(word) {
+async function rejectCommand(word) {
   const names = [...Object.keys(COMMANDS), ...Object.keys(say.MCS4_COMPLETED)];
-  complain("mcs4", say.noCommand(word, await meantBy(word, names)));
+  complain("mcs4", say.noCommand(word, await suggestionsFor(word, names)));
   return WRONG_ARGUMENTS;
 }
 
@@ -137,17 +137,17 @@ async function refuseCommand(word) {
  * @param {string[]} words
  */
 async function help([name, ...others]) {
-  const { helpOf, helpOfAll, usageOfAll } = await import("./command_help.mjs");
+  const { commandHelp, mcs4Help, mcs4Usage } = await import("./command_help.mjs");
   if (others.length > 0) {
     complain("mcs4", say.oneTooMany(others[0]));
-    printError(`${usageOfAll()}\n`);
+    printError(`${mcs4Usage()}\n`);
     return WRONG_ARGUMENTS;
   }
-  const isOfAll = name === undefined || Object.hasOwn(say.MCS4_COMPLETED, name);
-  if (!isOfAll && !Object.hasOwn(COMMANDS, name)) return refuseCommand(name);
+  const isAboutMcs4 = name === undefined || Object.hasOwn(say.MCS4_COMPLETED, name);
+  if (!isAboutMcs4 && !Object.hasOwn(COMMANDS, name)) return rejectCommand(name);
   const { TOP } = await import("./top.mjs");
   try {
-    print(isOfAll ? helpOfAll(TOP) : helpOf(name));
+    print(isAboutMcs4 ? mcs4Help(TOP) : commandHelp(name));
     return 0;
   } catch (thrown) {
     return report("mcs4", thrown);
@@ -161,9 +161,9 @@ async function help([name, ...others]) {
 export async function runLine([name = "", ...words]) {
   if (Object.hasOwn(COMMANDS, name)) return runCommand(name, words);
   if (name === "help") return help(words);
-  if (name !== "" && name !== "version") return refuseCommand(name);
-  const { usageOfAll } = await import("./command_help.mjs");
+  if (name !== "" && name !== "version") return rejectCommand(name);
+  const { mcs4Usage } = await import("./command_help.mjs");
   if (name === "version") complain("mcs4", say.oneTooMany(words[0]));
-  printError(`${usageOfAll()}\n`);
+  printError(`${mcs4Usage()}\n`);
   return WRONG_ARGUMENTS;
 }

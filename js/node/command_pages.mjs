@@ -3,7 +3,7 @@
 import { mkdirSync, writeFileSync } from "node:fs";
 import { join } from "node:path";
 import * as say from "../words/commands.js";
-import { commandsByGroup, formsOf, helpOf, helpOfAll, optionsOf, paragraphsOf } from "./command_help.mjs";
+import { commandsByGroup, usageLines, commandHelp, mcs4Help, optionRows, paragraphsOf } from "./command_help.mjs";
 import { COMMANDS } from "./commands/table.mjs";
 
 const BOLD = "\\fB";
@@ -46,9 +46,9 @@ function manualPage(name) {
   return [
     `.TH MCS4\\-${name.toUpperCase()} 1 "" Fethsaim "${say.TITLE_OF_PAGES}"`,
     ...section(titles.name, [`mcs4-${name} \\- ${roff(summary)}`]),
-    ...section(titles.synopsis, joined(formsOf(name).map((form) => `.B ${roff(form)}`), ".br")),
+    ...section(titles.synopsis, joined(usageLines(name).map((form) => `.B ${roff(form)}`), ".br")),
     ...section(titles.description, paragraphs(text)),
-    ...section(titles.options, tagged(optionsOf(name))),
+    ...section(titles.options, tagged(optionRows(name))),
     ...section(titles.examples, tagged(examples)),
     ...section(titles.status, tagged(statusRows(status))),
     ...section(titles.seeAlso, [".BR mcs4 (1)"]),
@@ -56,7 +56,7 @@ function manualPage(name) {
 }
 
 /** Returns the manual page of mcs4 itself. */
-function manualPageOfAll() {
+function mcs4ManualPage() {
   const titles = say.MANUAL_SECTIONS;
   const groups = commandsByGroup().flatMap(({ title, commands }) => (
     [`.SS ${title}`, ...commands.flatMap(({ name, does }) => [".TP", `.BR mcs4\\-${name} (1)`, roff(does)])]));
@@ -87,7 +87,7 @@ function completedWords() {
   }));
   const builtIn = Object.entries(say.MCS4_COMPLETED).map(([name, does]) => ({ name, does, words: /** @type {string[]} */ ([]) }));
   const names = [...builtIn, ...commands].map(({ name }) => name);
-  return [...builtIn.map((each) => (each.name === "help" ? { ...each, words: [...names, "refusals"] } : each)), ...commands];
+  return [...builtIn.map((word) => (word.name === "help" ? { ...word, words: [...names, "refusals"] } : word)), ...commands];
 }
 
 /** @type {(text: string) => string} */
@@ -95,7 +95,7 @@ const quoted = (text) => `'${text.replace(/'/g, "'\\''")}'`;
 
 /** @param {ReturnType<typeof completedWords>} words */
 function bashCompletion(words) {
-  const cases = words.filter((each) => each.words.length > 0).map((each) => `            ${each.name}) words=${quoted(each.words.join(" "))} ;;`);
+  const cases = words.filter((word) => word.words.length > 0).map((word) => `            ${word.name}) words=${quoted(word.words.join(" "))} ;;`);
   return `# Completion of mcs4 for bash.
 _mcs4() {
     local words= word=\${COMP_WORDS[COMP_CWORD]}
@@ -117,7 +117,7 @@ complete -o default -F _mcs4 mcs4
 
 /** @param {ReturnType<typeof completedWords>} words */
 function zshCompletion(words) {
-  const others = words.filter((each) => each.name !== "help" && each.words.length > 0);
+  const others = words.filter((word) => word.name !== "help" && word.words.length > 0);
   return `#compdef mcs4
 # Completion of mcs4 for zsh.
 local -a commands words_here
@@ -129,7 +129,7 @@ if (( CURRENT == 2 )); then
     return
 fi
 case $words[2] in
-${others.map(({ name, words: own }) => `    ${name}) words_here=(${own.join(" ")}) ;;`).join("\n")}
+${others.map(({ name, words: nextWords }) => `    ${name}) words_here=(${nextWords.join(" ")}) ;;`).join("\n")}
     help) _describe command commands; return ;;
 esac
 if [[ $PREFIX == -* ]] || (( CURRENT == 3 )); then compadd -a words_here; fi
@@ -141,10 +141,10 @@ _files
 function fishCompletion(words) {
   const fishQuoted = (/** @type {string} */ text) => `'${text.replace(/\\/g, "\\\\").replace(/'/g, "\\'")}'`;
   const after = (/** @type {string} */ name) => `complete -c mcs4 -n '__fish_seen_subcommand_from ${name}'`;
-  const lines = words.flatMap(({ name, does, words: own }) => [
+  const lines = words.flatMap(({ name, does, words: nextWords }) => [
     `complete -c mcs4 -n __fish_use_subcommand -f -a ${name} -d ${fishQuoted(does)}`,
-    ...(name === "help" ? [`${after(name)} -f -a ${fishQuoted(own.join(" "))}`]
-      : own.map((word) => `${after(name)} ${word.startsWith("--") ? `-l ${word.slice(2)}` : `-a ${word}`}`)),
+    ...(name === "help" ? [`${after(name)} -f -a ${fishQuoted(nextWords.join(" "))}`]
+      : nextWords.map((word) => `${after(name)} ${word.startsWith("--") ? `-l ${word.slice(2)}` : `-a ${word}`}`)),
   ]);
   return `# Completion of mcs4 for fish.\n${lines.map((line) => `${line}\n`).join("")}`;
 }
@@ -156,8 +156,8 @@ export function commandPages() {
   const names = Object.keys(COMMANDS);
   const words = completedWords();
   return [
-    ["help/mcs4.txt", helpOfAll("")], ["man/mcs4.1", manualPageOfAll()],
-    ...names.flatMap((name) => [[`help/${name}.txt`, helpOf(name)], [`man/mcs4-${name}.1`, manualPage(name)]]),
+    ["help/mcs4.txt", mcs4Help("")], ["man/mcs4.1", mcs4ManualPage()],
+    ...names.flatMap((name) => [[`help/${name}.txt`, commandHelp(name)], [`man/mcs4-${name}.1`, manualPage(name)]]),
     ["completions/bash", bashCompletion(words)], ["completions/zsh", zshCompletion(words)], ["completions/fish", fishCompletion(words)],
   ];
 }

@@ -9,14 +9,14 @@ import { heldBy } from "../words/adapter.js";
 import { isInside, readUserFile, readUserText, replacementOf } from "./user_files.mjs";
 
 /** The maximum size of a session file, in bytes. */
-const MOST_SESSION = 1048576;
+const MAX_SESSION_BYTES = 1048576;
 
 /** A session file and the program that serves it. `replace` puts a new file in its place, so it is complete at every moment. */
 class SessionFile {
   constructor(name, program) {
     this.name = name;
     this.program = program;
-    this.bytes = new Uint8Array(readUserFile(name, MOST_SESSION));
+    this.bytes = new Uint8Array(readUserFile(name, MAX_SESSION_BYTES));
   }
 
   ask(lines, count) {
@@ -24,21 +24,21 @@ class SessionFile {
   }
 
   async replace(bytes, lines, count, check) {
-    const { name, program: old } = this;
-    const other = replacementOf(name, bytes);
+    const { name, program: oldProgram } = this;
+    const replacement = replacementOf(name, bytes);
     let program = null;
     try {
-      program = await openProgram("open", other.name);
+      program = await openProgram("open", replacement.name);
       check(await program.ask(lines, count));
-      other.put();
+      replacement.put();
     } catch (fault) {
-      other.drop();
+      replacement.drop();
       if (program) await program.end();
       throw fault;
     }
     this.program = program;
     syncFolder(dirname(name));
-    await old.end();
+    await oldProgram.end();
   }
 
   end() {
@@ -91,7 +91,7 @@ export const host = {
   isInside: (name, folder) => !existsSync(name) || isInside(name, folder),
   open: async (name) => new SessionFile(name, await openFile(name)),
   make: async (name) => new SessionFile(name, await openProgram("new", name)),
-  readSession: async (name) => readUnlocked(name, MOST_SESSION),
+  readSession: async (name) => readUnlocked(name, MAX_SESSION_BYTES),
   pause: () => new Promise((settle) => {
     setImmediate(settle);
   }),

@@ -12,7 +12,7 @@ import { subjectOf } from "../core/explore/subject.js";
 import { prepare } from "../core/testing/prepared.js";
 import * as say from "../words/commands.js";
 import { yieldToMessages, interrupt, runAgain, runCommand } from "./children.mjs";
-import { errorOfTexts } from "./native_program.mjs";
+import { rejectedTextsError } from "./native_program.mjs";
 import { CommandError, printError } from "./output.mjs";
 import { moduleOfPage } from "./page_parts.mjs";
 import { readUserText, writeUserFile } from "./user_files.mjs";
@@ -28,8 +28,8 @@ import { readUserText, writeUserFile } from "./user_files.mjs";
 /** The milliseconds of search between two checks of the clock and of signals. */
 const SLICE = 50;
 /** The maximum size of a test file and of a report, in bytes. */
-const MOST_TESTS = 1048576;
-const MOST_REPORT = 16777216;
+const MAX_TESTS = 1048576;
+const MAX_REPORT = 16777216;
 /** The environment variable that names the settings file of a job. */
 const JOB = "MCS4_EXPLORE_JOB";
 
@@ -44,7 +44,7 @@ function testsFor({ from }, name) {
   if (!from) return "";
   const file = from.file ? join(dirname(name), from.file) : `${name.replace(/\.props$/, "")}.test`;
   try {
-    return readUserText(file, MOST_TESTS);
+    return readUserText(file, MAX_TESTS);
   } catch ({ message }) {
     throw new CommandError(say.testsMustSave(name, from.line, message, from.state));
   }
@@ -77,7 +77,7 @@ class Exploration {
   async begin() {
     const { engine, settings: { texts: { board, program, properties } } } = this;
     const { prepared, faults: wrong } = prepare(engine, { boardText: board.text, programText: program.text });
-    if (!prepared) throw await errorOfTexts(engine, { board, program }, wrong);
+    if (!prepared) throw await rejectedTextsError(engine, { board, program }, wrong);
     const subject = subjectOf(engine, board.text, program.text, program.before);
     const { campaign, faults } = readCampaign(properties.text, subject);
     if (faults.length > 0) throw new CommandError(faults.map(({ line, words }) => `${properties.name}:${line}: ${words}`).join("\n"));
@@ -108,10 +108,10 @@ class Exploration {
   /** Searches with one seed; returns the report. */
   async search({ subject, campaign, texts }) {
     const { settings: { seconds, seed, allowsModel }, names } = this;
-    const asked = allowsModel ? (chains) => askModel(campaign.command, chains) : null;
+    const model = allowsModel ? (chains) => askModel(campaign.command, chains) : null;
     const confirm = (test, isGoal) => this.confirm(test, isGoal);
-    const run = new CampaignRun(subject, campaign, seed, confirm, patienceOf(seconds), asked, yieldToMessages, proofTimeOf(seconds));
-    const from = process.cpuUsage();
+    const run = new CampaignRun(subject, campaign, seed, confirm, patienceOf(seconds), model, yieldToMessages, proofTimeOf(seconds));
+    const usageAtStart = process.cpuUsage();
     const end = performance.now() + 1000 * seconds;
     while (performance.now() < end && !isStopped && !run.isDone) {
       const found = await run.goOn(SLICE);
@@ -119,7 +119,7 @@ class Exploration {
       if (found) this.show(campaign.properties[found.property], found.found);
       await yieldToMessages();
     }
-    const { user, system } = process.cpuUsage(from);
+    const { user, system } = process.cpuUsage(usageAtStart);
     for (const test of run.doubts) printError(`explore: ${say.notSeenToFail(test)}`);
     const sums = createHash("sha256").update(JSON.stringify(texts)).digest("hex");
     return run.report({ names, sums, seconds: (user + system) / 1e6, isStopped });
@@ -131,7 +131,7 @@ class Exploration {
   }
 
   /** Runs one search in another process; returns the exit status and the name of the report. */
-  async searchApart(seed) {
+  async searchInProcess(seed) {
     const { settings } = this;
     const report = join(settings.folder, `report.${seed}`);
     const name = join(settings.folder, `job.${seed}`);
@@ -144,19 +144,19 @@ class Exploration {
     const { files, settings: { jobs, seed, texts } } = this;
     writeFileSync(files.board, texts.board.text);
     writeFileSync(files.program, texts.program.text);
-    const all = await this.begin();
-    this.announce(all.campaign);
-    if (jobs === 1) return this.search(all);
-    const ended = await Promise.all([...Array(jobs).keys()].map((job) => this.searchApart(seed + job)));
-    const wrong = ended.find(({ status }) => status === null || status > 1);
-    if (wrong) throw new CommandError(say.jobEnded(wrong.status));
+    const begunSearch = await this.begin();
+    this.announce(begunSearch.campaign);
+    if (jobs === 1) return this.search(begunSearch);
+    const ended = await Promise.all([...Array(jobs).keys()].map((job) => this.searchInProcess(seed + job)));
+    const failed = ended.find(({ status }) => status === null || status > 1);
+    if (failed) throw new CommandError(say.jobEnded(failed.status));
     return joinReports(ended.map(({ report }) => readReport(report)));
   }
 }
 
 /** Reads a report file of another search; throws an error if the file is not a report. */
 function readReport(name) {
-  const text = readUserText(name, MOST_REPORT);
+  const text = readUserText(name, MAX_REPORT);
   try {
     const report = JSON.parse(text);
     if (report.form === "explore 1") return report;
@@ -178,7 +178,7 @@ export function mergeReports(names) {
 }
 
 /** @param {Settings} settings */
-async function explorationBy(settings) {
+async function startExploration(settings) {
   process.on("SIGINT", () => {
     isStopped = true;
     interrupt();
@@ -191,13 +191,13 @@ async function explorationBy(settings) {
  * @param {Settings} settings
  */
 export async function exploreTexts(settings) {
-  return (await explorationBy(settings)).searchAll();
+  return (await startExploration(settings)).searchAll();
 }
 
 /** Returns the settings of this process if another process started it as a job; otherwise null. */
-export function jobOf() {
+export function jobSettings() {
   const name = process.env[JOB];
-  return name ? JSON.parse(readUserText(name, 2 * MOST_REPORT)) : null;
+  return name ? JSON.parse(readUserText(name, 2 * MAX_REPORT)) : null;
 }
 
 /**
@@ -205,7 +205,7 @@ export function jobOf() {
  * @param {Settings & { report: string }} settings
  */
 export async function exploreAsJob(settings) {
-  const exploration = await explorationBy(settings);
+  const exploration = await startExploration(settings);
   const report = await exploration.search(await exploration.begin());
   writeUserFile(settings.report, `${JSON.stringify(report)}\n`);
   return 0;

@@ -4,7 +4,8 @@ import { homedir } from "node:os";
 import { join } from "node:path";
 import { escaped } from "../core/text/escaped.js";
 
-const MOST = 1000;
+/** The maximum number of completions. */
+const MAX_NAMES = 1000;
 
 /** Returns a path with the home folder in place of a leading `~`. */
 export function withoutTilde(name) {
@@ -30,7 +31,7 @@ export function fileNames(begin) {
   const place = withoutTilde(folder) || ".";
   try {
     return readdirSync(place).filter((each) => each.startsWith(name) && (name.startsWith(".") || !each.startsWith(".")) && escaped(each) === each)
-      .sort().slice(0, MOST).map((each) => `${folder}${each}${isFolder(join(place, each)) ? "/" : ""}`);
+      .sort().slice(0, MAX_NAMES).map((each) => `${folder}${each}${isFolder(join(place, each)) ? "/" : ""}`);
   } catch {
     return [];
   }

@@ -5,9 +5,9 @@ import { readStream, readUserFile, statOfInput } from "./user_files.mjs";
 import { noAnswers } from "../words/commands.js";
 
 /** The maximum sizes, in bytes, of a script of session lines, of answers, and of one text. */
-export const MOST_SCRIPT = 16777216;
-export const MOST_ANSWERS = 67108864;
-export const MOST_GIVEN = 1048576;
+export const MAX_SCRIPT = 16777216;
+export const MAX_ANSWERS = 67108864;
+export const MAX_TEXT_BYTES = 1048576;
 export const STANDARD_INPUT = 0;
 const MARK = Buffer.from([0xEF, 0xBB, 0xBF]);
 /** @type {Record<string, string>} the encodings by their byte order marks in hex; PowerShell writes UTF-16 */
@@ -91,7 +91,7 @@ export class GivenTexts {
    * @param {string} name
    */
   source(name) {
-    return { name, text: decoded(this.read(name, MOST_GIVEN)).text.replace(/\r\n?/g, "\n") };
+    return { name, text: decoded(this.read(name, MAX_TEXT_BYTES)).text.replace(/\r\n?/g, "\n") };
   }
 
   /**
@@ -101,22 +101,22 @@ export class GivenTexts {
    * @returns {GivenText}
    */
   text(name, word) {
-    const bytes = this.read(name, MOST_SCRIPT);
+    const bytes = this.read(name, MAX_SCRIPT);
     const { text, encoding } = decoded(bytes);
     const lines = text.split(/\r\n?|\n/);
     const begin = lines.findIndex((line) => line.replace(/[ \t]+$/, "") === word);
-    if (begin < 0 && bytes.length > MOST_GIVEN) {
-      throw new CommandError(`${name} has ${bytes.length} bytes, more than the text of a board or a program can have (${MOST_GIVEN})`);
+    if (begin < 0 && bytes.length > MAX_TEXT_BYTES) {
+      throw new CommandError(`${name} has ${bytes.length} bytes, more than the text of a board or a program can have (${MAX_TEXT_BYTES})`);
     }
     if (begin < 0) return { name, text: lines.join("\n"), before: 0, encoding };
     const dot = lines.indexOf(".", begin);
-    const own = lines.slice(begin + 1, dot < 0 ? lines.length : dot);
-    return { name, text: own.map((line) => `${line}\n`).join(""), before: begin + 1, encoding };
+    const textLines = lines.slice(begin + 1, dot < 0 ? lines.length : dot);
+    return { name, text: textLines.map((line) => `${line}\n`).join(""), before: begin + 1, encoding };
   }
 
   /** Returns the text on standard input. */
   lines() {
-    return decoded(this.readStandardInput(MOST_SCRIPT));
+    return decoded(this.readStandardInput(MAX_SCRIPT));
   }
 
   /**
@@ -124,8 +124,8 @@ export class GivenTexts {
    * @param {string} command that reads the answers
    */
   answers(command) {
-    if (this.readStandardInput(MOST_ANSWERS).length === 0) throw new CommandError(noAnswers(command));
-    return decoded(this.readStandardInput(MOST_ANSWERS)).text.split("\n").slice(0, -1).map((line) => line.replace(/\r$/, ""));
+    if (this.readStandardInput(MAX_ANSWERS).length === 0) throw new CommandError(noAnswers(command));
+    return decoded(this.readStandardInput(MAX_ANSWERS)).text.split("\n").slice(0, -1).map((line) => line.replace(/\r$/, ""));
   }
 
   /**
@@ -133,6 +133,6 @@ export class GivenTexts {
    * @param {string} name
    */
   script(name) {
-    return decoded(this.read(name, MOST_SCRIPT)).text;
+    return decoded(this.read(name, MAX_SCRIPT)).text;
   }
 }

@@ -18,9 +18,9 @@ const OWNER_ALONE = 0o700;
 const OWNER_ALONE_FILE = 0o600;
 const OTHERS = 0o077;
 /** Files that changed within this time, in milliseconds, are not stored: a clock that ticks by seconds might not show their next change. */
-const YOUNG = 3000;
+const RECENT_CHANGE = 3000;
 /** The number of bytes before the compiled code. */
-const HEAD = 80;
+const HEADER_LENGTH = 80;
 /**
  * The kind of a run: "done" if the command ran, "asked" if it only printed its help or an error. Such a run compiles fewer functions.
  * @typedef {"done" | "asked"} Kind
@@ -28,13 +28,13 @@ const HEAD = 80;
 /** @type {Kind[]} */
 const KINDS = ["done", "asked"];
 /** The highest exit status of a command that ran. */
-const MOST_DONE = 1;
+const MAX_DONE_STATUS = 1;
 
 /**
  * Returns the checksum of the joined contents of files. (node:crypto is loaded only here, because loading it is slow.)
  * @param {string[]} names
  */
-function sumOfFiles(names) {
+function checksumOfFiles(names) {
   const hash = require("node:crypto").createHash("sha256");
   for (const name of names) hash.update(readFileSync(name));
   return hash.digest("hex");
@@ -44,23 +44,23 @@ function sumOfFiles(names) {
  * Returns whether a folder exists and belongs to the user.
  * @param {string} name
  */
-function isOwn(name) {
+function belongsToUser(name) {
   const stat = lstatSync(name, { throwIfNoEntry: false });
   // Windows has no user ids; the home folder there belongs to the user.
   return stat !== undefined && stat.isDirectory() && (!process.getuid || stat.uid === process.getuid());
 }
 
 /** Returns the private cache folder of mcs4, which is made if necessary; "" if there cannot be one. */
-function rememberedFolder() {
+function cacheFolder() {
   const { XDG_CACHE_HOME = "", HOME = "", LOCALAPPDATA = "" } = process.env;
   const cache = IS_WINDOWS ? LOCALAPPDATA : XDG_CACHE_HOME.startsWith("/") ? XDG_CACHE_HOME : /^\/./.test(HOME) ? join(HOME, ".cache") : "";
   if (cache === "") return "";
   const folder = join(cache, "fethsaim");
   try {
-    if (!existsSync(folder) && (isOwn(cache) || (!existsSync(cache) && isOwn(dirname(cache))))) {
+    if (!existsSync(folder) && (belongsToUser(cache) || (!existsSync(cache) && belongsToUser(dirname(cache))))) {
       mkdirSync(folder, { recursive: true, mode: OWNER_ALONE });
     }
-    return isOwn(folder) && (IS_WINDOWS || (statSync(folder).mode & OTHERS) === 0) ? folder : "";
+    return belongsToUser(folder) && (IS_WINDOWS || (statSync(folder).mode & OTHERS) === 0) ? folder : "";
   } catch {
     return "";
   }
@@ -70,10 +70,10 @@ function rememberedFolder() {
  * Returns the sizes and times of files as one text, and whether one of the files has just changed.
  * @param {string[]} names
  */
-function lookOf(names) {
+function fileStamps(names) {
   const stats = names.map((name) => statSync(name, { bigint: true }));
-  const isYoung = stats.some(({ mtimeMs, ctimeMs }) => [mtimeMs, ctimeMs].some((time) => Number(time) > Date.now() - YOUNG));
-  return { look: stats.map(({ dev, ino, size, mtimeNs, ctimeNs }) => `${dev} ${ino} ${size} ${mtimeNs} ${ctimeNs}\n`).join(""), isYoung };
+  const hasRecentChange = stats.some(({ mtimeMs, ctimeMs }) => [mtimeMs, ctimeMs].some((time) => Number(time) > Date.now() - RECENT_CHANGE));
+  return { stamps: stats.map(({ dev, ino, size, mtimeNs, ctimeNs }) => `${dev} ${ino} ${size} ${mtimeNs} ${ctimeNs}\n`).join(""), hasRecentChange };
 }
 
 /**
@@ -81,19 +81,19 @@ function lookOf(names) {
  * @param {string} place the path of the file
  * @param {...(string | Uint8Array)} parts
  */
-function remember(place, ...parts) {
-  const other = `${place}.${process.pid}`;
+function writeToCache(place, ...parts) {
+  const temporary = `${place}.${process.pid}`;
   try {
-    const file = openSync(other, "wx", OWNER_ALONE_FILE);
+    const file = openSync(temporary, "wx", OWNER_ALONE_FILE);
     try {
       for (const part of parts) writeFileSync(file, part);
       fsyncSync(file);
     } finally {
       closeSync(file);
     }
-    renameSync(other, place);
+    renameSync(temporary, place);
   } catch {
-    rmSync(other, { force: true });
+    rmSync(temporary, { force: true });
   }
 }
 
@@ -104,19 +104,19 @@ function remember(place, ...parts) {
  * @param {string[]} files
  * @param {string} sum
  */
-function areThose(folder, name, files, sum) {
-  if (folder === "") return sumOfFiles(files) === sum;
+function areUnchanged(folder, name, files, sum) {
+  if (folder === "") return checksumOfFiles(files) === sum;
   const place = join(folder, `${TOP.replace(/[/\\:]/g, "%")}.${name}.joined`);
-  const { look, isYoung } = lookOf(files);
-  const seen = `${sum}\n${look}`;
-  if (existsSync(place) && readFileSync(place, "utf8") === seen) return true;
-  if (sumOfFiles(files) !== sum) return false;
-  if (!isYoung && lookOf(files).look === look) remember(place, seen);
+  const { stamps, hasRecentChange } = fileStamps(files);
+  const entry = `${sum}\n${stamps}`;
+  if (existsSync(place) && readFileSync(place, "utf8") === entry) return true;
+  if (checksumOfFiles(files) !== sum) return false;
+  if (!hasRecentChange && fileStamps(files).stamps === stamps) writeToCache(place, entry);
   return true;
 }
 
 /** @type {(sum: string, kind: Kind, length: number) => string} the header of compiled code: the checksum of its source, its kind and its length */
-const headOf = (sum, kind, length) => `${sum} ${kind} ${length}\n`.padEnd(HEAD);
+const codeHeader = (sum, kind, length) => `${sum} ${kind} ${length}\n`.padEnd(HEADER_LENGTH);
 
 /**
  * Returns the cached compiled code of the joined file with a checksum, and its kind; undefined if there is none.
@@ -124,12 +124,12 @@ const headOf = (sum, kind, length) => `${sum} ${kind} ${length}\n`.padEnd(HEAD);
  * @param {string} sum
  * @returns {{ code: Uint8Array, kind: Kind } | undefined}
  */
-function codeAt(place, sum) {
+function cachedCode(place, sum) {
   try {
     const bytes = readFileSync(place);
-    const code = bytes.subarray(HEAD);
-    const head = bytes.latin1Slice(0, HEAD);
-    const kind = KINDS.find((each) => head === headOf(sum, each, code.length));
+    const code = bytes.subarray(HEADER_LENGTH);
+    const head = bytes.latin1Slice(0, HEADER_LENGTH);
+    const kind = KINDS.find((each) => head === codeHeader(sum, each, code.length));
     return kind && { code, kind };
   } catch {
     return undefined;
@@ -143,13 +143,13 @@ function codeAt(place, sum) {
  * @param {string} sum
  * @param {Kind | undefined} known the kind of the cached code
  */
-function rememberCode(script, place, sum, known) {
+function cacheCode(script, place, sum, known) {
   process.on("exit", (status) => {
-    const isShort = status > MOST_DONE || process.argv.some((word) => word === "-h" || word === "--help");
+    const isShort = status > MAX_DONE_STATUS || process.argv.some((word) => word === "-h" || word === "--help");
     const kind = isShort ? "asked" : "done";
     if (known === kind) return;
     const code = script.createCachedData();
-    remember(place, headOf(sum, kind, code.length), code);
+    writeToCache(place, codeHeader(sum, kind, code.length), code);
   });
 }
 
@@ -161,13 +161,13 @@ function rememberCode(script, place, sum, known) {
  */
 function load(file, place, sum) {
   const source = `(function (require, module, __filename, __dirname) {${readFileSync(file, "latin1")}\n})`;
-  const { code: cachedData, kind = undefined } = (place && codeAt(place, sum)) || {};
+  const { code: cachedData, kind = undefined } = (place && cachedCode(place, sum)) || {};
   const script = new Script(source, { filename: file, cachedData });
   const known = script.cachedDataRejected ? undefined : kind;
-  if (place !== "" && known !== "done") rememberCode(script, place, sum, known);
-  const own = { exports: {} };
-  script.runInThisContext()(require, own, file, dirname(file));
-  return own.exports;
+  if (place !== "" && known !== "done") cacheCode(script, place, sum, known);
+  const loaded = { exports: {} };
+  script.runInThisContext()(require, loaded, file, dirname(file));
+  return loaded.exports;
 }
 
 /**
@@ -176,11 +176,11 @@ function load(file, place, sum) {
  * @param {string} name of a command
  * @param {string} file
  */
-function sumOfJoined(folder, name, file) {
+function checksumOfJoined(folder, name, file) {
   try {
     const [sum, ...sources] = readFileSync(join(FOLDER, "sources", name), "utf8").trimEnd().split("\n");
     const isAlone = !existsSync(join(TOP, "js/core"));
-    return isAlone || areThose(folder, name, [...sources.map((source) => join(TOP, source)), file], sum) ? sum : "";
+    return isAlone || areUnchanged(folder, name, [...sources.map((source) => join(TOP, source)), file], sum) ? sum : "";
   } catch {
     return "";
   }
@@ -194,9 +194,9 @@ function sumOfJoined(folder, name, file) {
 function joinedCommand(name) {
   const file = join(FOLDER, `${name}.cjs`);
   if (!/^[a-z]+$/.test(name) || !existsSync(file)) return null;
-  const folder = rememberedFolder();
-  const sum = sumOfJoined(folder, name, file);
+  const folder = cacheFolder();
+  const sum = checksumOfJoined(folder, name, file);
   return sum === "" ? null : load(file, folder === "" ? "" : join(folder, `${name}.code`), sum);
 }
 
-module.exports = { sumOfFiles, joinedCommand, rememberedFolder };
+module.exports = { checksumOfFiles, joinedCommand, cacheFolder };

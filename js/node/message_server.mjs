@@ -6,14 +6,14 @@ import { WAITS_FOR_EDITOR } from "../words/commands.js";
 import { printError } from "./output.mjs";
 
 /** The milliseconds to wait for the rest of an incomplete message after each part. */
-const PATIENCE = 10000;
+const MESSAGE_TIMEOUT = 10000;
 const INPUT = 0;
 
 /**
  * Explains at a terminal that the command waits for an editor. (An editor starts it without a terminal.)
  * @param {string} name of the command
  */
-export function sayAtTerminal(name) {
+export function explainAtTerminal(name) {
   if (isatty(INPUT)) printError(`${name}: ${WAITS_FOR_EDITOR}\n`);
 }
 
@@ -22,7 +22,7 @@ export function sayAtTerminal(name) {
  * @param {string} name of the command
  * @returns {(status: number, words?: string) => void}
  */
-export function endOf(name) {
+export function exitAfterOutput(name) {
   return (status, words = "") => {
     if (words) process.stderr.write(`${name}: ${escaped(words)}\n`);
     process.exitCode = status;
@@ -34,31 +34,31 @@ export function endOf(name) {
 /**
  * Passes the bytes of standard input to a connection.
  * @param {import("../core/server/message_stream.js").MessageStream} connection
- * @param {(words: string) => void} lost is called once, when no message can follow, with the reason; "" if the stream ends between messages
+ * @param {(words: string) => void} ended is called once, when no message can follow, with the reason; "" if the stream ends between messages
  */
-export function listen(connection, lost) {
-  let isLost = false;
+export function listen(connection, ended) {
+  let hasEnded = false;
   let parts = 0;
   /** @type {NodeJS.Timeout | undefined} */
-  let waiting;
-  const lose = (words) => {
-    clearTimeout(waiting);
-    if (!isLost) lost(words);
-    isLost = true;
+  let timer;
+  const end = (words) => {
+    clearTimeout(timer);
+    if (!hasEnded) ended(words);
+    hasEnded = true;
   };
   // If this process itself was stopped or busy, the rest of the message is in the pipe. setImmediate lets it be read first.
-  const refuse = (seen) => setImmediate(() => seen === parts && !isLost && lose(connection.refuseIncomplete()));
+  const rejectIncomplete = (partsThen) => setImmediate(() => partsThen === parts && !hasEnded && end(connection.refuseIncomplete()));
   process.stdin.on("data", (bytes) => {
-    if (isLost) return;
-    clearTimeout(waiting);
+    if (hasEnded) return;
+    clearTimeout(timer);
     parts += 1;
     try {
       connection.take(bytes);
     } catch (fault) {
-      lose(fault instanceof Error ? fault.message : String(fault));
+      end(fault instanceof Error ? fault.message : String(fault));
       return;
     }
-    if (connection.reader.incomplete !== "") waiting = setTimeout(refuse, PATIENCE, parts);
+    if (connection.reader.incomplete !== "") timer = setTimeout(rejectIncomplete, MESSAGE_TIMEOUT, parts);
   });
-  process.stdin.on("end", () => !isLost && lose(connection.refuseIncomplete()));
+  process.stdin.on("end", () => !hasEnded && end(connection.refuseIncomplete()));
 }

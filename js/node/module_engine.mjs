@@ -15,7 +15,7 @@ const OWNER_ALONE = 0o600;
  */
 function isFirstTime() {
   try {
-    const folder = joined.rememberedFolder();
+    const folder = joined.cacheFolder();
     const note = join(folder, "reported_module");
     if (folder === "" || existsSync(note)) return false;
     closeSync(openSync(note, "wx", OWNER_ALONE));

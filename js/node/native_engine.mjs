@@ -28,20 +28,20 @@ import { TOP } from "./top.mjs";
  *
  * An analysis of session lines: the commands among them, with their texts, and the number of `seq` lines. `isWhole` is true if the last
  * line and the last text are complete.
- * @typedef {{ commands: string, seqs: number, isWhole: boolean }} Judged
+ * @typedef {{ commands: string, seqs: number, isWhole: boolean }} LineAnalysis
  */
 
 /** The maximum number of processes, each at one state. */
-const MOST_PROCESSES = 3;
+const MAX_PROCESSES = 3;
 /** The maximum number of copies that were made without a call of `keep`. */
-const MOST_COPIES = 32;
+const MAX_COPIES = 32;
 /** The bytes that a pipe accepts at least while nobody reads from it. */
 const PIPE_ROOM = 4096;
 const BUFFER_SIZE = 1 << 16;
 const TOKEN_SIZE = 4;
 export const SESSION_BYTES = 163856;
 /** The maximum number of cached analyses: the same lines are often served again. */
-const MOST_JUDGED = 500;
+const MAX_ANALYSES = 500;
 
 /** An error of the program itself: it is missing, it does not answer, or it has ended. */
 export class ProgramError extends CommandError {}
@@ -51,9 +51,9 @@ export class ProgramError extends CommandError {}
 /**
  * Analyses session lines.
  * @param {string} lines
- * @returns {Judged}
+ * @returns {LineAnalysis}
  */
-function judge(lines) {
+function analyse(lines) {
   let [commands, seqs] = ["", 0];
   /** @type {{ isQuery: boolean } | null} */
   let text = null;
@@ -73,7 +73,7 @@ function judge(lines) {
  * the program reads whole before it answers.
  * @param {string} lines
  */
-function piecesOf(lines) {
+function splitForPipe(lines) {
   if (lines.length <= PIPE_ROOM) return [lines];
   const pieces = [];
   let piece = "";
@@ -96,7 +96,7 @@ function piecesOf(lines) {
  * The loop of the shell's script. Each line of its control pipe starts a program: `new` or `open`, the name of the session file, and the
  * number of the pipes to use.
  */
-const STARTING = `while read -r word name slot; do
+const SHELL_LOOP = `while read -r word name slot; do
     eval "ended=\\\${pid$slot-}"
     if [ -n "$ended" ]; then wait "$ended"; fi
     "$program" "$word" "$folder/$name" < "$folder/in$slot" > "$folder/out$slot" 2>> "$folder/words" &
@@ -107,17 +107,17 @@ if [ -e "$folder" ]; then rm -rf -- "$folder"; fi`;
 /** The name of the shell; its own messages begin with it. */
 const SHELL = "starter";
 /** The shell's exit status if no program is named and start.sh does not know one. */
-const NOT_KNOWN = 3;
+const UNKNOWN_PROGRAM = 3;
 /** The shell's script: it finds the program if none is named, makes the pipes, starts the loop, and prints the program's path. */
-const BEGINNING = `trap "" HUP INT TERM
+const SHELL_SCRIPT = `trap "" HUP INT TERM
 program=$1 top=$2 folder=$3
 shift 3
 if [ -z "$program" ]; then
     . "$top/tools/lib/start.sh"
-    find_known || exit ${NOT_KNOWN}
+    find_known || exit ${UNKNOWN_PROGRAM}
 fi
 mkfifo -- "$@" || exit 1
-{ ${STARTING}
+{ ${SHELL_LOOP}
 } > /dev/null 2>> "$folder/words" &
 printf %s "$program"`;
 
@@ -127,10 +127,10 @@ class Starter {
   constructor(program) {
     this.place = temporaryPlace();
     this.folder = temporaryFolder("mcs4");
-    this.free = [...Array(MOST_PROCESSES + 1).keys()];
+    this.free = [...Array(MAX_PROCESSES + 1).keys()];
     const pipes = ["control", ...this.free.flatMap((slot) => [`in${slot}`, `out${slot}`])].map((name) => join(this.folder, name));
     const { status, signal, stdout } = processes().spawnSync(
-      "/bin/sh", ["-c", BEGINNING, SHELL, program, TOP, this.folder, ...pipes], { encoding: "utf8", stdio: ["ignore", "pipe", "ignore"] });
+      "/bin/sh", ["-c", SHELL_SCRIPT, SHELL, program, TOP, this.folder, ...pipes], { encoding: "utf8", stdio: ["ignore", "pipe", "ignore"] });
     // A signal to the process group, such as Ctrl-C, can end the shell before it ignores signals. This process got the same signal.
     if (signal) {
       removeFolder(this.folder);
@@ -138,7 +138,7 @@ class Starter {
     }
     this.program = stdout;
     this.control = -1;
-    if (status === NOT_KNOWN) removeFolder(this.folder);
+    if (status === UNKNOWN_PROGRAM) removeFolder(this.folder);
     else if (status !== 0) throw new ProgramError(`cannot make pipes in ${this.folder}; TMPDIR names another place for temporary files`);
     else this.control = openSync(join(this.folder, "control"), "w");
   }
@@ -185,28 +185,28 @@ class Session {
     this.input = input;
     this.output = output;
     this.hasEnded = false;
-    this.count = this.takeOpening();
+    this.count = this.readOpening();
   }
 
   /** Reads the first line of the answers; returns the session's number of commands. Throws an error if the session was not opened. */
-  takeOpening() {
+  readOpening() {
     const line = this.readUntil((text) => text.endsWith("\n")).trimEnd();
     if (this.hasEnded || !/^session \d+$/.test(line)) {
       this.end();
       const [, number] = /^no (\d+)$/.exec(line) || [];
-      throw number ? new BenchRefusal(Number(number)) : this.noAnswer();
+      throw number ? new BenchRefusal(Number(number)) : this.noAnswerError();
     }
     return Number(line.slice("session ".length));
   }
 
   /** Returns the error for a program whose first line is not mcs4's. */
-  noAnswer() {
+  noAnswerError() {
     const { program, words } = this.starter;
     return new ProgramError([...words, `${program} does not answer; MCS4 names the program where it is not the mcs4 at the top`].join("\n"));
   }
 
   /** Returns the error for a program that ends before it has answered. */
-  noMoreAnswers() {
+  endedError() {
     return new ProgramError(`the session has ended; the program said: ${this.starter.words.join("; ") || "nothing"}`);
   }
 
@@ -229,14 +229,14 @@ class Session {
    * `seq` themselves, their answers are counted, too.
    * @param {string} lines
    */
-  talk(lines) {
+  exchange(lines) {
     /** @type {string[]} */
     let answers = [];
-    for (const piece of piecesOf(lines)) {
-      const { seqs } = judge(piece);
+    for (const piece of splitForPipe(lines)) {
+      const { seqs } = analyse(piece);
       const text = this.send(`${piece}seq\n`, (output) => (
         /(?:^|\n)seq \d+\n$/.test(output.slice(-30)) && (seqs === 0 || (output.match(/^seq \d+$/gm) || []).length > seqs)));
-      if (this.hasEnded) throw this.noMoreAnswers();
+      if (this.hasEnded) throw this.endedError();
       const outputLines = text.split("\n");
       this.count = Number(outputLines[outputLines.length - 2].slice("seq ".length));
       outputLines.length -= 2;
@@ -249,10 +249,10 @@ class Session {
    * Serves lines that end without a line feed, or within a text, and ends the session; returns the lines of the answers.
    * @param {string} lines
    */
-  talkLast(lines) {
-    const pieces = piecesOf(lines);
+  exchangeLast(lines) {
+    const pieces = splitForPipe(lines);
     const last = pieces.pop();
-    const answers = this.talk(pieces.join(""));
+    const answers = this.exchange(pieces.join(""));
     writeSync(this.input, last);
     closeSync(this.input);
     const text = this.readUntil(() => false);
@@ -276,13 +276,13 @@ class Session {
 
   /** Empties the input pipe after a program that ended too soon: the next program at this pipe must not read its lines. */
   drain() {
-    const rest = openSync(join(this.starter.folder, `in${this.slot}`), constants.O_RDONLY | constants.O_NONBLOCK);
+    const pipe = openSync(join(this.starter.folder, `in${this.slot}`), constants.O_RDONLY | constants.O_NONBLOCK);
     try {
-      while (readSync(rest, this.buffer) > 0) continue;
+      while (readSync(pipe, this.buffer) > 0) continue;
     } catch (thrown) {
       if (thrown.code !== "EAGAIN") throw thrown;
     } finally {
-      closeSync(rest);
+      closeSync(pipe);
     }
   }
 
@@ -322,12 +322,12 @@ export class NativeEngine {
     /** @type {number[]} the states with copies that were made without a call of `keep`, the oldest first */
     this.copied = [];
     this.files = 0;
-    /** @type {Map<string, Judged>} */
-    this.judged = new Map();
+    /** @type {Map<string, LineAnalysis>} */
+    this.analyses = new Map();
   }
 
   /** Returns an engine on the program that ./mcs4 starts, if start.sh knows it without comparing all sources; otherwise null. */
-  static ofKnown() {
+  static forKnownProgram() {
     const starter = new Starter("");
     return starter.control < 0 ? null : new NativeEngine(starter.program, starter);
   }
@@ -346,11 +346,11 @@ export class NativeEngine {
    */
   serve(state, lines, into) {
     const number = this.numberOf(state);
-    const { commands, isWhole } = this.judge(lines);
+    const { commands, isWhole } = this.analyse(lines);
     if (!isWhole) return this.serveLast(number, lines, into);
     const session = this.sessionAt(number);
     const opened = `session ${session.count}`;
-    const answers = this.talk(session, lines);
+    const answers = this.exchange(session, lines);
     if (commands !== "") session.at = this.addState({ parent: number, commands, copy: "", count: session.count });
     this.setNumber(into, session.at);
     return { status: 0, opened, answers };
@@ -362,14 +362,14 @@ export class NativeEngine {
    */
   ask(state, lines) {
     const number = this.numberOf(state);
-    const { commands, isWhole } = this.judge(lines);
+    const { commands, isWhole } = this.analyse(lines);
     if (commands === "" && isWhole) {
       const session = this.sessionAt(number);
-      return { status: 0, opened: `session ${session.count}`, answers: this.talk(session, lines) };
+      return { status: 0, opened: `session ${session.count}`, answers: this.exchange(session, lines) };
     }
     const session = this.newSession(number);
     const opened = `session ${session.count}`;
-    const answers = isWhole ? this.talk(session, lines) : session.talkLast(lines);
+    const answers = isWhole ? this.exchange(session, lines) : session.exchangeLast(lines);
     this.drop(session, isWhole);
     return { status: 0, opened, answers };
   }
@@ -396,7 +396,7 @@ export class NativeEngine {
   }
 
   /** The message that there is no room for a session among the temporary files; "" if there is room. */
-  get lackOfRoom() {
+  get noRoomMessage() {
     const { folder, place } = this.starter;
     const room = join(folder, "room");
     try {
@@ -449,13 +449,13 @@ export class NativeEngine {
    * Analyses session lines, with a cache.
    * @param {string} lines
    */
-  judge(lines) {
-    const known = this.judged.get(lines);
-    if (known) return known;
-    if (this.judged.size === MOST_JUDGED) this.judged.clear();
-    const judged = judge(lines);
-    this.judged.set(lines, judged);
-    return judged;
+  analyse(lines) {
+    const cached = this.analyses.get(lines);
+    if (cached) return cached;
+    if (this.analyses.size === MAX_ANALYSES) this.analyses.clear();
+    const analysis = analyse(lines);
+    this.analyses.set(lines, analysis);
+    return analysis;
   }
 
   /**
@@ -463,9 +463,9 @@ export class NativeEngine {
    * @param {Session} session
    * @param {string} lines
    */
-  talk(session, lines) {
+  exchange(session, lines) {
     try {
-      return session.talk(lines);
+      return session.exchange(lines);
     } catch (thrown) {
       this.drop(session, true);
       throw thrown;
@@ -481,7 +481,7 @@ export class NativeEngine {
   serveLast(number, lines, into) {
     const session = this.newSession(number);
     const opened = `session ${session.count}`;
-    const answers = session.talkLast(lines);
+    const answers = session.exchangeLast(lines);
     const copy = this.newFile();
     renameSync(session.file, copy);
     this.drop(session, false);
@@ -505,14 +505,14 @@ export class NativeEngine {
    * @param {number} number of the state
    */
   newSession(number) {
-    const { lines, copy } = this.wayTo(number);
+    const { lines, copy } = this.pathTo(number);
     const file = this.newFile();
     if (copy !== "") copyFileSync(copy, file);
     const session = new Session(this.starter, copy === "" ? "new" : "open", file.slice(this.starter.folder.length + 1));
     this.sessions.unshift(session);
-    if (this.sessions.length > MOST_PROCESSES) this.drop(this.sessions[MOST_PROCESSES], true);
+    if (this.sessions.length > MAX_PROCESSES) this.drop(this.sessions[MAX_PROCESSES], true);
     if (lines !== "") {
-      this.talk(session, lines);
+      this.exchange(session, lines);
       this.copyForNext(number, session.file);
     }
     session.at = number;
@@ -523,7 +523,7 @@ export class NativeEngine {
    * Returns the nearest copy at a state or above it ("" for a new session), and the commands from there to the state.
    * @param {number} number of the state
    */
-  wayTo(number) {
+  pathTo(number) {
     const commands = [];
     let from = number;
     for (; from > 0 && this.states[from].copy === ""; from = this.states[from].parent) commands.push(this.states[from].commands);
@@ -531,17 +531,17 @@ export class NativeEngine {
   }
 
   /**
-   * Stores a copy of a state that had to be rebuilt, so that the next time needs no commands. Only the last MOST_COPIES copies are stored.
+   * Stores a copy of a state that had to be rebuilt, so that the next time needs no commands. Only the last MAX_COPIES copies are stored.
    * @param {number} number of the state
    * @param {string} file
    */
   copyForNext(number, file) {
     this.copy(number, file);
     this.copied.push(number);
-    if (this.copied.length <= MOST_COPIES) return;
-    const old = this.states[/** @type {number} */ (this.copied.shift())];
-    rmSync(old.copy, { force: true });
-    old.copy = "";
+    if (this.copied.length <= MAX_COPIES) return;
+    const oldest = this.states[/** @type {number} */ (this.copied.shift())];
+    rmSync(oldest.copy, { force: true });
+    oldest.copy = "";
   }
 
   /**

@@ -4,7 +4,7 @@ import { existsSync } from "node:fs";
 import { type } from "node:os";
 import { join } from "node:path";
 import { BenchRefusal } from "../core/bench/faults.js";
-import { MOST_GIVEN } from "./given_texts.mjs";
+import { MAX_TEXT_BYTES } from "./given_texts.mjs";
 import { statOfInput } from "./user_files.mjs";
 import { CommandError } from "./output.mjs";
 import { processes } from "./processes.mjs";
@@ -16,8 +16,8 @@ import {
 /**
  * @typedef {import("../core/engine/engine_host.js").EngineHost} EngineHost
  *
- * The result of looking for a program: its path ("" if there is none), the reason, and `isForOthers`: no program is made for this system.
- * @typedef {{ program: string, fault: string, isForOthers: boolean }} Found
+ * The result of looking for a program: its path ("" if there is none), the reason, and `isUnsupported`: no program is made for this system.
+ * @typedef {{ program: string, fault: string, isUnsupported: boolean }} Found
  */
 
 const SIGNALS = /** @type {const} */ ({ SIGHUP: 129, SIGINT: 130, SIGTERM: 143 });
@@ -33,26 +33,26 @@ const hasStarter = existsSync(join(TOP, "tools/lib/start.sh"));
  * @param {string} script
  * @returns {Found | null}
  */
-function ask(script) {
+function runStarter(script) {
   if (!hasStarter) return null;
   const { status, stdout, error } = processes().spawnSync("/bin/sh", ["-c", script, TOP], { encoding: "utf8", stdio: ["ignore", "pipe", "inherit"] });
   if (error) return null;
   if (status !== 0) process.exit(status || 1);
-  const [program, fault, isForOthers = "1"] = stdout.split("\n");
-  return { program, fault, isForOthers: program === "" && isForOthers === "1" };
+  const [program, fault, isUnsupported = "1"] = stdout.split("\n");
+  return { program, fault, isUnsupported: program === "" && isUnsupported === "1" };
 }
 
 /** @returns {Found} the result without a starter: an editor's extension has none, and Windows has no shell for it */
-const noneHere = () => ({ program: "", fault: hasStarter ? notForSystem(type(), process.arch) : NO_PROGRAM_IN_COPY, isForOthers: true });
+const noProgram = () => ({ program: "", fault: hasStarter ? notForSystem(type(), process.arch) : NO_PROGRAM_IN_COPY, isUnsupported: true });
 
 /** @type {Found | null} the result of the first search for the program */
-let found = null;
+let foundProgram = null;
 
 /** Finds the program: the variable MCS4 names it, or it is the one that ./mcs4 starts, which is built first if necessary. */
 function findProgram() {
-  if (process.env.MCS4) return { program: process.env.MCS4, fault: "", isForOthers: false };
-  found ||= ask(FIND_PROGRAM) || noneHere();
-  return found;
+  if (process.env.MCS4) return { program: process.env.MCS4, fault: "", isUnsupported: false };
+  foundProgram ||= runStarter(FIND_PROGRAM) || noProgram();
+  return foundProgram;
 }
 
 /** Returns the path of the program; throws an error if there is none for this system. */
@@ -70,13 +70,13 @@ export function proverPath() {
   const { MCS4_PROVE: named } = process.env;
   if (named && !existsSync(named)) throw new CommandError(noNamedProver(named));
   if (named) return named;
-  const { program, fault, isForOthers } = ask(FIND_PROVER) || noneHere();
-  if (program === "" && !isForOthers) throw new CommandError(noProver(fault));
+  const { program, fault, isUnsupported } = runStarter(FIND_PROVER) || noProgram();
+  if (program === "" && !isUnsupported) throw new CommandError(noProver(fault));
   return program;
 }
 
 /** @type {import("./native_engine.mjs").NativeEngine | null} */
-let started = null;
+let nativeEngine = null;
 
 /**
  * Starts the engine: the native program, or the proved module if there is no program for this system. The use of the module is reported
@@ -87,41 +87,41 @@ export async function startEngine() {
   // First of all, so that a signal cannot leave the engine's folder behind.
   endOnSignals();
   const { NativeEngine } = await import("./native_engine.mjs");
-  const known = process.env.MCS4 || found || !hasStarter || IS_WINDOWS ? null : NativeEngine.ofKnown();
+  const known = process.env.MCS4 || foundProgram || !hasStarter || IS_WINDOWS ? null : NativeEngine.forKnownProgram();
   const { program, fault } = known ? { program: known.starter.program, fault: "" } : findProgram();
   if (program === "") {
     const { startModule } = await import("./module_engine.mjs");
     return startModule(hasStarter ? runsOnModule(fault) : "");
   }
   const engine = known || new NativeEngine(program);
-  started = engine;
+  nativeEngine = engine;
   process.on("exit", endEngine);
   return engine;
 }
 
 /** Ends the native engine, if one was started, and removes its files. */
 export function endEngine() {
-  if (started) started.end();
-  started = null;
+  if (nativeEngine) nativeEngine.end();
+  nativeEngine = null;
 }
 
 /** @type {((status: number) => void) | null} the action on a signal */
-let atSignal = null;
+let signalAction = null;
 
 /**
  * Ends the process on a signal by `act`, not by the signal itself, so that unfinished files are removed.
  * @param {(status: number) => void} [act] ends the process with a status
  */
 export function endOnSignals(act = process.exit) {
-  const isFirst = atSignal === null;
-  atSignal = act;
+  const isFirst = signalAction === null;
+  signalAction = act;
   if (!isFirst) return;
-  for (const [signal, status] of Object.entries(SIGNALS)) process.on(signal, () => atSignal(status));
+  for (const [signal, status] of Object.entries(SIGNALS)) process.on(signal, () => signalAction(status));
 }
 
 /** Returns the message that the native engine has no room for temporary files; "" if it has room, or if none was started. */
-export function lackOfRoom() {
-  return started ? started.lackOfRoom : "";
+export function noRoomMessage() {
+  return nativeEngine ? nativeEngine.noRoomMessage : "";
 }
 
 /**
@@ -133,8 +133,8 @@ export function lackOfRoom() {
 export async function openSession(engine, texts, session) {
   // A pipe without a writer would block the process forever, even for signals. Also, the file is read twice.
   if (statOfInput(session)?.isFIFO()) throw new CommandError(`cannot read ${session}: it is not a regular file`);
-  const bytes = texts.read(session, MOST_GIVEN);
-  if (!bytes.equals(texts.read(session, MOST_GIVEN))) throw new CommandError(inUse(session));
+  const bytes = texts.read(session, MAX_TEXT_BYTES);
+  if (!bytes.equals(texts.read(session, MAX_TEXT_BYTES))) throw new CommandError(inUse(session));
   const state = engine.stateOf(bytes);
   try {
     engine.ask(state, "seq\n");
@@ -152,7 +152,7 @@ export async function openSession(engine, texts, session) {
  * @param {ConstructorParameters<typeof import("./refused_texts.mjs").RefusedTexts>[1]} given
  * @param {import("../core/testing/prepared.js").TextFault[]} faults
  */
-export async function errorOfTexts(engine, given, faults) {
+export async function rejectedTextsError(engine, given, faults) {
   const { RefusedTexts } = await import("./refused_texts.mjs");
   return new CommandError(new RefusedTexts(engine, given).message(faults));
 }
@@ -163,10 +163,10 @@ export async function errorOfTexts(engine, given, faults) {
  * @param {Uint8Array} codes the bytes in ROM
  * @param {import("./given_texts.mjs").GivenText} program
  */
-export async function programOf(engine, codes, program) {
+export async function checkedProgramMap(engine, codes, program) {
   const { sessionProgram } = await import("../core/engine/session_program.js");
   const { faults, other, map } = sessionProgram(engine, codes, program.text);
-  if (faults.length > 0) throw await errorOfTexts(engine, { program }, faults);
+  if (faults.length > 0) throw await rejectedTextsError(engine, { program }, faults);
   if (other) throw new CommandError(otherProgram(program.name, other.address, other.is, other.line + program.before, other.makes));
   return map;
 }
@@ -184,10 +184,10 @@ export async function yieldToMessages() {
  * @param {EngineHost} engine
  * @param {import("./given_texts.mjs").GivenText} program
  */
-export async function mappedProgram(engine, program) {
+export async function assembledProgram(engine, program) {
   const { readSource } = await import("../core/engine/session_program.js");
   const { faults, map, bytes } = readSource(engine, program.text);
-  if (faults.length > 0) throw await errorOfTexts(engine, { program }, faults);
+  if (faults.length > 0) throw await rejectedTextsError(engine, { program }, faults);
   return { map, bytes };
 }
 
@@ -199,12 +199,12 @@ export async function mappedProgram(engine, program) {
  * @param {string} session its file
  * @returns {Promise<(address: number) => string>}
  */
-export async function placesOf(texts, engine, programName, session) {
+export async function addressDescriber(texts, engine, programName, session) {
   const [{ romCodes }, { placeInSource }] = await Promise.all([
     import("../core/engine/rom_codes.js"), import("../core/machine/source_places.js"),
   ]);
   const program = texts.text(programName, "asm");
-  const map = await programOf(engine, romCodes(engine, await openSession(engine, texts, session)), program);
+  const map = await checkedProgramMap(engine, romCodes(engine, await openSession(engine, texts, session)), program);
   const source = { lines: program.text.split("\n"), before: program.before };
   return (address) => placeInSource(map, source, address);
 }

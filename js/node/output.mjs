@@ -35,7 +35,7 @@ const NOT_WRITTEN = "not all was written; is there room where it goes to?";
  * Throws an error if standard output is closed. Node opens another file in its place, so the starter reports it by the variable
  * `is_closed`.
  */
-export function needOutput() {
+export function checkOutput() {
   if (process.env.is_closed) throw new CommandError("standard output is closed");
 }
 
@@ -44,7 +44,7 @@ export function needOutput() {
  * @param {Uint8Array} bytes
  */
 export function printBytes(bytes) {
-  needOutput();
+  checkOutput();
   try {
     writeAll(OUTPUT, bytes);
   } catch (thrown) {
@@ -57,8 +57,8 @@ export function printBytes(bytes) {
  * Ends the process when a write to the stream `process.stdout` fails.
  * @param {string} name of the command
  */
-export function endWithoutOutput(name) {
-  needOutput();
+export function exitOnOutputError(name) {
+  checkOutput();
   process.stdout.on("error", ({ code }) => {
     if (code === "EPIPE") process.exit(PIPE_STATUS);
     printError(`${name}: ${NOT_WRITTEN}\n`);

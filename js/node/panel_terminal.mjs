@@ -19,20 +19,20 @@ const END = "\x1b[0m\x1b[?7h\x1b[?25h\x1b[?1049l";
 const CLEAR = "\x1b[2J";
 const PLAIN = "\x1b[0m";
 const INVERSE = "\x1b[7m";
-const LEAST = say.columnsByRows(LEAST_SIZE.columns, LEAST_SIZE.rows);
+const MIN_SIZE_TEXT = say.columnsByRows(LEAST_SIZE.columns, LEAST_SIZE.rows);
 /** The least bits for a colour of a terminal with 256 colours, and of one with 8. */
-const BITS = { many: 8, few: 4 };
+const MIN_BITS = { colours256: 8, colours8: 4 };
 /** Each colour on a terminal with 256 colours, in three levels: dim, half and full. */
-const OF_MANY = {
+const COLOURS_OF_256 = {
   red: [88, 160, 196], amber: [94, 172, 214], yellow: [100, 184, 226], green: [22, 34, 46], blue: [19, 27, 33], white: [240, 248, 231],
 };
 /** Each colour on a terminal with 8 colours. Amber is yellow that is never bright. */
-const OF_FEW = { red: 31, amber: 33, yellow: 33, green: 32, blue: 34, white: 37 };
+const COLOURS_OF_8 = { red: 31, amber: 33, yellow: 33, green: 32, blue: 34, white: 37 };
 
 /** @type {(colour: string, level: number) => string} */
-const paintOfMany = (colour, level) => `\x1b[${level === 3 ? "1;" : ""}38;5;${OF_MANY[colour][level - 1]}m`;
+const paint256 = (colour, level) => `\x1b[${level === 3 ? "1;" : ""}38;5;${COLOURS_OF_256[colour][level - 1]}m`;
 /** @type {(colour: string, level: number) => string} */
-const paintOfFew = (colour, level) => `\x1b[${["2;", "", colour === "amber" ? "" : "1;"][level - 1]}${OF_FEW[colour]}m`;
+const paint8 = (colour, level) => `\x1b[${["2;", "", colour === "amber" ? "" : "1;"][level - 1]}${COLOURS_OF_8[colour]}m`;
 
 /**
  * Returns the function that sets the colour of a lamp on a terminal; null if it has no colours, or if NO_COLOR is set.
@@ -43,8 +43,8 @@ function paintFor(output, env) {
   if (env.NO_COLOR) return null;
   const { NO_COLOR: _, FORCE_COLOR: __, ...others } = env;
   const depth = output.getColorDepth(others);
-  if (depth >= BITS.many) return paintOfMany;
-  return depth >= BITS.few ? paintOfFew : null;
+  if (depth >= MIN_BITS.colours256) return paint256;
+  return depth >= MIN_BITS.colours8 ? paint8 : null;
 }
 
 export class PanelTerminal {
@@ -54,7 +54,7 @@ export class PanelTerminal {
     if (isDumb(env)) throw new CommandError(say.isDumb(env.TERM || ""));
     this.input = stdin;
     this.output = stdout;
-    if (!hasRoom(this.size)) throw new CommandError(say.tooSmall(LEAST, this.size.columns, this.size.rows));
+    if (!hasRoom(this.size)) throw new CommandError(say.tooSmall(MIN_SIZE_TEXT, this.size.columns, this.size.rows));
     this.paint = paintFor(stdout, env);
     this.isOn = false;
     /** True if the terminal is gone or the panel must end. */
@@ -151,14 +151,14 @@ export class PanelTerminal {
   draw(rows) {
     if (!this.isOn) return;
     const begin = this.shown.length === rows.length ? "" : CLEAR;
-    const texts = rows.map((row) => this.textOf(row));
+    const texts = rows.map((row) => this.rowText(row));
     const changed = texts.map((text, at) => (begin === "" && text === this.shown[at] ? "" : `\x1b[${at + 1};1H${text}`)).join("");
     this.shown = texts;
     if (changed !== "") this.output.write(begin + changed);
   }
 
   /** Prints that the terminal is too small, unless the terminal is restored already. */
-  drawLack() {
+  drawTooSmall() {
     if (!this.isOn) return;
     const { columns, rows } = this.size;
     this.shown = [];
@@ -166,13 +166,13 @@ export class PanelTerminal {
   }
 
   /** @param {ScreenRow} row */
-  textOf({ pieces, isInverse }) {
-    const text = pieces.map((piece) => this.textOfPiece(piece)).join("");
+  rowText({ pieces, isInverse }) {
+    const text = pieces.map((piece) => this.pieceText(piece)).join("");
     return isInverse ? `${INVERSE}${text}${PLAIN}` : text;
   }
 
   /** @param {Piece} piece */
-  textOfPiece({ text, colour, level }) {
+  pieceText({ text, colour, level }) {
     return this.paint && colour !== "" ? `${this.paint(colour, level)}${text}${PLAIN}` : text;
   }
 }

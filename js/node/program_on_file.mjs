@@ -26,7 +26,7 @@ export class SessionProgram {
     /** @type {string[]} the lines of answers that are not read yet */
     this.lines = [];
     /** The beginning of an incomplete line. */
-    this.rest = "";
+    this.partialLine = "";
     /** The program's output on standard error. */
     this.words = "";
     /** The first line of its answers. */
@@ -36,8 +36,8 @@ export class SessionProgram {
     /** The program's exit status, once it has ended. */
     this.status = 1;
     this.child.stdout.on("data", (text) => {
-      const lines = (this.rest + text).split("\n");
-      this.rest = lines.pop();
+      const lines = (this.partialLine + text).split("\n");
+      this.partialLine = lines.pop();
       this.lines.push(...lines);
       this.wake();
     });
@@ -48,16 +48,16 @@ export class SessionProgram {
     }
     this.child.stdin.on("error", () => {});
     this.ended = new Promise((settle) => {
-      const over = (words) => {
+      const finish = (words) => {
         this.hasEnded = true;
         this.words += words;
         this.wake();
         settle();
       };
-      this.child.on("error", ({ message }) => over(message));
+      this.child.on("error", ({ message }) => finish(message));
       this.child.on("close", (status, signal) => {
         this.status = signal ? SIGNALLED + constants.signals[signal] : status;
-        over("");
+        finish("");
       });
     });
   }
@@ -66,7 +66,7 @@ export class SessionProgram {
    * Returns the next lines of the answers; throws ProgramEnded if the program ends before it has printed them.
    * @param {number} count
    */
-  async take(count) {
+  async readLines(count) {
     while (this.lines.length < count) {
       if (this.hasEnded) throw new ProgramEnded(programEnded([...this.lines, this.words.trim()].filter(Boolean).join("; ")));
       await new Promise((settle) => {
@@ -83,7 +83,7 @@ export class SessionProgram {
    */
   ask(lines, count) {
     this.child.stdin.write(lines);
-    return this.take(count);
+    return this.readLines(count);
   }
 
   /**
@@ -96,7 +96,7 @@ export class SessionProgram {
     this.child.stdin.write(`${input}seq\n`);
     let counts = isSeq(input.trimEnd()) ? 1 : 0;
     for (;;) {
-      const [line] = await this.take(1);
+      const [line] = await this.readLines(1);
       if (SEQ_ANSWER.test(line)) {
         if (counts === 0) return;
         counts -= 1;
@@ -121,7 +121,7 @@ export class SessionProgram {
  * Returns an answer; if it is a refusal, with its message. (The messages are loaded only then.)
  * @param {string} answer
  */
-async function inWords(answer) {
+async function withMessage(answer) {
   const refusal = refusalOf(answer);
   if (!refusal) return answer;
   const { wordsOfRefusal } = await import("./refused_texts.mjs");
@@ -135,9 +135,9 @@ async function inWords(answer) {
  */
 export async function openProgram(word, name) {
   const program = new SessionProgram(word, name);
-  const [first] = await program.take(1);
+  const [first] = await program.readLines(1);
   program.opened = first;
   if (first.startsWith("session ")) return program;
   await program.end();
-  throw new CommandError(sessionWasRefused(name, [await inWords(first), program.words.trim()].filter(Boolean).join("; ")));
+  throw new CommandError(sessionWasRefused(name, [await withMessage(first), program.words.trim()].filter(Boolean).join("; ")));
 }

@@ -4,7 +4,7 @@ import { join } from "node:path";
 import { ProjectFault, readProject } from "../core/project/project_folder.js";
 import { PROJECT_FILE } from "../core/project/project_toml.js";
 import { leadsOut } from "../words/server.js";
-import { MOST_TEXT, isInside, readUserFile, statOfInput } from "./user_files.mjs";
+import { MAX_USER_TEXT, isInside, readUserFile, statOfInput } from "./user_files.mjs";
 
 /** Returns the error of a path that does not name a file in a folder; "" if it does. */
 export function lookInFolder(folder, path) {
@@ -24,7 +24,7 @@ export function projectIn(folder) {
   const stat = statOfInput(file);
   if (!stat) throw new ProjectFault(file, "there is no such file; it names the files of a project");
   if (!stat.isFile()) throw new ProjectFault(file, "it is no file");
-  const project = readProject(readUserFile(file, MOST_TEXT), (path) => lookInFolder(folder, path), file);
+  const project = readProject(readUserFile(file, MAX_USER_TEXT), (path) => lookInFolder(folder, path), file);
   const place = (path) => join(folder, path);
   return {
     ...project,

@@ -7,34 +7,34 @@ import { escaped } from "../core/text/escaped.js";
 import { replacementOf } from "./user_files.mjs";
 
 /** The maximum number of lines in the history. */
-export const MOST_LINES = 1000;
+export const MAX_LINES = 1000;
 /** The maximum length of a line in the history, in characters. */
-const LONGEST = 1000;
-/** A file of more than MOST_BYTES is shortened to at most KEPT_BYTES. */
-const MOST_BYTES = 262144;
+const MAX_LINE_LENGTH = 1000;
+/** A file of more than MAX_BYTES is shortened to at most KEPT_BYTES. */
+const MAX_BYTES = 262144;
 const KEPT_BYTES = 131072;
 /** A lock file older than this, in milliseconds, belongs to a killed process, and is removed. */
-const STALE = 10000;
+const STALE_LOCK_AGE = 10000;
 /** The milliseconds to wait for the lock; after that, the line is added without it. */
-const PATIENCE = 1000;
+const LOCK_TIMEOUT = 1000;
 /** The milliseconds between two attempts. */
-const TURN = 3;
+const RETRY_INTERVAL = 3;
 const OWNER_ALONE = 0o600;
-const FOR_OTHERS = 0o077;
+const ACCESS_BY_OTHERS = 0o077;
 const APPEND = constants.O_RDWR | constants.O_APPEND | constants.O_CREAT | constants.O_NONBLOCK | constants.O_NOCTTY;
 
 /** Returns the path of the history file; "" if the environment names no home folder. */
-function nameOfFile({ XDG_STATE_HOME = "", HOME = "" }) {
+function historyPath({ XDG_STATE_HOME = "", HOME = "" }) {
   if (isAbsolute(XDG_STATE_HOME)) return join(XDG_STATE_HOME, "mcs4/history");
   return isAbsolute(HOME) ? join(HOME, ".local/state/mcs4/history") : "";
 }
 
 /** Makes a missing folder and its parents. Throws an error if another user owns the place, so that root leaves no files in other homes. */
 function makeFolder(folder) {
-  const lacking = [];
-  for (let at = folder; !existsSync(at); at = dirname(at)) lacking.unshift(at);
-  if (lacking.length > 0 && statSync(dirname(lacking[0])).uid !== process.getuid()) throw new Error("it is a place of another user");
-  for (const each of lacking) mkdirSync(each, 0o700);
+  const missingFolders = [];
+  for (let at = folder; !existsSync(at); at = dirname(at)) missingFolders.unshift(at);
+  if (missingFolders.length > 0 && statSync(dirname(missingFolders[0])).uid !== process.getuid()) throw new Error("it is a place of another user");
+  for (const name of missingFolders) mkdirSync(name, 0o700);
 }
 
 /** Opens the file. It must be a regular file of the user; access by others is removed. */
@@ -45,7 +45,7 @@ function openFile(name) {
     closeSync(file);
     throw new Error("it is not a file of the user's own");
   }
-  if ((stat.mode & FOR_OTHERS) !== 0) fchmodSync(file, OWNER_ALONE);
+  if ((stat.mode & ACCESS_BY_OTHERS) !== 0) fchmodSync(file, OWNER_ALONE);
   return file;
 }
 
@@ -64,7 +64,7 @@ function lastLines(bytes, most) {
 
 /** Takes the lock; returns false if it cannot be taken in time. */
 function takeLock(lock) {
-  for (let waited = 0; waited < PATIENCE; waited += TURN) {
+  for (let waited = 0; waited < LOCK_TIMEOUT; waited += RETRY_INTERVAL) {
     try {
       closeSync(openSync(lock, "wx", OWNER_ALONE));
       return true;
@@ -72,30 +72,30 @@ function takeLock(lock) {
       if (thrown.code !== "EEXIST") return false;
     }
     const held = statSync(lock, { throwIfNoEntry: false });
-    if (held && Date.now() - held.mtimeMs > STALE) rmSync(lock, { force: true });
-    Atomics.wait(new Int32Array(new SharedArrayBuffer(4)), 0, 0, TURN);
+    if (held && Date.now() - held.mtimeMs > STALE_LOCK_AGE) rmSync(lock, { force: true });
+    Atomics.wait(new Int32Array(new SharedArrayBuffer(4)), 0, 0, RETRY_INTERVAL);
   }
   return false;
 }
 
 /** Shortens a file that is too long to its last lines. */
 function shorten(name, file) {
-  if (fstatSync(file).size > MOST_BYTES) replacementOf(name, lastLines(readFrom(file, 0), KEPT_BYTES)).put();
+  if (fstatSync(file).size > MAX_BYTES) replacementOf(name, lastLines(readFrom(file, 0), KEPT_BYTES)).put();
 }
 
 /** Returns whether a terminal can show a line as it is. Others can be in a file that the user has edited. */
-const isShown = (line) => line !== "" && escaped(line) === line;
+const isPrintable = (line) => line !== "" && escaped(line) === line;
 
 export class PromptHistory {
   /** @param {Record<string, string | undefined>} env */
   constructor(env) {
-    this.name = nameOfFile(env);
+    this.name = historyPath(env);
     /** The lines of the file when the prompt started, the newest first. */
     this.lines = [];
     /** The last line that was added. */
     this.last = "";
     this.withFile((file, isLocked) => {
-      this.lines = lastLines(readFrom(file, 0), KEPT_BYTES).toString("utf8").split("\n").filter(isShown).slice(-MOST_LINES).reverse();
+      this.lines = lastLines(readFrom(file, 0), KEPT_BYTES).toString("utf8").split("\n").filter(isPrintable).slice(-MAX_LINES).reverse();
       [this.last = ""] = this.lines;
       if (isLocked) shorten(this.name, file);
     });
@@ -124,7 +124,7 @@ export class PromptHistory {
 
   /** Adds a line, unless it repeats the last one. */
   add(line) {
-    if (line.trim() === "" || line === this.last || line.length > LONGEST) return;
+    if (line.trim() === "" || line === this.last || line.length > MAX_LINE_LENGTH) return;
     this.last = line;
     this.withFile((file) => writeSync(file, `${line}\n`));
   }

@@ -10,7 +10,7 @@ import { subjectOf } from "../core/explore/subject.js";
 import { prepare } from "../core/testing/prepared.js";
 import * as say from "../words/prove.js";
 import { interrupt, runCommand } from "./children.mjs";
-import { yieldToMessages, errorOfTexts, proverPath, startEngine } from "./native_program.mjs";
+import { yieldToMessages, rejectedTextsError, proverPath, startEngine } from "./native_program.mjs";
 import { CommandError } from "./output.mjs";
 import { removeFolder, temporaryFolder } from "./temporary.mjs";
 
@@ -44,7 +44,7 @@ class Proving {
     if (this.program === "") this.module = (await import("./module_prover.mjs")).moduleProver();
     const { board, program, properties } = this.texts;
     const { prepared, faults: wrong } = prepare(engine, { boardText: board.text, programText: program.text });
-    if (!prepared) throw await errorOfTexts(engine, { board, program }, wrong);
+    if (!prepared) throw await rejectedTextsError(engine, { board, program }, wrong);
     const subject = subjectOf(engine, board.text, program.text, program.before);
     const { campaign, faults } = readCampaign(properties.text, subject, false);
     if (faults.length > 0) throw new CommandError(faults.map(({ line, words }) => `${properties.name}:${line}: ${words}`).join("\n"));

@@ -4,13 +4,14 @@ import { INVALID_CHARACTER, LINE_TOO_LONG, MAX_LINE_LENGTH, NOT_ASCII, opensText
 import { numberOf } from "../core/bench/numbers.js";
 import { ADDRESSES } from "../core/bench/rom_bytes.js";
 import * as say from "../words/commands.js";
-import { LONGEST_SHOWN, NO_FORM, RefusedTexts, spellingHint, wordsOfRefusal } from "./refused_texts.mjs";
+import { MAX_SHOWN_LENGTH, NO_FORM, RefusedTexts, spellingHint, wordsOfRefusal } from "./refused_texts.mjs";
 
 /**
  * @typedef {import("../core/bench/answered_script.js").AnsweredInput} AnsweredInput
  */
 
-const TEXTS = { wire: "board", wiring: "board", asm: "program", map: "program", errors: "program" };
+/** The kinds of the texts that lines of a script open, by the first word of the line. */
+const TEXT_KINDS = { wire: "board", wiring: "board", asm: "program", map: "program", errors: "program" };
 
 /** @type {(line: string) => string} a description of the first character that is not allowed in a line; "" if there is none */
 function foreignCharacter(line) {
@@ -40,24 +41,24 @@ export class RefusedLines {
    * @param {{ number: number, line: number }} refusal
    */
   errorOfText({ input }, { number, line }) {
-    const { text: own, kind } = input;
+    const { text: textLines, kind } = input;
     if (number === LINE_TOO_LONG || number === NOT_ASCII) {
-      const found = own.findIndex((each) => (number === NOT_ASCII ? INVALID_CHARACTER.test(each) : each.length > MAX_LINE_LENGTH));
+      const found = textLines.findIndex((each) => (number === NOT_ASCII ? INVALID_CHARACTER.test(each) : each.length > MAX_LINE_LENGTH));
       return found < 0 ? null : { line: found + 1, words: wordsOfRefusal(number) };
     }
-    const given = (/** @type {string} */ text) => ({ name: "", text, before: 0, encoding: /** @type {const} */ ("utf8") });
-    const text = own.map((each) => `${each}\n`).join("");
-    const board = this.boardText === null ? undefined : given(this.boardText);
-    const texts = new RefusedTexts(this.engine, { board, program: given(text) });
-    const of = TEXTS[kind];
-    return texts.errorOf({ text: of, line: of === "board" ? 0 : line, number, words: "" }, text);
+    const unnamed = (/** @type {string} */ text) => ({ name: "", text, before: 0, encoding: /** @type {const} */ ("utf8") });
+    const text = textLines.map((each) => `${each}\n`).join("");
+    const board = this.boardText === null ? undefined : unnamed(this.boardText);
+    const texts = new RefusedTexts(this.engine, { board, program: unnamed(text) });
+    const textKind = TEXT_KINDS[kind];
+    return texts.errorOf({ text: textKind, line: textKind === "board" ? 0 : line, number, words: "" }, text);
   }
 
   /**
    * Returns a report line about the address in an input, in a list; an empty list if there is no address, or no source is known.
    * @param {AnsweredInput} answered
    */
-  placeOfInput({ input: { line, words: [kind, first = "", second = ""] } }) {
+  addressLines({ input: { line, words: [kind, first = "", second = ""] } }) {
     if (!this.placeOf || opensText(line)) return [];
     const word = /^(break|unbreak|list)$/.test(kind) ? first : kind !== "poke" ? "" : first === "pc" ? second
       : first.startsWith("rom.") ? first.slice("rom.".length) : "";
@@ -78,7 +79,7 @@ export class RefusedLines {
     const hint = number === NOT_ASCII ? foreignCharacter(shown) : number === NO_FORM && found ? spellingHint(shown) : "";
     return [
       say.refusedLine(at, number, found ? found.line : 0, `${found ? found.words : wordsOfRefusal(number)}${hint}`),
-      `    ${shown.slice(0, LONGEST_SHOWN)}`, ...this.placeOfInput(answered),
+      `    ${shown.slice(0, MAX_SHOWN_LENGTH)}`, ...this.addressLines(answered),
     ];
   }
 
@@ -87,14 +88,15 @@ export class RefusedLines {
    * @param {AnsweredInput[]} inputs
    * @param {string} opened the first line of the answers
    */
-  all(inputs, opened) {
+  reportLines(inputs, opened) {
     const refused = refusalOf(opened);
     const lines = refused ? [say.sessionWasRefusedBy(refused.number, wordsOfRefusal(refused.number))] : [];
     if (opened === "session 0") this.boardText = "";
     for (const [index, each] of inputs.entries()) {
       const { input, at, answer } = each;
       if (answer === "") {
-        return [...lines, say.notAnswered(at, index === inputs.length - 1), `    ${input.line.slice(0, LONGEST_SHOWN)}`, ...this.placeOfInput(each)];
+        const shown = `    ${input.line.slice(0, MAX_SHOWN_LENGTH)}`;
+        return [...lines, say.notAnswered(at, index === inputs.length - 1), shown, ...this.addressLines(each)];
       }
       const refusal = refusalOf(answer);
       if (refusal) lines.push(...this.linesAbout(each, refusal));

@@ -20,8 +20,8 @@ import { dataOfPage } from "./page_parts.mjs";
  * @typedef {import("./given_texts.mjs").GivenText} GivenText
  */
 
-const MOST_FAULTS = 20;
-export const LONGEST_SHOWN = 120;
+const MAX_ERRORS = 20;
+export const MAX_SHOWN_LENGTH = 120;
 export const NO_FORM = 30;
 /** Matches a line in the spelling of another assembler. */
 const OTHER_SPELLING = new RegExp("[ \\t,][0-7]P([ \\t,]|$)|[0-9]<|[ \\t,][0-9][0-9A-F]*H([ \\t,]|$)|[ \\t,][$][0-9A-F]|^[A-Z_][A-Z0-9_]*,|"
@@ -126,15 +126,15 @@ export class RefusedTexts {
     const hint = number === NO_FORM && shown.length > 0 ? spellingHint(shown[0]) : "";
     const why = `${number > 0 ? `no ${number}: ` : ""}${fault.words || (error ? error.words : wordsOfRefusal(number))}${hint}`;
     const where = at > 0 ? `line ${at + before}: ` : "";
-    return [`${name}: ${where}${why}`, ...shown.map((each) => `    ${each.slice(0, LONGEST_SHOWN)}`)].join("\n");
+    return [`${name}: ${where}${why}`, ...shown.map((each) => `    ${each.slice(0, MAX_SHOWN_LENGTH)}`)].join("\n");
   }
 
   /**
-   * Returns the message about all errors, at most MOST_FAULTS in detail.
+   * Returns the message about all errors, at most MAX_ERRORS in detail.
    * @param {TextFault[]} faults
    */
   message(faults) {
-    const more = faults.length > MOST_FAULTS ? [`and ${faults.length - MOST_FAULTS} more`] : [];
-    return [...faults.slice(0, MOST_FAULTS).map((fault) => this.messageOf(fault)), ...more].join("\n");
+    const more = faults.length > MAX_ERRORS ? [`and ${faults.length - MAX_ERRORS} more`] : [];
+    return [...faults.slice(0, MAX_ERRORS).map((fault) => this.messageOf(fault)), ...more].join("\n");
   }
 }

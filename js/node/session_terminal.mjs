@@ -4,7 +4,7 @@ import { joinLines } from "../core/bench/inputs.js";
 import { SessionPrompt } from "../core/prompt/bench_prompt.js";
 import { BEGINNING } from "../words/session_prompt.js";
 import { fileNames, withoutTilde } from "./file_names.mjs";
-import { MOST_SCRIPT, decodedFile } from "./given_texts.mjs";
+import { MAX_SCRIPT, decodedFile } from "./given_texts.mjs";
 import { print } from "./output.mjs";
 import { dataOfPage } from "./page_parts.mjs";
 import { wordsOfRefusal } from "./refused_texts.mjs";
@@ -38,7 +38,7 @@ function callsOn(program, terminal) {
     },
     print: (words) => terminal.print(words),
     complain: (words) => terminal.complain(words),
-    read: (name) => decodedFile(withoutTilde(name), MOST_SCRIPT).text,
+    read: (name) => decodedFile(withoutTilde(name), MAX_SCRIPT).text,
     files: fileNames,
     errorsOf: async (word, text, board) => {
       const { errorsOfText } = await import("./text_errors.mjs");
@@ -66,7 +66,7 @@ export async function servePrompt(word, name) {
   let signalled = 0;
   let rest = "";
   try {
-    const [first] = await program.take(1);
+    const [first] = await program.readLines(1);
     print(`${first}\n`);
     if (first.startsWith("session ")) {
       const holder = { print: (words) => terminal.print(words), complain: (words) => terminal.complain(words) };

@@ -8,7 +8,7 @@ import { createInterface } from "node:readline";
 import { PassThrough } from "node:stream";
 import { escaped } from "../core/text/escaped.js";
 import { QUOTED, foldedMessage } from "../core/text/folded.js";
-import { MOST_LINES, PromptHistory } from "./prompt_history.mjs";
+import { MAX_LINES, PromptHistory } from "./prompt_history.mjs";
 import { isDumb, painter } from "./terminal.mjs";
 
 /**
@@ -36,9 +36,9 @@ const CTRL_C = "\x03";
 const BOLD = 1;
 const RED = 31;
 /** The columns of a terminal that does not report its width. */
-const USUAL_WIDTH = 80;
+const DEFAULT_WIDTH = 80;
 /** Messages are never folded to fewer columns. */
-const LEAST_WIDTH = 20;
+const MIN_WIDTH = 20;
 
 /** The input stream of readline, which gets the terminal's input piece by piece. */
 class Keys extends PassThrough {
@@ -77,7 +77,7 @@ export class TerminalPrompt {
     this.status = 0;
     this.keys = new Keys();
     this.terminal = createInterface({
-      input: this.keys, output, terminal: !this.isDumb, history: this.history.lines, historySize: MOST_LINES, crlfDelay: Infinity,
+      input: this.keys, output, terminal: !this.isDumb, history: this.history.lines, historySize: MAX_LINES, crlfDelay: Infinity,
       completer: (line, callback) => this.complete(line, callback),
     });
     this.ended = new Promise((settle) => {
@@ -89,7 +89,7 @@ export class TerminalPrompt {
 
   /** The columns that messages are folded to. */
   get width() {
-    return Math.max(LEAST_WIDTH, (this.output.columns || USUAL_WIDTH) - 1);
+    return Math.max(MIN_WIDTH, (this.output.columns || DEFAULT_WIDTH) - 1);
   }
 
   /** @param {string} words */
@@ -109,13 +109,13 @@ export class TerminalPrompt {
   /** Runs the prompt; resolves to the exit status of a signal that ended it, or 0. */
   async run() {
     process.stdin.setEncoding("utf8");
-    process.stdin.on("data", (text) => this.typed(text));
+    process.stdin.on("data", (text) => this.handleInput(text));
     process.stdin.on("end", () => {
       this.hasInputEnded = true;
-      this.pump();
+      this.handleWaiting();
     });
     process.stdin.on("error", () => this.end());
-    this.listen();
+    this.addHandlers();
     if (!this.isDumb) this.output.write(PASTE.on);
     process.on("exit", () => this.leave());
     this.next();
@@ -124,7 +124,7 @@ export class TerminalPrompt {
   }
 
   /** Registers the handlers of lines and signals. */
-  listen() {
+  addHandlers() {
     const { terminal } = this;
     terminal.on("line", (line) => this.serve(line));
     terminal.on("close", () => this.end());
@@ -144,7 +144,7 @@ export class TerminalPrompt {
   next() {
     this.isBusy = false;
     this.show();
-    this.pump();
+    this.handleWaiting();
   }
 
   show() {
@@ -195,21 +195,21 @@ export class TerminalPrompt {
   // --- input ---
 
   /** Handles input from the terminal. Ctrl-C while a line is served stops that line, and discards the input before the key. */
-  typed(text) {
+  handleInput(text) {
     const stop = this.isBusy && !this.isDumb && !this.isPasting ? text.lastIndexOf(CTRL_C) : -1;
     if (stop >= 0) {
       this.waiting = [text.slice(stop + 1)];
       this.prompt.interrupt();
     } else {
       this.waiting.push(text);
-      this.pump();
+      this.handleWaiting();
     }
   }
 
   /** Handles waiting input, up to a line that must be served first. */
-  pump() {
+  handleWaiting() {
     while (!this.isBusy && !this.isOver && this.waiting.length > 0) {
-      const rest = this.takePiece(this.waiting[0]);
+      const rest = this.handlePiece(this.waiting[0]);
       if (rest !== "") this.waiting[0] = rest;
       else this.waiting.shift();
       // The beginning of a paste mark waits for the rest of the mark.
@@ -222,7 +222,7 @@ export class TerminalPrompt {
   }
 
   /** Handles one piece of input: a paste mark, or the characters up to the end of a line. Returns the rest of the input. */
-  takePiece(text) {
+  handlePiece(text) {
     const mark = this.isPasting ? PASTE.ends : PASTE.begins;
     if (text.startsWith(mark)) {
       this.isPasting = !this.isPasting;
@@ -245,13 +245,13 @@ export class TerminalPrompt {
 
   async complete(line, callback) {
     this.isBusy = true;
-    let found = [[], line];
+    let completions = [[], line];
     try {
-      found = await this.prompt.complete(line);
+      completions = await this.prompt.complete(line);
     } finally {
-      callback(null, found);
+      callback(null, completions);
       this.isBusy = false;
-      this.pump();
+      this.handleWaiting();
     }
   }
 

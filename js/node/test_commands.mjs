@@ -2,9 +2,9 @@
 import { runTests } from "../core/testing/test_suite.js";
 import { failureLine } from "../core/testing/tap.js";
 import { excludeEachOther, otherProgram, sessionStopped } from "../words/commands.js";
-import { needCount, needNamed, needWords, projectFor } from "./arguments.mjs";
+import { parseCount, projectFiles, checkArguments, projectFor } from "./arguments.mjs";
 import { GivenTexts } from "./given_texts.mjs";
-import { yieldToMessages, errorOfTexts, openSession, startEngine } from "./native_program.mjs";
+import { yieldToMessages, rejectedTextsError, openSession, startEngine } from "./native_program.mjs";
 import { CommandError, UsageError, print, printError } from "./output.mjs";
 
 /**
@@ -21,7 +21,7 @@ import { CommandError, UsageError, print, printError } from "./output.mjs";
  *   report?: (counts: { coverage: Coverage | null, profile: Profile | null }, program: GivenText) => void }} Tool
  */
 
-const MOST_CYCLES = 100000000;
+const MAX_CYCLES = 100000000;
 
 /**
  * Returns the file names of board, program and tests, from the arguments or from the project.
@@ -30,8 +30,8 @@ const MOST_CYCLES = 100000000;
  */
 async function namesOf(folder, given) {
   const project = await projectFor(folder, given, 3);
-  const names = project ? [project.board, project.program, ...(given.length > 0 ? given : needNamed(project, "tests"))] : given;
-  needWords(names, ["BOARD", "PROGRAM", "TEST"], Infinity, true);
+  const names = project ? [project.board, project.program, ...(given.length > 0 ? given : projectFiles(project, "tests"))] : given;
+  checkArguments(names, ["BOARD", "PROGRAM", "TEST"], Infinity, true);
   return names;
 }
 
@@ -41,7 +41,7 @@ async function namesOf(folder, given) {
  * @param {string | undefined} folder
  * @param {string[]} given
  */
-export async function testBy({ Counting, checkNames = () => {}, outcome: tapOf = () => "", report = () => {} }, folder, given) {
+export async function runTestCommand({ Counting, checkNames = () => {}, outcome: tapOf = () => "", report = () => {} }, folder, given) {
   const allNames = await namesOf(folder, given);
   checkNames(allNames);
   const [boardName, programName, ...names] = allNames;
@@ -50,12 +50,13 @@ export async function testBy({ Counting, checkNames = () => {}, outcome: tapOf =
   const program = texts.text(programName, "asm");
   const sources = names.map((each) => texts.source(each));
   const engine = await startEngine();
-  const ended = (outcome, number, total) => {
+  const printOutcome = (outcome, number, total) => {
     printError(failureLine(outcome));
     print(tapOf(outcome, number, total));
   };
-  const result = await runTests(engine, { boardText: board.text, programText: program.text, sources }, yieldToMessages, { Counting, ended });
-  if (result.faults.length > 0) throw await errorOfTexts(engine, { board, program }, result.faults);
+  const suite = { boardText: board.text, programText: program.text, sources };
+  const result = await runTests(engine, suite, yieldToMessages, { Counting, ended: printOutcome });
+  if (result.faults.length > 0) throw await rejectedTextsError(engine, { board, program }, result.faults);
   report(result, program);
   return result.outcomes.some(({ failure }) => failure) ? 1 : 0;
 }
@@ -66,10 +67,10 @@ export async function testBy({ Counting, checkNames = () => {}, outcome: tapOf =
  * @param {string} session
  * @param {string[]} given
  */
-export async function countBy({ name, Counting, checkNames = () => {}, report = () => {} }, session, given) {
-  needWords([session, ...given], ["SESSION", "CYCLES", "PROGRAM"]);
+export async function countCycles({ name, Counting, checkNames = () => {}, report = () => {} }, session, given) {
+  checkArguments([session, ...given], ["SESSION", "CYCLES", "PROGRAM"]);
   const [word, programName] = given;
-  const cycles = needCount("CYCLES", word, MOST_CYCLES);
+  const cycles = parseCount("CYCLES", word, MAX_CYCLES);
   checkNames([session, programName]);
   const { countSession } = await import("../core/testing/session_count.js");
   const texts = new GivenTexts();
@@ -77,7 +78,7 @@ export async function countBy({ name, Counting, checkNames = () => {}, report = 
   const engine = await startEngine();
   const state = await openSession(engine, texts, session);
   const { faults, other, counted } = await countSession(engine, state, program.text, cycles, Counting);
-  if (faults.length > 0) throw await errorOfTexts(engine, { program }, faults);
+  if (faults.length > 0) throw await rejectedTextsError(engine, { program }, faults);
   if (other) throw new CommandError(otherProgram(programName, other.address, other.is, other.line + program.before, other.makes));
   if (counted.stop !== "end") printError(`${name}: ${sessionStopped(counted.elapsed, counted.stop)}\n`);
   report(counted, program);
@@ -91,7 +92,7 @@ export async function countBy({ name, Counting, checkNames = () => {}, report = 
  * @param {string[]} given
  */
 export function testOrCount(tool, { folder, session }, given) {
-  if (session === undefined) return testBy(tool, folder, given);
+  if (session === undefined) return runTestCommand(tool, folder, given);
   if (folder !== undefined) throw new UsageError(excludeEachOther("-C", "--session"));
-  return countBy(tool, session, given);
+  return countCycles(tool, session, given);
 }

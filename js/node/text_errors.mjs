@@ -7,11 +7,11 @@ import { Engine } from "../core/engine/engine.js";
 import { moduleOfPage } from "./page_parts.mjs";
 
 /** @type {TextBench | null} */
-let made = null;
+let bench = null;
 
-async function textBench() {
-  if (!made) made = new TextBench(await Engine.load(moduleOfPage()));
-  return made;
+async function loadBench() {
+  if (!bench) bench = new TextBench(await Engine.load(moduleOfPage()));
+  return bench;
 }
 
 /**
@@ -22,10 +22,10 @@ async function textBench() {
  * @param {{ manual: import("../core/help/manual.js").ManualSection[], wordsOf: (number: number) => string }} known
  */
 export async function errorsOfText(word, text, board, { manual, wordsOf }) {
-  const bench = await textBench();
+  const textBench = await loadBench();
   const isBoard = word === "wire" || word === "wiring";
-  if (!isBoard) bench.setBoard(word === "asm" ? board : null);
-  const all = new AllFaultsOfTexts(bench.asked(), { instructions: instructionsOf(manual), tables: boardTables(manual) }, wordsOf);
-  const found = await (isBoard ? all.ofBoard(text, () => true) : all.ofProgram(text, () => true));
+  if (!isBoard) textBench.setBoard(word === "asm" ? board : null);
+  const search = new AllFaultsOfTexts(textBench.asked(), { instructions: instructionsOf(manual), tables: boardTables(manual) }, wordsOf);
+  const found = await (isBoard ? search.ofBoard(text, () => true) : search.ofProgram(text, () => true));
   return found ? found.faults : [];
 }

@@ -12,9 +12,9 @@ import * as say from "../words/commands.js";
 import { CommandError } from "./output.mjs";
 
 /** The maximum size of a user's text, in bytes; a character has at most four bytes. */
-export const MOST_TEXT = 4 * LONGEST_KEPT;
+export const MAX_USER_TEXT = 4 * LONGEST_KEPT;
 /** The maximum number of symbolic links that are followed, as in Linux. */
-const MOST_LINKS = 40;
+const MAX_LINKS = 40;
 const PART_BYTES = 65536;
 const ANY_WRITER = 0o222;
 const ALL_MODES = 0o7777;
@@ -135,7 +135,7 @@ export function readStream(stream, name, most) {
  * @param {string | URL} name
  * @param {number} [most] bytes
  */
-export function readUserText(name, most = MOST_TEXT) {
+export function readUserText(name, most = MAX_USER_TEXT) {
   return readUserFile(name, most).toString("utf8");
 }
 
@@ -153,12 +153,12 @@ process.on("exit", () => {
  * files of a process.
  * @param {string} name
  */
-function followed(name) {
+function followLinks(name) {
   let place = resolve(name);
   for (let links = 0; ; links++) {
     const stat = lstatSync(place, { throwIfNoEntry: false });
     if (!stat || !stat.isSymbolicLink() || place.startsWith("/proc/")) return place;
-    if (links === MOST_LINKS) throw new Reason("too many symbolic links");
+    if (links === MAX_LINKS) throw new Reason("too many symbolic links");
     const folder = realpathSync(dirname(place));
     place = resolve(folder, readlinkSync(place));
   }
@@ -179,12 +179,12 @@ export class Replacement {
     this.target = target;
     this.name = join(dirname(target), `.mcs4-${randomName()}`);
     const before = statSync(target, { throwIfNoEntry: false });
-    if (before) needWritable(target, before);
+    if (before) checkWritable(target, before);
     const file = openSync(this.name, "wx", before ? OWNER_ALONE : 0o666);
     pending.add(this.name);
     try {
       writeFileSync(file, bytes);
-      if (before) keepOwner(file, before);
+      if (before) copyOwner(file, before);
       fsyncSync(file);
     } catch (thrown) {
       this.drop();
@@ -217,7 +217,7 @@ export class Replacement {
  * @param {string} target
  * @param {import("node:fs").Stats} before
  */
-function needWritable(target, { mode }) {
+function checkWritable(target, { mode }) {
   if ((mode & ANY_WRITER) === 0) throw new Reason("it is read-only");
   accessSync(target, constants.W_OK);
 }
@@ -227,9 +227,9 @@ function needWritable(target, { mode }) {
  * @param {number} file
  * @param {import("node:fs").Stats} before
  */
-function keepOwner(file, { uid, gid, mode }) {
-  const own = fstatSync(file);
-  if (own.uid !== uid || own.gid !== gid) {
+function copyOwner(file, { uid, gid, mode }) {
+  const newStat = fstatSync(file);
+  if (newStat.uid !== uid || newStat.gid !== gid) {
     try {
       fchownSync(file, uid, gid);
     } catch {
@@ -245,7 +245,7 @@ function keepOwner(file, { uid, gid, mode }) {
  * @param {string | Uint8Array} bytes
  */
 export function replacementOf(name, bytes) {
-  return tried(`cannot write ${name}`, () => new Replacement(followed(name), bytes));
+  return tried(`cannot write ${name}`, () => new Replacement(followLinks(name), bytes));
 }
 
 /**
@@ -253,7 +253,7 @@ export function replacementOf(name, bytes) {
  * @param {string} name
  */
 function isStream(name) {
-  return existsSync(name) && (!statSync(name).isFile() || followed(name).startsWith("/proc/"));
+  return existsSync(name) && (!statSync(name).isFile() || followLinks(name).startsWith("/proc/"));
 }
 
 /**
@@ -296,7 +296,7 @@ function isWritable(folder) {
  * @param {string} name
  * @param {number} count
  */
-function beginOf(name, count) {
+function readBeginning(name, count) {
   return tried(`cannot read ${name}`, () => {
     const file = openSync(name, "r");
     try {
@@ -316,17 +316,17 @@ function beginOf(name, count) {
  * @param {string} why the reason to reject another file
  * @param {string[]} inputs the names of the files that the command reads
  */
-export function needOwnFile(name, begin, why, inputs) {
+export function checkOutputFile(name, begin, why, inputs) {
   const stat = tried(`cannot write ${name}`, () => statSync(name, { throwIfNoEntry: false }));
   if (inputs.some((input) => isSameFile(name, input))) throw new UserFileError(say.isRead(name));
   if (stat && stat.isDirectory()) throw new UserFileError(say.isFolder(name));
   tried(`cannot write ${name}`, () => {
     if (stat && !stat.isFile()) return accessSync(name, constants.W_OK);
-    const target = followed(name);
+    const target = followLinks(name);
     if (!isWritable(dirname(target))) throw new UserFileError(say.noFolderToWrite(name));
-    return stat && needWritable(target, stat);
+    return stat && checkWritable(target, stat);
   });
-  if (stat && stat.isFile() && stat.size > 0 && beginOf(name, begin.length) !== begin) throw new UserFileError(say.isForeign(name, why));
+  if (stat && stat.isFile() && stat.size > 0 && readBeginning(name, begin.length) !== begin) throw new UserFileError(say.isForeign(name, why));
 }
 
 // --- new files in a folder ---
@@ -336,19 +336,19 @@ export function needOwnFile(name, begin, why, inputs) {
  * @param {string} folder
  */
 function makeFolder(folder) {
-  const lacking = [];
-  for (let at = resolve(folder); !existsSync(at); at = dirname(at)) lacking.unshift(at);
-  const made = [];
+  const missingFolders = [];
+  for (let at = resolve(folder); !existsSync(at); at = dirname(at)) missingFolders.unshift(at);
+  const madeFolders = [];
   try {
-    for (const each of lacking) {
-      mkdirSync(each);
-      made.unshift(each);
+    for (const name of missingFolders) {
+      mkdirSync(name);
+      madeFolders.unshift(name);
     }
   } catch (thrown) {
-    for (const each of made) rmdirSync(each);
+    for (const name of madeFolders) rmdirSync(name);
     throw thrown;
   }
-  return made;
+  return madeFolders;
 }
 
 /**
@@ -356,14 +356,14 @@ function makeFolder(folder) {
  * @param {Replacement[]} replacements
  */
 function putAll(replacements) {
-  const done = [];
+  const written = [];
   try {
-    for (const each of replacements) {
-      each.put();
-      done.push(each.target);
+    for (const replacement of replacements) {
+      replacement.put();
+      written.push(replacement.target);
     }
   } catch (thrown) {
-    for (const name of done) rmSync(name, { force: true });
+    for (const name of written) rmSync(name, { force: true });
     throw thrown;
   }
 }
@@ -378,16 +378,16 @@ export function writeNewFiles(folder, files, names) {
   const inFolder = (/** @type {() => any} */ act) => tried(`cannot write in ${folder}`, act);
   const stat = inFolder(() => statSync(folder, { throwIfNoEntry: false }));
   if (stat && !stat.isDirectory()) throw new UserFileError(say.isNoFolder(folder));
-  const taken = inFolder(() => names.map((name) => join(folder, name)).find((name) => lstatSync(name, { throwIfNoEntry: false })));
-  if (taken) throw new UserFileError(say.isThere(taken));
-  const made = tried(`cannot make ${folder}`, () => makeFolder(folder));
+  const existing = inFolder(() => names.map((name) => join(folder, name)).find((name) => lstatSync(name, { throwIfNoEntry: false })));
+  if (existing) throw new UserFileError(say.isThere(existing));
+  const madeFolders = tried(`cannot make ${folder}`, () => makeFolder(folder));
   const replacements = [];
   try {
     for (const { name, content } of files) replacements.push(replacementOf(join(folder, name), content));
     tried(`cannot write in ${folder}`, () => putAll(replacements));
   } catch (thrown) {
-    for (const each of replacements) each.drop();
-    for (const each of made) rmdirSync(each);
+    for (const replacement of replacements) replacement.drop();
+    for (const name of madeFolders) rmdirSync(name);
     throw thrown;
   }
 }
@@ -396,8 +396,8 @@ export function writeNewFiles(folder, files, names) {
  * Throws a UserFileError if a file does not exist, or is not writable.
  * @param {string} name
  */
-export function needWritableFile(name) {
+export function checkWritableFile(name) {
   const stat = tried(`cannot read ${name}`, () => statSync(name));
   if (!stat.isFile() && !stat.isDirectory()) throw new UserFileError(`cannot read ${name}: ${REASONS.ENXIO}`);
-  tried(`cannot write ${name}`, () => needWritable(name, stat));
+  tried(`cannot write ${name}`, () => checkWritable(name, stat));
 }

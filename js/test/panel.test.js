@@ -235,6 +235,6 @@ test("a terminal that is restored gets no more pictures: a signal can come while
   terminal.isOn = false;
   terminal.shown = [];
   terminal.draw(rows);
-  terminal.drawLack();
+  terminal.drawTooSmall();
   assert.equal(written.length, 1);
 });

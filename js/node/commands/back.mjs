@@ -3,15 +3,15 @@ import { spawn } from "node:child_process";
 import { once } from "node:events";
 import { closeSync, constants, fsyncSync, openSync, writeSync } from "node:fs";
 import * as say from "../../words/commands.js";
-import { needCount, needWords } from "../arguments.mjs";
+import { parseCount, checkArguments } from "../arguments.mjs";
 import { GivenTexts } from "../given_texts.mjs";
 import { openSession, programPath, startEngine } from "../native_program.mjs";
 import { CommandError, print } from "../output.mjs";
-import { needWritableFile } from "../user_files.mjs";
+import { checkWritableFile } from "../user_files.mjs";
 
-const MOST_COMMANDS = 99999;
+const MAX_COMMANDS = 99999;
 /** The offsets in a session file, from docs/FORMAT.md. */
-const PLACES = { active: 8, slots: [16, 81936], log: 16384, logSize: 65536 };
+const OFFSETS = { active: 8, slots: [16, 81936], log: 16384, logSize: 65536 };
 const COMMITTED = 1;
 /** The exit status of flock if another process has the lock. */
 const IS_LOCKED = 75;
@@ -39,10 +39,10 @@ async function lock(session) {
  * Returns the offsets of the commit bytes of all records in the log of the active slot.
  * @param {Uint8Array} bytes of a session file
  */
-function commitPlaces(bytes) {
-  const begin = PLACES.slots[bytes[PLACES.active] % 2] + PLACES.log;
+function commitOffsets(bytes) {
+  const begin = OFFSETS.slots[bytes[OFFSETS.active] % 2] + OFFSETS.log;
   const places = [];
-  for (let at = begin; at < begin + PLACES.logSize && bytes[at] === COMMITTED; at += 3 + bytes[at + 1] * 256 + bytes[at + 2]) places.push(at);
+  for (let at = begin; at < begin + OFFSETS.logSize && bytes[at] === COMMITTED; at += 3 + bytes[at + 1] * 256 + bytes[at + 2]) places.push(at);
   return places;
 }
 
@@ -76,7 +76,7 @@ async function goBack(session, count) {
   const state = await openSession(engine, texts, session);
   const bytes = engine.bytesOf(state);
   const commands = Number(engine.ask(state, "seq\n").opened.slice("session ".length));
-  const places = commitPlaces(bytes);
+  const places = commitOffsets(bytes);
   if (count === 0) return say.howFarBack(commands, places.length);
   if (count > places.length) throw new CommandError(say.logIsShorter(session, places.length, commands, count));
   const place = places[places.length - count];
@@ -90,10 +90,10 @@ async function goBack(session, count) {
 
 /** @type {import("./table.mjs").CommandModule["run"]} */
 export async function run(_, positionals) {
-  needWords(positionals, ["SESSION", "N?"]);
+  checkArguments(positionals, ["SESSION", "N?"]);
   const [session, word] = positionals;
-  const count = word === undefined ? 0 : needCount("N", word, MOST_COMMANDS);
-  needWritableFile(session);
+  const count = word === undefined ? 0 : parseCount("N", word, MAX_COMMANDS);
+  checkWritableFile(session);
   programPath();
   const unlock = await lock(session);
   try {

@@ -4,7 +4,7 @@ import { coverageText, lcovOf } from "../../core/testing/coverage_text.js";
 import { NO_LCOV } from "../../words/commands.js";
 import { print } from "../output.mjs";
 import { testOrCount } from "../test_commands.mjs";
-import { needOwnFile, writeUserFile } from "../user_files.mjs";
+import { checkOutputFile, writeUserFile } from "../user_files.mjs";
 
 /** The beginning of a file in LCOV's format. */
 const LCOV_BEGIN = "TN:";
@@ -15,7 +15,7 @@ export function run({ folder, lcov, session }, positionals) {
     name: "cover",
     Counting: LineAccount,
     checkNames: (names) => {
-      if (lcov !== undefined) needOwnFile(lcov, LCOV_BEGIN, NO_LCOV, names);
+      if (lcov !== undefined) checkOutputFile(lcov, LCOV_BEGIN, NO_LCOV, names);
     },
     report: ({ coverage }, program) => {
       print(coverageText(coverage, program));

@@ -2,9 +2,9 @@
 import { joinLines } from "../../core/bench/inputs.js";
 import { runTimes } from "../../core/time/run_times.js";
 import { FIRST_AND_LAST, notALine } from "../../words/commands.js";
-import { needWords } from "../arguments.mjs";
+import { checkArguments } from "../arguments.mjs";
 import { GivenTexts } from "../given_texts.mjs";
-import { placesOf, startEngine } from "../native_program.mjs";
+import { addressDescriber, startEngine } from "../native_program.mjs";
 import { CommandError, UsageError, print } from "../output.mjs";
 
 const LINE = /^\d{1,9}$/;
@@ -13,11 +13,11 @@ const LINE = /^\d{1,9}$/;
  * Parses the range of answer lines to add up; `last` is 0 for all lines from `first` on.
  * @param {string[]} words
  */
-function linesThatCount(words) {
+function parseRange(words) {
   if (words.length === 0) return { first: 1, last: 0 };
-  needWords(words, ["FIRST", "LAST"]);
-  const strange = words.find((word) => !LINE.test(word));
-  if (strange !== undefined) throw new UsageError(notALine(strange));
+  checkArguments(words, ["FIRST", "LAST"]);
+  const invalid = words.find((word) => !LINE.test(word));
+  if (invalid !== undefined) throw new UsageError(notALine(invalid));
   const [first, last] = words.map(Number);
   if (first < 1 || last < first) throw new UsageError(FIRST_AND_LAST);
   return { first, last };
@@ -25,12 +25,12 @@ function linesThatCount(words) {
 
 /** @type {import("./table.mjs").CommandModule["run"]} */
 export async function run({ source }, positionals) {
-  if (source !== undefined) needWords([source, ...positionals], ["PROGRAM", "SESSION"], Infinity);
+  if (source !== undefined) checkArguments([source, ...positionals], ["PROGRAM", "SESSION"], Infinity);
   const [session, words] = source === undefined ? ["", positionals] : [positionals[0], positionals.slice(1)];
-  const { first, last } = linesThatCount(words);
+  const { first, last } = parseRange(words);
   const texts = new GivenTexts();
   const answers = texts.answers("cycles");
-  const placeOf = source === undefined ? null : await placesOf(texts, await startEngine(), source, session);
+  const placeOf = source === undefined ? null : await addressDescriber(texts, await startEngine(), source, session);
   const byCounter = placeOf && ((counter) => placeOf(parseInt(counter, 16)));
   const { runs, sum, words: wrong } = runTimes(answers, first, last, byCounter);
   if (wrong !== "") throw new CommandError(wrong);

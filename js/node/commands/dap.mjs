@@ -2,12 +2,12 @@
 import { AdapterConnection } from "../../core/adapter/adapter_connection.js";
 import { DebugAdapter } from "../../core/adapter/debug_adapter.js";
 import { Engine } from "../../core/engine/engine.js";
-import { needWords, untilItEnds } from "../arguments.mjs";
+import { checkArguments, waitForExit } from "../arguments.mjs";
 import { host } from "../debug_host.mjs";
-import { endOf, listen, sayAtTerminal } from "../message_server.mjs";
+import { exitAfterOutput, listen, explainAtTerminal } from "../message_server.mjs";
 import { dataOfPage, moduleOfPage } from "../page_parts.mjs";
 
-const end = endOf("dap");
+const end = exitAfterOutput("dap");
 
 async function serve() {
   const connection = new AdapterConnection((bytes) => process.stdout.write(bytes));
@@ -22,9 +22,9 @@ async function serve() {
 
 /** @type {import("./table.mjs").CommandModule["run"]} */
 export function run(_, positionals) {
-  needWords(positionals, []);
-  sayAtTerminal("dap");
+  checkArguments(positionals, []);
+  explainAtTerminal("dap");
   process.stdin.on("error", () => process.exit(1));
   serve().catch((fault) => end(1, fault instanceof Error ? fault.message : String(fault)));
-  return untilItEnds();
+  return waitForExit();
 }

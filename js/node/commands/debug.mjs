@@ -6,14 +6,14 @@ import { launch } from "../../core/adapter/launching.js";
 import { Words } from "../../core/bench/words.js";
 import { escaped } from "../../core/text/escaped.js";
 import { Engine } from "../../core/engine/engine.js";
-import { needWords, projectFor } from "../arguments.mjs";
+import { checkArguments, projectFor } from "../arguments.mjs";
 import { host } from "../debug_host.mjs";
 import { fileNames, withoutTilde } from "../file_names.mjs";
-import { MOST_GIVEN, decodedFile } from "../given_texts.mjs";
-import { CommandError, endWithoutOutput } from "../output.mjs";
+import { MAX_TEXT_BYTES, decodedFile } from "../given_texts.mjs";
+import { CommandError, exitOnOutputError } from "../output.mjs";
 import { dataOfPage, moduleOfPage } from "../page_parts.mjs";
 import { TerminalPrompt } from "../terminal_prompt.mjs";
-import { needOwnFile, statOfInput, writeUserFile } from "../user_files.mjs";
+import { checkOutputFile, statOfInput, writeUserFile } from "../user_files.mjs";
 import { ViewOnTerminal } from "../view_on_terminal.mjs";
 import { SAVED_HEAD } from "../../words/prompt.js";
 import { NO_BREAKPOINTS_FILE, noSessionToDebug } from "../../words/commands.js";
@@ -32,7 +32,7 @@ async function runScript(prompt, at) {
 }
 
 /** Passes the calls of the prompt to the view, which is made later. */
-const views = { toggle: () => views.own.toggle(), turn: (isOn) => views.own.turn(isOn), own: null };
+const viewCalls = { toggle: () => viewCalls.view.toggle(), turn: (isOn) => viewCalls.view.turn(isOn), view: null };
 
 /** Serves the lines typed at a terminal; returns the exit status. Ctrl-L and a resize draw the view again. */
 async function runByHand(prompt, holder) {
@@ -43,7 +43,7 @@ async function runByHand(prompt, holder) {
     if (!prompt.machine.isMoving) terminal.show();
   });
   holder.terminal = terminal;
-  views.own = view;
+  viewCalls.view = view;
   process.stdout.on("resize", () => view.again());
   terminal.keys.on("keypress", (_, key) => {
     if (key && key.ctrl && key.name === "l") setImmediate(() => view.again());
@@ -66,16 +66,16 @@ async function serve(given) {
     print: (words) => process.stdout.write(`${escaped(words)}\n`),
     complain: (words) => (isByHand ? holder.terminal.complain(words) : process.stderr.write(`debug: line ${at.line}: ${escaped(words)}\n`)),
     pause: host.pause,
-    read: (name) => decodedFile(withoutTilde(name), MOST_GIVEN).text,
+    read: (name) => decodedFile(withoutTilde(name), MAX_TEXT_BYTES).text,
     write: (name, text) => {
       const file = withoutTilde(name);
-      needOwnFile(file, SAVED_HEAD, NO_BREAKPOINTS_FILE, [given.board, given.program, given.session].filter(Boolean));
+      checkOutputFile(file, SAVED_HEAD, NO_BREAKPOINTS_FILE, [given.board, given.program, given.session].filter(Boolean));
       writeUserFile(file, text);
     },
     files: fileNames,
     source: () => (launched.program === "" ? null : host.read(launched.program)),
     isByHand,
-    view: isByHand ? views : null,
+    view: isByHand ? viewCalls : null,
   });
   try {
     if (isByHand) return await runByHand(prompt, holder);
@@ -88,11 +88,11 @@ async function serve(given) {
 
 /** Returns the file names of board, program and session, from the arguments or from the project. */
 async function namesOf(folder, words) {
-  if (words.length > 1 && folder !== undefined) needWords(words, [], 1);
+  if (words.length > 1 && folder !== undefined) checkArguments(words, [], 1);
   const project = await projectFor(folder, words, 2);
   if (project) return { board: project.board, program: project.program, session: words[0] };
-  if (words.length === 0) needWords(words, ["BOARD", "PROGRAM"], 3, true);
-  needWords(words, [], 3);
+  if (words.length === 0) checkArguments(words, ["BOARD", "PROGRAM"], 3, true);
+  checkArguments(words, [], 3);
   const [session, board, program] = words.length === 1 ? words : [words[2], words[0], words[1]];
   if (words.length === 1 && !statOfInput(session)) throw new CommandError(noSessionToDebug(session));
   return { board, program, session };
@@ -100,9 +100,9 @@ async function namesOf(folder, words) {
 
 /** @type {import("./table.mjs").CommandModule["run"]} */
 export async function run({ folder }, positionals) {
-  needWords(positionals, [], 3);
+  checkArguments(positionals, [], 3);
   const given = await namesOf(folder, positionals);
-  endWithoutOutput("debug");
+  exitOnOutputError("debug");
   try {
     return await serve(given);
   } catch (fault) {

@@ -1,7 +1,7 @@
 // `mcs4 display`: prints the text that a board's display shows, from answers about the lamps.
 import { joinLines } from "../../core/bench/inputs.js";
 import { shownAnswers } from "../../core/board/shown_answers.js";
-import { needWords, projectFor } from "../arguments.mjs";
+import { checkArguments, projectFor } from "../arguments.mjs";
 import { boardAndFace } from "../board_texts.mjs";
 import { GivenTexts } from "../given_texts.mjs";
 import { startEngine } from "../native_program.mjs";
@@ -11,7 +11,7 @@ import { CommandError, print } from "../output.mjs";
 export async function run({ folder }, positionals) {
   const project = await projectFor(folder, positionals, 1);
   const words = project ? [project.board, ...positionals] : positionals;
-  needWords(words, ["BOARD"], 1, true);
+  checkArguments(words, ["BOARD"], 1, true);
   const [name] = words;
   const texts = new GivenTexts();
   const given = texts.text(name, "wire");

@@ -2,25 +2,25 @@
 import { answeredScript } from "../../core/bench/answered_script.js";
 import { joinLines } from "../../core/bench/inputs.js";
 import { otherAnswers } from "../../words/commands.js";
-import { needWords } from "../arguments.mjs";
+import { checkArguments } from "../arguments.mjs";
 import { GivenTexts } from "../given_texts.mjs";
-import { placesOf, startEngine } from "../native_program.mjs";
+import { addressDescriber, startEngine } from "../native_program.mjs";
 import { CommandError, print } from "../output.mjs";
 import { RefusedLines } from "../refused_lines.mjs";
 
 /** @type {import("./table.mjs").CommandModule["run"]} */
 export async function run({ source }, positionals) {
-  if (source === undefined) needWords(positionals, ["SCRIPT"]);
-  else needWords([source, ...positionals], ["PROGRAM", "SESSION", "SCRIPT"]);
+  if (source === undefined) checkArguments(positionals, ["SCRIPT"]);
+  else checkArguments([source, ...positionals], ["PROGRAM", "SESSION", "SCRIPT"]);
   const texts = new GivenTexts();
   const script = texts.script(positionals[positionals.length - 1]);
   const answers = texts.answers("explain");
   const engine = await startEngine();
-  const placeOf = source === undefined ? null : await placesOf(texts, engine, source, positionals[0]);
+  const placeOf = source === undefined ? null : await addressDescriber(texts, engine, source, positionals[0]);
   const { inputs, words } = answeredScript(script, answers);
   if (words !== "") throw new CommandError(otherAnswers(words));
   const lines = script.split("\n").map((line) => line.replace(/\r$/, ""));
-  const found = new RefusedLines(engine, lines, placeOf).all(inputs, answers[0]);
+  const found = new RefusedLines(engine, lines, placeOf).reportLines(inputs, answers[0]);
   print(joinLines(found));
   return found.length > 0 ? 1 : 0;
 }

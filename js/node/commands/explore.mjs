@@ -2,12 +2,12 @@
 // page.
 import { join } from "node:path";
 import { isRight, tapOf, testsOfReport } from "../../core/explore/report.js";
-import { namesWithProperties, needCount, needWords } from "../arguments.mjs";
-import { exploreAsJob, exploreTexts, jobOf, mergeReports } from "../explore_processes.mjs";
+import { namesWithProperties, parseCount, checkArguments } from "../arguments.mjs";
+import { exploreAsJob, exploreTexts, jobSettings, mergeReports } from "../explore_processes.mjs";
 import { GivenTexts } from "../given_texts.mjs";
 import { UsageError, print } from "../output.mjs";
 import { temporaryFolder } from "../temporary.mjs";
-import { needOwnFile, writeUserFile } from "../user_files.mjs";
+import { checkOutputFile, writeUserFile } from "../user_files.mjs";
 import { NO_FINDS, NO_REPORT, excludeEachOther } from "../../words/commands.js";
 
 /** The beginnings of the files that the command writes. */
@@ -18,26 +18,26 @@ const SECONDS = { most: 86400, usual: 10 };
 const JOBS = { most: 64, usual: 1 };
 const SEED = { most: 99999999, usual: 1 };
 /** The options that only a search has; they exclude --merge. */
-const OF_SEARCH = ["folder", "seconds", "jobs", "seed", "allow-model"];
+const SEARCH_OPTIONS = ["folder", "seconds", "jobs", "seed", "allow-model"];
 
 /** @type {(name: string, word: string | undefined, range: { most: number, usual: number }) => number} */
-const count = (name, word, { most, usual }) => (word === undefined ? usual : needCount(name, word, most));
+const count = (name, word, { most, usual }) => (word === undefined ? usual : parseCount(name, word, most));
 
 /** @type {import("./table.mjs").CommandModule["run"]} */
 export async function run(values, positionals) {
-  const job = jobOf();
+  const job = jobSettings();
   if (job) return exploreAsJob(job);
   const { folder, out, report: reportName, merge } = values;
   const limits = {
     seconds: count("SECONDS", values.seconds, SECONDS), jobs: count("JOBS", values.jobs, JOBS), seed: count("SEED", values.seed, SEED),
   };
-  const idle = merge && OF_SEARCH.find((name) => values[name] !== undefined);
-  if (idle) throw new UsageError(excludeEachOther("--merge", idle === "folder" ? "-C" : `--${idle}`));
+  const unusedOption = merge && SEARCH_OPTIONS.find((name) => values[name] !== undefined);
+  if (unusedOption) throw new UsageError(excludeEachOther("--merge", unusedOption === "folder" ? "-C" : `--${unusedOption}`));
   const names = merge ? positionals : await namesWithProperties(folder, positionals);
-  if (merge) needWords(names, ["REPORT"], Infinity);
-  else needWords(names, ["BOARD", "PROGRAM", "PROPERTIES"], 3, true);
-  if (out !== undefined) needOwnFile(out, FINDS_BEGIN, NO_FINDS, names);
-  if (reportName !== undefined) needOwnFile(reportName, REPORT_BEGIN, NO_REPORT, names);
+  if (merge) checkArguments(names, ["REPORT"], Infinity);
+  else checkArguments(names, ["BOARD", "PROGRAM", "PROPERTIES"], 3, true);
+  if (out !== undefined) checkOutputFile(out, FINDS_BEGIN, NO_FINDS, names);
+  if (reportName !== undefined) checkOutputFile(reportName, REPORT_BEGIN, NO_REPORT, names);
   const report = merge ? mergeReports(names) : await explore(names, { ...limits, allowsModel: Boolean(values["allow-model"]) });
   if (reportName !== undefined) writeUserFile(reportName, `${JSON.stringify(report)}\n`);
   if (out !== undefined) writeUserFile(out, testsOfReport(report));

@@ -3,9 +3,9 @@ import { importProgram } from "../../core/import/program_import.js";
 import { readProgram } from "../../core/engine/program_check.js";
 import { faultsOfText } from "../../core/testing/prepared.js";
 import { sentText } from "../../core/text/text_fault.js";
-import { needWords } from "../arguments.mjs";
-import { GivenTexts, MOST_GIVEN } from "../given_texts.mjs";
-import { errorOfTexts, startEngine } from "../native_program.mjs";
+import { checkArguments } from "../arguments.mjs";
+import { GivenTexts, MAX_TEXT_BYTES } from "../given_texts.mjs";
+import { rejectedTextsError, startEngine } from "../native_program.mjs";
 import { CommandError, printFile } from "../output.mjs";
 
 const MARK = /^\u00ef\u00bb\u00bf/;
@@ -24,15 +24,15 @@ async function tryOnBench(name, source, text) {
   // Uses the message of the refusal. The message about the line would be about the bench's spelling.
   const { wordsOfRefusal } = await import("../refused_texts.mjs");
   const faults = refusal ? [{ text: /** @type {const} */ ("program"), ...refusal, words: wordsOfRefusal(refusal.number) }] : unsent;
-  throw await errorOfTexts(engine, { program: { name, text: source, before: 0 } }, faults);
+  throw await rejectedTextsError(engine, { program: { name, text: source, before: 0 } }, faults);
 }
 
 /** @type {import("./table.mjs").CommandModule["run"]} */
 export async function run(values, words) {
-  needWords(words, ["PROGRAM"]);
+  checkArguments(words, ["PROGRAM"]);
   const [name] = words;
   // Latin 1 has one character for each byte, so comments in any encoding keep their bytes.
-  const source = new GivenTexts().read(name, MOST_GIVEN).toString("latin1").replace(MARK, "").replace(/\r\n?/g, "\n");
+  const source = new GivenTexts().read(name, MAX_TEXT_BYTES).toString("latin1").replace(MARK, "").replace(/\r\n?/g, "\n");
   const { text, faults } = importProgram(source);
   if (faults.length > 0) throw new CommandError(faults.map(({ line, words: why }) => `${name}:${line}: ${why}`).join("\n"));
   await tryOnBench(name, source, text);

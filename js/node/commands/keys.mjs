@@ -3,13 +3,13 @@ import { isStop, refusalOf } from "../../core/bench/answers.js";
 import { joinLines } from "../../core/bench/inputs.js";
 import { USUAL_PACE } from "../../core/testing/press_lines.js";
 import { benchRejected } from "../../words/commands.js";
-import { needCount, needWords, projectFor } from "../arguments.mjs";
+import { parseCount, checkArguments, projectFor } from "../arguments.mjs";
 import { boardAndFace, keyLines } from "../board_texts.mjs";
-import { GivenTexts, MOST_GIVEN } from "../given_texts.mjs";
+import { GivenTexts, MAX_TEXT_BYTES } from "../given_texts.mjs";
 import { programPath, startEngine } from "../native_program.mjs";
 import { CommandError, print, printFile } from "../output.mjs";
 
-const MOST_CYCLES = 100000;
+const MAX_CYCLES = 100000;
 
 /**
  * Serves lines on a session and prints the answers, up to the first run that stops; returns the exit status.
@@ -39,17 +39,17 @@ async function pressOn(session, lines) {
 /** @type {import("./table.mjs").CommandModule["run"]} */
 export async function run({ folder, down, up, "until-stop": session }, positionals) {
   const pace = {
-    down: down === undefined ? USUAL_PACE.down : needCount("CYCLES of --down", down, MOST_CYCLES),
-    up: up === undefined ? USUAL_PACE.up : needCount("CYCLES of --up", up, MOST_CYCLES),
+    down: down === undefined ? USUAL_PACE.down : parseCount("CYCLES of --down", down, MAX_CYCLES),
+    up: up === undefined ? USUAL_PACE.up : parseCount("CYCLES of --up", up, MAX_CYCLES),
   };
   const project = positionals.length > 0 ? await projectFor(folder, positionals, 2) : null;
   const words = project ? [project.board, ...positionals] : positionals;
-  needWords(words, ["BOARD", "KEYS"], 2, true);
+  checkArguments(words, ["BOARD", "KEYS"], 2, true);
   const [boardName, keys] = words;
   const texts = new GivenTexts();
   const given = texts.text(boardName, "wire");
   if (session !== undefined) {
-    texts.read(session, MOST_GIVEN);
+    texts.read(session, MAX_TEXT_BYTES);
     programPath();
   }
   const engine = await startEngine();

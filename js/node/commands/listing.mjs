@@ -2,9 +2,9 @@
 import { joinLines } from "../../core/bench/inputs.js";
 import { namesOfProgram, programListing } from "../../core/machine/program_listing.js";
 import { excludeEachOther } from "../../words/commands.js";
-import { needWords, projectFor } from "../arguments.mjs";
+import { checkArguments, projectFor } from "../arguments.mjs";
 import { GivenTexts } from "../given_texts.mjs";
-import { mappedProgram, startEngine } from "../native_program.mjs";
+import { assembledProgram, startEngine } from "../native_program.mjs";
 import { UsageError, printFile } from "../output.mjs";
 
 /** @type {import("./table.mjs").CommandModule["run"]} */
@@ -12,9 +12,9 @@ export async function run({ folder, names, labels }, positionals) {
   if (names && labels) throw new UsageError(excludeEachOther("--names", "--labels"));
   const project = await projectFor(folder, positionals, 1);
   const words = project ? [project.program, ...positionals] : positionals;
-  needWords(words, ["PROGRAM"], 1, true);
+  checkArguments(words, ["PROGRAM"], 1, true);
   const program = new GivenTexts().text(words[0], "asm");
-  const { map, bytes } = await mappedProgram(await startEngine(), program);
+  const { map, bytes } = await assembledProgram(await startEngine(), program);
   const lines = names || labels ? namesOfProgram(map, Boolean(labels)).map(({ name, value }) => `${name} ${value}`)
     : programListing(program.text, map, bytes);
   printFile(joinLines(lines), program.encoding);

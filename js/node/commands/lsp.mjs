@@ -2,12 +2,12 @@
 import { Connection } from "../../core/server/connection.js";
 import { LanguageServer } from "../../core/server/language_server.js";
 import { Engine } from "../../core/engine/engine.js";
-import { needWords, untilItEnds } from "../arguments.mjs";
-import { endOf, listen, sayAtTerminal } from "../message_server.mjs";
+import { checkArguments, waitForExit } from "../arguments.mjs";
+import { exitAfterOutput, listen, explainAtTerminal } from "../message_server.mjs";
 import { dataOfPage, moduleOfPage } from "../page_parts.mjs";
 import { isInside, readUserText } from "../user_files.mjs";
 
-const end = endOf("lsp");
+const end = exitAfterOutput("lsp");
 
 /** Returns the text of a file; null if it cannot be read, or is outside of its project's folder. `folder` is "" without a project. */
 function readFile(uri, folder) {
@@ -32,10 +32,10 @@ async function serve() {
 
 /** @type {import("./table.mjs").CommandModule["run"]} */
 export function run(_, positionals) {
-  needWords(positionals, []);
-  sayAtTerminal("lsp");
+  checkArguments(positionals, []);
+  explainAtTerminal("lsp");
   process.stdout.on("error", () => process.exit(1));
   process.stdin.on("error", () => process.exit(1));
   serve().catch((fault) => end(1, fault instanceof Error ? fault.message : String(fault)));
-  return untilItEnds();
+  return waitForExit();
 }

@@ -1,19 +1,19 @@
 // `mcs4 names`: replaces the names of a program in session lines by their addresses.
 import { replaceNames } from "../../core/bench/names_in_lines.js";
 import { inLine } from "../../words/commands.js";
-import { needWords, projectFor } from "../arguments.mjs";
+import { checkArguments, projectFor } from "../arguments.mjs";
 import { GivenTexts } from "../given_texts.mjs";
-import { mappedProgram, startEngine } from "../native_program.mjs";
+import { assembledProgram, startEngine } from "../native_program.mjs";
 import { CommandError, printFile } from "../output.mjs";
 
 /** @type {import("./table.mjs").CommandModule["run"]} */
 export async function run({ folder }, positionals) {
   const project = await projectFor(folder, positionals, 1);
   const words = project ? [project.program, ...positionals] : positionals;
-  needWords(words, ["PROGRAM"], 1, true);
+  checkArguments(words, ["PROGRAM"], 1, true);
   const texts = new GivenTexts();
   const { text, encoding } = texts.lines();
-  const { map } = await mappedProgram(await startEngine(), texts.text(words[0], "asm"));
+  const { map } = await assembledProgram(await startEngine(), texts.text(words[0], "asm"));
   const { lines, line, words: wrong } = replaceNames(text, map);
   if (wrong !== "") throw new CommandError(inLine(line, wrong));
   printFile(lines === "" || lines.endsWith("\n") ? lines : `${lines}\n`, encoding);

@@ -1,9 +1,9 @@
 // `mcs4 new` at a terminal. (Without a terminal, the starter runs the native program directly.)
-import { needWords } from "../arguments.mjs";
+import { checkArguments } from "../arguments.mjs";
 import { servePrompt } from "../session_terminal.mjs";
 
 /** @type {import("./table.mjs").CommandModule["run"]} */
 export function run(_, positionals) {
-  needWords(positionals, ["FILE"]);
+  checkArguments(positionals, ["FILE"]);
   return servePrompt("new", positionals[0]);
 }

@@ -9,10 +9,10 @@ import { Panel } from "../../core/panel/terminal_panel.js";
 import { Screen, hasRoom, middleRows } from "../../core/panel/screen.js";
 import { otherBoard } from "../../words/commands.js";
 import { noteOfBoard } from "../../words/panel.js";
-import { needWords, projectFor } from "../arguments.mjs";
+import { checkArguments, projectFor } from "../arguments.mjs";
 import { boardAndFace } from "../board_texts.mjs";
-import { GivenTexts, MOST_GIVEN } from "../given_texts.mjs";
-import { endEngine, endOnSignals, programOf, programPath, startEngine } from "../native_program.mjs";
+import { GivenTexts, MAX_TEXT_BYTES } from "../given_texts.mjs";
+import { endEngine, endOnSignals, checkedProgramMap, programPath, startEngine } from "../native_program.mjs";
 import { CommandError } from "../output.mjs";
 import { PanelTerminal } from "../panel_terminal.mjs";
 import { wordsOfRefusal } from "../refused_texts.mjs";
@@ -35,10 +35,10 @@ const FRAME = 100;
 async function namesOf({ folder, source }, words) {
   const project = await projectFor(folder, words, 2);
   if (project) {
-    needWords(words, ["SESSION"]);
+    checkArguments(words, ["SESSION"]);
     return { board: project.board, session: words[0], program: source ?? project.program };
   }
-  needWords(words, ["BOARD", "SESSION"], 2, true);
+  checkArguments(words, ["BOARD", "SESSION"], 2, true);
   return { board: words[0], session: words[1], program: source };
 }
 
@@ -60,23 +60,23 @@ async function answersOf(session, lines) {
  * @param {string} name of the session
  * @param {{ board: GivenText, program: GivenText | null }} texts
  */
-async function knowTexts(session, name, texts) {
+async function readTexts(session, name, texts) {
   const engine = await startEngine();
   const { board, face, answers } = await boardAndFace(engine, texts.board);
   const differing = differences(await answersOf(session, "board\n"), answers);
   if (differing.length > 0) throw new CommandError([`${otherBoard(texts.board.name)} (< ${name}, > ${texts.board.name})`, ...differing].join("\n"));
   const { program } = texts;
-  const map = program && await programOf(engine, codesOf(await answersOf(session, listQueries(PAGES))), program);
+  const map = program && await checkedProgramMap(engine, codesOf(await answersOf(session, listQueries(PAGES))), program);
   endEngine();
   return { board, face, source: map && { map, lines: program.text.split("\n"), before: program.before } };
 }
 
 /**
  * Returns a message about the first part that the front panel mentions and the board lacks; "" if there is none.
- * @param {Awaited<ReturnType<typeof knowTexts>>} known
+ * @param {Awaited<ReturnType<typeof readTexts>>} known
  * @param {number} before the number of lines before the text in its file
  */
-function noteOf({ board, face }, before) {
+function missingPartNote({ board, face }, before) {
   const [note] = byLine([...face.faults, ...missingOf(face, board)]);
   return note ? noteOfBoard(note.line + before, note.words) : "";
 }
@@ -87,11 +87,11 @@ function noteOf({ board, face }, before) {
  * @param {Panel} panel
  * @param {Screen} screen
  */
-async function show(terminal, panel, screen) {
+async function drawFrame(terminal, panel, screen) {
   const { size } = terminal;
   await panel.seen.take(hasRoom(size) ? middleRows(size) : 0);
   if (hasRoom(terminal.size) && terminal.size.rows === size.rows) terminal.draw(screen.rows(terminal.size));
-  else if (!hasRoom(terminal.size)) terminal.drawLack();
+  else if (!hasRoom(terminal.size)) terminal.drawTooSmall();
 }
 
 /**
@@ -100,12 +100,12 @@ async function show(terminal, panel, screen) {
  * @param {Panel} panel
  * @param {number} next the time of the next frame, in milliseconds
  */
-async function takeKeys(terminal, panel, next) {
-  for (let isDrawn = false; !isDrawn && !panel.isEnded && !terminal.isGone;) {
+async function handleKeys(terminal, panel, next) {
+  for (let isDue = false; !isDue && !panel.isEnded && !terminal.isGone;) {
     const key = terminal.keys.shift();
     if (key) await panel.type(key, performance.now());
     else if (performance.now() < next && terminal.shown.length > 0) await terminal.wait(next - performance.now());
-    isDrawn = key ? panel.isPaused : performance.now() >= next || terminal.shown.length === 0;
+    isDue = key ? panel.isPaused : performance.now() >= next || terminal.shown.length === 0;
   }
 }
 
@@ -114,15 +114,15 @@ async function takeKeys(terminal, panel, next) {
  * @param {PanelTerminal} terminal
  * @param {Panel} panel
  */
-async function live(terminal, panel) {
+async function runPanel(terminal, panel) {
   const screen = new Screen(panel);
   terminal.begin(() => panel.seen.forgetListing());
   await panel.begin();
   for (let next = performance.now(); !panel.isEnded && !terminal.isGone;) {
     await panel.keepTime(performance.now());
-    await show(terminal, panel, screen);
+    await drawFrame(terminal, panel, screen);
     next = Math.max(next + FRAME, performance.now());
-    await takeKeys(terminal, panel, next);
+    await handleKeys(terminal, panel, next);
   }
   return terminal.isGone ? FAILED : 0;
 }
@@ -133,21 +133,21 @@ export async function run(values, words) {
   const texts = new GivenTexts();
   const board = texts.text(names.board, "wire");
   const program = names.program === undefined ? null : texts.text(names.program, "asm");
-  texts.read(names.session, MOST_GIVEN);
+  texts.read(names.session, MAX_TEXT_BYTES);
   // Throws an error if there is no program, before the terminal changes.
   programPath();
   const terminal = new PanelTerminal();
   const session = await openProgram("open", names.session);
   try {
-    const known = await knowTexts(session, names.session, { board, program });
+    const known = await readTexts(session, names.session, { board, program });
     endOnSignals(() => {
       terminal.leave();
       session.close();
     });
     const panel = new Panel((lines) => answersOf(session, lines), {
-      ...known, name: basename(names.session), wordsOfRefusal, isPaused: values.stopped === true, note: noteOf(known, board.before),
+      ...known, name: basename(names.session), wordsOfRefusal, isPaused: values.stopped === true, note: missingPartNote(known, board.before),
     }, performance.now());
-    return await live(terminal, panel);
+    return await runPanel(terminal, panel);
   } catch (thrown) {
     if (terminal.isGone) return FAILED;
     throw thrown;

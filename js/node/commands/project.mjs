@@ -5,17 +5,17 @@ import { MAX_PROJECT_BYTES, NotAProject, projectText, readProject, wordsOfLength
 import { PART_NAMES, breakpointsIn, partsOfProject, valuesIn } from "../../core/session/project_parts.js";
 import { newSession } from "../../core/testing/prepared.js";
 import * as say from "../../words/commands.js";
-import { needWords, projectFor } from "../arguments.mjs";
-import { MOST_GIVEN } from "../given_texts.mjs";
+import { checkArguments, projectFor } from "../arguments.mjs";
+import { MAX_TEXT_BYTES } from "../given_texts.mjs";
 import { SESSION_BYTES } from "../native_engine.mjs";
-import { endOnSignals, errorOfTexts, startEngine } from "../native_program.mjs";
+import { endOnSignals, rejectedTextsError, startEngine } from "../native_program.mjs";
 import { CommandError, UsageError } from "../output.mjs";
-import { isInside, needOwnFile, readUserFile, statOfInput, writeNewFiles, writeUserFile } from "../user_files.mjs";
+import { isInside, checkOutputFile, readUserFile, statOfInput, writeNewFiles, writeUserFile } from "../user_files.mjs";
 
 const PROJECT_BEGINS = "fethsaim project ";
 const SESSION_BEGINS = "MCS4BEN1";
 /** The kinds of texts that a folder can have several of, and a project file only one. */
-const LISTED = /** @type {const} */ (["tests", "properties"]);
+const LIST_KINDS = /** @type {const} */ (["tests", "properties"]);
 
 /**
  * Calls `act` and returns its result; if a text is not a project, throws an error with the name of its file.
@@ -23,7 +23,7 @@ const LISTED = /** @type {const} */ (["tests", "properties"]);
  * @param {string} name
  * @param {() => Result} act
  */
-function ofFile(name, act) {
+function withFileName(name, act) {
   try {
     return act();
   } catch (thrown) {
@@ -37,7 +37,7 @@ function ofFile(name, act) {
  * @param {string} folder
  */
 function split(name, folder) {
-  const project = ofFile(name, () => readProject(readUserFile(name, MAX_PROJECT_BYTES), SESSION_BYTES, true));
+  const project = withFileName(name, () => readProject(readUserFile(name, MAX_PROJECT_BYTES), SESSION_BYTES, true));
   writeNewFiles(folder, partsOfProject(project), Object.values(PART_NAMES));
 }
 
@@ -49,7 +49,7 @@ function split(name, folder) {
  * @param {string} name the path of the file, with the folder
  */
 function readPart(folder, name) {
-  const bytes = readUserFile(name, MOST_GIVEN);
+  const bytes = readUserFile(name, MAX_TEXT_BYTES);
   if (!isInside(name, folder)) throw new CommandError(say.leadsOutOf(name, folder));
   return bytes;
 }
@@ -74,14 +74,14 @@ function readText(folder, name) {
  * @param {string} folder
  * @returns {Promise<{ board: string, program: string, tests: string, properties: string }>} "" for a text that does not exist
  */
-async function textNames(folder) {
+async function textPaths(folder) {
   const place = (/** @type {string} */ name) => join(folder, name);
   if (!existsSync(place(PART_NAMES.project))) {
-    const [tests, properties] = LISTED.map((kind) => (existsSync(place(PART_NAMES[kind])) ? place(PART_NAMES[kind]) : ""));
+    const [tests, properties] = LIST_KINDS.map((kind) => (existsSync(place(PART_NAMES[kind])) ? place(PART_NAMES[kind]) : ""));
     return { board: place(PART_NAMES.board), program: place(PART_NAMES.program), tests, properties };
   }
   const project = await projectFor(folder, [], 0);
-  for (const kind of LISTED) if (project[kind].length > 1) throw new CommandError(say.tooManyTexts(project.file, project[kind].length, kind));
+  for (const kind of LIST_KINDS) if (project[kind].length > 1) throw new CommandError(say.tooManyTexts(project.file, project[kind].length, kind));
   return { board: project.board, program: project.program, tests: project.tests[0] || "", properties: project.properties[0] || "" };
 }
 
@@ -103,14 +103,14 @@ async function sessionOf(folder, names, texts) {
   const { file, faults } = newSession(engine, texts);
   if (faults.length === 0) return engine.bytesOf(file);
   const given = (/** @type {string} */ each, /** @type {string} */ text) => ({ name: each, text, before: 0 });
-  throw await errorOfTexts(engine, { board: given(names.board, texts.boardText), program: given(names.program, texts.programText) }, faults);
+  throw await rejectedTextsError(engine, { board: given(names.board, texts.boardText), program: given(names.program, texts.programText) }, faults);
 }
 
 /**
  * Returns the name of the project in a folder: the line in its name file, or the name of the folder.
  * @param {string} folder
  */
-function nameOf(folder) {
+function projectName(folder) {
   const file = join(folder, PART_NAMES.name);
   if (!existsSync(file)) return basename(realpathSync(folder));
   const [name] = readText(folder, file).split(/\r?\n/);
@@ -127,7 +127,7 @@ function nameOf(folder) {
  */
 function listIn(folder, part, read) {
   const name = join(folder, part);
-  return existsSync(name) ? ofFile(name, () => read(readText(folder, name))) : [];
+  return existsSync(name) ? withFileName(name, () => read(readText(folder, name))) : [];
 }
 
 /**
@@ -137,14 +137,14 @@ function listIn(folder, part, read) {
  */
 async function joinFiles(folder, name) {
   if (!statOfInput(folder)?.isDirectory()) throw new CommandError(say.noFolder(folder));
-  needOwnFile(name, PROJECT_BEGINS, say.NO_PROJECT, []);
-  const names = await textNames(folder);
+  checkOutputFile(name, PROJECT_BEGINS, say.NO_PROJECT, []);
+  const names = await textPaths(folder);
   const [boardText, programText, testText, propertiesText] = [names.board, names.program, names.tests, names.properties]
     .map((each) => (each === "" ? "" : readText(folder, each)));
   const words = wordsOfLength({ boardText, programText, testText, propertiesText });
   if (words) throw new CommandError(`${folder}: ${words}`);
   const project = {
-    name: nameOf(folder),
+    name: projectName(folder),
     boardText, programText, testText, propertiesText,
     breakpoints: listIn(folder, PART_NAMES.breakpoints, breakpointsIn),
     watched: listIn(folder, PART_NAMES.values, valuesIn),
@@ -157,7 +157,7 @@ async function joinFiles(folder, name) {
 export async function run(values, [action, ...words]) {
   if (action === undefined) throw new UsageError(say.SPLIT_OR_JOIN);
   if (action !== "split" && action !== "join") throw new UsageError(say.neitherSplitNorJoin(action));
-  needWords(words, action === "split" ? ["FILE", "FOLDER"] : ["FOLDER", "FILE"]);
+  checkArguments(words, action === "split" ? ["FILE", "FOLDER"] : ["FOLDER", "FILE"]);
   const [from, to] = words;
   // A signal must not leave a partly written file.
   endOnSignals();

@@ -1,6 +1,6 @@
 // `mcs4 prove`: proves that properties hold for all inputs. The program mcs4-prove searches, and the bench confirms each counterexample.
 import { statusOf, tapHead, tapOfJudged } from "../../core/prove/verdicts.js";
-import { namesWithProperties, needCount, needWords } from "../arguments.mjs";
+import { namesWithProperties, parseCount, checkArguments } from "../arguments.mjs";
 import { GivenTexts } from "../given_texts.mjs";
 import { print } from "../output.mjs";
 import { ProgressLine } from "../progress_line.mjs";
@@ -11,14 +11,14 @@ import { provingSoFar } from "../../words/prove.js";
 const STATES = { most: 999999999, usual: 1000000 };
 
 /** The maximum memory for the states, in MB. */
-const MOST_MEMORY = 1000000;
+const MAX_MEMORY = 1000000;
 
 /** @type {import("./table.mjs").CommandModule["run"]} */
 export async function run({ folder, most: word, memory: size }, positionals) {
-  const most = word === undefined ? STATES.usual : needCount("N", word, STATES.most);
-  const memory = size === undefined ? 0 : needCount("MB", size, MOST_MEMORY);
+  const most = word === undefined ? STATES.usual : parseCount("N", word, STATES.most);
+  const memory = size === undefined ? 0 : parseCount("MB", size, MAX_MEMORY);
   const names = await namesWithProperties(folder, positionals);
-  needWords(names, ["BOARD", "PROGRAM", "PROPERTIES"], 3, true);
+  checkArguments(names, ["BOARD", "PROGRAM", "PROPERTIES"], 3, true);
   const texts = new GivenTexts();
   const [board, program] = [texts.text(names[0], "wire"), texts.text(names[1], "asm")];
   const properties = texts.source(names[2]);
@@ -32,15 +32,15 @@ export async function run({ folder, most: word, memory: size }, positionals) {
  */
 async function proveAll(judging, file) {
   const { total } = judging;
-  const line = new ProgressLine();
-  const all = [];
+  const progress = new ProgressLine();
+  const judgedSoFar = [];
   for (const at of Array(total).keys()) {
-    line.begin((seconds) => provingSoFar(at + 1, total, judging.textOf(at), seconds));
+    progress.begin((seconds) => provingSoFar(at + 1, total, judging.textOf(at), seconds));
     const judged = /** @type {import("../../core/prove/verdicts.js").Judged} */ (await judging.next());
-    line.clear();
+    progress.clear();
     print((at === 0 ? tapHead(total) : "") + tapOfJudged(judged, at, file));
-    all.push(judged);
+    judgedSoFar.push(judged);
   }
-  line.end();
-  return statusOf(all);
+  progress.end();
+  return statusOf(judgedSoFar);
 }

@@ -4,8 +4,8 @@ import { once } from "node:events";
 import { refusalOf } from "../../core/bench/answers.js";
 import { begunScript } from "../../core/bench/begun_script.js";
 import { changedMeanwhile, notBegun, sessionRefused, sessionWasRefused } from "../../words/commands.js";
-import { needWords } from "../arguments.mjs";
-import { GivenTexts, MOST_GIVEN, MOST_SCRIPT } from "../given_texts.mjs";
+import { checkArguments } from "../arguments.mjs";
+import { GivenTexts, MAX_TEXT_BYTES, MAX_SCRIPT } from "../given_texts.mjs";
 import { yieldToMessages, openSession, programPath, startEngine } from "../native_program.mjs";
 import { CommandError, printBytes, printError } from "../output.mjs";
 import { wordsOfRefusal } from "../refused_texts.mjs";
@@ -53,7 +53,7 @@ async function serveOn(session, bytes) {
  * @param {Buffer} bytes
  * @param {number} lines the number of lines to skip
  */
-function behindLines(bytes, lines) {
+function afterLines(bytes, lines) {
   let at = 0;
   for (let left = lines; left > 0 && at < bytes.length; left--) {
     const feed = bytes.indexOf("\n", at);
@@ -64,11 +64,11 @@ function behindLines(bytes, lines) {
 
 /** @type {import("./table.mjs").CommandModule["run"]} */
 export async function run(_, positionals) {
-  needWords(positionals, ["SCRIPT", "SESSION"]);
+  checkArguments(positionals, ["SCRIPT", "SESSION"]);
   const [scriptName, session] = positionals;
   const texts = new GivenTexts();
-  const bytes = texts.read(scriptName, MOST_SCRIPT);
-  const before = texts.read(session, MOST_GIVEN);
+  const bytes = texts.read(scriptName, MAX_SCRIPT);
+  const before = texts.read(session, MAX_TEXT_BYTES);
   // Throws an error if there is no program, before anything else.
   programPath();
   const engine = await startEngine();
@@ -76,6 +76,6 @@ export async function run(_, positionals) {
     engine, await openSession(engine, texts, session), bytes.toString("latin1"), yieldToMessages,
   );
   if (words !== "") throw new CommandError(notBegun(session, scriptName, words, differing));
-  if (!texts.read(session, MOST_GIVEN).equals(before)) throw new CommandError(changedMeanwhile(session));
-  return serveOn(session, behindLines(bytes, lines));
+  if (!texts.read(session, MAX_TEXT_BYTES).equals(before)) throw new CommandError(changedMeanwhile(session));
+  return serveOn(session, afterLines(bytes, lines));
 }

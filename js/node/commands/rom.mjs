@@ -6,16 +6,16 @@ import { formatOf, readBnpf, readSRecords, writeBnpf } from "../../core/bench/ro
 import { NotARecord, NotAnImage, readBytes, readHex, writeHex } from "../../core/bench/rom_image.js";
 import { textsOfBytes } from "../../core/text/assembling.js";
 import * as say from "../../words/commands.js";
-import { needWords } from "../arguments.mjs";
-import { GivenTexts, MOST_ANSWERS, MOST_GIVEN, STANDARD_INPUT } from "../given_texts.mjs";
+import { checkArguments } from "../arguments.mjs";
+import { GivenTexts, MAX_ANSWERS, MAX_TEXT_BYTES, STANDARD_INPUT } from "../given_texts.mjs";
 import { CommandError, UsageError, print, printBytes } from "../output.mjs";
 import { readStream } from "../user_files.mjs";
 
 /** @typedef {import("../../core/bench/rom_formats.js").ImageForm} ImageForm */
 
 /** @type {Record<string, ImageForm[]>} the image formats that each action accepts */
-const FORMS = { load: ["hex", "srec", "bnpf", "binary"], ask: [], save: ["hex", "bnpf"] };
-const READERS = { hex: readHex, srec: readSRecords, bnpf: readBnpf };
+const ACTION_FORMATS = { load: ["hex", "srec", "bnpf", "binary"], ask: [], save: ["hex", "bnpf"] };
+const PARSERS = { hex: readHex, srec: readSRecords, bnpf: readBnpf };
 
 /**
  * Returns the image format that an option names; null if none does.
@@ -23,11 +23,11 @@ const READERS = { hex: readHex, srec: readSRecords, bnpf: readBnpf };
  * @param {import("./table.mjs").Values} values
  * @returns {ImageForm | null}
  */
-function formGiven(action, values) {
-  const given = FORMS.load.filter((form) => values[form]);
+function chosenFormat(action, values) {
+  const given = ACTION_FORMATS.load.filter((form) => values[form]);
   if (given.length > 1) throw new UsageError(say.excludeEachOther(`--${given[0]}`, `--${given[1]}`));
   const [form = null] = given;
-  if (form && !FORMS[action].includes(form)) throw new UsageError(say.noFormOf(action, form));
+  if (form && !ACTION_FORMATS[action].includes(form)) throw new UsageError(say.noFormOf(action, form));
   return form;
 }
 
@@ -38,7 +38,7 @@ function formGiven(action, values) {
  * @param {number} address
  */
 function bytesOfImage(form, file, address) {
-  return form === "binary" ? readBytes(file, address) : READERS[form](file.toString("latin1"), address);
+  return form === "binary" ? readBytes(file, address) : PARSERS[form](file.toString("latin1"), address);
 }
 
 /**
@@ -47,11 +47,11 @@ function bytesOfImage(form, file, address) {
  * @param {string[]} words
  */
 function load(given, words) {
-  needWords(words, ["IMAGE"], 2);
+  checkArguments(words, ["IMAGE"], 2);
   const [name, word = "0"] = words;
   const address = numberOf(word);
   if (!(address < ADDRESSES)) throw new UsageError(say.ADDRESS_RANGE);
-  const file = new GivenTexts().read(name, MOST_GIVEN);
+  const file = new GivenTexts().read(name, MAX_TEXT_BYTES);
   const form = given || formatOf(name, file);
   if (!form) throw new CommandError(say.textNoImage(name));
   try {
@@ -68,7 +68,7 @@ function load(given, words) {
  * @param {string[]} words
  */
 function rangeOf(words) {
-  needWords(words, ["FIRST", "COUNT"]);
+  checkArguments(words, ["FIRST", "COUNT"]);
   const [first, count] = words.map(numberOf);
   if (Number.isNaN(first) || Number.isNaN(count)) throw new UsageError(say.NUMBERS_OF_RANGE);
   if (first >= ADDRESSES || count < 1 || first + count > ADDRESSES) throw new UsageError(say.RANGE);
@@ -99,8 +99,8 @@ function bytesInAnswers(answers, { first, count }) {
   const refused = lines.findIndex((line) => refusalOf(line));
   if (refused >= 0) throw new CommandError(say.answersRefusal(refused + 1, lines[refused]));
   const bytes = bytesOf(lines);
-  const lacking = bytes.subarray(first, first + count).indexOf(NO_BYTE);
-  if (lacking >= 0) throw new CommandError(say.noAnswerShows(hex(first + lacking, 3)));
+  const missing = bytes.subarray(first, first + count).indexOf(NO_BYTE);
+  if (missing >= 0) throw new CommandError(say.noAnswerShows(hex(first + missing, 3)));
   bytes.fill(NO_BYTE, 0, first).fill(NO_BYTE, first + count);
   return bytes;
 }
@@ -114,7 +114,7 @@ function save(form, words) {
   const range = rangeOf(words);
   const { first, count } = range;
   if (form === "binary" && process.stdout.isTTY) throw new CommandError(say.NO_TERMINAL);
-  const answers = readStream(STANDARD_INPUT, "-", MOST_ANSWERS);
+  const answers = readStream(STANDARD_INPUT, "-", MAX_ANSWERS);
   if (answers.length === 0) throw new CommandError(say.NO_ANSWERS);
   const bytes = bytesInAnswers(answers.toString("latin1"), range);
   if (form === "hex") print(writeHex(bytes));
@@ -125,8 +125,8 @@ function save(form, words) {
 /** @type {import("./table.mjs").CommandModule["run"]} */
 export function run(values, [action, ...words]) {
   if (action === undefined) throw new UsageError(say.LOAD_ASK_OR_SAVE);
-  if (!Object.hasOwn(FORMS, action)) throw new UsageError(say.noRomAction(action));
-  const form = formGiven(action, values);
+  if (!Object.hasOwn(ACTION_FORMATS, action)) throw new UsageError(say.noRomAction(action));
+  const form = chosenFormat(action, values);
   if (action === "load") load(form, words);
   else if (action === "ask") ask(words);
   else save(form || "binary", words);

@@ -4,10 +4,10 @@ import { USUAL_PACE } from "../../core/testing/press_lines.js";
 import { prepare } from "../../core/testing/prepared.js";
 import { LONGEST_TEXT, alignedText, sentText } from "../../core/text/text_fault.js";
 import { BEFORE_KEYS_CYCLES } from "../../core/time/mcs4_time.js";
-import { needWords, projectFor } from "../arguments.mjs";
+import { checkArguments, projectFor } from "../arguments.mjs";
 import { keyLines } from "../board_texts.mjs";
 import { GivenTexts } from "../given_texts.mjs";
-import { errorOfTexts, startEngine } from "../native_program.mjs";
+import { rejectedTextsError, startEngine } from "../native_program.mjs";
 import { printFile } from "../output.mjs";
 
 /**
@@ -25,14 +25,14 @@ function wholeText(text, mark) {
 export async function run({ folder }, positionals) {
   const project = await projectFor(folder, positionals, 2);
   const words = project ? [project.board, project.program, ...positionals] : positionals;
-  needWords(words, ["BOARD", "PROGRAM", "KEYS?"], 3, true);
+  checkArguments(words, ["BOARD", "PROGRAM", "KEYS?"], 3, true);
   const [boardName, programName, keys = ""] = words;
   const texts = new GivenTexts();
   const board = texts.text(boardName, "wire");
   const program = texts.text(programName, "asm");
   const engine = await startEngine();
   const { prepared, faults } = prepare(engine, { boardText: board.text, programText: program.text });
-  if (!prepared) throw await errorOfTexts(engine, { board, program }, faults);
+  if (!prepared) throw await rejectedTextsError(engine, { board, program }, faults);
   const pressed = keyLines(prepared.names.face, boardName, keys, USUAL_PACE);
   const lines = joinLines([`run ${BEFORE_KEYS_CYCLES}`, ...pressed]);
   printFile(`wire\n${wholeText(board.text, "#")}.\nasm\n${wholeText(program.text, ";")}.\n${lines}`, "utf8");

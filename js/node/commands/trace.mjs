@@ -2,14 +2,14 @@
 import { romCodes } from "../../core/engine/rom_codes.js";
 import { SessionTrace } from "../../core/trace/session_trace.js";
 import { excludeEachOther } from "../../words/commands.js";
-import { needCount, needWords, projectFor } from "../arguments.mjs";
+import { parseCount, checkArguments, projectFor } from "../arguments.mjs";
 import { GivenTexts } from "../given_texts.mjs";
-import { yieldToMessages, openSession, programOf, startEngine } from "../native_program.mjs";
+import { yieldToMessages, openSession, checkedProgramMap, startEngine } from "../native_program.mjs";
 import { UsageError, print } from "../output.mjs";
 
-const MOST_CYCLES = 100000;
-const MOST_LAST = 10000;
-const MOST_CYCLES_OF_LAST = 100000000;
+const MAX_CYCLES = 100000;
+const MAX_LAST = 10000;
+const MAX_CYCLES_WITH_LAST = 100000000;
 
 /**
  * Returns the name of the program that labels or lines come from; undefined if there is none.
@@ -23,17 +23,17 @@ async function programFor({ folder, names, source }) {
 
 /** @type {import("./table.mjs").CommandModule["run"]} */
 export async function run(values, words) {
-  needWords(words, ["SESSION", "CYCLES"]);
+  checkArguments(words, ["SESSION", "CYCLES"]);
   const [session, word] = words;
-  const last = values.last === undefined ? 0 : needCount("N", values.last, MOST_LAST);
-  const cycles = needCount("CYCLES", word, last > 0 ? MOST_CYCLES_OF_LAST : MOST_CYCLES);
+  const last = values.last === undefined ? 0 : parseCount("N", values.last, MAX_LAST);
+  const cycles = parseCount("CYCLES", word, last > 0 ? MAX_CYCLES_WITH_LAST : MAX_CYCLES);
   const programName = await programFor(values);
   const texts = new GivenTexts();
   const program = programName === undefined ? null : texts.text(programName, "asm");
   const engine = await startEngine();
   const state = await openSession(engine, texts, session);
   const trace = new SessionTrace(engine, state, yieldToMessages);
-  const map = program && await programOf(engine, romCodes(engine, state), program);
+  const map = program && await checkedProgramMap(engine, romCodes(engine, state), program);
   const source = program && values.names === undefined ? { lines: program.text.split("\n"), before: program.before } : null;
   const names = map && { map, source };
   const pieces = last > 0 ? trace.last(last, cycles, names) : trace.next(cycles, names);

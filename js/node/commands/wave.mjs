@@ -11,11 +11,11 @@ import { VcdText } from "../../core/waves/vcd.js";
 import { programInWaves } from "../../core/waves/wave_program.js";
 import { wavOf } from "../../core/waves/wav.js";
 import * as say from "../../words/commands.js";
-import { needCount, needWords, projectFor } from "../arguments.mjs";
+import { parseCount, checkArguments, projectFor } from "../arguments.mjs";
 import { GivenTexts } from "../given_texts.mjs";
-import { yieldToMessages, errorOfTexts, openSession, programOf, startEngine } from "../native_program.mjs";
+import { yieldToMessages, rejectedTextsError, openSession, checkedProgramMap, startEngine } from "../native_program.mjs";
 import { CommandError, UsageError, print, printError } from "../output.mjs";
-import { needOwnFile, writeUserFile } from "../user_files.mjs";
+import { checkOutputFile, writeUserFile } from "../user_files.mjs";
 
 /**
  * @typedef {import("../given_texts.mjs").GivenText} GivenText
@@ -26,7 +26,7 @@ import { needOwnFile, writeUserFile } from "../user_files.mjs";
  *   boardText: GivenText | null, face: Face, program: import("../../core/engine/wave_recorder.js").RecordedProgram | null }} Wired
  */
 
-const MOST_CYCLES = 10000000;
+const MAX_CYCLES = 10000000;
 /** The beginning of a WAV file. */
 const WAV_BEGINS = "RIFF";
 
@@ -45,12 +45,12 @@ async function textsFor({ folder, board, names }) {
  * @param {GivenText} given
  * @param {string[]} wanted the session's answers to `board`
  */
-async function needBoard(engine, given, wanted) {
+async function checkBoard(engine, given, wanted) {
   const { faults, answers } = wiredBoard(engine, given.text);
-  if (faults.length > 0) throw await errorOfTexts(engine, { board: given }, faults);
+  if (faults.length > 0) throw await rejectedTextsError(engine, { board: given }, faults);
   if (answers.join() !== wanted.join()) throw new CommandError(say.otherBoard(given.name));
   const named = faultsOfNames(new Face(given.text), readBoard(answers));
-  if (named.length > 0) throw await errorOfTexts(engine, { board: given }, named);
+  if (named.length > 0) throw await rejectedTextsError(engine, { board: given }, named);
 }
 
 /**
@@ -66,22 +66,22 @@ async function wired(session, { board: boardName, program: programName }) {
   const boardText = boardName === undefined ? null : texts.text(boardName, "wire");
   const program = programName === undefined ? null : texts.text(programName, "asm");
   const answers = engine.ask(opened, "board\n").answers;
-  if (boardText) await needBoard(engine, boardText, answers);
-  const map = program && await programOf(engine, romCodes(engine, opened), program);
+  if (boardText) await checkBoard(engine, boardText, answers);
+  const map = program && await checkedProgramMap(engine, romCodes(engine, opened), program);
   const state = withoutStops(engine, opened);
   const face = new Face(boardText ? boardText.text : "");
   return { engine, state, board: readBoard(answers), boardText, face, program: map && programInWaves(map, program.text) };
 }
 
 /** @type {(wanted: Wired) => string} */
-const textOf = ({ boardText }) => (boardText ? boardText.text : "");
+const boardTextOf = ({ boardText }) => (boardText ? boardText.text : "");
 
 /**
  * Calls `choose` and returns its result; throws a CommandError for a line that the board lacks.
  * @template Result
  * @param {() => Result} choose
  */
-function chosenBy(choose) {
+function withLineError(choose) {
   try {
     return choose();
   } catch (thrown) {
@@ -102,8 +102,8 @@ function reportStop({ isStuck, cycles }, wanted) {
  */
 async function printVcd(opened, cycles, words) {
   const { engine, state, board, program } = opened;
-  const all = chosenBy(() => chooseLines(board, textOf(opened), program !== null, words));
-  const { lines, chosen } = neededLines(all.lines, all.chosen);
+  const choice = withLineError(() => chooseLines(board, boardTextOf(opened), program !== null, words));
+  const { lines, chosen } = neededLines(choice.lines, choice.chosen);
   /** @type {VcdText | null} */
   let text = null;
   for await (const waves of recordPieces(engine, state, { lines, program, cycles }, yieldToMessages)) {
@@ -145,8 +145,8 @@ function buzzerLine({ board, boardText, face: { buzzer } }, word) {
 async function writeWav(opened, cycles, word, name) {
   const { engine, state, board } = opened;
   const line = buzzerLine(opened, word);
-  const all = chosenBy(() => chooseLines(board, "", false, [line]));
-  const { lines, chosen } = neededLines(all.lines, all.chosen);
+  const choice = withLineError(() => chooseLines(board, "", false, [line]));
+  const { lines, chosen } = neededLines(choice.lines, choice.chosen);
   const edges = [];
   let [level, done] = [-1, 0];
   for await (const waves of recordPieces(engine, state, { lines, program: null, cycles }, yieldToMessages)) {
@@ -163,13 +163,13 @@ export async function run(values, words) {
   const { lines: isList, wav } = values;
   if (isList && wav !== undefined) throw new UsageError(say.excludeEachOther("--lines", "--wav"));
   if (wav !== undefined && values.names !== undefined) throw new UsageError(say.NO_NAMES_OF_SOUND);
-  needWords(words, isList ? ["SESSION"] : ["SESSION", "CYCLES"], isList ? 1 : wav === undefined ? Infinity : 3);
+  checkArguments(words, isList ? ["SESSION"] : ["SESSION", "CYCLES"], isList ? 1 : wav === undefined ? Infinity : 3);
   const [session, word, ...lines] = words;
-  const cycles = isList ? 0 : needCount("CYCLES", word, MOST_CYCLES);
+  const cycles = isList ? 0 : parseCount("CYCLES", word, MAX_CYCLES);
   const names = await textsFor(values);
-  if (wav !== undefined) needOwnFile(wav, WAV_BEGINS, say.NO_WAV, names.board === undefined ? [session] : [session, names.board]);
+  if (wav !== undefined) checkOutputFile(wav, WAV_BEGINS, say.NO_WAV, names.board === undefined ? [session] : [session, names.board]);
   const opened = await wired(session, wav === undefined ? names : { ...names, program: undefined });
-  if (isList) print(offeredNames(opened.board, textOf(opened), opened.program !== null).map((name) => `${name}\n`).join(""));
+  if (isList) print(offeredNames(opened.board, boardTextOf(opened), opened.program !== null).map((name) => `${name}\n`).join(""));
   else if (wav === undefined) await printVcd(opened, cycles, lines);
   else await writeWav(opened, cycles, lines[0], wav);
   return 0;
