@@ -1,4 +1,4 @@
-// Texts that users read about the debug adapter, in an editor.
+// Texts of the debug adapter, which users read in their editor.
 
 // --- adapter/adapter_connection.js ---
 export const MESSAGE_FORM = "a message has a number seq, the type \"request\" and a command";
@@ -164,7 +164,7 @@ export const KEYS = "Keys";
 export const NAMES = "Names";
 /** @type {(isOn: boolean) => string} */
 export const lampIs = (isOn) => (isOn ? "on" : "off");
-/** The value of a key, both shown and set. */
+/** The values of a key, as they are shown and as they are typed. */
 export const DOWN = "down";
 export const UP = "up";
 /** @type {(name: string) => string} */

@@ -1,5 +1,4 @@
-// Texts that users read about the bench's errors: calls that failed, images of ROM. (Its refusals have the messages of
-// tools/lib/refusals.txt.)
+// Texts about errors of the bench: wrong answers, failed calls, ROM images. (The messages of refusals are in tools/lib/refusals.txt.)
 
 // --- bench/answered_script.js ---
 export const FIRST_IS_SESSION = "the first line of the answers must be `session N`";

@@ -1,4 +1,4 @@
-// Texts that users read about the front panel: lamps, keys, sound, and the wiring in words.
+// Texts about the front panel (lamps, keys, sound) and about the wiring of a board.
 
 import { EYE_CYCLES, EYE_MS } from "../core/time/mcs4_time.js";
 

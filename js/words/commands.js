@@ -1,17 +1,16 @@
-// Texts that users read about the commands of mcs4: their help, from which manual pages and completions are made, too, and the errors of
-// arguments.
+// Texts of the commands of mcs4: their help, which manual pages and completions are made from, and their error messages.
 
 import { EYE_CYCLES, EYE_MS } from "../core/time/mcs4_time.js";
 import { didYouMean } from "./text.js";
 
 /**
- * The help of a command: a summary of a few words; its text, with a blank line between paragraphs; its options by their long names;
- * examples with their effects; and the meaning of its exit status. Line breaks within a paragraph do not count.
+ * The help of a command: a short summary, its text, its options by their long names, examples with their effects, and the meanings of its
+ * exit statuses. Blank lines in the text separate paragraphs; other line breaks do not count.
  * @typedef {{ summary: string, text: string, options: Record<string, string>, examples: [string, string][],
  *   status: string[] }} CommandWords
  */
 
-// Sentences of several commands.
+// Sentences that several commands share.
 const BOARD_AND_PROGRAM = `
       BOARD and PROGRAM are texts, or scripts of lines that contain such a text (\`wire\`, \`asm\`): the first one is used. Without them,
       the command uses the board and the program that mcs4.toml names in this folder.`;
@@ -569,7 +568,7 @@ ${SERVES_LINES}`,
 
 // --- mcs4 itself ---
 
-/** The forms of use, each with its effect. */
+/** The usage lines of mcs4, each with its effect. */
 export const MCS4_FORMS = [
   ["mcs4 new FILE", "begins a session in FILE, and serves lines"],
   ["mcs4 open FILE", "continues the session in FILE"],

@@ -1,4 +1,4 @@
-// Texts that users read about the debugger: conditions, breakpoints, why time stopped, values and errors.
+// Texts about debugging: breakpoints, watches, common mistakes, and values.
 
 // --- debug/breakpoint_keeper.js ---
 /** @type {(most: number) => string} */
@@ -67,7 +67,7 @@ export const characterAt = (chip, register, character) => `chip ${chip}, registe
 export const sourceOfBank = (bank) => `SRC of bank ${bank}`;
 
 // --- debug/common_mistakes.js ---
-/** The name of each kind, as the label of the switch that stops at it. */
+/** The name of each kind of common mistake, as the label of the switch that pauses at it. */
 export const KINDS = /** @type {Record<import("../core/debug/common_mistakes.js").Kind, string>} */ ({
   calls: "a fourth JMS inside three others",
   return: "a BBL without a call",

@@ -1,8 +1,7 @@
-// Texts that users read about the commands of mcs4 debug: how each is written, its effect in a few words, and more about it. Each is
-// written to be read alone.
+// The help texts of the commands of mcs4 debug: the form of each command, its effect, and details. Each text can be read alone.
 
 /**
- * A command: its name and its abbreviations; how it is written; its effect; and more about it, "" for nothing more.
+ * The help of a command: its name and abbreviations, its form, its effect, and details ("" if there are none).
  * @typedef {{ words: string, use: string, does: string, more: string }} CommandWords
  */
 

@@ -1,4 +1,4 @@
-// Texts that users read while a board is drawn: the shelf, the fields, each action and why one was not done.
+// Texts of the board drawing: the shelf, the fields, the effects of actions, and why an action is not possible.
 
 // --- drawing/acts.js ---
 export const TEST_IN_USE = "TEST has its button or switch: delete that one first.";
@@ -127,7 +127,7 @@ export const NOTHING_TO_REDO = "There is nothing to redo.";
 
 // --- drawing/drawing_view.js ---
 /**
- * The names of the shelf's parts, and their descriptions.
+ * The parts on the shelf, each with its name and its description.
  * @type {Record<import("../core/drawing/acts.js").Shelved, [string, string]>}
  */
 export const SHELF = {
@@ -152,7 +152,7 @@ export const INSERT_SCAN = "Insert code that scans these keys";
 /** @type {(label: string) => string} */
 export const lineOf = (label) => `${label} at`;
 export const WHAT_IS_THERE = "what is there";
-/** The kind of a line of a ROM's port, by its letter in the board's text. */
+/** The kinds of port lines of a ROM, each with its letter in the board's text. */
 export const DIRECTIONS = [["i", "an input"], ["0", "an output"], ["1", "an output that reads as 1"]];
 /** @type {(line: number) => string} */
 export const lineIsA = (line) => `line ${line} is`;

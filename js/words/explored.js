@@ -1,4 +1,4 @@
-// The results of a search for counterexamples, in words: of all, of one, of the coverage.
+// Messages about the results of a search for counterexamples: all properties, one property, the coverage.
 
 import { counted } from "../core/bench/numbers.js";
 import { Coverage } from "../core/explore/search_coverage.js";
@@ -12,7 +12,7 @@ import { grouped, isRight, remarkOf, stepsOf } from "../core/explore/report.js";
 const NEEDS_COMMAND = "a page cannot run a command; mcs4 explore --allow-model can";
 
 /**
- * Returns how many are broken, and how many goals were not reached.
+ * Returns the number of broken properties, and the number of goals that were not reached.
  * @param {Report} report
  */
 function countsOf({ properties }) {
@@ -23,7 +23,7 @@ function countsOf({ properties }) {
 }
 
 /**
- * Returns the progress, or the final state.
+ * Returns the line with the steps, the rate, the states and the seeds of a search, during the search and after it.
  * @param {Report} report
  */
 export function wordsOfFigures({ seeds, steps, seconds, states }) {
@@ -32,7 +32,7 @@ export function wordsOfFigures({ seeds, steps, seconds, states }) {
 }
 
 /**
- * The findings, while the search runs.
+ * Returns the summary while the search is running.
  * @param {Report} report
  */
 export function wordsSoFar(report) {
@@ -41,9 +41,9 @@ export function wordsSoFar(report) {
 }
 
 /**
- * The findings in all.
+ * Returns the summary at the end of the search.
  * @param {Report} report
- * @param {boolean} isStopped before the time was over
+ * @param {boolean} isStopped whether the search was stopped before its time was over
  */
 export function wordsOfEnd(report, isStopped) {
   const { broken, left } = countsOf(report);
@@ -54,7 +54,7 @@ export function wordsOfEnd(report, isStopped) {
 }
 
 /**
- * The same for a tab.
+ * Returns the mark on the tab; "" if no property is broken.
  * @param {Report} report
  */
 export function markOfReport(report) {
@@ -63,9 +63,10 @@ export function markOfReport(report) {
 }
 
 /**
- * The words before a property: it is open as long as a goal may be reached, or nothing was checked yet.
+ * Returns the mark before a property. While the search is running, the mark is "open" for a goal that is not reached yet, and for a
+ * property that was not checked yet.
  * @param {PropertyResult} property
- * @param {boolean} goesOn
+ * @param {boolean} goesOn whether the search is running
  */
 export function markOf(property, goesOn) {
   if (property.isSkipped) return "not run";
@@ -74,7 +75,7 @@ export function markOf(property, goesOn) {
 }
 
 /**
- * The words after it: none if the only thing to say is how much was searched.
+ * Returns the text after a property; "" if it would say only how much was searched.
  * @param {PropertyResult} property
  * @param {Report} report
  */
@@ -86,8 +87,8 @@ export function wordsOfProperty(property, report) {
 }
 
 /**
- * The coverage of the program: the part of the instructions, and of the branch directions, with their words; and the
- * lines that were never run.
+ * Returns the coverage of the program: of its instructions and of its branch directions, each with a text, and the lines that were never
+ * run.
  * @param {Report} report
  */
 export function coverageOf({ covered, instructions }) {

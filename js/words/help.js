@@ -1,4 +1,4 @@
-// Texts that users read in the help, in the first program and in stories.
+// Texts of the help, of the first program (the five steps), and of stories.
 
 // --- help/guide.js ---
 /** @type {(name: string) => string} */
@@ -13,7 +13,7 @@ export const rowsHaveIt = (count) => `${count} ${count === 1 ? "row has" : "rows
 export const INSTRUCTIONS = "The 45 instructions";
 export const KEYBOARD = "The keyboard";
 export const CELLS = "What the cells show";
-/** The titles of the sections of docs/MANUAL.md whose rows begin with a line for the bench. */
+/** The titles of the sections in docs/MANUAL.md whose table rows begin with a session line. */
 export const CONDITIONS_OF_JCN = "The sixteen conditions of JCN";
 export const SECTIONS_OF_LINES = ["Commands", "Queries"];
 
@@ -24,7 +24,7 @@ export const noLabel = (label) => `Nothing was done: the source is not the same 
 export const noKey = (legend) => `Nothing was done: the board has no key ${legend}.`;
 
 // --- help/tour.js ---
-/** The board of the five steps. */
+/** The board for the five steps to a first program. */
 export const TOUR_BOARD = `# My first board: four lamps and two keys.
 #
 # row 0: left right

@@ -1,4 +1,4 @@
-// Texts that users read about programs in the spelling of other assemblers: why a line cannot be imported.
+// Error messages of the import of programs in the spelling of other assemblers.
 
 // --- import/source_lines.js ---
 /** @type {(most: number) => string} */

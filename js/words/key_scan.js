@@ -1,4 +1,4 @@
-// Texts that users read about a routine that scans keys, which the page writes for a board: comments of the source.
+// The comments in the key scan routine that the page generates for a board.
 
 /** @type {(one: string, last: number, first: number, until: number) => string} */
 const from = (one, last, first, until) => (last === 0 ? `${one} ${first}` : `${one}s ${first} to ${until}`);

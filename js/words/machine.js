@@ -1,4 +1,4 @@
-// Texts that users read about the machine: registers, RAM, ports, the listing, breakpoints and values.
+// Texts about the machine: registers, RAM, ports, the disassembly, breakpoints, and watched values.
 
 // --- machine/breakpoint_marks.js ---
 /** @type {(condition: string) => string} */

@@ -1,4 +1,4 @@
-// Texts that users read about the page as a whole: lines that are served, questions, notices, missing features of the browser.
+// Texts of the page as a whole: the console, dialogs, notices, and missing features of the browser.
 
 // --- lines/lines_view.js ---
 export const LINES_HINT = "Enter runs, Shift+Enter adds a line, the up arrow recalls. Type help for commands.";
@@ -46,7 +46,7 @@ export const notSet = (why) => `Not set: ${why}`;
 export const NOT_DONE = "It was not done.";
 
 // --- bench_page.js ---
-/** The name of a session whose board has no title. */
+/** The name of a session if its board has no title. */
 export const MY_BOARD = "my board";
 
 // --- main.js ---
@@ -62,7 +62,7 @@ export const cannotStart = (why, needs) => `The bench could not be started: ${wh
 // --- ui/status_view.js ---
 export const ROM_MATCHES = "ROM matches source";
 export const ROM_DIFFERS = "ROM differs from source";
-/** True if the session is saved. */
+/** The texts of the status bar about saving, by the state of the session. */
 export const SAVED = { example: "Not saved", saved: "Saved in this browser", failed: "Not saved" };
 
 // --- print_view.js ---

@@ -1,4 +1,4 @@
-// Texts that users read at the panel of a terminal, `mcs4 panel`.
+// Texts of `mcs4 panel`, the front panel in a terminal.
 
 // --- panel/terminal_panel.js ---
 /** @type {(line: string, answer: string, words: string) => string} */

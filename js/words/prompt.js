@@ -1,4 +1,4 @@
-// Texts that users read at the prompt of mcs4 debug.
+// Texts at the prompt of `mcs4 debug`.
 
 // --- prompt/breakpoint_commands.js ---
 export const WHICH_ONE = "which one? info breakpoints shows their numbers";
@@ -20,9 +20,9 @@ export const byContinue = (place) => `${place}, by continue`;
 export const NOTHING_WATCHED = "nothing is watched";
 
 // --- prompt/stop_commands.js ---
-/** @type {(condition: string) => string} a condition, and a note, as `break` reads them */
+/** @type {(condition: string) => string} the condition of a breakpoint as an argument of `break` */
 export const ifCondition = (condition) => (condition && ` if ${condition}`);
-/** @type {(note: string) => string} */
+/** @type {(note: string) => string} the note of a breakpoint as an argument of `break` */
 export const logNote = (note) => (note && ` log "${note}"`);
 export const CONDITION_FORM = "write condition N CONDITION, as in condition 1 r4 = 7";
 export const IGNORE_FORM = "write ignore N COUNT, as in ignore 1 5";
@@ -132,7 +132,7 @@ export const backInSubroutine = (where) => `Back in the subroutine, at ${where}:
 export const backAt = (where) => `Back at ${where}: this instruction has not run yet.`;
 
 // --- prompt/debugger_prompt.js ---
-/** The beginning of the words about what did nothing. */
+/** The beginning of a message that a command did nothing. */
 export const NOTHING_DONE = "Nothing was done";
 export const PAGE_REMEMBERS = "the page remembers";
 export const SESSION_REMEMBERS = "the session remembers";

@@ -1,4 +1,4 @@
-// The results of proving properties on the page, in words: of all, of one.
+// Messages about the results of proofs on the page: all properties, one property.
 
 import { grouped, stepsOf } from "../core/explore/report.js";
 import { statesOf } from "../core/prove/verdicts.js";
@@ -9,13 +9,16 @@ import * as say from "./prove.js";
  * @typedef {import("../core/prove/bounded_proof.js").JudgedLine} JudgedLine
  */
 
-/** @param {JudgedLine} judged */
+/**
+ * Returns whether a property is proved, or a goal is reached.
+ * @param {JudgedLine} judged
+ */
 export function isRight({ isGoal, verdict }) {
   return verdict.kind !== "open" && isGoal === (verdict.kind === "found");
 }
 
 /**
- * The verdict on a property, in one or two words: proved, or not.
+ * Returns the mark of a property: its verdict in one or two words.
  * @param {JudgedLine} judged
  */
 export function markOf({ isGoal, verdict }) {
@@ -25,7 +28,7 @@ export function markOf({ isGoal, verdict }) {
 }
 
 /**
- * The words next to the mark.
+ * Returns the text next to the mark.
  * @param {JudgedLine} judged
  */
 export function wordsOfVerdict({ isGoal, verdict }) {
@@ -35,7 +38,10 @@ export function wordsOfVerdict({ isGoal, verdict }) {
   return say.foundBy(stepsOf(steps), grouped(cycles), isGoal);
 }
 
-/** @param {JudgedLine[]} judged */
+/**
+ * Counts the properties by their verdicts.
+ * @param {JudgedLine[]} judged
+ */
 function countsOf(judged) {
   /** @type {(kind: JudgedLine["verdict"]["kind"], isGoal: boolean) => number} */
   const count = (kind, wanted) => judged.filter(({ isGoal, verdict }) => verdict.kind === kind && isGoal === wanted).length;
@@ -46,9 +52,9 @@ function countsOf(judged) {
 }
 
 /**
- * The verdicts on all: `2 proved, 1 can fail.`
+ * Returns the summary of all verdicts, such as `2 proved, 1 can fail.`
  * @param {JudgedLine[]} judged
- * @param {boolean} isStopped
+ * @param {boolean} isStopped whether the proof was cancelled
  */
 export function wordsOfEnd(judged, isStopped) {
   const { proved, broken, reached, never, open } = countsOf(judged);
@@ -60,7 +66,7 @@ export function wordsOfEnd(judged, isStopped) {
 }
 
 /**
- * Returns the progress.
+ * Returns the text about the progress.
  * @param {Progress} progress
  */
 export function wordsSoFar({ judged, count, states }) {
@@ -69,7 +75,7 @@ export function wordsSoFar({ judged, count, states }) {
 }
 
 /**
- * The same for a tab.
+ * Returns the mark on the tab; "" if nothing is decided.
  * @param {JudgedLine[]} judged
  */
 export function markOfTab(judged) {

@@ -1,4 +1,4 @@
-// The results of tests, in words: of all, of one, of the counts.
+// Messages about the results of tests: all tests, one test, the coverage.
 
 import { counted } from "../core/bench/numbers.js";
 import { wordsOfCoverage } from "../core/testing/coverage.js";
@@ -10,11 +10,11 @@ import { CYCLE_MS } from "../core/time/mcs4_time.js";
  * @typedef {import("../core/testing/test_run.js").Outcome} Outcome
  */
 
-/** @type {Record<TextFault["text"], string>} */
+/** @type {Record<TextFault["text"], string>} the titles of the texts */
 const WHERE = { board: "Board", program: "Source", tests: "Tests", properties: "Properties" };
 
 /**
- * Returns how many passed, and how many did not.
+ * Returns the summary of all tests.
  * @param {Outcome[]} outcomes
  */
 export function wordsOfOutcomes(outcomes) {
@@ -24,7 +24,7 @@ export function wordsOfOutcomes(outcomes) {
 }
 
 /**
- * The same for a tab.
+ * Returns the mark on the tab.
  * @param {Outcome[]} outcomes
  */
 export function markOfOutcomes(outcomes) {
@@ -33,7 +33,7 @@ export function markOfOutcomes(outcomes) {
 }
 
 /**
- * Why nothing was run.
+ * Returns the message that no test was run because texts have errors.
  * @param {TextFault[]} faults
  * @param {(number: number) => string} wordsOfRefusal
  */
@@ -45,6 +45,7 @@ export function wordsOfFaults(faults, wordsOfRefusal) {
 }
 
 /**
+ * Returns the time that a test took, in cycles and in milliseconds or seconds.
  * @param {Outcome} outcome
  */
 export function wordsOfTime({ cycles }) {
@@ -53,7 +54,7 @@ export function wordsOfTime({ cycles }) {
 }
 
 /**
- * The coverage of the program by the tests.
+ * Returns the text about the coverage of the program by the tests; "" if nothing was counted.
  * @param {Report} report
  */
 export function wordsOfCounts({ coverage }) {

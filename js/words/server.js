@@ -1,4 +1,4 @@
-// Texts that users read about the language server, in an editor, and of project files.
+// Texts of the language server, which users read in their editor, and error messages about `mcs4.toml`.
 
 // --- server/beside_language.js ---
 /** @type {(file: string) => string} */

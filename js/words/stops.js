@@ -1,4 +1,4 @@
-// Why time stopped, where, and after how many cycles, in words.
+// Messages about stops: where the machine paused, why, and after how many cycles. Also about going back and forward.
 
 import { hex } from "../core/bench/numbers.js";
 import { wordsOfCycles } from "../core/time/cycles.js";
@@ -11,7 +11,7 @@ import { wordsOfCycles } from "../core/time/cycles.js";
  * @typedef {import("../core/machine/source_map.js").SourceMap} SourceMap
  */
 
-/** @type {Record<string, string>} why a run stopped, by the word of its answer */
+/** @type {Record<string, string>} the reasons why a run stopped, by the word in its answer */
 export const REASONS = {
   code: "before a code that is not an instruction",
   break: "at a breakpoint",
@@ -20,15 +20,15 @@ export const REASONS = {
   recorded: "because the waves after the trigger have been recorded",
 };
 
-/** Only a running subroutine can be stepped out of. */
+/** The message of Step out if no subroutine is running. */
 export const NO_CALL_WAITS = "no call is open here";
 
-/** @type {(line: number) => string} a line of a text, by its number */
+/** @type {(line: number) => string} a reference to a line of a text */
 export const wordsOfLine = (line) => `line ${line}`;
 
 /**
- * An address with its name and its line: `00D (show + 3, line 12)`.
- * @param {string} address as it is written
+ * Returns an address with its name and its line, such as `00D (show + 3, line 12)`.
+ * @param {string} address in hexadecimal
  * @param {SourceMap | null} map the program in ROM
  */
 export function wordsOfAddress(address, map) {
@@ -39,11 +39,11 @@ export function wordsOfAddress(address, map) {
 }
 
 /**
- * The result of going back or forward.
+ * Returns the message after going back or forward.
  * @param {BackGoal | { kind: "forward" }} goal
  * @param {Pick<TravelResult, "isDone" | "why" | "place" | "from" | "to" | "line" | "end" | "cycles">} gone
- * @param {string} where the place where time is paused
- * @param {{ condition: string }} [breakpoint] the breakpoint at the arrival
+ * @param {string} where the address at which the machine is paused
+ * @param {{ condition: string }} [breakpoint] the breakpoint at that address
  */
 export function wordsOfGone(goal, gone, where, breakpoint) {
   const { isDone, why, from, to, line, end, cycles } = gone;
@@ -67,6 +67,7 @@ export function wordsOfGone(goal, gone, where, breakpoint) {
 }
 
 /**
+ * Returns the reason why a goal in the past was not reached.
  * @param {BackGoal | { kind: "forward" }} goal
  * @param {string} why
  */
@@ -81,7 +82,8 @@ function whyNot(goal, why) {
 }
 
 /**
- * Returns when a place changed last, and by what; "" if there is no such place.
+ * Returns the message about the last change of a place: the values, the instruction or line, and the time. Returns "" if the board lacks
+ * the place.
  * @param {string} name of the place
  * @param {import("../core/debug/debugger.js").LastChange} change
  * @param {SourceMap | null} map the program in ROM
@@ -94,7 +96,7 @@ export function wordsOfLastChange(name, { isFound, why, from, to, line, cycles, 
 }
 
 /**
- * The goal in words.
+ * Returns the description of a goal.
  * @param {Goal} goal
  */
 export function wordsOfGoal(goal) {
@@ -106,7 +108,7 @@ export function wordsOfGoal(goal) {
 }
 
 /**
- * Time runs to a goal that is not near.
+ * Returns the message while the machine runs to a distant goal.
  * @param {Goal} goal
  */
 export function wordsOfMove(goal) {
@@ -114,8 +116,9 @@ export function wordsOfMove(goal) {
 }
 
 /**
+ * Returns the first part of the message that a goal was reached.
  * @param {Goal} goal
- * @param {boolean} returns whether a return was waited for
+ * @param {boolean} returns whether the goal was a return from a subroutine
  * @param {string} where
  */
 function reached(goal, returns, where) {
@@ -127,10 +130,11 @@ function reached(goal, returns, where) {
 }
 
 /**
- * @param {Goal | null} goal null if time had none
+ * Returns the message when the machine pauses.
+ * @param {Goal | null} goal null if the run had no goal
  * @param {Pick<Stop, "why" | "cycles" | "returns" | "change">} stop
- * @param {string} where the place where time is paused
- * @param {string} [when] the part of the breakpoint that stopped it
+ * @param {string} where the address at which the machine is paused
+ * @param {string} [when] the condition and hit count of the breakpoint that paused it, in words
  */
 export function wordsOfStop(goal, { why, cycles, returns, change }, where, when = "") {
   if (why === "lacks") return `Nothing was done: this board has no ${goal && goal.kind === "change" ? goal.place : "such place"}.`;
@@ -142,9 +146,9 @@ export function wordsOfStop(goal, { why, cycles, returns, change }, where, when 
 }
 
 /**
- * When a breakpoint stops: `, where r9 = 9`, `, at hit 5`.
+ * Returns the condition and hit count of a breakpoint in words, such as `, when r9 = 9, at hit 5`.
  * @param {{ condition: string, from: number, hits: number } | undefined} breakpoint
- * @param {string} [fault] why it cannot be read: it stops every time then
+ * @param {string} [fault] the error in the breakpoint, which makes it stop every time
  */
 export function wordsOfWhen(breakpoint, fault = "") {
   if (!breakpoint) return "";
@@ -157,9 +161,9 @@ export function wordsOfWhen(breakpoint, fault = "") {
 export const stoppedAt = (where) => `Paused at ${where}.`;
 
 /**
- * Time was stopped by a hand before its goal.
+ * Returns the message when the user pauses the machine before its goal.
  * @param {Goal | null} goal
- * @param {number} cycles since it began
+ * @param {number} cycles since the run began
  * @param {string} where
  */
 export function wordsOfHalt(goal, cycles, where) {
@@ -167,9 +171,9 @@ export function wordsOfHalt(goal, cycles, where) {
 }
 
 /**
- * A move was under way when the page was reloaded, or another session was shown.
+ * Returns the message that a reload of the page, or the choice of another session, has ended a run or a search.
  * @param {Goal} goal
- * @param {boolean} ran whether time ran up to it; otherwise it was searched for
+ * @param {boolean} ran whether the machine ran to the goal; otherwise the past was searched for it
  * @param {string} where
  */
 export function wordsOfBroken(goal, ran, where) {

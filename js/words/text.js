@@ -1,4 +1,4 @@
-// Texts that users read about the texts: the editors, errors of a program and of a board's text, names, the meaning of words.
+// Texts of the editors: errors in programs and boards, completion, help on words, names, search.
 
 // --- text/alike.js ---
 export const OR = " or ";
@@ -117,7 +117,7 @@ export const sizeOf = (size, most, unit) => `${size} of ${most} ${unit}`;
 export const MAY_BE_MORE = "There may be more.";
 /** @type {(bytes: string) => string} */
 export const assembledAll = (bytes) => `Assembled ${bytes}; running from 000.`;
-/** @type {Record<string, string>} the texts, by their names */
+/** @type {Record<string, string>} the titles of the texts, by their kinds */
 const TEXTS = { program: "Source", board: "Board", tests: "Tests", properties: "Properties" };
 /** @type {(name: string, line: number) => string} */
 export const problemAt = (name, line) => `${TEXTS[name]}, line ${line}: `;
@@ -167,7 +167,7 @@ export const noRomForLine = (chip, address) => (
 export const layoutTooLong = (most, size) => `in columns the program would have ${size} characters; at most ${most} are accepted`;
 
 // --- text/program_words.js ---
-/** The words of other assemblers, and their replacements here. */
+/** The words of other assemblers, each with its replacement here. */
 export const ELSEWHERE = new Map(Object.entries({
   JMP: "JUN", GOTO: "JUN", BRA: "JUN", CALL: "JMS", JSR: "JMS", RET: "BBL", RTS: "BBL", MOV: "LD or XCH", LDA: "LD", STA: "XCH", STO: "XCH",
   JZ: "JCN 4", JNZ: "JCN 12", JC: "JCN 2", JNC: "JCN 10", DJNZ: "ISZ", BYTE: "DB", DEFB: "DB", EQU: "NAME = NUMBER", HLT: "JUN to itself",
@@ -273,7 +273,7 @@ export const foundOf = (at, count) => `${at} of ${count}`;
 
 // --- testing/sample_test.js ---
 const ABOUT_TESTS = "# Tests, line by line. F1 lists the words; Ctrl+Space completes them.\n\n";
-/** Those that are tried after the display and the lamps by their names. */
+/** The conditions that a sample test tries after the display and the named lamps. */
 export const OTHER_CONDITIONS = ["lamps none", "not lamps none"];
 /** @type {(key: string, milliseconds: number, condition: string) => string} */
 export const sampleTest = (key, milliseconds, condition) => [

@@ -1,4 +1,4 @@
-// Texts that users read about time: cycles, speeds, steps, back and forward.
+// Texts about time: cycles, speeds, steps, back and forward.
 
 import { PLACES_ARE } from "./conditions.js";
 
@@ -16,7 +16,7 @@ export const isRefusal = (line, answer) => `line ${line} is a refusal: ${answer}
 /** @type {(lines: number) => string} */
 export const onlyAnswers = (lines) => `there are only ${lines} lines of answers`;
 export const NO_RUN = "none of these lines shows a run, as `ok 5 ran 100 end` does";
-/** @type {Record<string, string>} */
+/** @type {Record<string, string>} the end of a run in `mcs4 cycles`, by the word in the answer */
 export const WHY_STOPPED = {
   end: "", break: ", to a breakpoint", watch: ", to a change of a watched nibble", code: ", to a code that is not an instruction",
 };
@@ -37,14 +37,14 @@ export const BETWEEN_MARKS = "Between the marks ";
 /** @type {(most: string) => string} */
 export const giveCount = (most) => `Nothing was done: give a number of instructions, 1 to ${most}.`;
 export const GIVE_CHANGE = "Nothing was done: enter a place such as r5, lamp 3 or rom0.2, or a condition such as r5 > 8.";
-/** @type {(fault: string) => string} in a line of the status bar: some examples instead of all places */
+/** @type {(fault: string) => string} an error for the status bar, with a few examples instead of all places */
 export const cannotBeSought = (fault) => `Nothing was done: ${fault.replace(PLACES_ARE, SUCH_PLACES)}.`;
 const SUCH_PLACES = "enter something such as r5, lamp 3 or rom0.2";
 
 // --- time/running.js ---
 /** @type {(rate: string) => string} */
 export const cyclesASecond = (rate) => `${rate} cycles a second`;
-/** @type {(name: string, errors: number) => string} of a session; how many of its breakpoints cannot be read */
+/** @type {(name: string, errors: number) => string} by the name of the session, and the number of its breakpoints with errors */
 export const timeRuns = (name, errors) => `Running "${name}". F5 pauses it.${errors === 0 ? "" : errorsIn(errors)}`;
 /** @type {(errors: number) => string} */
 const errorsIn = (errors) => (
