@@ -1,9 +1,10 @@
-// Makes the grammars of editors from the words that the page knows: `node editors/make.mjs [FOLDER]`. It writes to the folder (this one if
-// none is named) the grammars for Visual Studio Code (TextMate, which GitHub reads too), Vim, Emacs and Kate, for programs and for boards.
-// Of Emacs' modes it makes only the words.
+// Generates the editors' grammars from the page's lists of words: `node editors/make.mjs [FOLDER]`. It writes the grammars for programs and
+// for boards to the folder (by default this one), for Visual Studio Code (TextMate, which GitHub also reads), Vim, Emacs and Kate. In the
+// Emacs modes it replaces only the lists of words.
 //
-// Programs: a label or a name that is defined, the instruction of the statement or a directive, registers, numbers, names. Boards: tables,
-// keys, texts, numbers, and comments, in which the lines of the front panel are distinguished. checks/grammars compares them with the page.
+// In programs the grammars distinguish labels and defined names, instructions, directives, registers, numbers and names. In boards they
+// distinguish tables, keys, strings, numbers, comments, and the comments that describe the front panel. checks/grammars compares the
+// grammars with the page.
 import { mkdirSync, readFileSync, writeFileSync } from "node:fs";
 import { dirname } from "node:path";
 import { fileURLToPath } from "node:url";
@@ -23,12 +24,13 @@ const NUMBER = "(?:0x[0-9A-Fa-f]+|[0-9]+)";
 const REGISTER = "(?:[Rr](?:1[0-5]|[0-9])|[Pp][0-7])";
 const STRING = "(?:\"(?:\\\\.|[^\"\\\\])*\"|'[^']*')";
 const KEY = "[A-Za-z0-9_-]+";
-/** The position where a word of an operand ends. */
+/** The end and the beginning of a word in an operand. */
 const AFTER = "(?![A-Za-z0-9_])";
 const BEFORE = "(?<![A-Za-z0-9_])";
 
-/** A word in any case. */
+/** Returns a regular expression for a word in upper or lower case. */
 const inAnyCase = (word) => [...word].map((letter) => (/[A-Z]/.test(letter) ? `[${letter}${letter.toLowerCase()}]` : letter)).join("");
+/** Returns a regular expression for any of some words. */
 const anyOf = (words, written = (word) => word) => words.map(written).join("|");
 const WARNING = "Made by editors/make.mjs out of the words that the page knows; edits here are lost.";
 
@@ -37,49 +39,49 @@ const WARNING = "Made by editors/make.mjs out of the words that the page knows; 
 function programOfTextMate() {
   const instruction = anyOf(INSTRUCTIONS, inAnyCase);
   const directive = anyOf(DIRECTIVES, inAnyCase);
-  const own = "mcs4";
+  const scope = "mcs4";
   return {
     information_for_contributors: [WARNING],
     name: "MCS-4 program", scopeName: "source.mcs4", fileTypes: ["4004", "asm"],
     patterns: [
-      { name: `comment.line.semicolon.${own}`, match: ";.*$" },
-      { match: `^\\s*(${NAME})\\s*(=)`, captures: { 1: { name: `entity.name.constant.${own}` }, 2: { name: `keyword.operator.${own}` } } },
+      { name: `comment.line.semicolon.${scope}`, match: ";.*$" },
+      { match: `^\\s*(${NAME})\\s*(=)`, captures: { 1: { name: `entity.name.constant.${scope}` }, 2: { name: `keyword.operator.${scope}` } } },
       {
         match: `^\\s*(?:(${NAME})\\s*(:))?\\s*(?:(${instruction})|(${directive}))(?=[\\s,;]|$)`,
         captures: {
-          1: { name: `entity.name.function.${own}` }, 2: { name: `punctuation.separator.${own}` },
-          3: { name: `keyword.mnemonic.${own}` }, 4: { name: `keyword.control.directive.${own}` },
+          1: { name: `entity.name.function.${scope}` }, 2: { name: `punctuation.separator.${scope}` },
+          3: { name: `keyword.mnemonic.${scope}` }, 4: { name: `keyword.control.directive.${scope}` },
         },
       },
       {
         match: `^\\s*(?:(${NAME})\\s*(:))?\\s*([^\\s,;:=]+)(?=[\\s,;]|$)`,
         captures: {
-          1: { name: `entity.name.function.${own}` }, 2: { name: `punctuation.separator.${own}` }, 3: { name: `invalid.illegal.${own}` },
+          1: { name: `entity.name.function.${scope}` }, 2: { name: `punctuation.separator.${scope}` }, 3: { name: `invalid.illegal.${scope}` },
         },
       },
-      { match: `^\\s*(${NAME})\\s*(:)`, captures: { 1: { name: `entity.name.function.${own}` }, 2: { name: `punctuation.separator.${own}` } } },
-      { name: `variable.language.register.${own}`, match: `${BEFORE}${REGISTER}${AFTER}` },
-      { name: `constant.numeric.${own}`, match: `${BEFORE}${NUMBER}${AFTER}` },
-      { name: `variable.other.${own}`, match: `${BEFORE}${NAME}${AFTER}` },
+      { match: `^\\s*(${NAME})\\s*(:)`, captures: { 1: { name: `entity.name.function.${scope}` }, 2: { name: `punctuation.separator.${scope}` } } },
+      { name: `variable.language.register.${scope}`, match: `${BEFORE}${REGISTER}${AFTER}` },
+      { name: `constant.numeric.${scope}`, match: `${BEFORE}${NUMBER}${AFTER}` },
+      { name: `variable.other.${scope}`, match: `${BEFORE}${NAME}${AFTER}` },
     ],
   };
 }
 
 function boardOfTextMate() {
-  const own = "mcs4-board";
+  const scope = "mcs4-board";
   return {
     information_for_contributors: [WARNING],
     name: "MCS-4 board", scopeName: "source.mcs4-board", fileTypes: ["board.toml"],
     patterns: [
       {
-        name: `comment.line.number-sign.${own}`, match: `#\\s*(${anyOf(FACE)})\\b([^:]*)(:)(.*)$`,
-        captures: { 1: { name: `keyword.other.face.${own}` }, 4: { name: `string.unquoted.face.${own}` } },
+        name: `comment.line.number-sign.${scope}`, match: `#\\s*(${anyOf(FACE)})\\b([^:]*)(:)(.*)$`,
+        captures: { 1: { name: `keyword.other.face.${scope}` }, 4: { name: `string.unquoted.face.${scope}` } },
       },
-      { name: `comment.line.number-sign.${own}`, match: "#.*$" },
-      { match: `^\\s*\\[+\\s*(${anyOf(TABLES)})\\s*\\]+`, captures: { 1: { name: `entity.name.section.${own}` } } },
-      { match: `(${KEY})\\s*(?==)`, captures: { 1: { name: `support.type.property-name.${own}` } } },
-      { name: `string.quoted.${own}`, match: STRING },
-      { name: `constant.numeric.${own}`, match: `${BEFORE}[+-]?[0-9][0-9A-Za-z_.]*` },
+      { name: `comment.line.number-sign.${scope}`, match: "#.*$" },
+      { match: `^\\s*\\[+\\s*(${anyOf(TABLES)})\\s*\\]+`, captures: { 1: { name: `entity.name.section.${scope}` } } },
+      { match: `(${KEY})\\s*(?==)`, captures: { 1: { name: `support.type.property-name.${scope}` } } },
+      { name: `string.quoted.${scope}`, match: STRING },
+      { name: `constant.numeric.${scope}`, match: `${BEFORE}[+-]?[0-9][0-9A-Za-z_.]*` },
     ],
   };
 }
@@ -147,7 +149,7 @@ autocmd BufRead,BufNewFile *.4004 setfiletype mcs4
 
 // --- Emacs
 
-/** The modes as they are, with these words in place of theirs. */
+/** Returns the text of the Emacs modes, with the lists of words replaced. */
 function modesOfEmacs() {
   const lists = { instructions: INSTRUCTIONS, directives: DIRECTIVES, face: FACE, tables: TABLES };
   return Object.entries(lists).reduce(
@@ -212,7 +214,7 @@ ${rules.join("\n")}
 
 const json = (value) => `${JSON.stringify(value, null, 2)}\n`;
 
-/** Each file with its text. */
+/** The texts of all files, by their names. */
 export const FILES = {
   "vscode/mcs4.tmLanguage.json": json(programOfTextMate()),
   "vscode/mcs4-board.tmLanguage.json": json(boardOfTextMate()),

@@ -1,26 +1,28 @@
-# Which program is started: need_program. A script reads this by `.`, after it has set `top`, the folder of the repository.
+# Functions that find the program to start, such as need_program. A script reads this file by `.`, after it has set `top`, the folder of the
+# repository.
 # shellcheck shell=sh disable=SC2034
 
 # The program that was proved and built here.
 built=$top/crates/mcs4/out/mcs4
-# The program that is shipped, the same for systems with another C library or an older one, that for aarch64, and their checksums.
+# The shipped programs: the usual one, the static one for systems with another or an older C library, and the one for aarch64.
 shipped=$top/shipped/mcs4
 static=$top/shipped/mcs4-static
 aarch64=$top/shipped/mcs4-aarch64
-# The program that searches for `mcs4 prove`: the one that was proved and built here, and the shipped one, for Linux on x86-64 with any C library.
+# The program that `mcs4 prove` starts: the one that was proved and built here, and the shipped one, for Linux on x86-64 with any C library.
 built_prover=$top/crates/mcs4_prove/out/mcs4_prove
 prover=$top/shipped/mcs4-prove
+# The checksums of the shipped files.
 sums=$top/shipped/SUMS
 
-# To compare all sources takes a tenth of a second. So what was found is remembered with the size and the times of each file that was
-# read, and of each folder in which others might come to stand; while they are the same, it is not compared again. For each tree there
-# is `NAME.names` (the program, and then what was read) and `NAME.seen` (what it looked like), in a folder that is its user's alone.
-# Where that cannot be written, each start compares again.
+# Comparing all sources takes a tenth of a second. So the program that was found is cached, with the sizes and times of all files that were
+# read, and of all folders in which new files could appear. While these are unchanged, the sources are not compared again. The cache is a
+# private folder of the user. It has two files for each tree: `NAME.names` lists the program and the files and folders, `NAME.seen` has
+# their sizes and times. If the folder is not writable, each start compares again.
 case ${XDG_CACHE_HOME:-} in
-    /*) remembered=$XDG_CACHE_HOME/fethsaim ;;
+    /*) cache=$XDG_CACHE_HOME/fethsaim ;;
     *) case ${HOME:-} in
-        /?*) remembered=$HOME/.cache/fethsaim ;;
-        *) remembered= ;;
+        /?*) cache=$HOME/.cache/fethsaim ;;
+        *) cache= ;;
     esac ;;
 esac
 names=
@@ -29,25 +31,25 @@ while [ "$rest" != "${rest#*/}" ]; do
     names=$names${rest%%/*}%
     rest=${rest#*/}
 done
-names=$remembered/$names$rest.names
+names=$cache/$names$rest.names
 seen=${names%.names}.seen
-# A line for each program that this user built, with the checksums of its sources and of its bytes. It is kept outside of the tree, which may
-# have come from somebody else with a program and any file beside it.
-built_from=$remembered/built
+# A line for each program that this user has built, with the checksums of its sources and of its bytes. The file is outside the tree: a tree
+# from somebody else could contain a program and a forged file.
+built_from=$cache/built
 
-# A line for the folder of what is remembered, and one for each file and folder that is there of those whose names stand in a file behind
-# its first line.
-look() {
-    (CDPATH='' cd -- "$top" && read -r _ && LC_ALL=C exec xargs -0 stat -L -c '%a %i %s %Y %.9Z' -- "$remembered") < "$1" 2> /dev/null || :
+# Prints the sizes and times of the cache folder, and then those of all existing files and folders that a file lists after its first line.
+file_stamps() {
+    (CDPATH='' cd -- "$top" && read -r _ && LC_ALL=C exec xargs -0 stat -L -c '%a %i %s %Y %.9Z' -- "$cache") < "$1" 2> /dev/null || :
 }
 
-# The program that an earlier start found, where nothing has changed since. What another user might have written is not trusted.
-recall() {
-    if [ -z "$remembered" ] || [ ! -O "$remembered" ]; then return 1; fi
+# Sets `program` to the one that an earlier start found, if nothing has changed since. Files that another user could have written are not
+# trusted.
+read_cache() {
+    if [ -z "$cache" ] || [ ! -O "$cache" ]; then return 1; fi
     for each in "$names" "$seen"; do
         if [ -h "$each" ] || [ ! -O "$each" ]; then return 1; fi
     done
-    look "$names" | {
+    file_stamps "$names" | {
         read -r mode _
         [ "$mode" = 700 ] && exec cmp -s - "$seen"
     } || return 1
@@ -55,43 +57,45 @@ recall() {
     program=$top/$program
 }
 
-# The user's folder is there, and is the user's own; for root in the home of another user there is none.
-make_remembered() {
-    if [ -z "$remembered" ]; then return 1; fi
-    above=${remembered%/*}
+# Makes the cache folder if necessary; fails if it would not belong to the user. So root makes no folder in another user's home.
+make_cache() {
+    if [ -z "$cache" ]; then return 1; fi
+    above=${cache%/*}
     if [ ! -e "$above" ]; then above=${above%/*}; fi
-    [ -O "$above" ] && (umask 077 && mkdir -p -- "$remembered") 2> /dev/null && [ -O "$remembered" ] && [ -w "$remembered" ]
+    [ -O "$above" ] && (umask 077 && mkdir -p -- "$cache") 2> /dev/null && [ -O "$cache" ] && [ -w "$cache" ]
 }
 
-# Puts the program that was found and what it looked like now into the place of what was remembered; not if a file has just changed: a
-# clock that ticks by seconds might not show its next change. What is put there last is taken away first: halves of two times are not used.
-remember() {
+# Writes the program that was found, and the sizes and times, to the cache. Does nothing if a file has just changed, because a clock that
+# ticks by seconds might not show its next change. The old `seen` file is removed first, so that files of two starts are never mixed.
+write_cache() {
     {
         echo "${program#"$top/"}"
         names_of_start
-    } > "$names.$$" && look "$names.$$" | sed 1d > "$seen.$$" && cmp -s "$seen.$$" "$seen.$$.before" &&
+    } > "$names.$$" && file_stamps "$names.$$" | sed 1d > "$seen.$$" && cmp -s "$seen.$$" "$seen.$$.before" &&
         awk -v now="$(date +%s)" '$4 >= now - 3 || $5 >= now - 3 { young = 1 } END { exit young || NR < 10 }' "$seen.$$" &&
         rm -f -- "$seen" && mv -f "$names.$$" "$names" && mv -f "$seen.$$" "$seen"
 }
 
-# Whether a program runs on this system: without words it prints its usage, with status 2. `said` is what it, or the system, has said.
+# Succeeds if a program runs on this system: without arguments it prints its usage, with status 2. Sets `said` to its output, or to the
+# system's error.
 runs_here() {
     status=0
     said=$({ "$1" < /dev/null; } 2>&1) || status=$?
     [ "$status" -eq 2 ]
 }
 
-# Whether this is what ./install or a package has installed: it has no sources to compare with, but the checksum of its program. A file of
-# that name in a clone is none of theirs.
+# Succeeds if this tree was installed by ./install or a package. It then has no sources, but the checksum of its program in the file
+# `installed`. In a clone, a file of that name is ignored.
 is_installed() {
     [ -f "$top/installed" ] && [ ! -e "$top/crates.txt" ]
 }
 
-# Begin the words about a program for other systems, and about one for this system that it does not run.
+# The beginnings of two messages: the program is for other systems; it is for this system, but does not run.
 is_for="it is for Linux on"
 does_not_run="it does not run on this system"
 
-# Whether this system is none that a program is built for; `fault` says so then. (All that is asked of it is `uname`: it may lack all else.)
+# Succeeds if no program is built for this system, and sets `fault` to the message. (It uses only `uname`, because such a system can lack
+# everything else.)
 is_other_system() {
     case "$(uname -s) $(uname -m)" in
     "Linux x86_64" | "Linux aarch64") return 1 ;;
@@ -99,7 +103,7 @@ is_other_system() {
     fault="$is_for x86-64, and this is $(uname -s) on $(uname -m)"
 }
 
-# Whether the fault of a program is its system, and none is built here that is for it: commands run on the proved module then.
+# Succeeds if `fault` says that the program is not for this system, and none can be built here. Commands then run on the proved module.
 is_without_program() {
     case $fault in
     "$is_for"*) ;;
@@ -108,7 +112,7 @@ is_without_program() {
     esac
 }
 
-# Finds a program that is installed: its file, and the name of its checksum.
+# Finds an installed program. Arguments: its file, and the name of its checksum.
 find_installed() {
     if { [ ! -x "$1" ] || [ ! -e /lib64/ld-linux-x86-64.so.2 ]; } && is_other_system; then
         return
@@ -125,7 +129,7 @@ find_installed() {
     fi
 }
 
-# Finds the program that was built from these sources, here or before it was shipped.
+# Finds the program that was built from these sources, either here or before it was shipped.
 find_by_sources() {
     sources=$(sum_of_crate mcs4)
     if is_built "$sources"; then
@@ -147,8 +151,8 @@ find_by_sources() {
     fi
 }
 
-# Finds the program: `program` is the one that was proved and built here, where the sources are still those that it was built from; else
-# the one in shipped/, where that was built from these sources and runs on this system; else there is none, and `fault` says why.
+# Sets `program` to the program that was proved and built here, if its sources are unchanged. Otherwise sets it to the program in shipped/,
+# if that was built from these sources and runs on this system. Otherwise `program` is empty, and `fault` is the reason.
 find_program() {
     program=
     fault=
@@ -156,24 +160,24 @@ find_program() {
         find_installed "$shipped" program
         return
     fi
-    if recall || is_other_system; then return; fi
+    if read_cache || is_other_system; then return; fi
     . "$top/tools/lib/sums.sh"
     kept=
-    if make_remembered; then
+    if make_cache; then
         kept=1
         (umask 077 && {
             echo
             names_of_start
-        } > "$names.$$" && look "$names.$$" | sed 1d > "$seen.$$.before") 2> /dev/null || kept=
+        } > "$names.$$" && file_stamps "$names.$$" | sed 1d > "$seen.$$.before") 2> /dev/null || kept=
     fi
     find_by_sources
     if [ -n "$kept" ]; then
-        if [ -n "$program" ]; then (umask 077 && remember) 2> /dev/null || :; fi
+        if [ -n "$program" ]; then (umask 077 && write_cache) 2> /dev/null || :; fi
         rm -f -- "$names.$$" "$seen.$$" "$seen.$$.before"
     fi
 }
 
-# Finds the program if no sources must be compared for it, and nothing is to be said: it is installed, or an earlier start found it.
+# Finds the program if that is possible without comparing sources and without a message: it is installed, or an earlier start found it.
 find_known() {
     program=
     fault=
@@ -181,11 +185,11 @@ find_known() {
         find_installed "$shipped" program
         [ -n "$program" ]
     else
-        recall && { [ "$program" = "$built" ] || [ -e "$remembered/reported" ]; }
+        read_cache && { [ "$program" = "$built" ] || [ -e "$cache/reported" ]; }
     fi
 }
 
-# Finds the program that searches for `mcs4 prove`, as find_program does. It is not remembered: a search takes longer than to compare the sources.
+# Finds the program that `mcs4 prove` starts, as find_program does. It is not cached: a search takes longer than the comparison of sources.
 find_prover() {
     program=
     fault=
@@ -204,8 +208,8 @@ find_prover() {
     fi
 }
 
-# Finds the program that is to be started, or says why there is none and proves and builds it first. `program` is empty where no program is
-# for this system. That it is the shipped one is said once to each user.
+# Finds the program to start. If there is none, prints the reason, and proves and builds it. `program` is empty if no program is for this
+# system. A message reports the use of the shipped program once to each user.
 find_or_build() {
     find_program
     if [ -n "$fault" ] && is_without_program; then
@@ -217,13 +221,13 @@ find_or_build() {
         echo "mcs4: the program in shipped/ is not started: $fault. It is proved and built here first" >&2 || :
         "$top/tools/build" >&2
         program=$built
-    elif [ "$program" != "$built" ] && ! is_installed && [ -n "$remembered" ] && [ ! -e "$remembered/reported" ] && make_remembered && { : > "$remembered/reported"; } 2> /dev/null; then
+    elif [ "$program" != "$built" ] && ! is_installed && [ -n "$cache" ] && [ ! -e "$cache/reported" ] && make_cache && { : > "$cache/reported"; } 2> /dev/null; then
         echo "mcs4: this is the program in shipped/. It was proved and built from these very sources, but not on this machine; tools/build" \
             "proves and builds it here. This message appears once" >&2 || :
     fi
 }
 
-# The program that is to be started, which keeps a session file: it ends where no program is for this system.
+# Finds the program to start for a session file; exits with a message if no program is for this system.
 need_program() {
     find_or_build
     if [ -n "$program" ]; then return; fi

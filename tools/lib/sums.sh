@@ -1,4 +1,4 @@
-# Checksums of the sources that the program and the page are made from. A script reads it by `.`, after it has set `top`, the folder of
+# Checksums of the sources that the program and the page are made from. A script reads this file by `.`, after it has set `top`, the folder of
 # the repository. It needs sha256sum (Debian's package coreutils).
 # shellcheck shell=sh disable=SC2034
 
@@ -8,13 +8,13 @@ if ! command -v sha256sum > /dev/null; then
 fi
 
 . "$top/tools/lib/start.sh"
-# What is installed of the commands beside their modules.
+# The joined files, help texts, manual pages and completions of the commands.
 commands=$top/shipped/commands
-# The page, and what else in its folder is no source of it.
+# The page, and the files in its folder that are not its sources (a regular expression).
 page=$top/page/fethsaim.html
 page_made='page/(from_npm/.*|fethsaim\.(html|png)|check|tsconfig\.json)'
 
-# The lines of crates.txt for a crate and the crates of this repository that it stands on, without comments.
+# Prints the lines of crates.txt for a crate and for the crates of this repository that it uses, directly or not, without comments.
 lines_of() {
     awk -v wanted="$1" '
         { sub(/ *#.*/, "") }
@@ -40,28 +40,29 @@ lines_of() {
     ' < "$top/crates.txt"
 }
 
-# The names of the crates whose lines are on standard input.
+# Prints the names of the crates whose lines are on standard input.
 crates_of_lines() {
     sed 's/[ :].*//'
 }
 
-# The crates of this repository that a crate uses.
+# Prints the names of the crates of this repository that a crate uses directly.
 uses_of() {
     for name in $(lines_of "$1" | sed -n "s/^$1\( [^:]*\)\{0,1\}://p"); do
         if [ -d "$top/crates/$name" ]; then echo "$name"; fi
     done
 }
 
+# Prints the checksum of standard input.
 sum_of_input() {
     sha256sum | cut -d ' ' -f 1
 }
 
-# The names of files below the top, from standard input: a line for each with its checksum, in one order everywhere.
+# Reads names of files below the top folder; prints a line for each with its checksum, sorted in the same order on all systems.
 sums_of_files() {
     LC_ALL=C sort | (cd "$top" && xargs sha256sum)
 }
 
-# The names of code, definitions and proofs (files, `f`, or folders, `d`) of the crates whose lines these are.
+# Prints the paths of code, definitions and proofs of crates. Arguments: the lines of the crates, and `f` for files or `d` for folders.
 names_of_crates() {
     (cd "$top" && find crates -name out -prune -o -type "$2" -print) | crates=$(echo "$1" | crates_of_lines) awk -F / '
         BEGIN {
@@ -72,11 +73,11 @@ names_of_crates() {
     '
 }
 
-# What makes the program for aarch64 of the crate mcs4.
+# The files that make the program for aarch64 from the crate mcs4.
 made_for_aarch64='tools/aarch64 tools/lib/aarch64.c tools/lib/compile.sh'
 
-# The checksum of what a crate is made from: its line of crates.txt and those of the crates below, and their code, definitions and
-# proofs. Tests and must-fail edits are no part of it.
+# Prints the checksum of the sources of a crate: its line in crates.txt and those of the crates below it, and their code, definitions and
+# proofs. Tests and must-fail edits are not included.
 sum_of_crate() {
     lines=$(lines_of "$1")
     {
@@ -85,7 +86,7 @@ sum_of_crate() {
     } | sum_of_input
 }
 
-# The checksum of what the program for aarch64 is made from, over sources of the crate mcs4 of this checksum.
+# Prints the checksum of the sources of the program for aarch64. Argument: the checksum of the sources of the crate mcs4.
 sum_of_aarch64() {
     {
         echo "$1"
@@ -94,13 +95,13 @@ sum_of_aarch64() {
     } | sum_of_input
 }
 
-# The packages of Debian that make it, with their versions, as one word.
+# Prints the Debian packages that link the program for aarch64, with their versions, as one word.
 packages_for_aarch64() {
     dpkg-query -W -f '${Package}=${Version},' libc6-dev-arm64-cross 'gcc-[0-9]*-aarch64-linux-gnu' binutils-aarch64-linux-gnu 2> /dev/null || echo unknown
 }
 
-# All that is looked at before a program is started, by names with a zero byte behind each: what is compared, and the folders in which
-# something may come to stand beside it.
+# Prints the paths of all files that are compared before a program is started, and of the folders in which new files could appear. A zero
+# byte ends each path.
 names_of_start() {
     lines=$(lines_of mcs4)
     {
@@ -113,33 +114,35 @@ names_of_start() {
     } | tr '\n' '\000'
 }
 
-# The word after a name in shipped/SUMS.
+# Prints the word after a name in shipped/SUMS.
 shipped_sum() {
     awk -v name="$1" '$1 == name { print $2 }' < "$sums"
 }
 
-# Notes a program, ./mcs4's where none is named, that was just built from sources of this checksum. Without a folder for the note, no later start takes it.
+# Records that a program was just built here. Arguments: the checksum of its sources, and the program (by default the one of ./mcs4). If
+# that cannot be recorded, later starts do not use the program.
 note_built() {
     line="$1 $(sum_of_input < "${2:-$built}")"
-    if make_remembered && (umask 077 && {
+    if make_cache && (umask 077 && {
         if is_own_note; then grep -vxF -- "$line" "$built_from" | tail -n 99; fi
         echo "$line"
     } > "$built_from.$$" && mv -f -- "$built_from.$$" "$built_from") 2> /dev/null; then return; fi
-    echo "mcs4: cannot note in ${remembered:-a home} that this program was built here; the next start does not take it" >&2 || :
+    echo "mcs4: cannot note in ${cache:-a home} that this program was built here; the next start does not take it" >&2 || :
 }
 
-# Whether the note of programs that were built is this user's alone.
+# Succeeds if the record of built programs belongs to this user.
 is_own_note() {
-    [ -n "$remembered" ] && [ -O "$remembered" ] && [ -f "$built_from" ] && [ ! -h "$built_from" ] && [ -O "$built_from" ]
+    [ -n "$cache" ] && [ -O "$cache" ] && [ -f "$built_from" ] && [ ! -h "$built_from" ] && [ -O "$built_from" ]
 }
 
-# Whether a program, ./mcs4's where none is named, was built here by this user from sources of this checksum.
+# Succeeds if this user has built a program here from given sources. Arguments: the checksum of the sources, and the program (by default
+# the one of ./mcs4).
 is_built() {
     [ -x "${2:-$built}" ] && is_own_note && grep -qxF -- "$1 $(sum_of_input < "${2:-$built}")" "$built_from"
 }
 
-# Why a shipped program is not to be started on this system over sources of this checksum; nothing where it is. Its file, its name in
-# shipped/SUMS, and the machine that it is for, as `uname -m` names it.
+# Prints the reason why a shipped program cannot be started on this system; nothing if it can. Arguments: the checksum of the sources, the
+# program's file, its name in shipped/SUMS, and its machine, as `uname -m` names it.
 fault_of_shipped() {
     if [ "$(uname -s) $(uname -m)" != "Linux $4" ]; then
         echo "$is_for $(echo "$4" | tr _ -), and this is $(uname -s) on $(uname -m)"
@@ -154,7 +157,7 @@ fault_of_shipped() {
     fi
 }
 
-# The checksum of what the page's module is made from: the crate `wasm` with those below it, and what compiles it.
+# Prints the checksum of the sources of the page's module: the crate `wasm` with those below it, and the files that compile it.
 sum_of_module() {
     {
         sum_of_crate wasm
@@ -162,8 +165,8 @@ sum_of_module() {
     } | sum_of_input
 }
 
-# The checksum of what the page is made from: its module, the page's folder but for what is made there, the modules of js that it joins, the examples, the texts
-# that tools and page share, and the manual, whose tables the page shows.
+# Prints the checksum of the sources of the page: its module, the page's folder without generated files, the modules in js, the examples, the
+# tables that tools and page share, and the manual, whose tables the page shows.
 sum_of_page() {
     {
         sum_of_module
@@ -171,12 +174,12 @@ sum_of_page() {
     } | sum_of_input
 }
 
-# The checksum of what tools/ship has made of the commands.
+# Prints the checksum of the files in shipped/commands.
 sum_of_commands() {
     (cd "$top" && find shipped/commands -type f) | sums_of_files | sum_of_input
 }
 
-# The checksum of the modules that that is made from.
+# Prints the checksum of the modules that these files are made from.
 sum_of_command_sources() {
     (cd "$top" && find js/core js/words js/node -type f) | sums_of_files | sum_of_input
 }
