@@ -17,7 +17,7 @@ MOST_OF_MUTANTS, PAUSE_OF_MUTANTS = 120, 1000
 
 
 def texts_of(props: str) -> tuple[list[str], list[str]]:
-    """Returns the board and the program of a file of properties."""
+    """Returns the board and the program for a properties file."""
     path = EXAMPLE_FILES / props
     if path.with_name("board.toml").exists():
         texts = path.with_name("board.toml"), path.with_name(f"{path.parent.name}.asm")
@@ -33,7 +33,7 @@ def texts_of(props: str) -> tuple[list[str], list[str]]:
 
 
 def comparisons_of(words: str, names: dict[str, int]) -> list[Comparison]:
-    """Returns the comparisons that `&` joins; `@label` is the counter's, between two instructions."""
+    """Returns the comparisons that `&` joins. `@label` compares the counter between two instructions."""
     rows: list[Comparison] = []
     for each in words.split(" & "):
         if each.startswith("@"):
@@ -59,8 +59,8 @@ GREEN, AMBER, WALK = "in ramport 0 line2 1 1", "in ramport 0 line1 1 1", "in ram
 
 @dataclass
 class Example:
-    """The nevers of a file of properties, as they are there, each with its comparisons. It also has the answer to all of them together,
-    the end of the search, and the cut of a stretch."""
+    """The nevers of a properties file, as written there, each with its comparisons. Also the answer to all of them together, the end of the
+    search, and the end of a shortened search."""
 
     props: str
     answer: str
@@ -72,7 +72,7 @@ class Example:
 EXAMPLES = [
     Example("a_fault_to_find.props", "may fail after 1 values", {"lamp 8 on and lamp 2 on": "in ramport 0 line3 1 1 & in ramport 0 line1 1 1"}),
     Example("counter.props", "too many", {never: DIGITS[never] for never in ("ram.0.0 > 9", "ram.0.64 > 9")}, most=20000),
-    # Nothing is said here of how long something is pressed at most.
+    # The maximum time for which something is pressed is not given here.
     Example("counter_bounces.props", "may fail after 113 values", {"@count": "@count"}),
     Example("die.props", "holds 13", {
         "not lamps ...*... and not lamps *.....* and not lamps *..*..* and not lamps **...** and not lamps **.*.** and not lamps ***.*** "
@@ -101,10 +101,10 @@ EXAMPLES = [
         "lamp left on and lamp middle on": "in ramport 0 line2 1 1 & in ramport 0 line1 1 1",
         "lamp middle on and lamp right on": "in ramport 0 line1 1 1 & in ramport 0 line0 1 1"}),
 ]
-# The answer at the end of a longer search, which takes a gigabyte of memory. (That of the clock takes minutes of a processor.)
+# The answers at the end of longer searches, which take a gigabyte of memory. (The search of the clock takes minutes.)
 LONGER = {"counter.props": "holds 2240113"}
-# The outputs of RAM chips, by their index, in the examples whose mutants are searched. The lock, the traffic light and the three lamps show no more,
-# whatever is pressed.
+# The outputs of RAM chips, by their index, in the examples whose mutants are searched. The lock, the traffic light and the three lamps show no
+# other values, whatever is pressed.
 SHOWN = {
     "die.props": {0: (0, 1, 3, 7, 8, 9, 11)},
     "lock/lock.props": {0: (0, 1, 2, 5)},
@@ -115,31 +115,31 @@ SHOWN = {
 
 
 def nevers_in(props: str) -> list[str]:
-    """Returns the nevers of a file of properties, except those of a time and those behind a guard."""
+    """Returns the nevers of a properties file, except those with a time and those with a guard."""
     lines = (EXAMPLE_FILES / props).read_text().splitlines()
     return [line.removeprefix("never ") for line in lines if line.startswith("never ") and " for " not in line]
 
 
-# The program of each example makes no mistake, but for these. Lamps runs on through ROM that the board lacks, and its second WRR has no output line.
+# The programs that make mistakes, with the mistakes. Lamps runs on into a ROM that the board lacks, and its second WRR has no output line.
 MADE = {"lamps.txt": ("rom", "wrr")}
 MOST_OF_PROGRAMS, PAUSE_OF_PROGRAMS = 60, 1000
 
 
 def programs() -> list[str]:
-    """Returns the examples with a program, as files or folders."""
+    """Returns the names of the examples with a program: files or folders."""
     texts = [path.name for path in EXAMPLE_FILES.glob("*") if path.suffix in (".txt", ".mcsp") and "asm" in path.read_text().splitlines()]
     return sorted([*texts, *(path.parent.name for path in EXAMPLE_FILES.glob("*/board.toml"))])
 
 
 def mistakes_of(name: str, asked: tuple[str, ...] = MISTAKES) -> Question:
-    """Returns the question whether the program of an example makes one of these mistakes."""
+    """Returns the question whether an example's program makes one of these mistakes."""
     path = EXAMPLE_FILES / name
     board, program = texts_of(f"{name}/{name}.props" if path.is_dir() else str(path.with_suffix(".props").name))
     return Question(board, program, [[("mistake", *asked)]], MOST_OF_PROGRAMS, PAUSE_OF_PROGRAMS)
 
 
 def program_of(image: dict[int, int]) -> list[str]:
-    """Returns a program's text that gives these bytes."""
+    """Returns the text of a program that assembles to these bytes."""
     lines: list[str] = []
     for at in sorted(image):
         if at - 1 not in image or at % 16 == 0:
@@ -149,7 +149,7 @@ def program_of(image: dict[int, int]) -> list[str]:
 
 
 def mutant(seed: int) -> tuple[str, Question]:
-    """Returns an example in which one instruction is another one of the same size."""
+    """Returns an example in which one instruction is replaced by another one of the same size."""
     chance = random.Random(seed)
     props, ports = chance.choice([*SHOWN.items()])
     others = [" & ".join(f"out ramport {port} whole {value} {value}" for value in values) for port, values in ports.items()]

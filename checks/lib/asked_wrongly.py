@@ -1,16 +1,16 @@
-"""Lines that are given to mcs4-prove, and what it has to answer: what is no question, texts that are refused, and what is just still one."""
+"""Wrong input for mcs4-prove, with its answers: lines that are not questions, texts that are rejected, and texts at the limits that are not."""
 
 from __future__ import annotations
 
 BOARD = ["wire", "[[rom]]", "chip = 0", 'port = "0000"', "."]
 PROGRAM = ["asm", "next: RDR", " JUN next", "."]
 BEGUN = ["most 9", "pause 9", *BOARD, *PROGRAM]
-# Lines that are no questions, after BEGUN.
+# Lines that are not questions, after BEGUN.
 NO_LINES = [
     "most", "most x", "most -1", "most 1 2", "most 4000000001", f"most {'9' * 5000}", "most 0x", "most 1.5", "Most 1", "pause", "pause 0", "pause 1000000001",
     "pause 0x", "memory", "memory x", "memory 1000001", "wire", "wire x", "asm", "asm x", ".", "[[rom]]", "never x", "nevermore", "prove it", "proved",
     "\0", "most 1\0", "\x7f", "x" * 100000, "in register 0 whole 0 0", "out register 0 whole 0 0", "mistake code"]
-# Texts that are no comparisons.
+# Texts that are not comparisons.
 NO_COMPARISONS = [
     "in", "in register 0 whole 0", "in register 0 whole 0 0 0", "at register 0 whole 0 0", "In register 0 whole 0 0", "in registers 0 whole 0 0",
     "in register 16 whole 0 0", "in character 2048 whole 0 0", "in status 512 whole 0 0", "in ramport 32 whole 0 0", "in romport 16 whole 0 0",
@@ -18,11 +18,11 @@ NO_COMPARISONS = [
     "in register 65536 whole 0 0", "in register 4294967296 whole 0 0", "in register -1 whole 0 0", "in register x whole 0 0", "in register 0 line4 0 0",
     "in register 0 line 0 0", "in register 0 0 0 0", "in register 0 whole 256 0", "in register 0 whole 0 256", "in register 0 whole 0 99999999999",
     "in register 0 whole 0x100 0", "in register 0 whole a b", "mistake", "mistake x", "mistake code x", "mistake code,call", "Mistake code", "mistakes code"]
-# A question, the status and the answer.
+# A question, the exit status, and the answer.
 ANSWERS: list[tuple[list[str], int, str]] = [
     ([], 2, "no question"), ([""], 2, "no question"), (["prove"], 2, "no question"), ([*BOARD, "prove"], 2, "no question"),
     ([*PROGRAM, "prove"], 2, "no question"), (BEGUN, 2, "no question"), ([*BEGUN, "never"], 2, "no question"),
-    # A text without its end takes in all that follows.
+    # A text without its end includes everything that follows.
     (["asm", "NOP", *BOARD, "wire", "prove"], 2, "no question"), ([*PROGRAM, *BOARD[:-1], "prove"], 2, "no question"),
     ([*BEGUN, "prove", ""], 2, f"wrong line {len(BEGUN) + 2}"), ([*BEGUN, "prove", "prove"], 2, f"wrong line {len(BEGUN) + 2}"),
     *(([*BEGUN, line, "prove"], 2, f"wrong line {len(BEGUN) + 1}") for line in NO_LINES),

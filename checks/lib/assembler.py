@@ -1,4 +1,4 @@
-"""The assembler by the manual's chapter alone: what a program puts where, or its first refusal. It shares no line with the bench."""
+"""An assembler written from the manual's chapter alone: the bytes of a program, or its first refusal. It shares no code with the bench."""
 
 import re
 
@@ -7,7 +7,8 @@ ALONE = {"NOP": 0x00, "WRM": 0xE0, "WMP": 0xE1, "WRR": 0xE2, "WR0": 0xE4, "WR1":
          "CMA": 0xF4, "RAL": 0xF5, "RAR": 0xF6, "TCC": 0xF7, "DAC": 0xF8, "TCS": 0xF9, "STC": 0xFA, "DAA": 0xFB, "KBP": 0xFC, "DCL": 0xFD}
 ON_REGISTER = {"INC": 0x60, "ADD": 0x80, "SUB": 0x90, "LD": 0xA0, "XCH": 0xB0}
 ON_PAIR = {"SRC": 0x21, "FIN": 0x30, "JIN": 0x31}
-# The words that precede the values of an instruction, its code, and the greatest value of each.
+# The instructions with values: the kind of register before the values (P for a pair, R for a register), the code, and the maxima of the
+# values.
 WITH_VALUES = {"LDM": ("", 0xD0, [15]), "BBL": ("", 0xC0, [15]), "JUN": ("", 0x40, [4095]), "JMS": ("", 0x50, [4095]),
                "FIM": ("P", 0x20, [255]), "ISZ": ("R", 0x70, [4095]), "JCN": ("", 0x10, [15, 4095])}
 REGISTERS = {f"R{k}": k for k in range(16)}
@@ -15,7 +16,7 @@ PAIRS = {f"P{k}": k for k in range(8)}
 RESERVED = {*ALONE, *ON_REGISTER, *ON_PAIR, *WITH_VALUES, "WPM", "ORG", "DB", *REGISTERS, *PAIRS}
 ADDRESSES = 4096
 NAMES = 512
-# So many errors are shown.
+# The maximum number of errors in an answer.
 MOST_ERRORS = 100
 
 
@@ -39,13 +40,14 @@ def tokens(line):
 
 
 def values_of(words):
-    """Returns numbers, and names as they are; None if a word is neither."""
+    """Returns numbers as they are, and names as text; None if a word is neither."""
     values = [number if (number := number_of(word)) is not None else word if is_name(word) else None for word in words]
     return None if None in values else values
 
 
 def statement(words):
-    """Returns a statement by its kind, `ORG`, `DB`, a row of WITH_VALUES or `CODE`; None if it has no form."""
+    """Returns a parsed statement: its kind (`ORG`, `DB`, a row of WITH_VALUES or `CODE`) and its values. Returns None if the words have no
+    form."""
     name, rest = words[0].upper(), words[1:]
     if name in ALONE:
         return ("CODE", ALONE[name]) if not rest else None
@@ -76,8 +78,7 @@ def statement(words):
 
 
 def said(line):
-    """Returns the contents of a line: a name with a number, or a label and a statement, each of which may be None. It returns None if
-    the line has no form."""
+    """Parses a line into a name with a number, or a label and a statement, each of which can be None. Returns None if the line has no form."""
     words = tokens(line)
     if len(words) == 3 and words[1] == "=":
         return ("=", words[0], number_of(words[2])) if is_name(words[0]) and number_of(words[2]) is not None else None
@@ -101,13 +102,13 @@ def size_of(parsed):
 
 
 class Places:
-    """The address and the statement of each line, and the names, of the lines up to one."""
+    """The addresses and statements of the lines read so far, and the names."""
 
     def __init__(self):
         self.at, self.rows, self.names = 0, [], {}
 
     def take(self, line):
-        """Takes the next line, unless it is rejected by itself or for the lines before it."""
+        """Reads the next line, unless it is rejected by itself or because of the lines before it."""
         number = len(self.rows) + 1
         whole = said(line)
         if whole is None:
@@ -132,7 +133,7 @@ class Places:
         self.at = parsed[1] if parsed and parsed[0] == "ORG" else self.at + size_of(parsed)
 
     def skip(self):
-        """Takes the next line as an empty one."""
+        """Reads the next line as if it were empty."""
         self.rows.append((self.at, None))
 
 
@@ -162,13 +163,13 @@ def bytes_of(at, parsed, names, number):
 
 
 class Image:
-    """The addresses with their bytes, and of each line its address and how many bytes it has."""
+    """The bytes by address, and for each line its address and its number of bytes."""
 
     def __init__(self, names):
         self.bytes, self.spans, self.names = {}, [], names
 
     def take(self, at, statement):
-        """Takes the statement of the next line."""
+        """Adds the statement of the next line."""
         number = len(self.spans) + 1
         held = bytes_of(at, statement, self.names, number)
         if any(at + i in self.bytes for i in range(len(held))):
@@ -178,7 +179,7 @@ class Image:
 
 
 def assemble(lines):
-    """Returns the addresses with their bytes, the address of each line and the number of its bytes, and the names with their values."""
+    """Returns the bytes by address, the address and the number of bytes of each line, and the names with their values."""
     places = Places()
     for line in lines:
         places.take(line)
@@ -189,7 +190,7 @@ def assemble(lines):
 
 
 def errors_of(lines):
-    """Returns the number and the line of each error: those of lines by themselves and those before them, or, if there are none, of their bytes."""
+    """Returns the number and the line of each error. Errors in the bytes are returned only if no line is wrong by itself or by earlier lines."""
     places, found = Places(), []
     for line in lines:
         try:
@@ -210,7 +211,7 @@ def errors_of(lines):
 
 
 def judge(lines):
-    """Rejects a text for what holds whatever its lines say."""
+    """Rejects a text for errors that do not depend on its statements."""
     if sum(len(line) + 1 for line in lines) > 16384:
         raise Refused(13, 0)
     if any(len(line) > 255 for line in lines):
@@ -232,7 +233,7 @@ def map_of(lines):
 
 
 def errors_answer(lines):
-    """The answer to `errors`, line by line."""
+    """Returns the answer to `errors`, line by line."""
     try:
         judge(lines)
     except Refused as refused:

@@ -13,9 +13,9 @@ from collections.abc import Callable, Iterable, Iterator
 from assembler import ADDRESSES, ON_PAIR, ON_REGISTER, assemble
 from board4004 import CODES, TWO_WORDS, Board, line_of
 
-# The instructions that may jump.
+# The conditional jumps.
 BRANCHES = ("JCN", "ISZ")
-# The value of a place of `trace` in one word, by the form of the place.
+# The values of the places of `trace` that are one word, by the form of the place.
 PLACES: list[tuple[str, Callable[..., str]]] = [
     (r"acc", lambda board: f"{board.acc:X}"),
     (r"cy", lambda board: f"{board.cy}"),
@@ -35,12 +35,12 @@ PLACES: list[tuple[str, Callable[..., str]]] = [
 
 
 def number(word: str) -> int:
-    """Returns a number as lines have it."""
+    """Parses a number of a session line."""
     return int(word, 16 if word.startswith("0x") else 10)
 
 
 def reader_of(place: str) -> Callable[[Board], str]:
-    """Returns the function that reads a place, or a line of the board."""
+    """Returns the function that reads the value of a place, or of a line of the board."""
     if re.fullmatch(r"(rom|chain)\w+\.\w+|ram\w+\.\w+\.\w+", place):
         line = line_of(place)
         return lambda board: str(board.chips.level(line))
@@ -52,8 +52,8 @@ def reader_of(place: str) -> Callable[[Board], str]:
 
 
 def counted(board: Board, most: int) -> tuple[Counter[int], Counter[int], int, str]:
-    """Returns how often a run began an instruction at each address, how often the counter then continued elsewhere than after two
-    words, and the cycles and the end of the run."""
+    """Runs a board; returns how often an instruction began at each address, how often the next one was not at the following address, the number
+    of cycles, and why the run ended."""
     runs: Counter[int] = Counter()
     jumps: Counter[int] = Counter()
 
@@ -65,16 +65,15 @@ def counted(board: Board, most: int) -> tuple[Counter[int], Counter[int], int, s
 
 
 def count_answer(board: Board, most: int) -> list[str]:
-    """Returns the answer to `count n`: the addresses at which a run would begin instructions, how often, and how often JCN and ISZ would
-    jump."""
+    """Returns the answer to `count n`: the addresses at which a run would begin instructions, how often, and how often JCN and ISZ would jump."""
     runs, jumps, done, stop = counted(board.copy(), most)
     lines = [f"{at:03X} {runs[at]}" + (f" {jumps[at]}" if CODES[board.rom[at]][0] in BRANCHES else "") for at in sorted(runs)]
     return [f"count ran {done} {stop} lines {len(lines)}", *lines]
 
 
 def trace_answer(board: Board, most: int, places: list[str]) -> list[str]:
-    """Returns the answer to `trace n PLACE ..`: the instructions that a run would begin and that would change a row of places; without
-    places, all of them."""
+    """Returns the answer to `trace n PLACE ..`: the instructions that a run would begin and that would change one of the places. Without places
+    it has all instructions."""
     ahead, readers = board.copy(), [reader_of(place) for place in places]
     lines: list[str] = []
 
@@ -119,7 +118,7 @@ def instruction_text(board: Board, at: int) -> str:
 
 
 def list_answer(board: Board, at: int, most: int) -> list[str]:
-    """Returns the answer to `list a n`. (The instruction of two words at FFF is not its business.)"""
+    """Returns the answer to `list a n`. (An instruction of two words at FFF is not supported.)"""
     lines: list[str] = []
     while at < ADDRESSES and len(lines) < most:
         lines.append(instruction_text(board, at))
@@ -128,7 +127,7 @@ def list_answer(board: Board, at: int, most: int) -> list[str]:
 
 
 def registers(board: Board, separator: str) -> str:
-    """Returns the answer to `regs`, and the same part of `state`."""
+    """Returns the answer to `regs`, which is also a part of `state`."""
     ret = separator.join(f"{at:03X}" for at in board.ret)
     return (f"acc {board.acc:X} cy {board.cy} pc {board.pc:03X} owed {board.owed} dcl {board.dcl} test {board.test} "
             f"r {''.join(f'{value:X}' for value in board.r)} ret {ret}")
@@ -152,14 +151,14 @@ def state_answer(board: Board, seq: int) -> str:
 
 
 class Bench:
-    """A session: a board, and the number of commands it has accepted."""
+    """A session: a board, and the number of commands that it has accepted."""
 
     def __init__(self) -> None:
         self.board = Board()
         self.seq = 0
 
     def dialogue(self, script: Iterable[str]) -> Iterator[tuple[str, list[str]]]:
-        """Yields the lines of a script that are answered, each with its answer, from `session` on."""
+        """Yields the answered lines of a script, each with its answer, starting with the `session` line."""
         yield "", [f"session {self.seq}"]
         lines = iter(script)
         for line in lines:
@@ -193,7 +192,7 @@ QUERIES: dict[str, Callable[..., list[str]]] = {
 }
 
 
-# ---- commands: the words after `ok N`, or a refusal
+# ---- commands: they return the words after `ok N`, or a refusal
 
 def wire(board: Board, text: list[str]) -> str:
     """Wires another board."""
@@ -220,13 +219,13 @@ def put_key(board: Board, row: str, column: str, is_down: bool) -> str:
 
 
 def put(items: set, item: object, is_there: bool) -> str:
-    """Sets or removes a breakpoint or a watch."""
+    """Adds an item to a set, or removes it: a breakpoint or a watch."""
     (items.add if is_there else items.discard)(item)
     return ""
 
 
 def power_cycle(board: Board) -> str:
-    """Does `reset`."""
+    """Resets the board, as `reset` does."""
     board.power_on()
     return ""
 
@@ -261,7 +260,7 @@ def poke(board: Board, place: str, text: str) -> str:
 
 
 def ran(cycles_and_stop: tuple[int, str]) -> str:
-    """Returns the text about a run or a step."""
+    """Returns the text after `ok N` for a run or a step."""
     return " ran {} {}".format(*cycles_and_stop)
 
 

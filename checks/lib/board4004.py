@@ -16,12 +16,12 @@ from assembler import ALONE, ON_PAIR, ON_REGISTER, WITH_VALUES
 ADDRESSES = 4096
 TWO_WORDS = {"JCN", "FIM", "JUN", "JMS", "ISZ"}
 TWO_CYCLES = TWO_WORDS | {"FIN"}
-# A line of the board: `rom` with chip and number, `ram` with bank, chip and number, `chain` with its number and a bit.
+# A line of the board: `rom` with chip and number, `ram` with bank, chip and number, or `chain` with its number and a bit.
 Line = tuple[str, tuple[int, ...]]
 
 
 def table() -> dict[int, tuple[str, int]]:
-    """Returns the instruction of each code that is one, with the number in its lower half: of a register, of a pair, or a value."""
+    """Returns the instruction of each valid code, with the number in its lower half: of a register, of a pair, or a value."""
     codes = {code: (name, 0) for name, code in ALONE.items()}
     for name, code in [*ON_REGISTER.items(), *((name, WITH_VALUES[name][1]) for name in ("JCN", "JUN", "JMS", "ISZ", "BBL", "LDM"))]:
         codes.update({code + low: (name, low) for low in range(16)})
@@ -34,13 +34,13 @@ CODES = table()
 
 
 def line_of(name: str) -> Line:
-    """Returns a line by its name: `rom0.1`, `ram0.1.3`, `chain0.79`."""
+    """Parses the name of a line: `rom0.1`, `ram0.1.3`, `chain0.79`."""
     numbers = name.lstrip("abcdefghijklmnopqrstuvwxyz")
     return name.removesuffix(numbers), tuple(int(number) for number in numbers.split("."))
 
 
 class Chips:
-    """The chips of a board, its keys and its lamps, by the text of the board."""
+    """The chips of a board, its keys and its lamps, from the text of the board."""
 
     def __init__(self, text: str = "") -> None:
         wiring = tomllib.loads(text)
@@ -49,7 +49,7 @@ class Chips:
         self.chips = {part["bank"]: part["chips"] for part in wiring.get("ram", [])}
         self.clocks = [(line_of(part["clock"]), line_of(part["data"])) for part in wiring.get("chain", [])]
         self.chain_bits = [10 * part["chips"] for part in wiring.get("chain", [])]
-        # Without keys there is no row and no column.
+        # A board without keys has no rows and no columns.
         self.keys = wiring.get("keys", {"chain": 0, "first": 0, "rows": 0, "columns": []})
         self.columns = [line_of(name) for name in self.keys["columns"]]
         self.lamps = [line_of(part["line"]) for part in wiring.get("lamp", [])]
@@ -67,7 +67,7 @@ class Chips:
         self.chains = [[0] * bits for bits in self.chain_bits]
 
     def has_ram(self, bank: int, src: int) -> bool:
-        """Returns true if the chip that an SRC byte selects in a bank is there: the upper two bits are its number."""
+        """Returns true if a bank has the chip that an SRC byte selects by its upper two bits."""
         return src >> 6 < self.chips.get(bank, 0)
 
     def has_line(self, line: Line) -> bool:
@@ -96,23 +96,23 @@ class Chips:
         return sum(self.level((kind, (*chip, k))) << k for k in range(4))
 
     def is_pulled(self, line: Line) -> int:
-        """Returns the level of an input line: 1 if it is the column of a key that is down and whose row is driven."""
+        """Returns the level of an input line: 1 if a key in its column is down and the row of the key is driven."""
         return int(any(self.columns[column] == line and self.chains[self.keys["chain"]][self.keys["first"] + row] for row, column in self.down))
 
     def marks(self) -> str:
         """Returns a mark for each lamp."""
         return "".join("*" if self.level(lamp) else "." for lamp in self.lamps)
 
-    # ---- what the processor does with them
+    # ---- what the processor does with the chips
 
     def send_src(self, bank: int, byte: int) -> None:
-        """SRC: all ROMs store the byte, and so does the designated bank, if it has chips."""
+        """SRC: all ROMs store the byte, and so does the selected bank, if it has chips."""
         self.rom_src = byte
         if bank in self.chips:
             self.bank_src[bank] = byte
 
     def read_port(self, chip: int) -> int:
-        """RDR: reads an input line by its keys, and an output line as its mask says."""
+        """RDR: reads the input lines from the keys, and the output lines as the port's letters say."""
         mask = self.masks.get(chip, "0000")
         return sum((self.is_pulled(("rom", (chip, k))) if mask[k] == "i" else int(mask[k])) << k for k in range(4))
 
@@ -129,7 +129,7 @@ class Chips:
             self.write_latch(self.ram_latch, (bank, self.bank_src[bank] >> 6), value)
 
     def write_latch(self, latches: dict, port: object, value: int) -> None:
-        """Does a port write: each chain whose clock goes from 0 to 1 shifts in its data line, as it is then."""
+        """Writes a port: each chain whose clock rises shifts in the present level of its data line."""
         before = [self.level(clock) for clock, _data in self.clocks]
         latches[port] = value
         for n, (clock, data) in enumerate(self.clocks):
@@ -141,7 +141,7 @@ class Chips:
         return self.ram[bank][self.bank_src[bank]]
 
     def write_character(self, bank: int, src: int, value: int) -> None:
-        """Writes a RAM nibble; one of an absent chip is lost."""
+        """Writes a RAM nibble; a write to a missing chip is lost."""
         if self.has_ram(bank, src):
             self.ram[bank][src] = value
 
@@ -152,7 +152,7 @@ class Chips:
 
 
 class Board:
-    """A 4004 on a board, with everything that stops a run."""
+    """A 4004 on a board, with breakpoints and watches."""
 
     def __init__(self) -> None:
         self.chips = Chips()
@@ -170,7 +170,7 @@ class Board:
         self.chips.power_on()
 
     def wire(self, text: str) -> None:
-        """Wires another board; ROM bytes of chips that it lacks are 0."""
+        """Wires another board; the ROM bytes of missing chips become 0."""
         self.chips = Chips(text)
         self.power_on()
         for page in range(16):
@@ -178,7 +178,7 @@ class Board:
                 self.rom[256 * page:256 * (page + 1)] = bytes(256)
 
     def copy(self) -> Board:
-        """Returns a board that continues by itself; this way it is made much faster than by `copy.deepcopy`."""
+        """Returns an independent copy, much faster than `copy.deepcopy`."""
         return pickle.loads(pickle.dumps(self))
 
     def pair(self, k: int) -> int:
@@ -186,17 +186,17 @@ class Board:
         return 16 * self.r[2 * k] + self.r[2 * k + 1]
 
     def set_pair(self, k: int, byte: int) -> None:
-        """Puts a byte into a pair."""
+        """Writes a byte to a pair."""
         self.r[2 * k:2 * k + 2] = divmod(byte, 16)
 
     def put_sum(self, total: int) -> None:
-        """Puts a sum into the accumulator, and the part above 15 into the carry."""
+        """Writes a sum to the accumulator, and its part above 15 to the carry."""
         self.cy, self.acc = divmod(total, 16)
 
     # ---- cycles
 
     def is_outside(self) -> bool:
-        """Returns true if the code at the counter is in no row of the table."""
+        """Returns true if the code at the counter is not an instruction."""
         return self.rom[self.pc] not in CODES
 
     def cycle(self) -> None:
@@ -211,7 +211,7 @@ class Board:
         WORK[name](self, low, second)
 
     def step(self) -> tuple[int, str]:
-        """Does an instruction, or the second cycle of one; returns the number of cycles, and why it stopped."""
+        """Runs an instruction, or the second cycle of one; returns the number of cycles, and the reason for the stop."""
         if not self.owed and self.is_outside():
             return 0, "code"
         cycles = 1 if self.owed else 1 + (CODES[self.rom[self.pc]][0] in TWO_CYCLES)
@@ -220,7 +220,8 @@ class Board:
         return cycles, "end"
 
     def stops(self, done: int, most: int, changed: bool) -> str:
-        """Returns why a run ends after a number of cycles, the last of which has changed a watched nibble or not; "" if it continues."""
+        """Returns the reason why a run ends after a number of cycles, "" if it continues. `changed` is true if the last cycle changed a watched
+        nibble."""
         if not self.owed and self.is_outside():
             return "code"
         if done and not self.owed and self.pc in self.breaks:
@@ -234,8 +235,8 @@ class Board:
         return [self.chips.ram[bank][src] for bank, src in self.watches]
 
     def run(self, most: int, begun: Callable[[int, int], None] | None = None) -> tuple[int, str]:
-        """Runs at most a number of cycles; returns how many, and why it stopped. `begun` gets each instruction after its work: the
-        cycles that were done before it, and its address."""
+        """Runs at most a number of cycles; returns their number, and the reason for the stop. `begun` is called after the work of each
+        instruction, with the number of cycles before it and its address."""
         done, changed = 0, False
         while not (stop := self.stops(done, most, changed)):
             at, begins, watched = self.pc, not self.owed, self.watched()
@@ -247,7 +248,7 @@ class Board:
         return done, stop
 
 
-# ---- the instructions; the counter is behind their words already
+# ---- the instructions; the counter is already after their words
 
 def jump_on_page(board: Board, low: int) -> None:
     """Jumps to a word of the page that the counter is in."""
@@ -329,7 +330,7 @@ def xch(board: Board, k: int, _second: int) -> None:
 
 
 def bbl(board: Board, value: int, _second: int) -> None:
-    """Branch back and load; the place that becomes free keeps the address behind BBL."""
+    """Branch back and load; the freed place of the stack keeps the address after BBL."""
     board.acc = value
     board.pc, board.ret = board.ret[0], [*board.ret[1:], board.pc]
 
