@@ -388,7 +388,7 @@ def adm(board: Board, _low: int, _second: int) -> None:
 
 
 def accumulator(change: Callable[[int, int], tuple[int, int]]) -> Callable[[Board, int, int], None]:
-    """Does an instruction of accumulator and carry: returns their new values, carry first."""
+    """Returns an instruction on accumulator and carry. `change` returns their new values, the carry first."""
     def work(board: Board, _low: int, _second: int) -> None:
         board.cy, board.acc = change(board.acc, board.cy)
     return work

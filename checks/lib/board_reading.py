@@ -1,4 +1,5 @@
-"""A board's text by the manual's chapter alone: what is wrong with it, and with which part. It shares no line with the bench."""
+"""A reader of board texts, written from the manual's chapter alone: the first error, and the part that it is in. It shares no code with the
+bench."""
 
 import re
 import tomllib
@@ -7,7 +8,7 @@ SECTIONS = ("rom", "ram", "chain", "keys", "lamp")
 MOST = {"rom": 16, "ram": 8, "chain": 4, "lamp": 64}
 MOST_COLUMNS = 8
 BITS_OF_CHIP = 10
-# The key whose values differ from table to table.
+# The keys whose values must differ between the tables of a section.
 NUMBERED = {"rom": "chip", "ram": "bank"}
 
 
@@ -16,7 +17,7 @@ def is_within(first, last):
 
 
 def numbers_of(name):
-    """The kind of a line and the numbers in its name; None where it is not the name of a line."""
+    """Returns the kind of a line and the numbers in its name; None if it is not the name of a line."""
     if not isinstance(name, str):
         return None
     found = re.fullmatch(r"(rom|ram|chain)(0|[1-9]\d?)\.(0|[1-9]\d?)(?:\.(0|[1-9]))?", name, re.ASCII)
@@ -33,7 +34,7 @@ def is_line(value):
     return numbers_of(value) is not None
 
 
-# What each key of a table must be, in the order of the manual.
+# The required values of the keys of a table, in the order of the manual.
 KEYS = {
     "rom": {"chip": is_within(0, 15), "port": lambda value: isinstance(value, str) and re.fullmatch("[i01]{4}", value, re.ASCII) is not None},
     "ram": {"bank": is_within(0, 7), "chips": is_within(1, 4)},
@@ -45,7 +46,7 @@ KEYS = {
 
 
 def longest_toml(lines, count):
-    """How many of the first lines, at most so many, are the longest TOML, and what it says."""
+    """Returns the number of lines in the longest TOML text at the beginning, up to `count` lines, and its contents."""
     while True:
         try:
             return count, tomllib.loads("".join(f"{line}\n" for line in lines[:count]))
@@ -55,7 +56,7 @@ def longest_toml(lines, count):
 
 
 def tables_of(document):
-    """The tables of each section, with their numbers from 1, 0 for the key matrix; what stands there and is none is left out."""
+    """Returns the tables of each section with their numbers from 1, or 0 for the key matrix; values that are not tables are left out."""
     for section in SECTIONS:
         whole = document.get(section, [])
         whole = [whole] if section == "keys" and "keys" in document else whole if isinstance(whole, list) else []
@@ -64,14 +65,15 @@ def tables_of(document):
 
 
 class BoardReading:
-    """The first wrong part of a board that is TOML."""
+    """Finds the first wrong part of a board text that is TOML."""
 
     def __init__(self, document):
         self.document = document
         self.tables = list(tables_of(document))
 
     def first(self):
-        """The number of the refusal, the section, the number of the table and the key, as far as they are meant; None for a right board."""
+        """Returns the number of the refusal, the section, the number of the table and the key, as far as they apply; None if the board is
+        valid."""
         for find in (self.unknown, self.missing, self.badly_formed, self.too_many, self.twice):
             for part in find():
                 return part
@@ -124,7 +126,7 @@ class BoardReading:
                 seen.add(table[key])
 
     def direction(self, name):
-        """Whether a line is an input line (`i`), an output line (`o`) or a bit of a chain (`b`); None where the board lacks it."""
+        """Returns `i` for an input line, `o` for an output line, `b` for a bit of a chain; None if the board lacks the line."""
         kind, number, *others = numbers_of(name)
         for section, index, table in self.tables:
             if section == kind == "rom" and table["chip"] == number:
@@ -159,14 +161,14 @@ class BoardReading:
 
 
 def is_there(document, section, index, key):
-    """Whether a part is in a text."""
+    """Returns true if a text has a part."""
     if section == "":
         return key in document
     return section in document and (index <= 1 or not isinstance(document[section], list) or len(document[section]) >= index)
 
 
 def line_of(lines, part):
-    """The first line with which a part is there, from 1: all beginnings that are TOML have it from there on."""
+    """Returns the first line, counted from 1, from which on all beginnings that are TOML have a part."""
     _number, section, index, key = part
     first, last = 0, len(lines)
     while last - first > 1:
@@ -180,7 +182,7 @@ def line_of(lines, part):
 
 
 def wiring_answer(lines):
-    """The answer to `wiring`."""
+    """Returns the answer to `wiring`."""
     count, document = longest_toml(lines, len(lines))
     if count < len(lines):
         return f"no 20 line {count + 1}"

@@ -1,4 +1,4 @@
-"""Boards by a generator, the same from the same number, and texts of them in the many spellings that TOML has for one board."""
+"""Random boards, reproducible by a seed, and their texts in the many spellings that TOML allows for one board."""
 
 import re
 
@@ -10,18 +10,18 @@ ENDS = ("\n", "\n", "\n\n", " # one\n", "\t\n# one more\n")
 
 
 class Raw:
-    """A value that has one spelling."""
+    """A value with one fixed spelling."""
 
     def __init__(self, text):
         self.text = text
 
 
 def seeded_board(chance):
-    """Returns a board: any ROMs and banks, up to four chains, mostly keys if there can be some, up to 64 lamps."""
+    """Returns a random board: any ROMs and banks, up to four chains, mostly keys if they are possible, up to 64 lamps."""
     share = chance.choice([0, 0.5, 0.5, 0.5, 1])
     roms = {chip: "".join(chance.choices("i01", k=4)) for chip in range(16) if chance.random() < share}
     banks = {bank: chips for bank in range(8) if share and (chips := chance.randrange(5))}
-    # A port's text has line 3 first.
+    # The text of a port begins with line 3.
     lines = [(rom_line(chip, 3 - at), mark) for chip, port in roms.items() for at, mark in enumerate(port)]
     inputs = [line for line, mark in lines if mark == "i"]
     outputs = [line for line, mark in lines if mark != "i"]
@@ -44,7 +44,7 @@ def key_text(chance, key):
 
 
 def value_text(chance, value):
-    """Returns a number in some base, a text in some quotes, or a list of texts, on some lines."""
+    """Returns the text of a number in some base, of a string in some quotes, or of a list of strings on one or more lines."""
     if isinstance(value, Raw) or isinstance(value, int) and value < 0:
         return value.text if isinstance(value, Raw) else str(value)
     if isinstance(value, list):
@@ -65,12 +65,12 @@ def pairs_of(chance, table, before=""):
 
 
 def inline(chance, table):
-    """Returns a table on one line, except for its lists."""
+    """Returns an inline table; only its lists can have several lines."""
     return f"{{ {', '.join(pairs_of(chance, table))} }}"
 
 
 def top_lines(chance, below, tables):
-    """Returns the lines for some tables before all headers."""
+    """Returns the lines for tables that are written before all headers."""
     key = key_text(chance, below)
     if below != "keys":
         rows = [f"  {inline(chance, table)},\n" for table in tables]
@@ -87,7 +87,7 @@ def headed(chance, below, table):
 
 
 def spelled(chance, board):
-    """Returns a text of a board. ROMs and banks can be in any order, and so can the kinds of tables; chains and lamps are counted."""
+    """Returns a text of a board. ROMs, banks and the kinds of tables can be in any order; chains and lamps cannot, because they are numbered."""
     tables = {below: [table for kind, table in board.tables() if kind == below] for below in KINDS}
     chance.shuffle(tables["rom"])
     chance.shuffle(tables["ram"])
@@ -95,7 +95,7 @@ def spelled(chance, board):
 
 
 def spelled_tables(chance, tables):
-    """A text of tables, by their kinds."""
+    """Returns a text of tables, by their kinds."""
     kinds = chance.sample(KINDS, len(KINDS))
     under_headers = [below for below in kinds if chance.random() < 0.5]
     lines = [line for below in kinds if below not in under_headers for line in top_lines(chance, below, tables[below])]

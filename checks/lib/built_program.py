@@ -1,4 +1,4 @@
-"""The programs that a check looks at."""
+"""The programs that the checks run."""
 
 import os
 import pathlib
@@ -10,15 +10,15 @@ FIND_PROVER = 'top=$0; . "$top/tools/lib/start.sh"; find_prover; printf "%s\\n%s
 
 
 def built_prover():
-    """Returns the program that searches for `mcs4 prove`: the one that MCS4_PROVE names, or that tools/lib/start.sh finds. If there is
-    none, it returns why."""
+    """Returns the program that `mcs4 prove` starts: the one that MCS4_PROVE names, or that tools/lib/start.sh finds. If there is none, returns
+    the reason."""
     if named := os.environ.get("MCS4_PROVE"):
         return named, ""
     return subprocess.run(["/bin/sh", "-c", FIND_PROVER, TOP], stdout=subprocess.PIPE, text=True, check=True).stdout.split("\n")
 
 
 def built_program():
-    """Returns the program's name, as checks/lib/program prints it. If there is none, that script has printed why, and the check ends."""
+    """Returns the name of the program, as checks/lib/program prints it. If there is none, that script has printed why, and the check ends."""
     ran = subprocess.run([pathlib.Path(__file__).resolve().parent / "program"], stdout=subprocess.PIPE, text=True, check=False)
     if ran.returncode != 0:
         sys.exit(1)

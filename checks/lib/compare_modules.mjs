@@ -1,7 +1,8 @@
-// Compares modules of the bench with one another: `node compare_modules.mjs EXAMPLES COUNT MODULE MODULE..`. The same COUNT seeded sessions
-// run on all of them: the reports of each call, its answers, and each byte of the file after it must be the same, on files that are damaged
-// or have another size too. On the first module also: serving and settling in one call is serving, then settling, to the byte; asking
-// answers as serving does, and does not change the file; and the file of a session settles. EXAMPLES is the folder of the examples.
+// Compares modules of the bench with each other: `node compare_modules.mjs EXAMPLES COUNT MODULE MODULE..`. The same COUNT random sessions run on
+// all of them. The reports of each call, its answers, and each byte of the file after it must be the same, even for files that are damaged or
+// have another size. On the first module it also checks three laws. Serving and settling in one call has the same result, byte for byte, as
+// serving and then settling. Asking gives the same answers as serving, and does not change the file. The file of a session can be settled.
+// EXAMPLES is the folder of the examples.
 import { readFileSync } from "node:fs";
 import { join } from "node:path";
 
@@ -9,7 +10,7 @@ const [examples, count, ...paths] = process.argv.slice(2);
 const ROOM = 1n << 20n;
 const FILE_ROOM = 1n << 18n;
 
-// A module with a file, an input and the answers.
+// A module with the memory of a file, an input and the answers.
 class Instance {
   constructor(path) {
     this.calls = new WebAssembly.Instance(new WebAssembly.Module(readFileSync(path)), {}).exports;
@@ -69,7 +70,7 @@ const BOARDS = [
 ];
 const PROGRAM = readFileSync(join(examples, "calculator/calculator.asm"), "latin1");
 
-// Returns a program: the calculator's, or random bytes, so that each instruction occurs in all circumstances.
+// Returns a program: the calculator's, or random bytes, so that each instruction runs under many conditions.
 function program() {
   if (below(3) === 0) return `asm\n${PROGRAM}.\n`;
   const lines = [...Array(1 + below(60))].map(() => `DB ${[...Array(1 + below(16))].map(() => below(256)).join(", ")}`);
@@ -88,7 +89,7 @@ const LINES = [
 function script() {
   const begun = below(4) ? `wire\n${pick(BOARDS.slice(0, 3))}.\n${program()}` : "";
   const text = begun + [...Array(2 + below(30))].map(() => `${pick(LINES)()}\n`).join("");
-  // Now and then the input ends in the midst of a line or of a text.
+  // Sometimes the input ends in the middle of a line or of a text.
   return below(6) ? text : text.slice(0, below(text.length));
 }
 
@@ -103,7 +104,7 @@ function expect(name, isRight) {
 
 const instances = paths.map((path) => new Instance(path));
 
-// Checks that each module does the same. Returns what the first one reported.
+// Checks that all modules return the same; returns the result of the first one.
 function onAll(name, act) {
   const found = instances.map((instance) => {
     try {
@@ -117,7 +118,7 @@ function onAll(name, act) {
   return found[0];
 }
 
-// Checks the promises of a call that serves and settles, and of one that asks.
+// Checks the laws of the call that serves and settles, and of the call that asks.
 function tryLaws(name, text) {
   const [instance] = instances;
   const before = instance.get();

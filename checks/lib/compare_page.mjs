@@ -1,7 +1,7 @@
-// Compares the page's module with the program: `node compare_page.mjs MODULE MCS4 COUNT`. Examples and seeded scripts are served by both:
-// the answers, the exit status and each byte of the session file must be the same. So must they be if a script is cut into two calls, if
-// the file was settled between them or is one of version 1, and if the file is damaged. Lines that are cut as the page cuts long work must
-// be answered as at once.
+// Compares the page's module with the program: `node compare_page.mjs MODULE MCS4 COUNT`. Both serve examples and random scripts. The answers,
+// the exit status and each byte of the session file must be the same. This must also be so if a script is split into two calls, if the file was
+// settled between them or has version 1, and if the file is damaged. Lines that are split as the page splits long work must have the same answers
+// as in one call.
 import { spawnSync } from "node:child_process";
 import { closeSync, existsSync, mkdtempSync, openSync, readFileSync, readdirSync, rmSync, writeFileSync } from "node:fs";
 import { tmpdir } from "node:os";
@@ -12,7 +12,7 @@ import { endOfInputs, matchAnswers, readInputs } from "../../js/core/bench/input
 import { sourceOfRom } from "../../js/core/engine/texts_of_file.js";
 
 const [modulePath, mcs4, count] = process.argv.slice(2);
-// In memory, if the host has a place for it: the program waits for its disk after each command.
+// The files are in memory if possible: the program waits for its disk after each command.
 const work = mkdtempSync(join(existsSync("/dev/shm") ? "/dev/shm" : tmpdir(), "compare_page."));
 process.on("exit", () => rmSync(work, { recursive: true, force: true }));
 
@@ -74,14 +74,14 @@ function line() {
 function script() {
   let text = below(5) ? `wire\n${pick(BOARDS.slice(0, 4))}.\n${program()}` : "";
   for (let left = 5 + below(60); left > 0; left--) text += `${line()}\n`;
-  // Now and then the input ends in the midst of a line or of a text.
+  // Sometimes the input ends in the middle of a line or of a text.
   return below(6) ? text : text.slice(0, below(text.length));
 }
 
 const path = join(work, "s.mcs");
 const inputPath = join(work, "input");
 
-// Returns the program's result of a script, on a new session (null) or on the bytes of one.
+// Returns the program's result for a script, on a new session (null) or on the bytes of a session file.
 function byProgram(file, input) {
   rmSync(path, { force: true });
   if (file) writeFileSync(path, file);
@@ -94,7 +94,7 @@ function byProgram(file, input) {
   return { output: ran.stdout.toString("latin1"), status: ran.status, file: readFileSync(path) };
 }
 
-// Returns the result of the page's call: `bench_serve` serves alone, without settling.
+// Returns the result of the page's call; `bench_serve` serves without settling.
 function byPage(engine, file, input, call = "bench_serve") {
   try {
     const { status, opened, answers } = engine.callForAnswers(call, file || engine.begin(), input);
@@ -113,14 +113,14 @@ function settle(engine, file) {
   return instance.view(instance.file, file.length).slice();
 }
 
-// Returns how the answer to an input may begin.
+// The patterns for the beginning of the answer to an input, by its kind.
 const BEGINNINGS = {
   regs: /^acc /, list: /^[0-9A-F]{3} /, lamps: /^lamps /, ram: /^ram /, board: /^board$/,
   map: /^map lines /, wiring: /^wiring valid$/, errors: /^errors [0-9]+$/, breaks: /^breaks /, watches: /^watches /, seq: /^seq /, state: /^state seq /,
   count: /^count ran /, trace: /^trace ran /,
 };
 
-// Returns whether the page knows which answers belong to which input.
+// Returns whether the page assigns the answers to the right inputs.
 function isSplit(input, output) {
   const answers = output.split("\n").slice(1, -1);
   const inputs = readInputs(Buffer.from(input).toString("latin1"));
@@ -145,7 +145,7 @@ function compare(name, engine, file, input) {
   return wanted.file;
 }
 
-// A file that was settled, as version 1 writes it: no byte for the version, no count of watches.
+// Returns a settled file in version 1: without the byte for the version and the number of watches.
 function asVersion1(file) {
   const slot = file[8] % 2 === 0 ? 16 : 81936;
   const length = new DataView(file.buffer, file.byteOffset).getUint32(slot);
@@ -158,7 +158,7 @@ function asVersion1(file) {
   return old;
 }
 
-// The board is one that version 1 has: at most two chains, and none of more than four 4003s.
+// Returns whether version 1 can store the board: at most two chains, none of them longer than four 4003s.
 function isOfVersion1(engine, file) {
   const chains = answersTo(engine, file, "board\n").join("\n").split("[[").filter((part) => part.startsWith("chain]]"));
   return chains.length <= 2 && chains.every((chain) => !/^chips = [5-8]$/m.test(chain));
@@ -168,7 +168,7 @@ const QUESTIONS = "seq\nstate\nregs\nlamps\nports\nwatches\nbreaks\nboard\nram 0
 
 const ALL_ROM = [...Array(16).keys()].map((page) => `list ${page * 256} 256\n`).join("");
 
-// Counts a check of the page's own.
+// Counts a check that concerns only the page.
 function verdict(name, isRight) {
   passed += isRight ? 1 : 0;
   failed += isRight ? 0 : 1;
@@ -177,7 +177,7 @@ function verdict(name, isRight) {
 
 const answersTo = (engine, file, lines) => engine.ask(file, lines).answers;
 
-// The source text that the page makes of ROM gives the same bytes again, in an empty ROM.
+// Checks that the source text that the page makes from ROM gives the same bytes again in an empty ROM.
 function compareSource(name, engine, file) {
   const board = answersTo(engine, file, "board\n").slice(1).map((line) => `${line}\n`).join("");
   const source = sourceOfRom(engine, file);
@@ -185,15 +185,15 @@ function compareSource(name, engine, file) {
   verdict(`${name}: the source text made of ROM gives other bytes`, again.join() === answersTo(engine, file, ALL_ROM).join());
 }
 
-// Returns the contents of a file's active slot, by docs/FORMAT.md: its snapshot's count of commands and version, and whether records
-// follow.
+// Returns the contents of the active slot of a file, by docs/FORMAT.md: the number of commands and the version in its snapshot, and whether
+// records follow.
 function held(file) {
   const slot = file[8] % 2 === 0 ? 16 : 81936;
   const seq = new DataView(file.buffer, file.byteOffset).getUint32(slot + 4);
   return { seq, version: file[slot + 8], hasRecords: file[slot + 16384] === 1 };
 }
 
-// A settled file has a snapshot of all commands, and no records.
+// Checks that a settled file has a snapshot of all commands, and no records.
 function checkSettled(name, file, seq) {
   const found = held(file);
   const isRight = found.version === 2 && !found.hasRecords && found.seq === seq;
@@ -202,7 +202,7 @@ function checkSettled(name, file, seq) {
 
 const seqOf = (engine, file) => Number(answersTo(engine, file, "seq\n")[0].split(" ")[1]);
 
-// Lines that are cut as the page cuts long work, each piece served and settled, are answered as at once.
+// Checks that lines that are split as the page splits long work, each piece served and settled, have the same answers as in one call.
 function compareInPieces(name, engine, file, input) {
   const bytes = Uint8Array.from(file);
   const answers = [engine.ask(file, "").opened];
@@ -244,7 +244,7 @@ function time(act) {
 
 const fastest = (act) => Math.min(...[1, 2, 3].map(() => time(act)));
 
-// Cycles a second of both, on the calculator.
+// Returns the cycles per second of both, on the calculator.
 function speeds(engine) {
   const board = `wire\n${calculator}.\nasm\n${readFileSync(join(examples, "calculator/calculator.asm"), "utf8")}.\n`;
   const runs = "run 100000\n".repeat(300);
@@ -259,7 +259,7 @@ const engine = await Engine.load(readFileSync(modulePath));
 for (const name of readdirSync(examples, { recursive: true })) {
   if (name.endsWith(".txt")) compare(name, engine, null, readFileSync(join(examples, name), "utf8"));
 }
-// Longer than a chunk and than the room that the module has at first, and longer than the bench reads.
+// Texts that are longer than a chunk, longer than the module's initial memory, and longer than the bench reads.
 for (const size of [70000, 1100000, 16777300]) compare(`an input of ${size} bytes`, engine, null, `poke acc 1\n${"\n".repeat(size)}seq\n`);
 for (let number = 1; number <= Number(count); number++) {
   const file = compare(`script ${number}`, engine, null, script());

@@ -13,7 +13,7 @@ lowest first. What a crate has in it, and where to change what, is in [docs/MAP.
 
 
 def first_sentence(crate):
-    """Returns the first sentence in the head of a crate's root file: `lib.rt`, or `main.rt` of a program."""
+    """Returns the first sentence of the head of a crate's root file: `lib.rt`, or `main.rt` for a program."""
     sources = [TOP / "crates" / crate / "src" / name for name in ("lib.rt", "main.rt")]
     text = next(source for source in sources if source.exists()).read_text()
     said = " ".join(line[4:] for line in text.splitlines() if line.startswith("//! "))
@@ -21,9 +21,9 @@ def first_sentence(crate):
 
 
 def crates_by_heading():
-    """Returns the headings of crates.txt, each with its crates."""
+    """Returns the headings in crates.txt, each with its crates."""
     headings = {}
-    # `lines_of` of tools/lib/sums.sh reads the same file, and leaves the headings out. The first two lines say how it is read.
+    # `lines_of` in tools/lib/sums.sh reads the same file, and skips the headings. The first two lines describe the format.
     for line in (TOP / "crates.txt").read_text().splitlines()[2:]:
         if line.startswith("# "):
             crates = headings.setdefault(line[2:], [])

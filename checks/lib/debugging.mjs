@@ -1,4 +1,5 @@
-// The trials of checks/debugging by a client of its own: `ok WORDS` or `fault: WORDS` for each thing, `speed: WORDS` for what was measured.
+// The main trials of checks/debugging with a separate client. Prints `ok WORDS` or `fault: WORDS` for each check, `speed: WORDS` for a
+// measurement.
 import { execFileSync, spawn } from "node:child_process";
 import { copyFileSync, readFileSync, readdirSync, writeFileSync } from "node:fs";
 import { Client } from "./dap_client.mjs";
@@ -7,7 +8,7 @@ const TOP = new URL("../..", import.meta.url).pathname;
 const MCS4 = `${TOP}mcs4`;
 const [folder] = process.argv.slice(2);
 const STEPS = 200;
-/** The program does this many cycles for a measurement. */
+/** The number of cycles that the program runs for a measurement. */
 const FAR = [1, 2, 3, 4, 5].reduce((sum, each) => sum + 2 * 12 * 16 ** (5 - each), 3 * 12 * 16 ** 5);
 
 function verdict(is, wanted, words) {
@@ -17,16 +18,16 @@ function verdict(is, wanted, words) {
 
 const matches = (words, pattern, what) => console.log(pattern.test(words) ? `ok ${what}` : `fault: ${what}: ${words}`);
 
-/** Returns the answers of the program to lines on a session file. */
+/** Returns the program's answers to lines on a session file. */
 const mcs4 = (word, file, input) => execFileSync(process.env.MCS4, [word, file], { input, encoding: "utf8" }).split("\n").slice(1, -1);
 
-/** Returns the contents of a session file, from a copy: the one in use cannot be opened. */
+/** Returns the contents of a session file, from a copy: a file in use cannot be opened. */
 function stateIn(file) {
   copyFileSync(file, `${folder}/copy.mcs`);
   return mcs4("open", `${folder}/copy.mcs`, "state\n")[0];
 }
 
-/** Returns the keys and values of an answer to `state`. */
+/** Returns the keys and values in an answer to `state`. */
 function valuesOf(state) {
   const words = state.split(" ").slice(1);
   return Object.fromEntries(words.flatMap((word, at) => (at % 2 === 0 ? [[word, words[at + 1]]] : [])));
@@ -37,7 +38,7 @@ const example = (name) => ({
   board: `${TOP}examples/${name}/board.toml`, program: `${TOP}examples/${name}/${name}.asm`, project: `${TOP}examples/${name}`,
 });
 
-/** Makes a session file of an example, by the program alone. */
+/** Makes a session file of an example, with the native program only. */
 function fileOf(name, lines = "") {
   const file = `${folder}/${name}.mcs`;
   execFileSync("rm", ["-f", file]);
@@ -50,7 +51,7 @@ function fileOf(name, lines = "") {
   return { file, lineAt, names };
 }
 
-/** Returns the client's view of the machine, in the words of `state`. */
+/** Returns the machine's state as the client sees it, in the form of `state`. */
 async function seen(client) {
   const { values } = await client.scope("Registers");
   const digits = (name) => values[name].replace(/^0x/, "");
@@ -86,7 +87,7 @@ async function trySteps(name) {
   verdict(await client.end(), 0, `${name}: it ends`);
 }
 
-/** Compares breakpoints at the labels of an example with `break` and `run` of the program. */
+/** Compares breakpoints at the labels of an example with the program's `break` and `run`. */
 async function tryBreakpoints(name) {
   const { file, lineAt, names } = fileOf(name);
   const text = readFileSync(example(name).program, "utf8");
@@ -111,8 +112,8 @@ async function tryBreakpoints(name) {
 }
 
 /**
- * Compares going back from arrival to arrival at a label with the program's stops on its way there; with a condition, with those at which
- * it holds.
+ * Compares going back from arrival to arrival at a label with the program's stops on its way there. With a condition, only the arrivals at which
+ * it holds are compared.
  */
 async function tryArrivals(name, label, register) {
   const { file, names } = fileOf(name);
@@ -169,7 +170,7 @@ async function trySetting() {
   await client.end();
 }
 
-/** A session file contains at each stop what was reported; its breakpoints stay. */
+/** Checks that at each stop a session file contains the reported state, and that its breakpoints stay. */
 async function trySession() {
   const { file } = fileOf("lock", "break 0x031\n");
   const client = new Client(MCS4);
@@ -206,7 +207,7 @@ async function trySession() {
   verdict(readdirSync(folder).filter((name) => name.startsWith("lock.mcs.") || name.startsWith(".")), [], "no other file is left");
 }
 
-/** Files that are not sessions are rejected, and stay as they are. */
+/** Checks that files that are not sessions are rejected, and stay unchanged. */
 async function tryFiles() {
   const { file } = fileOf("lock");
   const damaged = readFileSync(file);
@@ -228,7 +229,7 @@ async function tryFiles() {
   await client.end();
 }
 
-/** Returns the errors in messages. */
+/** Checks that errors in messages are reported. */
 async function tryMessages() {
   const client = new Client(MCS4);
   matches((await client.answer("threads")).message, /send initialize first/, "out of order");
@@ -273,10 +274,10 @@ async function timed(count, act) {
   return times;
 }
 
-/** Measures how long a step takes, a step back after ten million cycles, and how fast a distant breakpoint is reached. */
+/** Measures the time of a step, of a step back after ten million cycles, and the speed of a run to a distant breakpoint. */
 async function trySpeed() {
   const program = `${folder}/far.asm`;
-  // R0 counts 12 * 16 ** 5 times, with NOP and ISZ of 3 cycles; each of R1 to R5 after 16 turns of the one before it, by 2.
+  // R0 counts 12 * 16 ** 5 times, with NOP and ISZ in 3 cycles. Each of R1 to R5 counts after 16 turns of the one before it, in 2 cycles.
   const count = [0, 1, 2, 3, 4, 5].map((each) => `count${each}: ISZ R${each}, turn\n`).join("");
   writeFileSync(program, `        FIM P0, 0\n        FIM P1, 0\n        FIM P2, 0x04\nturn:   NOP\n${count}far:    JUN far\n`);
   const client = new Client(MCS4);

@@ -1,6 +1,6 @@
-// The trials of checks/debugging of wrong messages: frames with wrong lengths, requests out of order, unknown ones, and some 2,000 with
-// wrong arguments. Each is answered once, and the adapter continues; or an error is printed and it ends. `ok WORDS` or `fault: WORDS` for
-// each thing.
+// The trials of checks/debugging with wrong messages: frames with wrong lengths, requests in the wrong order, unknown ones, and some 2,000 with
+// wrong arguments. The adapter answers each once and continues; or it prints an error and ends. Prints `ok WORDS` or `fault: WORDS` for each
+// check.
 import { Client } from "./dap_client.mjs";
 
 const TOP = new URL("../..", import.meta.url).pathname;
@@ -22,7 +22,7 @@ const framed = (text, size = Buffer.byteLength(text)) => `Content-Length: ${size
 const request = (seq, command, args) => JSON.stringify({ seq, type: "request", command, arguments: args });
 const INITIALIZE = framed(request(1, "initialize", {}));
 
-/** Bytes after which no message can follow, with the printed error; `isOpen`: no more bytes arrive, and the stream stays open. */
+/** Bytes after which no message can follow, with the printed error. With `isOpen`, no more bytes arrive, and the stream stays open. */
 const LOST = [
   { name: "the rest of a message never comes", bytes: framed("{\"seq\":", 50), words: /^only 7 of the 50 bytes/, isOpen: true },
   { name: "the rest of a head never comes", bytes: "Content-Le", words: /^only a part of the head/, isOpen: true },
@@ -35,7 +35,7 @@ const LOST = [
   { name: "binary bytes", bytes: Buffer.from(Array.from({ length: 6000 }, (_, at) => (at * 7919) % 256)), words: /^the head|^a message begins/ },
 ];
 
-/** The error is sent and printed, and the status is not 0. */
+/** Checks that the error is sent and printed, and that the exit status is not 0. */
 async function tryLost({ name, bytes, words, isOpen = false }) {
   const client = new Client(ADAPTER);
   client.raw(bytes);
@@ -49,7 +49,7 @@ async function tryLost({ name, bytes, words, isOpen = false }) {
 // --- requests ---
 
 let state = 20261128;
-/** Returns a seeded number from 0 up to another one, which is excluded. */
+/** Returns a random number from 0 to `count`, exclusive. */
 function upTo(count) {
   state = (Math.imul(state, 1664525) + 1013904223) >>> 0;
   return Math.floor((state / 2 ** 32) * count);
@@ -96,7 +96,7 @@ function argumentsFor(command) {
   return oneOf([() => undefined, () => null, () => value(0), () => given(), () => nearlyRight(command), () => nearlyRight(command)])();
 }
 
-/** Sends requests in batches, without waiting within one; returns the numbers of those that were not answered just once. */
+/** Sends requests in batches, without waiting inside a batch; returns the numbers of those that were not answered exactly once. */
 async function sendAll(client, count) {
   const answered = new Map();
   for (let done = 0; done < count; done += BATCH) {
@@ -107,7 +107,7 @@ async function sendAll(client, count) {
       batch.push(client.number);
       client.send({ seq: client.number, type: "request", command, arguments: argumentsFor(command) });
     }
-    // Running time is paused, so that the next batch begins in a paused session.
+    // A running machine is paused, so that the next batch begins in a paused session.
     await client.answer("pause", { threadId: 1 });
     for (const seq of batch) {
       await client.next((message) => message.type === "response" && message.request_seq === seq);

@@ -1,12 +1,12 @@
-"""What can be done to a page in any browser that is driven; web_driver.py and marionette.py say how each is driven."""
+"""The actions on a page that all drivers share; web_driver.py and marionette.py drive the browsers."""
 
 import re
 import time
 
 ELEMENT = "element-6066-11e4-a52e-4f735466cecf"
-# Between one finger and the next.
+# The pause between one finger and the next.
 PAUSE = {"type": "pause", "duration": 10}
-# A function for every script: it returns true if an element can be seen. The oldest browsers have no call for it.
+# A function that is put before every script. It returns true if an element is visible. (The oldest browsers have no call for it.)
 BEFORE_SCRIPTS = "const isShown = (element) => element.getClientRects().length > 0;\n"
 PLACE_AND_TEXT = """
 const element = document.querySelector(arguments[0]);
@@ -14,7 +14,7 @@ return `${element.getBoundingClientRect().top} ${element.textContent}`"""
 
 
 class Fault(Exception):
-    """An error that the driver or the page answered instead of a value."""
+    """An error that the driver or the page has returned instead of a value."""
 
 
 def matches(found, wanted):
@@ -23,14 +23,14 @@ def matches(found, wanted):
 
 
 class Driven:
-    # What the driver can do: several fingers at once; and whether a tab behind another one is hidden.
+    # The abilities of the driver: several fingers at once, and whether a background tab counts as hidden.
     has_fingers = True
     hides_tabs = True
-    # How many seconds after a scroll the page is drawn anew.
+    # The seconds after a scroll in which the page is drawn again.
     settles = 0
 
     def show(self, selector):
-        """Scrolls an element to the middle, where nothing covers it."""
+        """Scrolls an element to the middle, so that nothing covers it."""
         self.script("document.querySelector(arguments[0]).scrollIntoView({ block: 'center' })", selector)
 
     def click(self, selector):
@@ -39,7 +39,7 @@ class Driven:
         self.click_element(self.find(selector))
 
     def click_at_rest(self, selector):
-        """Clicks on an element that moves for a moment, as the rows of the listing do, once it has not moved for a third of a second."""
+        """Clicks on an element that can be moving, such as a row of the listing, once it has not moved for a third of a second."""
         self.show(selector)
         seen = None
         end = time.monotonic() + 10
@@ -49,7 +49,7 @@ class Driven:
         self.click_element(self.find(selector))
 
     def hold(self, selector, time_down):
-        """Presses the mouse on an element for a number of milliseconds."""
+        """Presses the mouse on an element for some milliseconds."""
         self.show(selector)
         time.sleep(self.settles)
         self.actions({
@@ -69,8 +69,8 @@ class Driven:
         return self.script("return document.querySelector(arguments[0]).textContent", selector)
 
     def fingers(self, selectors, time_down):
-        """Touches with as many fingers, each on one element: they go down one after the other, are down together for a number of
-        milliseconds, and go up."""
+        """Touches several elements, each with one finger: the fingers go down one after the other, stay down together for some milliseconds, and
+        go up."""
         self.show(selectors[0])
         self.actions(*[{
             "type": "pointer", "id": f"finger{number}", "parameters": {"pointerType": "touch"},
@@ -99,7 +99,7 @@ class Driven:
             {"type": "keyUp", "value": typed}, {"type": "keyUp", "value": held}]})
 
     def resize(self, width, height, _mobile=False):
-        """Gives the page a size, whatever the window has around it."""
+        """Sets the size of the page, independent of the window's borders."""
         for _ in range(20):
             found = self.script("return [innerWidth, innerHeight]")
             if found == [width, height]:
@@ -113,8 +113,8 @@ class Driven:
         self.set_window_size(1280, 900)
 
     def until(self, code, wanted, seconds=30):
-        """Waits until a script answers the expected value, or a text that has a pattern; returns its last answer. A script that fails,
-        as one does while the page is left, is tried again."""
+        """Waits until a script returns the expected value, or a text that matches a pattern; returns the last result. A script that fails, as it
+        does while the page is left, is tried again."""
         end = time.monotonic() + seconds
         while True:
             try:

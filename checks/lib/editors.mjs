@@ -1,4 +1,4 @@
-// The trials of checks/editors by a client of its own: `ok WORDS` or `fault: WORDS` for each thing, `speed: WORDS` for what was measured.
+// The main trials of checks/editors with a separate client. Prints `ok WORDS` or `fault: WORDS` for each check, `speed: WORDS` for a measurement.
 import { execFileSync } from "node:child_process";
 import { readFileSync, readdirSync } from "node:fs";
 import { Client } from "./lsp_client.mjs";
@@ -29,12 +29,12 @@ function bySession(board, program) {
   return { lines, names };
 }
 
-/** The examples that are texts in a folder. */
+/** Returns the examples that are texts in a folder. */
 function examples() {
   return readdirSync(`${TOP}examples`, { withFileTypes: true }).filter((each) => each.isDirectory()).map(({ name }) => name);
 }
 
-/** Compares addresses, sizes and values of an example in hovers with those that the program reports. */
+/** Compares addresses, sizes and values in the hovers of an example with those that the program reports. */
 async function compare(client, name) {
   const uri = `file://${TOP}examples/${name}/${name}.asm`;
   const [text, board] = [read(`examples/${name}/${name}.asm`), read(`examples/${name}/board.toml`)];
@@ -62,7 +62,7 @@ async function compare(client, name) {
 const middle = (list) => [...list].sort((one, other) => one - other)[Math.floor(list.length / 2)];
 const describedTimes = (list) => `${middle(list).toFixed(1)} ms in the middle, ${Math.max(...list).toFixed(1)} at most`;
 
-/** Measures how long errors and hovers take in a text of maximum length: each edit adds an error. */
+/** Measures the time of errors and hovers in a text of maximum length; each edit adds an error. */
 async function trySpeed(client) {
   const uri = "file:///long.asm";
   const text = `start:\n${"LDM 5\n".repeat(2728)}NOP`;
@@ -85,7 +85,7 @@ async function trySpeed(client) {
   console.log(`speed: 1 to 15 faults of it, after an edit: ${describedTimes(faults)}`);
 }
 
-/** An error is reported, and the next request is answered. */
+/** Checks that errors in messages are reported, and that the next request is answered. */
 async function tryWrong() {
   const client = new Client(MCS4);
   verdict((await client.answer("textDocument/hover", {})).error.code, -32002, "a request before initialize");
@@ -125,7 +125,7 @@ async function tryEnds() {
   verdict([await other.ended, other.stderr.split(",")[0]], [1, "lsp: a message begins with one line Content-Length: N"], "another protocol");
 }
 
-/** Input that a client writes before it has read anything is served in its order. */
+/** Checks that input is served in order if a client writes it before it reads anything. */
 async function tryAtOnce() {
   const hasty = new Client(MCS4);
   const uri = "file:///hasty.asm";
@@ -143,7 +143,8 @@ async function tryAtOnce() {
 }
 
 /**
- * A size that is not that of the message: an error and an end, if the rest is missing, if it belongs to the next message, and at the end.
+ * Checks wrong sizes of messages, which must cause an error and the end: if the rest is missing, if it belongs to the next message, and at the
+ * end.
  */
 async function tryLies() {
   const body = JSON.stringify({ jsonrpc: "2.0", id: 1, method: "initialize", params: {} });

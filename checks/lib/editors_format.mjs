@@ -1,12 +1,12 @@
-// The trials of checks/editors of the layout of programs: seeded ones are formatted by the server, with blanks and with tabs by turns. The
-// bench must give the same answers to both, byte for byte, and formatting twice must be the same as once: `ok WORDS` or `fault: WORDS`.
+// The trials of checks/editors about the layout of programs. The server formats random programs, with blanks and with tabs in turn. The bench
+// must give the same answers to both, byte for byte, and formatting twice must be the same as once. Prints `ok WORDS` or `fault: WORDS`.
 import { execFileSync } from "node:child_process";
 import { mkdirSync, readFileSync, rmSync } from "node:fs";
 import { Client } from "./lsp_client.mjs";
 
 const TOP = new URL("../..", import.meta.url).pathname;
 const [folder] = process.argv.slice(2);
-/** The number of programs with an image, and of those with errors. */
+/** The number of valid programs, and of those with errors. */
 const ACCEPTED = 500;
 const REFUSED = 60;
 const COUNT = ACCEPTED + REFUSED;
@@ -17,7 +17,7 @@ const LISTS = [...Array(16).keys()].map((page) => `list ${page * 256} 256\n`).jo
 
 const verdict = (isRight, words) => console.log(isRight ? `ok ${words}` : `fault: ${words}`);
 
-/** The text after edits, each of them in one line. */
+/** Returns the text after edits, each of them in one line. */
 function edited(text, edits) {
   const lines = text.split("\n");
   for (const { range: { start, end }, newText } of edits) {
@@ -26,7 +26,7 @@ function edited(text, edits) {
   return lines.join("\n");
 }
 
-/** Returns the program's answers to texts: the map of each, the answer to its load, and all of ROM after it. */
+/** Returns the program's answers to texts: the map of each, the answer to its load, and the whole ROM after it. */
 function answers(texts) {
   const input = ALL_ROMS + texts.map((text) => `map\n${text}.\nasm\n${text}.\n${LISTS}`).join("");
   const file = `${folder}/formatted.mcs`;

@@ -1,23 +1,23 @@
-// Drives Kate's language client on a display of its own: `node editors_kate.mjs FOLDER`. FOLDER/home has Kate's settings, as the manual
-// gives them; FOLDER/bin has `mcs4`, which writes all that Kate sends to FOLDER/sent and all that it receives to FOLDER/received. The
-// observations go to standard output, a line for each. It waits for the contents of these files, and for the screen, never for a time.
+// Drives Kate's language client on a virtual display: `node editors_kate.mjs FOLDER`. FOLDER/home has Kate's settings, as the manual describes
+// them. FOLDER/bin has an `mcs4` that writes everything that Kate sends to FOLDER/sent, and everything that it receives to FOLDER/received.
+// Standard output has a line for each observation. The script waits for the contents of these files, and for the screen, never for a fixed time.
 import { spawn, spawnSync } from "node:child_process";
 import { cpSync, existsSync, mkdirSync, readFileSync, rmSync, writeFileSync } from "node:fs";
 import { MessageClient } from "./message_client.mjs";
 
-/** The milliseconds for which it waits for each thing. */
+/** The milliseconds to wait for each result. */
 const PATIENCE = 90000;
-/** The milliseconds after which a key without effect is pressed again, and a command for the display is given up. */
+/** The milliseconds until a key without effect is pressed again, and until a command for the display is stopped. */
 const AGAIN = 20000;
 /** The title of Kate's question. */
 const QUESTION = "LSP server start requested";
 const folder = process.argv[2];
-/** Ends the processes that it started. */
+/** Functions that end the processes that this script started. */
 const ends = new Set();
 const say = (line) => process.stdout.write(`${line}\n`);
 const shortly = () => new Promise((resume) => setTimeout(resume, 100));
 
-/** Waits until `look` returns something. */
+/** Waits until `look` returns a value. */
 async function once(what, look) {
   for (const end = Date.now() + PATIENCE; Date.now() < end;) {
     const found = look();
@@ -36,9 +36,9 @@ function messagesOf(name) {
 const sent = (method) => messagesOf("sent").filter((each) => each.method === method);
 const lastFaults = () => messagesOf("received").filter((each) => each.method === "textDocument/publishDiagnostics").at(-1)?.params.diagnostics;
 
-// --- a display, and its picture
+// --- a display and its screenshot
 
-/** Starts a display, with its picture in FOLDER. */
+/** Starts a virtual display, with its screenshots in FOLDER. */
 async function startDisplay() {
   const server = spawn("Xvfb", ["-displayfd", "3", "-screen", "0", "1280x800x24", "-nolisten", "tcp", "-fbdir", folder],
     { stdio: ["ignore", "ignore", "ignore", "pipe"] });
@@ -52,8 +52,8 @@ async function startDisplay() {
 }
 
 /**
- * Returns the points of the screen in the colour that Kate's own theme gives to a line with an error, #FFE5E5 and, at the cursor, a shade
- * of it: a picture of XWD, which has its header's length first, and the number of its colours in the twentieth word.
+ * Returns the number of pixels in the colour that Kate's theme gives to a line with an error: #FFE5E5, or a shade of it at the cursor. The
+ * screenshot is an XWD picture: its first word is the length of its header, and its twentieth word the number of its colours.
  */
 function marked() {
   const picture = readFileSync(`${folder}/Xvfb_screen0`);
@@ -66,7 +66,7 @@ function marked() {
   return count;
 }
 
-/** A line with an error is many hundred points wide and some high. */
+/** Returns whether a line is marked: it is many hundred pixels wide and some high. */
 const isMarked = () => marked() > 2000;
 
 // --- Kate
@@ -80,7 +80,7 @@ class Kate {
     }
     for (const name of ["sent", "received"]) rmSync(`${folder}/${name}`, { force: true });
     this.file = file;
-    // A group of its own, so that the end also ends its children.
+    // It has its own process group, so that ending it also ends its children.
     this.child = spawn("dbus-run-session", ["--", "kate", "-n", ...more, file],
       { cwd: `${folder}/lock`, env: this.environment, stdio: "ignore", detached: true });
     this.child.on("error", () => {});
@@ -102,7 +102,7 @@ class Kate {
     this.xdotool("windowfocus", window, "key", "--delay", "100", ...keys);
   }
 
-  /** The text's errors; and, if Kate asks whether it may start the server: yes. */
+  /** Returns the errors in the text; if Kate asks whether it may start the server, answers yes. */
   async answered() {
     let asked = 0;
     const faults = await once("faults", () => {
@@ -122,7 +122,7 @@ class Kate {
     try {
       process.kill(-this.child.pid, "SIGKILL");
     } catch {
-      // It has disappeared.
+      // The folder has disappeared.
     }
   }
 }
@@ -132,7 +132,7 @@ function printFaults(faults) {
   if (faults.length === 0) say("no fault");
 }
 
-/** A program with an error is opened; the error is marked; it is corrected by typing, and the mark disappears. */
+/** Opens a program with an error. The error is marked; typing corrects it, and the mark disappears. */
 async function program(display) {
   const kate = new Kate(display, "wrong.asm", ["-l", "39", "-c", "9"]);
   try {
@@ -155,9 +155,7 @@ async function program(display) {
   }
 }
 
-/**
- * With the grammars, and a server for their kinds of texts only, Kate asks for the server: so it has recognised the grammar of the text.
- */
+/** Opens a text with the grammars, and a server only for their kinds of texts. If Kate asks for the server, it has recognised the grammar. */
 async function grammar(display, file) {
   const settings = `${folder}/home/.config/kate/lspclient/settings.json`;
   const own = JSON.parse(readFileSync(settings, "utf8"));

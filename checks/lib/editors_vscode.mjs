@@ -1,5 +1,5 @@
-// The trials of checks/editors by Visual Studio Code's own order of requests, over the lock as a project on the disk: `ok WORDS` or `fault:
-// WORDS` for each thing, `speed: WORDS` for what was measured.
+// The trials of checks/editors with the order of requests of Visual Studio Code, over the lock as a project on disk. Prints `ok WORDS` or `fault:
+// WORDS` for each check, `speed: WORDS` for a measurement.
 import { copyFileSync, mkdirSync, readFileSync, symlinkSync, writeFileSync } from "node:fs";
 import { execFileSync } from "node:child_process";
 import { Client } from "./lsp_client.mjs";
@@ -17,7 +17,7 @@ function verdict(is, wanted, words) {
   console.log(one === other ? `ok ${words}` : `fault: ${words}: ${one}, not ${other}`);
 }
 
-/** The editor's abilities, as far as a server reads them. */
+/** The editor's capabilities, as far as a server reads them. */
 const CAPABILITIES = {
   workspace: {
     applyEdit: true, configuration: true, workspaceFolders: true, didChangeWatchedFiles: { dynamicRegistration: true },
@@ -56,7 +56,7 @@ async function begin(client) {
 const open = (client, name, languageId) => client.notify("textDocument/didOpen", {
   textDocument: { uri: uriOf(name), languageId, version: 1, text: readFileSync(`${folder}/${name}`, "utf8") } });
 
-/** The editor's requests when a program is shown, in one go. */
+/** Sends the editor's requests when a program is shown, all at once. */
 async function show(client) {
   open(client, "lock.asm", "mcs4");
   const [symbols, folds, actions, links, colours, visible, hints, lenses, marks, diagnostics] = await Promise.all([
@@ -75,7 +75,7 @@ async function show(client) {
   return { colours, resultId: diagnostics.resultId };
 }
 
-/** An edit, and the requests after it; a request that is cancelled. */
+/** Sends an edit and the requests after it, and a request that is cancelled. */
 async function change(client, { colours, resultId }) {
   const range = { start: { line: 38, character: 8 }, end: { line: 38, character: 11 } };
   client.notify("textDocument/didChange", { textDocument: { uri, version: 2 }, contentChanges: [{ range, rangeLength: 3, text: "JMP" }] });
@@ -101,7 +101,7 @@ async function change(client, { colours, resultId }) {
   verdict((await client.ask("textDocument/diagnostic", { textDocument })).items.length, 0, "the text as it was");
 }
 
-/** The other texts of the project, a test that runs, and a board whose change leads to a refresh. */
+/** Opens the other texts of the project, runs a test, and changes a board, which leads to a refresh. */
 async function others(client) {
   for (const [name, language] of [["lock.test", "mcs4-test"], ["lock.props", "mcs4-props"], ["board.toml", "toml"], ["mcs4.toml", "toml"]]) {
     open(client, name, language);
@@ -119,7 +119,7 @@ async function others(client) {
   verdict((await client.ask("workspace/symbol", { query: "begin" })).length > 0, true, "names of the workspace");
 }
 
-/** Devices and pipes in place of texts: all requests are answered. */
+/** Checks devices and pipes in place of texts: all requests are answered. */
 async function devices(client) {
   const other = `${process.argv[2]}/devices`;
   mkdirSync(other);
@@ -139,13 +139,13 @@ async function devices(client) {
     "a project of devices");
 }
 
-/** The processor time of a process so far, in milliseconds. */
+/** Returns the processor time of a process so far, in milliseconds. */
 function spent(pid) {
   const fields = readFileSync(`/proc/${pid}/stat`, "utf8").replace(/^.*\) /, "").split(" ");
   return (Number(fields[11]) + Number(fields[12])) * 10;
 }
 
-/** Measures how long edits of a program of 16 KB take, with none to 15 errors in it: the answer to `diagnostic` after each. */
+/** Measures the time of edits in a program of 16 KB with 0 to 15 errors: the time of the answer to `diagnostic` after each. */
 async function speed(client) {
   const long = { uri: uriOf("long.asm") };
   const text = `start:\n${"LDM 5\n".repeat(2728)}NOP`;

@@ -10,7 +10,7 @@ from assembler import ADDRESSES, assemble
 from bench4004 import BRANCHES, counted, instruction_text
 from board4004 import CODES, TWO_CYCLES, Board, Line
 
-# A time of a wave, and the changes then, by the names of lines.
+# The changes in a wave: by time, then by the name of the line.
 Changes = dict[int, dict[str, str]]
 
 
@@ -18,7 +18,7 @@ class Source:
     """A program's text, its path, and its names."""
 
     def __init__(self, lines: list[str]) -> None:
-        """Assembles it by the second assembler; of two labels at an address the first one counts."""
+        """Assembles a program by the second assembler. If an address has two labels, the first one counts."""
         self.lines = lines
         _image, self.spans, names = assemble(lines)
         self.labels: dict[int, str] = {}
@@ -35,7 +35,7 @@ class Source:
         return max((pair for pair in self.labels.items() if pair[0] <= at), default=(-1, ""))
 
     def is_data(self, number: int) -> bool:
-        """Returns true if a line has bytes that are no instruction."""
+        """Returns true if a line has bytes that are not an instruction."""
         return self.code(number).split(":")[-1].split()[:1] == ["DB"]
 
     def code(self, number: int) -> str:
@@ -51,7 +51,7 @@ class Source:
         if at not in self.line_of:
             return f"{at:03X}, which the source does not fill"
         there, name = self.label_below(at)
-        # A label beyond bytes that the source does not fill names nothing here.
+        # A label is not used for an address after a gap in the source.
         if any(between not in self.line_of for between in range(there, at)):
             name = ""
         named = f" ({name}{f' + {at - there}' if at > there else ''})" if name else ""
@@ -81,7 +81,7 @@ def written(before: Board, after: Board) -> list[str]:
 
 
 def trace_row(board: Board, cycle: int, rest: str, source: Source | None, with_lines: bool) -> str:
-    """Returns a row, with its label above it and that of its target, or with its line of the source, as far as there are any."""
+    """Returns the row of an instruction, with its label above it and the label of its target, or with its source line, as far as they exist."""
     at, text = board.pc, "(the second cycle)" if board.owed else instruction_text(board, board.pc)
     if source is None or board.owed:
         return f"{cycle:8}  {text:<{42 if with_lines else 25}}  {rest}".rstrip()
@@ -119,7 +119,7 @@ def trace_output(start: Board, cycles: int, last: int = 0, source: Source | None
 # ---- wave
 
 def levels(board: Board, source: Source) -> dict[str, str]:
-    """Returns all lines of a board and their levels, in the order of `mcs4 wave --lines`."""
+    """Returns the names of all lines of a board with their levels, in the order of `mcs4 wave --lines`."""
     chips = board.chips
     lines: dict[str, Line] = {f"rom{chip}.{k}": ("rom", (chip, k)) for chip in chips.rom_latch for k in range(4)}
     lines |= {f"ram{bank}.{chip}.{k}": ("ram", (bank, chip, k)) for bank, chip in chips.ram_latch for k in range(4)}
@@ -132,8 +132,8 @@ def levels(board: Board, source: Source) -> dict[str, str]:
 
 
 def wave_output(start: Board, cycles: int, names: list[str], source: Source) -> tuple[Changes, int]:
-    """Returns the result of `mcs4 wave`: the changes of the lines with these names at each cycle, from their levels at 0 on, and the
-    cycle at which it ends. The counter and its label change when an instruction is done."""
+    """Returns the result of `mcs4 wave`: for each cycle the changes of the named lines, starting with their levels at 0, and the last cycle. The
+    counter and its label change when an instruction is done."""
     board = start.copy()
     now = levels(board, source)
     changes, done = {0: {name: now[name] for name in names}}, 0
@@ -149,7 +149,7 @@ def wave_output(start: Board, cycles: int, names: list[str], source: Source) -> 
 
 
 def read_vcd(text: str) -> tuple[list[str], Changes, int]:
-    """Reads a VCD file; returns the names of its lines, their changes, and its end, in cycles. -1 is a time within a cycle."""
+    """Parses a VCD file; returns the names of its lines, their changes, and its end, in cycles. A time within a cycle is -1."""
     names: dict[str, str] = {}
     changes: Changes = {}
     cycle = 0
@@ -170,12 +170,12 @@ def read_vcd(text: str) -> tuple[list[str], Changes, int]:
 # ---- cover and profile
 
 def percent(part: int, whole: int) -> str:
-    """Returns a percentage in brackets, if there is anything."""
+    """Returns a percentage in brackets, or "" if the whole is 0."""
     return f" ({100 * part / whole:.1f} %)" if whole else ""
 
 
 def spans_of(lines: list[int], chosen: list[int]) -> str:
-    """Returns the chosen ones of some lines, by their numbers, consecutive ones together."""
+    """Returns the numbers of the chosen lines, with consecutive ones as a range."""
     spans: list[list[int]] = []
     before = None
     for line in lines:
@@ -188,7 +188,7 @@ def spans_of(lines: list[int], chosen: list[int]) -> str:
 
 
 def cover_output(start: Board, cycles: int, source: Source) -> str:
-    """Returns the output of `mcs4 cover`: how often each line was run, which way its jump went, and the lines that never were."""
+    """Returns the output of `mcs4 cover`: how often each line was run, how often its jump was taken, and the lines that were never run."""
     runs, jumps, _done, _stop = counted(unstopped(start), cycles)
     lines = [i for i, (at, size) in enumerate(source.spans) if size and (not source.is_data(i) or runs[at])]
     ways = {i: (jumps[at], runs[at] - jumps[at]) for i, (at, size) in enumerate(source.spans)
@@ -211,14 +211,14 @@ def cover_output(start: Board, cycles: int, source: Source) -> str:
 
 
 def unstopped(start: Board) -> Board:
-    """Returns a board that no breakpoint and no watch stops."""
+    """Returns a copy of a board without breakpoints and watches."""
     board = start.copy()
     board.breaks, board.watches = set(), set()
     return board
 
 
 class Calls:
-    """The routines within one another, and the time of each."""
+    """The open calls of routines, and the time of each routine."""
 
     def __init__(self) -> None:
         self.open: list[tuple[int, int]] = []
@@ -226,12 +226,12 @@ class Calls:
         self.times: dict[int, list[int]] = {}
 
     def enter(self, target: int, time: int) -> None:
-        """Enters a JMS; of four, one within the other, the first one has no way back."""
+        """Enters a routine at a JMS. At a fourth nested JMS, the return address of the first one is lost."""
         self.open = [*self.open[-2:], (target, time)]
         self.counts[target] = self.counts.get(target, 0) + 1
 
     def leave(self, time: int) -> None:
-        """Leaves by a BBL, or at the end; a routine that is called within itself counts once."""
+        """Leaves a routine at a BBL, or at the end. A routine that calls itself counts once."""
         target, entered = self.open.pop()
         if all(other != target for other, _entered in self.open):
             self.times.setdefault(target, []).append(time - entered)
@@ -268,12 +268,12 @@ def profile_output(start: Board, cycles: int, source: Source) -> str:
 # ---- cycles
 
 def microseconds(cycles: int) -> str:
-    """Returns cycles, and the time that a 4004 needs for them."""
+    """Returns a number of cycles, and the time that a 4004 needs for them, as text."""
     tenths = 108 * cycles
     return f"{cycles} cycle{'' if cycles == 1 else 's'}, {tenths // 10}.{tenths % 10} microseconds"
 
 
 def cycles_output(runs: list[tuple[int, int]], source: Source | None) -> str:
-    """Returns the output of `mcs4 cycles`: of runs with their cycles and the counter after them."""
+    """Returns the output of `mcs4 cycles` for runs, each with its cycles and the counter after it."""
     rows = [f"{microseconds(cycles)}, to {source.place(at)}" for cycles, at in runs] if source else []
     return "".join(f"{row}\n" for row in [*rows, microseconds(sum(cycles for cycles, _at in runs))])

@@ -1,6 +1,7 @@
-// Starts the extension for Visual Studio Code as it is packed, with nothing else installed: `node extension_alone.mjs EXTENSION FOLDER`,
-// EXTENSION the unpacked one, FOLDER for a workspace. It does what the editor does, with a stand-in for its module: activate, open a text,
-// errors arrive, a test runs and is debugged, the front panel opens and prints, a task runs. `ok WORDS` or `fault: WORDS` for each thing.
+// Starts the packed extension for Visual Studio Code, with nothing else installed: `node extension_alone.mjs EXTENSION FOLDER`. EXTENSION is the
+// unpacked extension, FOLDER a folder for a workspace. The script does what the editor does, with a stand-in for its module: it activates the
+// extension, opens a text, waits for errors, runs and debugs a test, opens the front panel, prints, and runs a task. Prints `ok WORDS` or `fault:
+// WORDS` for each check.
 import { spawnSync } from "node:child_process";
 import { copyFileSync, cpSync, existsSync, mkdirSync, readFileSync, writeFileSync } from "node:fs";
 import Module, { createRequire } from "node:module";
@@ -11,7 +12,7 @@ import { standIn } from "./vscode_stand_in.mjs";
 const TOP = new URL("../..", import.meta.url).pathname;
 const [extensionFolder, place] = process.argv.slice(2);
 const folder = join(place, "a board, and its program");
-/** In milliseconds; the editor waits, too, however busy the machine is. */
+/** The milliseconds to wait for each result; the editor also waits, however busy the machine is. */
 const PATIENCE = 60000;
 
 function verdict(is, wanted, words) {
@@ -19,7 +20,7 @@ function verdict(is, wanted, words) {
   console.log(one === other ? `ok ${words}` : `fault: ${words}: ${one}, not ${other}`);
 }
 
-/** Waits until something is there; returns null if it does not come. */
+/** Waits until `find` returns a value; returns null after a timeout. */
 async function until(find) {
   for (const end = Date.now() + PATIENCE; Date.now() < end;) {
     const found = find();
@@ -36,13 +37,13 @@ function makeWorkspace() {
   for (const name of ["board.toml", "printing_calculator.asm", "mcs4.toml"]) copy(`printing_calculator/${name}`, `printer/${name}`);
   for (const name of ["props", "test"]) copy(`printing_calculator/printing_calculator.${name}`, `printer/printing_calculator.${name}`);
   writeFileSync(join(folder, "lock", "wrong.asm"), readFileSync(join(folder, "lock", "lock.asm"), "utf8").replace("JCN zero, enter", "JMP enter"));
-  // A program with the bench's own extension, without a project.
+  // A program with the extension .4004, without a project.
   copy("three_lamps/board.toml", "lone/board.toml");
   copy("three_lamps/three_lamps.asm", "lone/three_lamps.4004");
   writeFileSync(join(folder, "lone", "three_lamps.test"), "test it begins\n  run 10\n\ntest it fails\n  run 10\n  expect acc 9\n");
 }
 
-/** Nothing of the bench is on the PATH, nor named by the environment. */
+/** Makes an environment in which nothing of the bench is on the PATH or named by a variable. */
 function makeBare() {
   const bare = join(place, "nothing");
   mkdirSync(bare);
@@ -63,7 +64,7 @@ async function tryTexts(editor) {
   verdict(await diagnosticsOf(editor, editor.open("lone/three_lamps.test", "plaintext")), [], "its tests");
 }
 
-/** Runs a profile on items; returns the results. */
+/** Runs a test profile on items; returns the results. */
 async function runTests(editor, name, include) {
   const { registered: { tests }, shown } = editor;
   await tests.profiles[name]({ include, exclude: [] }, { isCancellationRequested: false, onCancellationRequested: () => ({ dispose: () => {} }) });
@@ -95,7 +96,7 @@ async function tryTests(editor) {
   return shown.launched.pop();
 }
 
-/** Debugs as the editor does, with what the extension provides; returns the client, whose events the extension receives. */
+/** Debugs as the editor does, with what the extension provides; returns the client, and passes its events to the extension. */
 async function debug(editor, configuration) {
   const { registered, events } = editor;
   const { given: [command, words, { env }] } = registered["adapter mcs4"].createDebugAdapterDescriptor();
@@ -163,7 +164,7 @@ async function tryPanel(editor) {
   verdict(webview.posted[webview.posted.length - 1].news, null, "the panel after the end");
 }
 
-/** The place of a key of the printing calculator, by its legend in the board's text. */
+/** Returns the row and column of a key of the printing calculator, by its legend in the board's text. */
 function placeOfKey(legend) {
   const rows = readFileSync(join(folder, "printer", "board.toml"), "utf8").split("\n").flatMap((line) => {
     const [, row, keys] = /^#\s*row (\d+):\s*(.*)$/.exec(line) || [];
@@ -216,7 +217,7 @@ await tryPanel(editor);
 await tryTasks(editor, own);
 await extension.deactivate();
 
-// The command in the setting does not exist: the extension's own replaces it, and that is reported.
+// The command in the setting does not exist: the extension's own mcs4 replaces it, and a message reports that.
 const other = standIn(folder, { command: join(place, "none", "mcs4") });
 Module._load = (name, ...more) => (name === "vscode" ? other.vscode : load(name, ...more));
 for (const name of Object.keys(require.cache)) if (name.startsWith(extensionFolder)) delete require.cache[name];

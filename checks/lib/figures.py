@@ -1,4 +1,4 @@
-"""Figures that PROOF states of the tree, as the tree has them: each with the words in which PROOF has to have it."""
+"""The figures about the tree that PROOF states, computed from the tree, each in the words that PROOF must use."""
 
 import collections
 import pathlib
@@ -11,12 +11,12 @@ TOP = pathlib.Path(__file__).resolve().parent.parent.parent
 
 
 def edits_by_crate():
-    """Returns the number of edits of each crate that the proofs must reject."""
+    """Returns the number of must-fail edits in each crate."""
     return collections.Counter(path.parent.parent.name for path in TOP.glob("crates/*/must-fail/*.edit"))
 
 
 def edits():
-    """Yields the words for the edits, and for the crates that have none."""
+    """Yields the words about the edits, and about the crates that have none."""
     by_crate = edits_by_crate()
     crates = sorted(path.parent.name for path in TOP.glob("crates/*/src"))
     without = [crate for crate in crates if crate not in by_crate and not re.match("test_|mcs_fixtures", crate)]
@@ -26,7 +26,7 @@ def edits():
 
 
 def sweeps():
-    """Yields the words for the extent of the checks, by ./test and by ./test long."""
+    """Yields the words about the extent of the checks, in ./test and in ./test long."""
     words_of = {check.name: (check.words.split(), check.long.split()) for check in CHECKS if check.long}
     for name, place, tried in (("locks", 0, "rounds"), ("assembler", 0, "seeded programs"), ("time", 0, "seeded boards and programs"),
                                ("time", 1, "sessions of tools"), ("prove", 0, "seeded questions"), ("calculator", 0, "seeded chains"),
@@ -36,7 +36,7 @@ def sweeps():
 
 
 def checks():
-    """Yields the words for the checks, and for what they compare."""
+    """Yields the words about the checks, and about what they compare."""
     yield f"{len(WRONG_BOARDS) + len(WRONG_TOOLS)} wrong readings"
     yield f"{len(WRONG_SEARCHES)} wrong searches"
     boards = re.search(r"^BOARDS = (\d+)$", (TOP / "checks/runs").read_text(), re.M)

@@ -1,7 +1,6 @@
-// The colours of grammars, for comparison with the page's: `node grammars.mjs page|textmate|kate NAME.asm|board.toml` prints, for each line
-// of a text, a letter for each of its characters: what the page, or a grammar that is read here as its editor reads it, makes of it.
-// c comment, l label, k name that is defined by =, i instruction, d directive, r register, n number, v name, t table, p key, s text,
-// . nothing.
+// Prints the colours that a grammar gives to a text, for comparison with the page's: `node grammars.mjs page|textmate|kate NAME.asm|board.toml`.
+// For each line of the text it prints a letter for each character, by the page or by a grammar that is interpreted as its editor does: c comment,
+// l label, k name that = defines, i instruction, d directive, r register, n number, v name, t table, p key, s string, . nothing.
 import { readFileSync } from "node:fs";
 import { instructionsOf } from "../../js/core/help/manual.js";
 import { BoardLanguage } from "../../js/core/server/board_language.js";
@@ -14,7 +13,7 @@ const isBoard = name.endsWith(".toml");
 const text = readFileSync(name, "utf8");
 const lines = text.split("\n");
 
-/** Returns a line in which stretches have letters. */
+/** Returns a line of letters, with the letters of some ranges. */
 function marked(line, stretches) {
   const letters = Array(line.length).fill(".");
   for (const { from, to, letter } of stretches) letters.fill(letter, from, to);
@@ -37,7 +36,7 @@ function byPage() {
   });
 }
 
-// --- TextMate: at each position the earliest match, and of several the first rule.
+// --- TextMate: at each position the earliest match; of several matches there, the first rule.
 
 const OF_TEXTMATE = [[/^comment/, "c"], [/^entity.name.function/, "l"], [/^entity.name.constant/, "k"], [/^keyword.mnemonic/, "i"],
   [/^keyword.control/, "d"], [/^variable.language/, "r"], [/^constant.numeric/, "n"], [/^variable.other/, "v"], [/^entity.name.section/, "t"],
@@ -69,7 +68,7 @@ function byTextMate() {
   });
 }
 
-// --- Kate: at each position the first rule that fits here, in a context that a rule can change.
+// --- Kate: at each position the first rule of the context that matches. A rule can change the context.
 
 const OF_KATE = { Comment: "c", Face: "c", Label: "l", Constant: "k", Instruction: "i", Directive: "d", Register: "r", Number: "n", Name: "v",
   Table: "t", Key: "p", String: "s", Normal: "." };

@@ -1,12 +1,12 @@
-# What is done at the keys of examples/calculator, as a script, and the answers that the script has to have:
+# Turns a description of typing on examples/calculator into a script and its expected answers:
 #
 #     awk -v script=FILE -v answers=FILE -f checks/lib/keyed.awk examples/calculator/board.toml examples/calculator/quotient.txt \
 #         examples/calculator/quotient.answers NAME.keys
 #
-# A row of NAME.keys is a comment after `#`; a key that goes down or up (`press 7`, `release 7`); cycles (`run 300`); or keys that are pressed
-# one after the other, a bar, and what the display has to show then, up to another bar: minus, `!` for an overflow, `?` for a division by zero,
-# and eight digits, each with its point or a blank. `E` is CE. The board names the keys; wiring and program are those of quotient.txt, up to its
-# first key.
+# A row of NAME.keys is one of these: a comment after `#`; a key that goes down or up (`press 7`, `release 7`); cycles (`run 300`); or keys that
+# are pressed one after the other, a bar, and the expected display, up to another bar. The display has minus, `!` for an overflow, `?` for a
+# division by zero, and eight digits, each with its point or a blank. `E` is CE. The board names the keys. Wiring and program are those of
+# quotient.txt, up to its first key.
 
 function accept(more) {
     print "ok " ++accepted more > answers
@@ -22,7 +22,7 @@ function run(cycles) {
     accept(" ran " cycles " end")
 }
 
-# A key is down long enough, and up until the next: after an operator until it is worked out.
+# The times that a key is down, and up until the next one: after an operator, until the calculator has worked it out.
 function stroke(name) {
     key("press", name)
     run(1000)

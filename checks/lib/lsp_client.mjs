@@ -1,8 +1,8 @@
-// A client of language servers, for requests that editors lack: it starts `mcs4 lsp`, asks, and waits for reports.
+// A client of language servers, for requests that editors lack. It starts `mcs4 lsp`, sends requests, and waits for notifications.
 import { MessageClient } from "./message_client.mjs";
 
 export class Client extends MessageClient {
-  /** @param {string} command that is mcs4 */
+  /** @param {string} command that starts mcs4 */
   constructor(command, folder = ".", words = []) {
     super(command, folder, ["lsp", ...words]);
   }
@@ -15,7 +15,7 @@ export class Client extends MessageClient {
     this.send({ method, params });
   }
 
-  /** The answer to a request: with a result, or an error. */
+  /** Returns the response to a request, with a result or an error. */
   answer(method, params) {
     this.number += 1;
     const id = this.number;

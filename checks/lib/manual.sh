@@ -1,12 +1,12 @@
-# What the manual shows is what the tools print. A check reads this by `.`; it has `verdict`, and `top`, `mcs4` and `folder`.
+# Checks that the manual shows what the tools print. A check reads this file by `.`; it has `verdict`, and `top`, `mcs4` and `folder`.
 # shellcheck shell=sh
 
-# Runs each command of a chapter, in a folder with the tools, the examples and the program; what is printed must be what stands below
-# the commands. There must be so many at least.
+# Runs each command of a chapter, in a folder with the tools, the examples and the program. Its output must be the text below the command. The
+# chapter must have at least a given number of commands.
 as_shown() {
     mkdir -p "$folder/manual"
     ln -s "$top/tools" "$top/examples" "$folder/manual"
-    # The program itself serves sessions; other commands are those at the top.
+    # The program itself serves sessions; the other commands are those in the top folder.
     printf '#!/bin/sh\ncase ${1-} in new | open) exec "%s" "$@" ;; esac\nexec "%s/mcs4" "$@"\n' "$mcs4" "$top" > "$folder/manual/mcs4"
     chmod +x "$folder/manual/mcs4"
     awk -v title="## $1" '

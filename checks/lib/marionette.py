@@ -1,4 +1,4 @@
-"""Firefox, driven by its own protocol (Marionette) over TCP; nothing but Python's library is needed."""
+"""Drives Firefox by its own protocol (Marionette) over TCP, with Python's library only."""
 
 import base64
 import json
@@ -14,7 +14,7 @@ SECONDS_TO_ANSWER = 120
 
 
 def preferences(downloads):
-    """Returns the preferences of a profile: a free port, and downloads that ask nothing."""
+    """Returns the preferences of a profile: a free port, and downloads without a dialog."""
     return {
         "marionette.port": 0,
         "browser.download.folderList": 2,
@@ -27,7 +27,7 @@ def preferences(downloads):
 
 class Firefox(Driven):
     name = "Firefox"
-    # With these settings it keeps no data of any site.
+    # With these settings Firefox stores no data of any site.
     blocks_data = {"network.cookie.cookieBehavior": 2}
 
     def __init__(self, folder, downloads, **settings):
@@ -57,7 +57,7 @@ class Firefox(Driven):
         raise Fault("Firefox did not start")
 
     def _read(self):
-        """Returns the next message: its length in digits, a colon, and as many bytes of JSON."""
+        """Reads the next message: its length in digits, a colon, and that number of bytes of JSON."""
         digits = b""
         while (digit := self.read_from.read(1)) not in (b":", b""):
             digits += digit
@@ -109,7 +109,7 @@ class Firefox(Driven):
         return self.do("WebDriver:GetWindowHandle")
 
     def new_tab(self):
-        """Opens a tab in front of this one, and goes there."""
+        """Opens a tab in front of this one, and switches to it."""
         handle = self.do("WebDriver:NewWindow", type="tab", focus=True)["handle"]
         self.show_tab(handle)
 
@@ -125,7 +125,7 @@ class Firefox(Driven):
         return base64.b64decode(self.do("WebDriver:TakeScreenshot", full=False))
 
     def process(self):
-        """Returns the number of the process that started all of it."""
+        """Returns the process id of the browser."""
         return self.program.pid
 
     def end(self):

@@ -1,4 +1,4 @@
-"""How much memory a program and all that it started take."""
+"""The memory that a program and its child processes use."""
 
 import pathlib
 import statistics
@@ -9,7 +9,7 @@ EVERY = 2
 
 
 def tree(root):
-    """Returns the processes below one, and itself, by their numbers."""
+    """Returns the ids of a process and of all its descendants."""
     parents = {}
     for stat in pathlib.Path("/proc").glob("[0-9]*/stat"):
         try:
@@ -26,7 +26,7 @@ def tree(root):
 
 
 def resident(root):
-    """Returns the resident bytes of all of them together; shared bytes count for each."""
+    """Returns the sum of the resident bytes of all of them; shared bytes count for each process."""
     total = 0
     for each in tree(root):
         try:
@@ -37,7 +37,7 @@ def resident(root):
 
 
 def grown(root, seconds):
-    """Returns the size at the end, as a part of the size at the beginning: medians of a third of the time each."""
+    """Returns the size at the end relative to the size at the beginning; each is the median of a third of the time."""
     sizes = []
     end = time.monotonic() + seconds
     while time.monotonic() < end:

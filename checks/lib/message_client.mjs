@@ -1,7 +1,7 @@
-// The common part of clients of language servers and of debug adapters: a process, and messages with a header that gives their length.
+// The common part of the clients of language servers and debug adapters: a process, and messages with a header that gives their length.
 import { spawn } from "node:child_process";
 
-/** The milliseconds for which it waits for an answer. */
+/** The milliseconds to wait for an answer. */
 const PATIENCE = 60000;
 
 export class MessageClient {
@@ -24,7 +24,7 @@ export class MessageClient {
     });
   }
 
-  /** Returns the whole messages in bytes, and the bytes after them. */
+  /** Returns the complete messages in some bytes, and the bytes after them. */
   static messagesIn(bytes) {
     const messages = [];
     let rest = bytes;
@@ -49,7 +49,7 @@ export class MessageClient {
     this.wake();
   }
 
-  /** Returns the protocol's rules for each message that a server sends. */
+  /** Checks a message of the server against the rules of the protocol. */
   check() {}
 
   /** Sends bytes as they are. */
@@ -63,7 +63,7 @@ export class MessageClient {
     this.raw(body);
   }
 
-  /** Returns the first message that fits, now or later; it is consumed. */
+  /** Waits for the first message that matches, removes it from the list, and returns it. */
   async next(matches) {
     const end = Date.now() + PATIENCE;
     for (;;) {

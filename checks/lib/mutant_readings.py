@@ -1,5 +1,5 @@
-"""What checks/time and checks/prove have to see: second readings that are wrong in one way each, as a program could be, and answers with one wrong
-line.
+"""Mutants that checks/time and checks/prove must detect: second readings that each have one error, as a program could have it, and answers with
+one wrong line.
 """
 
 from __future__ import annotations
@@ -18,41 +18,41 @@ from second_search import Comparison, Condition, Levels
 
 
 def instruction(name: str, work: Callable[[Board, int, int], None]) -> Callable[[], AbstractContextManager]:
-    """Returns a reading in which an instruction does something else."""
+    """Returns a mutant in which an instruction does something else."""
     return lambda: mock.patch.dict(board4004.WORK, {name: work})
 
 
 def method(owner: Any, name: str, call: Callable[..., Any]) -> Callable[[], AbstractContextManager]:
-    """Returns a reading in which a part of the board, or a function, does something else."""
+    """Returns a mutant in which a method of the board, or a function, does something else."""
     return lambda: mock.patch.object(owner, name, call)
 
 
 def without_carry(board: Board, _low: int, _second: int) -> None:
-    """Does a DAA that clears a carry."""
+    """Runs a DAA that clears a carry."""
     board.cy, board.acc = divmod(board.acc + (6 if board.cy or board.acc > 9 else 0), 16)
 
 
 def on_own_page(board: Board, k: int, second: int) -> None:
-    """Does an ISZ that jumps on the page of its own first word."""
+    """Runs an ISZ that jumps on the page of its own first word."""
     board.r[k] = (board.r[k] + 1) % 16
     if board.r[k]:
         board.pc = (board.pc - 2) % 4096 & 0xF00 | second
 
 
 def forgets(board: Board, value: int, _second: int) -> None:
-    """Does a BBL that leaves 0 in the place that becomes free."""
+    """Runs a BBL that leaves 0 in the freed place of the stack."""
     board.acc, board.pc, board.ret = value, board.ret[0], [*board.ret[1:], 0]
 
 
 def to_all_banks(chips: Chips, _bank: int, byte: int) -> None:
-    """Does an SRC that all banks store."""
+    """Runs an SRC that all banks store."""
     chips.rom_src = byte
     for bank in chips.chips:
         chips.bank_src[bank] = byte
 
 
 def clocks(is_edge: Callable[[int, int], bool], data_is_new: bool) -> Callable[[Chips, dict, object, int], None]:
-    """Returns a port write that clocks chains at another edge, or shifts in the data line as it was before."""
+    """Returns a port write that clocks chains at the wrong edge, or shifts in the old level of the data line."""
     def write(chips: Chips, latches: dict, port: object, value: int) -> None:
         before = [(chips.level(clock), chips.level(data)) for clock, data in chips.clocks]
         latches[port] = value
@@ -77,7 +77,7 @@ def ends_first(board: Board, done: int, most: int, changed: bool) -> str:
     return "end" if done == most else RIGHT_STOPS(board, done, most, changed)
 
 
-# Instructions that are left out, one in turn.
+# The instructions that are left out, one at a time.
 NOTHING = ("JCN", "FIM", "SRC", "FIN", "JIN", "JUN", "JMS", "INC", "ISZ", "ADD", "SUB", "LD", "XCH", "BBL", "LDM", "WRM", "WMP", "WRR", "SBM", "RDM",
            "RDR", "ADM", "DCL")
 RIGHT_STOPS = Board.stops
@@ -98,7 +98,7 @@ WRONG_BOARDS: dict[str, Callable[[], AbstractContextManager]] = {
 }
 
 
-# ---- results of a tool that compares texts as numbers if they look so
+# ---- results of a tool that compares texts as numbers if they look like numbers
 
 def as_number(text: str) -> object:
     """Returns a text, or the number that it looks like."""
@@ -106,14 +106,14 @@ def as_number(text: str) -> object:
 
 
 def written_by_number(before: Board, after: Board) -> list[str]:
-    """Returns the changes of an instruction without those of chains between texts that are one number."""
+    """Returns the changes of an instruction, without those between texts of chains that are equal as numbers."""
     chains = ["".join(str(bit) for bit in chain) for chain in before.chips.chains]
     return [change for change in RIGHT_WRITTEN(before, after)
             if not change.startswith("chain") or as_number(change.split()[1]) != as_number(chains[int(change[5])])]
 
 
 def levels_by_number(board: Board, source: expected_tool_output.Source) -> dict[str, str]:
-    """Returns a counter whose addresses are one if they are one number."""
+    """Returns the levels with the counter as a number, so that addresses that are equal as numbers do not differ."""
     return RIGHT_LEVELS(board, source) | {"pc": str(as_number(f"{board.pc:03X}"))}
 
 
@@ -127,7 +127,7 @@ WRONG_TOOLS: dict[str, Callable[[], AbstractContextManager]] = {
 # ---- answers with one wrong line
 
 def one_more(words: list[str], at: int) -> str:
-    """Returns a line with a number that is one more."""
+    """Returns a line in which one number is larger by one."""
     return " ".join([*words[:at], str(int(words[at]) + 1), *words[at + 1:]])
 
 
@@ -145,12 +145,12 @@ WRONG_ANSWERS: dict[str, tuple[str, Callable[[list[str]], list[str]]]] = {
 # ---- searches
 
 def blank(held: Any) -> Any:
-    """Returns the numbers, all of them 0."""
+    """Returns a structure of numbers with all of them 0."""
     return type(held)(map(blank, held)) if isinstance(held, (tuple, bytes)) else 0
 
 
 def without(place: int) -> Callable[[Board], tuple]:
-    """Returns a function that leaves out one part of what a machine holds."""
+    """Returns a function that leaves out one part of a machine's state."""
     def save(board: Board) -> tuple:
         state = RIGHT_SAVED(board)
         return (*state[:place], blank(state[place]), *state[place + 1:])
