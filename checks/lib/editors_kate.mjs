@@ -122,7 +122,7 @@ class Kate {
     try {
       process.kill(-this.child.pid, "SIGKILL");
     } catch {
-      // The folder has disappeared.
+      // The process has already ended.
     }
   }
 }

@@ -1,5 +1,5 @@
-"""What checks/page looks at for those who do not see the page, or see it badly: names, roles and states as the browser reports them to a screen
-reader (its accessibility tree), the way of the Tab key, and the contrast of all letters, borders, marks and lamps in both colour schemes."""
+"""What checks/page checks for users who do not see the page, or see it badly: the names, roles and states that the browser reports to a screen
+reader (its accessibility tree), the order of the Tab key, and the contrast of all letters, borders, marks and lamps in both colour schemes."""
 
 import re
 
@@ -8,12 +8,12 @@ from page_in_browser import (AT_COUNTER, ESCAPE, PUT_INTO_EDITOR, TAB, TEXT_OF_E
 from verdicts import eventually, verdict
 from web_driver import Chromium
 
-# The controls, by their role in the tree.
+# The roles of controls in the tree.
 CONTROLS = {"button", "textbox", "searchbox", "combobox", "checkbox", "slider", "tab", "option", "link", "spinbutton", "DisclosureTriangle",
             "radio", "switch"}
-# Roles that need a name, so that a user knows where they are.
+# Roles that need a name, so that users know where they are.
 PLACES = {"region", "group", "tablist", "tabpanel", "dialog", "table", "log", "complementary", "image", "alertdialog"}
-# Signs that mean nothing when they are read out.
+# Characters that mean nothing when they are read aloud.
 SIGNS = re.compile("[\u25b2-\u25cf\u2713]")
 
 
@@ -26,7 +26,7 @@ def check(browser, page, _folder, _mcs4):
 
 
 def check_answers_announced(browser):
-    """Checks that the answer to a line that was sent is announced, and a refusal with its words; changes by time are not."""
+    """Checks that the answer to a line that was sent is announced, a refusal with its message, and that changes by time are not announced."""
     choose_example(browser, "three lamps")
     stop_time(browser)
     status = "return document.getElementById('answer-status').textContent"
@@ -36,7 +36,7 @@ def check_answers_announced(browser):
     eventually(browser, "and a refusal in words", status, re.compile(r"^no \d+.*: [a-z]"))
 
 
-# The stops of the Tab key, from the session's name on, as the panel that each is in; a text is left by Escape and then Tab.
+# The panels that the focus goes through with the Tab key, from the session's name on. Escape and then Tab leave a text.
 PLACE = """
 const at = document.activeElement;
 const place = at.closest("#session-bar, #clock, #tools, #front, #texts, #dock, #side > section, #statusbar, #notice, .splitter");
@@ -48,7 +48,7 @@ ORDER = ["session-bar", "clock", "tools", "front", "front-splitter", "texts", "d
 
 
 def check_tab_key(browser):
-    """Checks that Tab goes through the panels in their order, and is caught nowhere."""
+    """Checks that Tab goes through the panels in their order, and is trapped nowhere."""
     show_text(browser, "program")
     browser.script("document.getElementById('name').focus()")
     seen = []
@@ -86,7 +86,7 @@ def nodes_of(browser):
 
 
 def check_names(browser, view):
-    """Checks that every control, and each place, has a name made of words."""
+    """Checks that every control, and each role that needs one, has a name made of words."""
     nodes = list(nodes_of(browser))
     without = [role for role, name, _ in nodes if role in CONTROLS and not name]
     verdict(f"{view}: all that can be used has a name", without, [])
@@ -116,7 +116,7 @@ OPEN_ALL = "for (const each of document.querySelectorAll(`${arguments[0]} detail
 
 def check_views(browser):
     browser.command("Accessibility.enable")
-    # Nothing fades, so that what is measured is what stays.
+    # Without transitions, so that the final colours are measured.
     browser.script("const still = new CSSStyleSheet(); still.replaceSync('* { transition: none !important }'); "
                    "document.adoptedStyleSheets = [still]")
     check_board(browser)
@@ -165,7 +165,7 @@ def check_other_views(browser):
 
 
 def check_tests(browser):
-    """Checks results of tests, one of which fails, with their counts beside the source."""
+    """Checks results of tests, one of which fails, with their counts next to the source."""
     show_text(browser, "tests")
     browser.script(PUT_INTO_EDITOR, "#tests-editor", "test it is dark\n  expect display 0\n  keys 5\n  expect display 6\n")
     browser.click("#tests-editor .send")
@@ -180,7 +180,7 @@ def check_tests(browser):
 
 
 def check_properties(browser):
-    """Checks rows of properties, one of which is broken, with what was run."""
+    """Checks rows of properties, one of which is broken, with the coverage."""
     show_text(browser, "properties")
     browser.script(PUT_INTO_EDITOR, "#properties-editor", "press 1\nwait 10 ms to 40 ms\nnever display 1\nreach display 8\n")
     browser.script("document.getElementById('explore-seconds').value = '60'")
@@ -210,7 +210,7 @@ def check_dialogs(browser):
     eventually(browser, "Escape leaves it", "return document.querySelectorAll('#ask[open]').length", 0)
 
 
-# The contrast of two colours, as WCAG defines it; a transparent one is laid over the ground.
+# The contrast of two colours, as defined by WCAG. A transparent colour is blended with the background.
 CONTRAST = """
 const parts = (text) => (text.match(/[\\d.]+/g) || []).map(Number);
 const over = (text, ground) => {

@@ -1,5 +1,5 @@
-"""A page like the one that page/build made, with scripts put in before its own: they make the browser lack something, or the module and
-the worker fail when they are asked to. The policy of the page is made to allow them."""
+"""Makes a copy of the built page with additional scripts before its own. They make the browser lack something, or make the module and the worker
+fail on request. The page's content security policy is changed to allow them."""
 
 import base64
 import hashlib
@@ -7,7 +7,7 @@ import re
 
 from page_module import with_worker_code
 
-# The page names its worker, so that FAULTS can be sent to it.
+# Stores the worker in a variable, so that FAULTS can receive messages.
 SHOW_WORKER = """
 const made = Worker;
 window.Worker = function (...words) {
@@ -56,7 +56,8 @@ def hash_of(script):
 
 
 def altered(page, folder, code="", worker="", replaced=()):
-    """Writes a page with `code` before its script and `worker` before the worker's, and then with each pair of texts replaced. Returns the file."""
+    """Writes a copy of a page, with `code` before its script and `worker` before the worker's script, and with some texts replaced; returns the
+    file."""
     text = page.read_text()
     if code:
         text = text.replace("<body>", f"<body><script>{code}</script>", 1)

@@ -1,5 +1,5 @@
-"""What checks/page looks at of the page's commands: the palette, which reaches all of them, their keys, the toolbar with its menus and tooltips,
-the theme, what examples say, and the first visit with its cards and its tour."""
+"""What checks/page checks about the page's commands: the palette, which reaches all of them, their keys, the toolbar with its menus and tooltips,
+the theme, the notes on examples, and the first visit with its cards and its tour."""
 
 import re
 
@@ -11,7 +11,7 @@ from web_driver import Chromium
 
 CONTROL, SHIFT, UP = "\ue009", "\ue008", "\ue013"
 F1, F5, F8, F9, F10, F11 = "\ue031", "\ue035", "\ue038", "\ue039", "\ue03a", "\ue03b"
-# F5 may pause inside of a subroutine or before a call of one: that is a matter of time.
+# F5 can pause inside a subroutine or before a call: that depends on the time.
 STEPPED_OVER = re.compile(f"{STEPPED.pattern}|^Returned to [0-9A-F]{{3}}, after ")
 STEPPED_OUT = re.compile("^Returned to |no call is open here")
 OPEN = "const palette = document.getElementById('palette'); return palette !== null && palette.open"
@@ -24,7 +24,7 @@ return option && option.getAttribute('aria-selected') === 'true' ? [...option.pa
 FOCUS = "return document.activeElement.id"
 TIP = "const tip = document.getElementById('tooltip'); return tip.hidden ? '' : tip.textContent"
 FRONT = "return document.querySelector('#text-tabs [aria-selected=true]').id"
-# Buttons that no command presses: they answer, close or choose something that is open, or belong to what was typed beside them.
+# Buttons that have no command: they answer, close or choose something in an open dialog, or belong to a field next to them.
 OF_WHAT_IS_OPEN = {
     "menu-button": "opens the menu of files", "view-button": "opens the menu of panels", "cancel": "of work that goes on",
     "tour-close": "of the tour", "tour-back": "of the tour", "tour-put": "of the tour", "tour-next": "of the tour", "first-program": "as help.tour",
@@ -35,7 +35,7 @@ OF_WHAT_IS_OPEN = {
 
 
 def chord(browser, *keys):
-    """Presses keys that go down one after the other, and up."""
+    """Presses some keys one after the other, and then releases them."""
     browser.actions({"type": "key", "id": "keyboard", "actions": [
         *({"type": "keyDown", "value": each} for each in keys), *({"type": "keyUp", "value": each} for each in reversed(keys))]})
 
@@ -48,14 +48,14 @@ def open_palette(browser, words=""):
 
 
 def do(browser, words):
-    """Does the first command that these words find."""
+    """Runs the first command that the palette finds for some words."""
     open_palette(browser, words)
     browser.keys([ENTER])
     browser.until(OPEN, False)
 
 
 def check_reach(browser):
-    """Checks that the palette has each command of the table, and the table each button of the page."""
+    """Checks that the palette has each command of the table, and that the table has a command for each button of the page."""
     choose_example(browser, "calculator")
     stop_time(browser)
     open_palette(browser)
@@ -63,7 +63,7 @@ def check_reach(browser):
     source = (TOP / "js/words/page_commands.js").read_text()
     table = re.search(r"export const COMMANDS = \{(.*?)\n\};", source, re.S).group(1)
     names = dict(re.findall(r'^  "([\w.]+)": "(.*)",$', table, re.M))
-    # The word of the run button while time runs is none of its own.
+    # The label of the run button while running is not the name of a command.
     names.pop("time.pause")
     verdict("the palette has each command", sorted(set(names.values()) - listed), [])
     verdict("and each text, panel, theme, speed and example", {"Show Source", "Show RAM", "Theme: dark", "Speed: full speed",
@@ -81,7 +81,7 @@ def check_reach(browser):
 
 
 def check_listbox(browser):
-    """Checks the pattern of ARIA: the field keeps the focus, and names the chosen option."""
+    """Checks ARIA's pattern for a combobox: the field keeps the focus, and names the active option."""
     browser.script("document.getElementById('name').focus()")
     chord(browser, CONTROL, SHIFT, "p")
     eventually(browser, "Control, Shift and P open the palette", OPEN, True)
@@ -116,7 +116,7 @@ def check_disabled(browser):
 
 
 def check_keys(browser):
-    """Checks that each key does its command, and that the browser's own action does not happen."""
+    """Checks that each key runs its command, and that the browser's own action does not happen."""
     choose_example(browser, "three lamps")
     browser.until(STATUS, re.compile("^Running"))
     browser.script("document.activeElement.blur()")
@@ -149,7 +149,7 @@ def check_keys(browser):
 
 
 def check_places(browser):
-    """Checks Control and P: labels, addresses, lines, texts, examples."""
+    """Checks Ctrl+P: labels, addresses, lines, texts, examples."""
     chord(browser, CONTROL, "p")
     eventually(browser, "Control and P open the palette for places", OPEN, True)
     verdict("its name", browser.script("return document.getElementById('palette').getAttribute('aria-label')"), "Go to")
@@ -178,7 +178,7 @@ KEY_ROWS = "return [...document.querySelectorAll('#help-sections tr')].map((each
 
 
 def check_acts(browser):
-    """Checks commands of each kind, by the palette."""
+    """Checks commands of each kind, through the palette."""
     do(browser, "show tests")
     eventually(browser, "a text is shown", FRONT, "tests-tab")
     size = "return document.getElementById('texts').style.getPropertyValue('--text-size')"
@@ -210,7 +210,7 @@ PAPER = "return getComputedStyle(document.body).backgroundColor"
 
 
 def check_theme(browser):
-    """Checks a theme of the user's own, also after a reload; the default follows the system."""
+    """Checks a theme that the user chose, also after a reload. By default the theme follows the system."""
     light = browser.script(PAPER)
     do(browser, "theme dark")
     eventually(browser, "the theme is dark", f"{PAPER} !== {light!r}", True)
@@ -233,7 +233,7 @@ HOVER = {"type": "pointer", "id": "mouse", "parameters": {"pointerType": "mouse"
 
 
 def check_tooltips(browser):
-    """Checks a button's words and its key: when it has the focus, when the pointer rests on it, and when a finger stays."""
+    """Checks the tooltip of a button, with its key: on focus, under a resting pointer, and under a resting finger."""
     browser.script("document.getElementById('back-instruction').focus()")
     browser.keys([TAB, TAB])
     eventually(browser, "it is shown where the focus is", TIP, "Step over: one instruction; a subroutine that it calls runs whole F10")
@@ -265,8 +265,8 @@ MENU = "return document.getElementById('menu-button').getAttribute('aria-expande
 
 
 def check_toolbar(browser):
-    """Checks the toolbar: one row of 44 pixels; each button has an icon, a name and 24 pixels at least; exactly one is filled; menus by
-    the keyboard."""
+    """Checks the toolbar: one row of 44 pixels; each button has an icon, a name and at least 24 pixels; exactly one button is filled; the
+    keyboard opens the menus."""
     verdict("the toolbar is one row", browser.script("return document.getElementById('toolbar').offsetHeight"), 44)
     tools = browser.script(TOOLS)
     verdict("each button has an icon", [each["id"] for each in tools if each["icons"] == 0 and each["id"] != "test"], [])
@@ -294,7 +294,7 @@ def check_toolbar(browser):
 
 
 def check_looks(browser):
-    """Checks names, roles and contrast of the palette, of a menu and of the cards, in light and dark."""
+    """Checks names, roles and contrast of the palette, a menu and the cards, in light and dark."""
     browser.command("Accessibility.enable")
     open_palette(browser)
     look_at(browser, "the palette")
@@ -313,8 +313,8 @@ LIT = "return document.querySelectorAll('.bulb.lit').length"
 
 
 def check_first_visit(browser, page):
-    """Checks that without anything kept six cards are shown, and that the first one turns a lamp on by three clicks in all; afterwards
-    they are not shown."""
+    """Checks that a browser without stored data shows six cards, and that the first card turns a lamp on by three clicks. After that the cards
+    are not shown again."""
     browser.script("localStorage.clear()")
     browser.go("about:blank")
     browser.go(page.as_uri())
@@ -323,7 +323,7 @@ def check_first_visit(browser, page):
         return
     do_without_cards = "return document.getElementById('welcome').open"
     if not browser.script(do_without_cards):
-        # Sessions of other topics are kept here: the cards come by their command.
+        # Other topics have stored sessions, so the command shows the cards.
         do(browser, "first steps")
     cards = browser.script(CARDS)
     verdict("six cards", len(cards), 6)
@@ -348,7 +348,7 @@ def check_first_visit(browser, page):
     verdict("the cards were seen", browser.script(do_without_cards), False)
 
 
-# The elements that the ring of the tour is round.
+# The elements that the tour's highlight surrounds.
 RING = """
 const ring = document.getElementById('tour-ring');
 if (ring.hidden) return '';
@@ -367,7 +367,7 @@ EMPTY = "return isShown(document.querySelector('#watched-list + .empty'))"
 
 
 def check_empty(browser):
-    """Checks that an empty panel offers what fills it, until it has something."""
+    """Checks that an empty panel has a button that adds to it, until it is not empty."""
     choose_example(browser, "three lamps")
     eventually(browser, "an empty watch says what it is for", EMPTY, True)
     browser.click("#watched-list + .empty button")

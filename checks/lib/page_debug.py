@@ -1,6 +1,7 @@
-"""The debugger on the page: breakpoints hold at their lines while the source is edited; conditions, counts, notes; what is kept; speed.
+"""The debugger on the page: breakpoints that stay at their lines while the source is edited, conditions, hit counts, notes, what is saved, and
+the speed.
 
-The program is the one by which breakpoints were once seen to drift; where each line stands in ROM is counted here by hand.
+With this program, breakpoints once moved away from their lines. The addresses of its lines were counted manually.
 """
 
 import re
@@ -32,7 +33,7 @@ JUN, WMP, INC = (LINES.index(next(line for line in LINES if text in line)) + 1 f
 
 SHOW_PROGRAM = """
 document.querySelector("#program-editor .cm-editor").lineEditor.setValue(arguments[0])"""
-# A line inserted before another one, as by a keyboard.
+# Inserts a line before another one, as a keyboard does.
 INSERT = """
 const editor = document.querySelector("#program-editor .cm-editor").lineEditor;
 editor.replaceRange(`        ${arguments[1]}\\n`, { line: arguments[0] - 1, ch: 0 }, undefined, "paste")"""
@@ -43,21 +44,21 @@ HITS = "return [...document.querySelectorAll('#breakpoint-list .hits')].map((eac
 FAULTS = "return [...document.querySelectorAll('#breakpoint-list .fault')].map((each) => each.textContent).join('')"
 NOTES = "return [...document.querySelectorAll('#breakpoint-notes p')].map((each) => each.textContent).slice(0, 3).join('; ')"
 WORDS = 'return [...document.querySelectorAll("#breakpoint-list .words")].map((each) => each.textContent).join("; ")'
-# The lines of the source that have a breakpoint in the margin, those that are out of view, too.
+# The lines of the source with a breakpoint in the margin, even if they are out of view.
 LINES_IN_MARGIN = """
 return document.querySelector("#program-editor .cm-editor").lineEditor.marksIn("breakpoints").map((line) => line + 1).join(" ")"""
 UNDO_EDIT = "document.querySelector('#program-editor .cm-editor').lineEditor.undo()"
-# The row of a breakpoint's words below its line: its error, and its text.
+# The row below a line that edits its breakpoint: its error, and its text.
 ROW_FAULT = "const shown = document.querySelector('.breakpoint-row .fault'); return shown ? shown.textContent : 'no row'"
 ROW_VALUES = "return [...document.querySelectorAll('.breakpoint-row input')].map((each) => each.value).join('; ')"
-# A field of the first breakpoint of the list, by its row: its condition, the hit it stops from, its note.
+# Fills a field of the first breakpoint in the list: its condition, its hit count or its note.
 FILL = """
 document.querySelector("#breakpoint-list .edit").click();
 const row = document.querySelector(".breakpoint-row");
 row.querySelectorAll("input")[arguments[0]].value = arguments[1];
 row.requestSubmit()"""
 CONDITION, FROM, NOTE = range(3)
-# The condition of the first breakpoint is changed three times, and time begins to run, within one task of the page.
+# Changes the condition of the first breakpoint three times, and starts running, within one task of the page.
 CHANGE_AND_RUN = """
 for (const words of arguments) {
   document.querySelector("#breakpoint-list .edit").click();
@@ -65,18 +66,18 @@ for (const words of arguments) {
   document.querySelector(".breakpoint-row").requestSubmit();
 }
 document.getElementById("run").click()"""
-# Shift and F9 at a line of the source; and where the caret is then.
+# Shift+F9 at a line of the source, and the position of the caret after it.
 ASK_FOR_WORDS = """
 const editor = document.querySelector("#program-editor .cm-editor").lineEditor;
 editor.setCursor({ line: arguments[0], ch: 0 });
 editor.getInputField().dispatchEvent(new KeyboardEvent("keydown", { key: "F9", keyCode: 120, shiftKey: true, bubbles: true }))"""
 ASKED = "const row = document.activeElement.closest('.breakpoint-row'); return row ? row.previousElementSibling.textContent : ''"
 ROW_LINE = re.compile("INC R9")
-# The line that the row is below.
+# The line above that row.
 ROW_AFTER = "const row = document.querySelector('.breakpoint-row'); return row ? row.previousElementSibling.textContent : ''"
 IN_SOURCE = "return document.activeElement.closest('#program-editor .cm-content') !== null"
 FOCUSED = "return document.activeElement.textContent"
-# The second button at the margin of a line.
+# The secondary mouse button at the margin of a line.
 MARGIN_MENU = """
 const number = [...document.querySelectorAll("#program-editor .cm-lineNumbers .cm-gutterElement")].find((each) => each.textContent === String(arguments[0]));
 const { x, y } = number.getBoundingClientRect();
@@ -100,7 +101,7 @@ def begin(browser):
 
 
 def check_holds(browser):
-    """Checks that a breakpoint stays at its line, with a byte before it, and with two; it stops there at once after each assembly."""
+    """Checks that a breakpoint stays at its line when one or two bytes are inserted before it. It stops there immediately after each assembly."""
     browser.script(CLICK_MARGIN, JUN)
     eventually(browser, "a breakpoint in the margin", MARGIN, str(JUN))
     browser.script(INSERT, 2, "NOP")
@@ -123,7 +124,7 @@ def check_holds(browser):
 
 
 def check_no_instruction(browser):
-    """Checks that a breakpoint at a line without bytes, or inside an instruction, moves to the next instruction and says so."""
+    """Checks that a breakpoint at a line without bytes, or inside an instruction, moves to the next instruction, with a message."""
     begin(browser)
     browser.script(INSERT, JUN, "; what comes next")
     browser.click(SEND)
@@ -144,7 +145,7 @@ def check_no_instruction(browser):
 
 
 def check_condition(browser):
-    """Checks a condition, a count of hits, a note, one that cannot be read, and one that is disabled."""
+    """Checks a condition, a hit count, a note, a breakpoint with an error, and a disabled one."""
     begin(browser)
     browser.script(ASK_FOR_WORDS, INC - 1)
     eventually(browser, "Shift and F9 sets one, and the caret is in its condition, below the line", ASKED, ROW_LINE)
@@ -195,7 +196,7 @@ def check_condition(browser):
 
 
 def check_typed(browser):
-    """Checks that a run that is typed ends at it too, and says so."""
+    """Checks that a run that is typed also ends at a breakpoint, with a message."""
     browser.script(FILL, CONDITION, "r9 = 9")
     lines_answered(browser, "reset")
     verdict("a line's run ends where the condition holds", lines_answered(browser, "run 100000"), re.compile(r"run (\d+)ok \d+ ran \1 end$"))
@@ -205,9 +206,8 @@ def check_typed(browser):
 
 
 def check_back(browser):
-    """Checks that back leads to the last arrival at which a condition holds, however time continued; and to the beginning, if there is
-    none."""
-    # To the next arrival, and on: R9 is counted 16 times on, by 11 cycles.
+    """Checks that back leads to the last arrival at which a condition holds, however the machine ran; and to the beginning, if there is none."""
+    # To the next arrival, and onwards: R9 counts 16 more times, every 11 cycles.
     for cycles in (150, 26, 77):
         lines_answered(browser, f"run {cycles}")
     browser.click("#back-breakpoint")
@@ -229,7 +229,7 @@ def check_back(browser):
 
 
 def check_kept(browser):
-    """Checks that a reload keeps them all, with their words."""
+    """Checks that a reload keeps all breakpoints with their details."""
     listed = browser.script(LISTED)
     browser.script(FILL, CONDITION, "at wait")
     time.sleep(0.3)
@@ -248,8 +248,7 @@ def check_kept(browser):
 
 
 def check_replaced(browser, folder):
-    """Checks that a source that is replaced has its breakpoints and their words again once it is back, by the notice and by Control and
-    Z."""
+    """Checks that a replaced source gets its breakpoints and their details back when it is restored, by the notice and by Ctrl+Z."""
     begin(browser)
     browser.script(ASK_FOR_WORDS, INC - 1)
     browser.until(ASKED, ROW_LINE)
@@ -283,8 +282,7 @@ def check_replaced(browser, folder):
 
 
 def check_row(browser):
-    """Checks that the words of a breakpoint are edited below its line: Enter applies them, Escape leaves them, an error stays with its
-    words."""
+    """Checks that a breakpoint's details are edited below its line. Enter applies them, Escape cancels, and an error stays with its field."""
     begin(browser)
     browser.script(ASK_FOR_WORDS, INC - 1)
     browser.until(ASKED, ROW_LINE)
@@ -323,7 +321,7 @@ def check_row(browser):
 
 
 def check_menu(browser):
-    """Checks the menu of a line's margin; a breakpoint that has no line is edited in the list."""
+    """Checks the menu of a line's margin, and that a breakpoint without a line is edited in the list."""
     begin(browser)
     browser.script(MARGIN_MENU, INC)
     eventually(browser, "the menu of the margin has the keyboard", FOCUSED, "Add breakpointF9")

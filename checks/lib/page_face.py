@@ -1,4 +1,5 @@
-"""The face of a board in a browser: names, colours and places of lamps, digits, TEST as a button or a switch, and what is no face."""
+"""The front panel of a board in a browser: names, colours and positions of lamps, digits, TEST as a button or a switch, and wrong
+descriptions."""
 
 import base64
 import re
@@ -22,7 +23,7 @@ AT_LINES = """
 return [...document.querySelectorAll("#board-editor .fault-list li")].map((line) => line.textContent.split(";")[0])
   .filter((words) => words.includes("colour")).join(" | ");
 """
-# The middle of each lamp, by its name, from the left and from the top.
+# The middle of each lamp by its name, as distances from the left and from the top.
 PLACES = """
 const places = {};
 for (const bulb of document.querySelectorAll("#front .bulb")) {
@@ -40,15 +41,15 @@ return [...document.querySelectorAll("#front .bulb")].map((bulb) => {
   return filled === bulb.getAttribute("aria-label").endsWith(", lit");
 }).every(Boolean)
 """
-# The digits, and how many segments of each are on.
+# The digits, and the number of lit segments in each.
 SHOWN = """
 return [document.getElementById("digits").textContent,
   [...document.querySelectorAll("#glass svg")].map((digit) => digit.querySelectorAll(".lit").length)];
 """
-# The number of segments that are on in each digit.
+# The number of lit segments in each digit.
 SEGMENTS_OF = {"0": 6, "1": 2, "2": 5, "3": 5, "4": 4, "5": 5, "6": 6, "7": 3, "8": 7, "9": 6}
-# From here on: the announcements, and those that were made although the display had changed less than half a second before. The page
-# announces a display that has not changed for a second; on a busy machine its digits may stay for that long while the stopwatch runs.
+# Records the announcements, and those that were made less than half a second after a change of the display. The page announces a display that has
+# not changed for a second. On a busy machine the digits can stay for that long while the stopwatch is running.
 WATCH_SAID = """
 const watch = (id, then) => new MutationObserver(then)
   .observe(document.getElementById(id), { childList: true, characterData: true, attributes: true, subtree: true });
@@ -67,7 +68,7 @@ SAID_EARLY = "return window.saidEarly.join(' ')"
 
 
 def lamps_are(wanted):
-    """Returns a pattern of lamps' names with their states."""
+    """Returns a pattern for the lamps' names with their states."""
     return re.compile("^" + re.escape(wanted) + "$")
 
 
@@ -237,7 +238,7 @@ def check(browser, page, _folder, _mcs4):
 
 
 def take_pictures(browser, page, folder):
-    """Takes pictures of three boards as the page shows them, for the documents."""
+    """Takes screenshots of three boards on the page, for the documents."""
     browser.go(page.as_uri())
     until_ready(browser)
     browser.command("Emulation.setDeviceMetricsOverride", width=1280, height=1400, deviceScaleFactor=1, mobile=False)
@@ -247,7 +248,7 @@ def take_pictures(browser, page, folder):
         time.sleep(0.5)
         browser.keys(list(typed), 50, 60)
         time.sleep(0.5)
-        # The hints below the keys are no part of the board.
+        # The hints below the keys are not part of the board.
         browser.script("for (const id of ['typing-label', 'keys-hint']) document.getElementById(id).hidden = true")
         box = browser.script("""
             const front = document.getElementById("front").getBoundingClientRect();

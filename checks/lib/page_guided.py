@@ -1,5 +1,5 @@
-"""The story of an example in a browser: `?story=` opens it, each of its places does what it says, by pointer and by keyboard, also on a phone's
-size; an unknown one; and what is not there any more."""
+"""The story of an example in a browser: `?story=` opens it, and each of its links shows what it says, by pointer and by keyboard, also on a
+phone. Also an unknown story, and links to things that no longer exist."""
 
 import re
 import time
@@ -27,7 +27,7 @@ REGISTER = "return document.getElementById(`value-${arguments[0]}`).textContent"
 
 
 def place(browser, words, time_after=0.2):
-    """Clicks on the place with these words; a number behind them distinguishes places with the same words."""
+    """Clicks on the link with these words. A number after them distinguishes links with the same words."""
     words, _, number = words.partition("#")
     found = [at for at, each in enumerate(browser.script(PLACES)) if each == words]
     if not found:
@@ -64,7 +64,7 @@ def check_turn(browser):
 
 
 def check_phone(browser):
-    """Checks that on a phone the story stays in view above what it shows."""
+    """Checks that on a phone the story stays visible above the part that it shows."""
     at_size(browser, 390, 844, True)
     for words in ("wiring", "a turn"):
         place(browser, words)
@@ -138,7 +138,7 @@ def check_paper(browser):
 
 
 def check_end(browser):
-    """Checks the end of the story by the keyboard."""
+    """Checks the end of the story by keyboard."""
     browser.script("document.getElementById('tour-next').focus()")
     browser.keys([ENTER])
     eventually(browser, "Enter goes to the last step", TITLE, "6 of 6: Further")

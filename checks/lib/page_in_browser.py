@@ -1,4 +1,4 @@
-"""What checks/page looks at in the browser: the page does by keys, clicks and files what the program does by lines."""
+"""What checks/page checks in the browser: keys, clicks and files have the same effects as the program's lines."""
 
 import os
 import pathlib
@@ -13,18 +13,18 @@ from verdicts import eventually, verdict
 
 TOP = pathlib.Path(__file__).resolve().parent.parent.parent
 DIGITS = "return document.getElementById('digits').textContent"
-# The status text; names of the program after an address are left out.
+# The status text, without the names that follow an address.
 STATUS = "return document.getElementById('status').textContent.replace(/ \\([^()]*line \\d+\\)/g, '')"
 WHOLE_STATUS = "return document.getElementById('status').textContent"
 STEPPED = re.compile("^At [0-9A-F]{3}, after [12] cycles?, ")
 NOTICE = "return [...document.querySelectorAll('#notice p')].map((shown) => shown.textContent).join(' ')"
-# All notices so far, the newest first, as the list has them.
+# All notices so far, the newest first, as the list shows them.
 ALL_NOTICES = """
 document.getElementById("notices-button").click();
 const all = [...document.querySelectorAll("#notices li .grow")].map((shown) => shown.textContent);
 document.querySelector("#notices .bar button").click();
 return all"""
-# The cards of a first visit precede everything else.
+# The cards of a first visit cover everything else.
 CLOSE_CARDS = "const cards = document.getElementById('welcome'); if (cards && cards.open) cards.close()"
 READY = "return Boolean(document.body.dataset.ready)"
 KEYS_DOWN = "return document.querySelectorAll(\"#keys [aria-pressed='true']\").length"
@@ -34,12 +34,12 @@ field.value = arguments[0];
 field.dispatchEvent(new Event("change"))"""
 ENTER, ESCAPE, TAB, DOWN = "\ue007", "\ue00c", "\ue004", "\ue015"
 
-# The number of controls that have no name for users who do not see the page.
+# The number of controls without an accessible name.
 WITHOUT_NAMES = """
 return [...document.querySelectorAll("button, input, select, textarea")].filter((each) => !each.textContent.trim()
   && !each.getAttribute("aria-label") && !each.labels?.length && !each.getAttribute("aria-labelledby")).length"""
 
-# Notes the kept session while the page is hidden and at the moment when it is shown again.
+# Records the saved session while the page is hidden, and when it is shown again.
 WATCH_HIDDEN = """
 window.keptWhenHidden = [];
 const id = location.hash.slice("#session=".length);
@@ -52,14 +52,14 @@ indexedDB.open("fethsaim", 1).onsuccess = (opened) => {
 }"""
 KEPT_WHEN_HIDDEN = "const kept = window.keptWhenHidden; return [kept.length, new Set(kept).size]"
 
-# The text of an editor, and another one in its place; the editor is one of lines (js/page/text/line_editor.js), which its element knows.
+# The text of an editor, and its replacement. Each editor's element has a line editor (js/page/text/line_editor.js).
 TEXT_OF_EDITOR = "return document.querySelector(`${arguments[0]} .cm-editor`).lineEditor.getValue()"
 PUT_INTO_EDITOR = "document.querySelector(`${arguments[0]} .cm-editor`).lineEditor.setValue(arguments[1])"
 
-# Keeps the browser from running anything of the page for a number of milliseconds.
+# Blocks the page's thread for a number of milliseconds.
 BLOCK = "const end = performance.now() + arguments[0]; while (performance.now() < end);"
 
-# The rows of the listing turn as the counter moves: a click before that meets another line.
+# The rows of the listing move with the counter; a click before that would hit another line.
 AT_COUNTER = """const next = document.querySelector('#lines-of-program .next');
 return next !== null && next.textContent.includes(document.getElementById('value-pc').textContent)"""
 
@@ -85,13 +85,13 @@ VIOLATIONS = "return [...window.violations].sort().join(' ') + (window.injected 
 
 
 def until_ready(browser):
-    """Waits for the page, which other work on the machine may make much slower."""
+    """Waits until the page is ready; other work on the machine can make it much slower."""
     eventually(browser, "the page is ready", READY, True, 90)
     browser.script(CLOSE_CARDS)
 
 
 def open_anew(browser, page):
-    """Opens the page in a browser that had no page."""
+    """Opens the page in a browser without stored data."""
     browser.go("about:blank")
     browser.go(page.as_uri())
     until_ready(browser)
@@ -104,7 +104,7 @@ def stop_time(browser):
 
 
 def of_file_menu(browser, selector):
-    """Chooses something in the menu of files."""
+    """Chooses an entry of the File menu."""
     browser.click("#menu-button")
     browser.click(selector)
 
@@ -122,7 +122,7 @@ def choose_example(browser, name):
 
 
 def step_with_marks(browser):
-    """Checks lamps that are on, paused time, and the marks of what a step has changed: the traffic light."""
+    """Checks the lit lamps, pausing, and the marks of changes by a step, with the traffic light."""
     choose_example(browser, "traffic light")
     eventually(browser, "a lamp is lit", "return document.querySelectorAll('.bulb.lit').length > 0", True)
     stop_time(browser)
@@ -143,7 +143,7 @@ def check_calculator(browser):
     eventually(browser, "7 - 9 by the keyboard", DIGITS, "-2")
     browser.keys([ESCAPE, "6", "*", "9", ENTER], 1, 1)
     eventually(browser, "6 * 9, typed faster than a hand can", DIGITS, "54")
-    # Again before its release is reported, which comes 43 ms after the press and is shown with the next frame.
+    # Pressed again before its release is reported, which is 43 ms after the press, in the next frame.
     for down, up in ((20, 50), (50, 20), (90, 25)):
         browser.keys([ESCAPE, *"11111111"], down, up)
         eventually(browser, f"one key eight times, {down} ms down and {up} ms up", DIGITS, "11111111")
@@ -159,7 +159,7 @@ def check_two_keys(browser):
 
 
 def lamps_of(mcs4, file, keys):
-    """Returns the program's output for a session's file, after some keys."""
+    """Returns the program's answer to `lamps` for a session file after some keys."""
     board = TOP / "examples/calculator/board.toml"
     environment = dict(os.environ, MCS4=str(mcs4))
     lines = subprocess.run([TOP / "mcs4", "keys", board, keys], stdout=subprocess.PIPE, check=True, env=environment).stdout
@@ -168,7 +168,7 @@ def lamps_of(mcs4, file, keys):
 
 
 def as_version_1(file):
-    """Returns a saved session as version 1 would have it: no byte for the version, and no count of watches."""
+    """Returns a saved session as version 1 would store it: without the byte for the version and the number of watches."""
     slot = 16 if file[8] % 2 == 0 else 81936
     length = int.from_bytes(file[slot:slot + 4], "big")
     snapshot = file[slot + 4:slot + 4 + length]
@@ -179,13 +179,13 @@ def as_version_1(file):
 def check_files(browser, folder, mcs4):
     browser.keys([ESCAPE, "6", "*", "7", ENTER])
     browser.until(DIGITS, "42")
-    # A key that was typed stays down for a moment; one that is down as time stops is down in the file.
+    # A typed key stays down for a moment; a key that is down when the machine pauses is down in the file.
     browser.until(KEYS_DOWN, 0)
     stop_time(browser)
     of_file_menu(browser, "#save-session-button")
     saved = folder / "downloads/calculator.mcs"
     end = time.monotonic() + 20
-    # Some browsers make an empty file first.
+    # Some browsers create an empty file first.
     while not (saved.exists() and saved.stat().st_size > 0) and time.monotonic() < end:
         time.sleep(0.05)
     old = folder / "old.mcs"
@@ -241,7 +241,7 @@ def check_stops(browser):
 
 
 def focused(browser, key, code, most=40):
-    """Moves from one focus to the next by a key until a script on the focused element answers true; returns true if it does."""
+    """Moves the focus by a key until a script on the focused element returns true; returns whether it does."""
     for _ in range(most):
         browser.keys([key], 1, 1)
         if browser.script(f"const e = document.activeElement; return {code}"):
@@ -250,7 +250,7 @@ def focused(browser, key, code, most=40):
 
 
 def check_keyboard_alone(browser):
-    # After its last element the browser has its own.
+    # After the last element of the page, the focus goes to the browser.
     browser.script("document.getElementById('name').focus()")
     verdict("Tab comes to Step", focused(browser, TAB, "e.id === 'step'"), True)
     browser.keys([ENTER])
@@ -270,8 +270,8 @@ def check_narrow(browser):
 
 
 def check_hidden(browser):
-    """Checks that a hidden page is paused, and so is one that the browser does not run."""
-    # An example is kept from the first key on.
+    """Checks that a hidden page is paused, and so is a page that the browser does not run."""
+    # An example is saved from the first key on.
     browser.keys([ESCAPE])
     browser.until("return location.hash", re.compile("#session="))
     browser.script(WATCH_HIDDEN)
@@ -290,7 +290,7 @@ def check_hidden(browser):
 
 
 def check_hidden_at_full_speed(browser):
-    """Checks that at full speed the time of a hidden page continues, and is kept."""
+    """Checks that at full speed a hidden page keeps running, and is saved."""
     browser.script(SPEED, "full")
     eventually(browser, "full speed is faster", RATE, re.compile("[1-9]......"))
     browser.script("window.keptWhenHidden = []")
@@ -305,24 +305,24 @@ def check_hidden_at_full_speed(browser):
 
 
 def check_speed_field(browser):
-    """Checks the speed, because some browsers fill in a field again after a reload, and others when the user returns to the page: the
-    speed is the one that the field says. The driver goes back: Chromium ignores pages that nobody touched when a script does."""
+    """Checks that the speed of the machine is the one in its field. Some browsers restore the field after a reload, others when the user returns
+    to the page. The driver goes back: Chromium ignores a page without user input when a script goes back."""
     for what, come_again in {"a reload": lambda: browser.script("setTimeout(() => location.reload(), 50)"),
                              "coming back": lambda: (browser.go("about:blank"), browser.back())}.items():
         browser.type_into("#speed", "full")
-        # A page that the browser has kept whole is ready as it is shown again.
+        # A page that the browser has cached is ready as soon as it is shown again.
         browser.script("const { dataset } = document.body; delete dataset.ready; addEventListener('pageshow', () => { dataset.ready = 'again'; })")
         come_again()
         until_ready(browser)
         is_full = browser.until("const field = document.getElementById('speed'); return field ? field.value : ''", re.compile("^(full|real)$")) == "full"
-        # The first rate that is reported at full speed may still be a low one.
+        # The first rate that is reported at full speed can still be low.
         eventually(browser, f"the speed after {what} is the one in its field", RATE, re.compile("^[2-9].{5}$|^.{7,}$" if is_full else "^[1-9].{4}$"))
     browser.script(SPEED, "real")
 
 
 def show_text(browser, name):
-    """Brings a tab of the texts to the front (`program`, `board`, `wiring`), or one of the dock (`console`, `disassembly`). On a slow
-    machine, redrawing beside the tabs may move them from under the pointer; a user clicks again then."""
+    """Selects a tab of the texts (`program`, `board`, `wiring`) or of the dock (`console`, `disassembly`). On a slow machine, redrawing can move
+    the tab from under the pointer; a user would click again."""
     selected = f"return document.getElementById('{name}-tab').getAttribute('aria-selected')"
     end = time.monotonic() + 30
     while time.monotonic() < end:
@@ -361,7 +361,7 @@ def check_texts(browser):
 def lines_answered(browser, lines):
     browser.script("document.getElementById('lines').value = arguments[0]", lines)
     before = len(browser.text("#log"))
-    # A notice may lie over the button.
+    # A notice can cover the button.
     browser.script("document.getElementById('send').click()")
     browser.until("return document.getElementById('lines').value", "")
     return browser.text("#log")[before:]
@@ -383,7 +383,7 @@ def check_two_tabs(browser):
 
 
 def check_use(browser, page, folder, mcs4):
-    """Checks what the page does in a browser that has everything."""
+    """Checks the page in a browser that has all features."""
     browser.go(page.as_uri())
     until_ready(browser)
     verdict("without a notice", browser.script(NOTICE), "")
@@ -406,7 +406,7 @@ def check_by_chromium(browser, page):
     browser.go(page.as_uri())
     until_ready(browser)
     check_narrow(browser)
-    # A script of a check that waits may fail until what it waits for is there; such a line is not the page's.
+    # A waiting script of a check can fail until its result is there; such an error is not the page's.
     own = ("javascript ", "Script error", "favicon")
     verdict("no fault in the browser's log", [line for line in browser.log() if not any(word in line for word in own)], [])
 
@@ -419,7 +419,7 @@ def check_policy(browser, page):
 
 
 def figures(browser, page):
-    """Returns the sizes and the time of the start of the page, for the documents."""
+    """Returns the sizes of the page and the time of its start, for the documents."""
     open_anew(browser, page)
     start = browser.script("return Number(document.body.dataset.ready)")
     return f"the page has {page.stat().st_size} bytes, its module {len(module_of_page(page))}; it starts in {start} ms in {browser.name}"
