@@ -1,4 +1,4 @@
-"""What checks/page looks at of the layout: where things stand at each size, the listing's scrolling, marks, cells, print, names."""
+"""What checks/page checks about the layout: positions at each window size, the listing's scrolling, marks, cells, print, names."""
 
 import re
 import time
@@ -52,7 +52,7 @@ SHOWN = "return [...document.querySelectorAll('#texts [role=tabpanel]')].filter(
 
 
 def check_tabs(browser):
-    """Checks tabs by ARIA's pattern; no typed text is lost when another tab is brought to the front."""
+    """Checks tabs by ARIA's pattern, and that no typed text is lost when another tab is selected."""
     show_text(browser, "board")
     verdict("a click shows the board's text", browser.script(SHOWN), "board-editor")
     browser.script("document.getElementById('board-tab').focus()")
@@ -99,7 +99,7 @@ def focus_row(browser, at):
 
 
 def check_listing(browser):
-    """Checks that all 4,096 bytes can be reached, by keys, wheel and scroll bar."""
+    """Checks that all 4,096 bytes can be reached by keys, wheel and scroll bar."""
     stop_time(browser)
     focus_row(browser, 3)
     browser.keys([HOME])
@@ -133,7 +133,7 @@ def check_listing(browser):
 
 
 def lines_of_program(browser):
-    """Returns the addresses at which instructions begin, by a list that begins at 000, up to 2FF."""
+    """Returns the addresses up to 2FF at which instructions begin, from a list that begins at 000."""
     answers = lines_answered(browser, "list 0 256\nlist 0x100 256\nlist 0x200 256")
     return {found for found in re.findall(r"(?<![0-9A-F])([0-2][0-9A-F]{2}) (?:[0-9A-F]{2} ){1,2}", answers) if found <= "23F"} - {"list"}
 
@@ -179,12 +179,12 @@ COUNT_MARKS = """
 window.marks = 0;
 new MutationObserver((all) => { window.marks += all.filter((each) => each.target.classList.contains("changed")).length; })
   .observe(document.body, { subtree: true, attributes: true, attributeFilter: ["class"] })"""
-# It sets R5, and then waits for about two seconds.
+# Sets R5, and then waits for about two seconds.
 SLOW = "FIM P0, 0x00\\nLDM 7\\nXCH R5\\nwait: ISZ R0, wait\\nISZ R1, wait\\nISZ R2, wait\\nISZ R3, wait\\nend: IAC\\nJUN end\\n"
 
 
 def check_marks(browser):
-    """Checks that the marks at a stop are the differences from the stop before, however long ago they changed."""
+    """Checks that the marks at a pause are the differences from the previous pause, however long ago the values changed."""
     choose_example(browser, "three lamps")
     stop_time(browser)
     lines_answered(browser, f"asm\n{SLOW}.\nreset\nbreak 12".replace("\\n", "\n"))
@@ -220,7 +220,7 @@ def double_click(browser, selector):
 
 
 def check_cells(browser):
-    """Checks that registers and RAM are edited in place; a refusal is shown at the cell; a cell that cannot be poked says so."""
+    """Checks that registers and RAM are edited in place, that a refusal is shown at the cell, and that a cell that cannot be set says so."""
     edit(browser, "#value-R5", F2, ["b", ENTER])
     eventually(browser, "F2 and a digit poke a register", "return document.getElementById('value-R5').textContent", "B")
     verdict("the focus is back at the cell", browser.script("return document.activeElement.id"), "value-R5")
@@ -249,7 +249,7 @@ def check_cells(browser):
 
 
 def check_pressed(browser):
-    """Checks that an element that changes while it is pressed is pressed all the same: WebKit forgets it if its text node is replaced."""
+    """Checks that a press on an element works even if its text changes meanwhile. (WebKit forgets the press if the text node is replaced.)"""
     browser.until(STATUS, re.compile("^Running"))
     browser.script("window.pressed = 0; document.getElementById('value-acc').addEventListener('click', () => { window.pressed++; })")
     browser.hold("#value-acc", 400)
@@ -278,7 +278,7 @@ def check_refusals(browser):
 NAMED = """
 return [...document.querySelectorAll(".ram button")].filter((each) => !/^[0-9A-F]$/.test(each.textContent)
   || each.getAttribute("aria-label") || !/bank \\d, chip \\d, register \\d, (character \\d+: SRC byte [0-9A-F]{2}|status character \\d)/.test(each.title)).length"""
-# Announcements while time runs: changes in places that are announced, in a number of seconds.
+# Counts the announcements while running: changes in live regions within a number of seconds.
 SAID = """
 window.said = 0;
 const places = [...document.querySelectorAll("output, [aria-live], [role=status], [role=alert], [role=log]")];
@@ -309,7 +309,7 @@ DOWN_KEYS = "return document.querySelectorAll(\"#keys [aria-pressed='true']\").l
 
 
 def check_swipe(browser):
-    """Checks that a swipe that begins on a key leaves no key down, quick or slow, running and paused."""
+    """Checks that a swipe that begins on a key, fast or slow, leaves no key down, while running and while paused."""
     choose_example(browser, "calculator")
     browser.until(STATUS, re.compile("^Running"))
     before = lines_answered(browser, "seq")
@@ -361,14 +361,14 @@ return Object.fromEntries(ids.map((id) => {
   const box = element.getBoundingClientRect();
   return [id, isShown(element) ? { left: box.left, right: box.right, top: box.top, bottom: box.bottom } : null];
 }))"""
-# Controls of the toolbar that cover one another.
+# Controls of the toolbar that overlap.
 COVERED = """
 const shown = [...document.querySelectorAll("#toolbar :is(button, input, select, h1):not([role=menu] *)")].filter(isShown);
 const boxes = shown.map((each) => [each.id, each.getBoundingClientRect()]);
 return boxes.flatMap(([id, a], k) => boxes.slice(k + 1)
   .filter(([, b]) => Math.min(a.right, b.right) - Math.max(a.left, b.left) > 1 && Math.min(a.bottom, b.bottom) - Math.max(a.top, b.top) > 1)
   .map(([other]) => `${id} ${other}`))"""
-# Controls of toolbar and status bar that are not whole in the window, while there is a notice to show.
+# Controls of the toolbar and the status bar that are not completely in the window, while there is a notice.
 OUTSIDE = """
 document.getElementById("notices-button").hidden = false;
 return [...document.querySelectorAll("#toolbar :is(button, input, select):not([role=menu] *), #statusbar button")].filter(isShown).filter((each) => {
@@ -376,7 +376,7 @@ return [...document.querySelectorAll("#toolbar :is(button, input, select):not([r
   return left < Math.max(0, room.left) || right > Math.min(innerWidth, room.right);
 }).map(({ id }) => id)"""
 SIDEWAYS = "return document.documentElement.scrollWidth - document.documentElement.clientWidth"
-# The distances by which the page itself can be scrolled, down and sideways.
+# The distances by which the page itself can be scrolled, vertically and horizontally.
 SCROLLS = """
 const { scrollHeight, clientHeight, scrollWidth, clientWidth } = document.documentElement;
 scrollTo(1000, 1000);
@@ -386,7 +386,7 @@ return [scrollWidth - clientWidth, scrollHeight - clientHeight, ...moved]"""
 
 
 def check_sizes(browser):
-    """Checks that the page itself never scrolls; from 1,000 pixels on front panel, texts and the debugger's panels are side by side."""
+    """Checks that the page itself never scrolls. From 1,000 pixels on, front panel, texts and the debugger's panels are next to each other."""
     choose_example(browser, "traffic light")
     for width, height in ((1024, 640), (1200, 720), (1280, 720), (1440, 900), (1920, 1080)):
         at_size(browser, width, height)
@@ -408,7 +408,7 @@ def check_sizes(browser):
 
 
 def check_narrow_sizes(browser):
-    """No window of a browser is as narrow: its driver gives the page these sizes."""
+    """Checks sizes that no browser window has: the driver sets them for the page."""
     check_not_covered(browser, 699, 320)
     browser.resize_back()
 
@@ -421,7 +421,7 @@ def check_not_covered(browser, *widths):
         verdict(f"and each one is whole at {width}", browser.script(OUTSIDE), [])
 
 
-# What is wrong with the controls of the rows that are shown: one is cut off by its row, or lies over another one.
+# Errors in the visible rows of controls: a control that its row cuts off, or that overlaps another one.
 WRONG_CONTROLS = """
 const rows = [...document.querySelectorAll("#wave-bar, .editor > .bar, #wiring > .bar, #statusbar")].filter(isShown);
 return rows.flatMap((row) => {
@@ -437,7 +437,7 @@ return rows.flatMap((row) => {
 
 
 def check_controls(browser):
-    """Checks that in narrower windows the controls of waves, texts and status are whole, beside one another."""
+    """Checks that in narrower windows the controls of waves, texts and status are complete and do not overlap."""
     choose_example(browser, "traffic light")
     show_text(browser, "waves")
     record(browser, 20000)
@@ -473,7 +473,7 @@ return box.top >= -1 && box.bottom <= innerHeight + 1 && box.height > 0"""
 
 
 def swipe_up(browser, x, y):
-    """Moves a finger up by 180 pixels, as the browser's own scrolling does."""
+    """Moves a finger up by 180 pixels, as for the browser's own scrolling."""
     moves = [{"type": "pointerMove", "duration": 16, "x": int(x), "y": int(y) - 18 * step} for step in range(11)]
     browser.actions({"type": "pointer", "id": "swipe", "parameters": {"pointerType": "touch"},
                      "actions": [moves[0], {"type": "pointerDown", "button": 0}, *moves[1:], {"type": "pointerUp", "button": 0}]})
@@ -507,7 +507,7 @@ PHONE_PANELS = "return ['front', 'texts', 'side', 'dock'].filter((id) => isShown
 
 
 def check_phone(browser):
-    """Checks that on a phone one region is shown at a time, chosen by the tabs at the bottom; a swipe that begins on a key scrolls."""
+    """Checks that on a phone one region is shown at a time, selected by the tabs at the bottom, and that a swipe that begins on a key scrolls."""
     choose_example(browser, "calculator")
     at_size(browser, 375, 667, True)
     browser.command("Emulation.setTouchEmulationEnabled", enabled=True)

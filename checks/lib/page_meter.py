@@ -1,7 +1,7 @@
-"""Scripts that measure a page from outside: its own are not changed by them."""
+"""Scripts that measure a page from outside, without changing its own scripts."""
 
-# Before the page's script: `frames` gets the milliseconds of work of each frame in real time. A handler's work goes on in the promises that
-# it keeps, so a few of them are waited for.
+# Runs before the page's script: `frames` gets the milliseconds of work in each frame in real time. The work of a handler continues in its
+# promises, so the script waits for some of them.
 PAGE_METER = """
 window.frames = [];
 let spent = 0;
@@ -28,7 +28,7 @@ Worker.prototype.addEventListener = function (kind, act) {
 };"""
 FRAMES = "return window.frames"
 
-# Before the worker's: each reply says how many milliseconds after its request it is sent.
+# Runs before the worker's script: each reply has the milliseconds since its request.
 WORKER_METER = """
 let begun = 0;
 addEventListener("message", () => { begun = performance.now(); });
@@ -36,7 +36,7 @@ const post = postMessage.bind(self);
 self.postMessage = (message, transfer) => post({ ...message, took: performance.now() - begun }, transfer);
 """
 
-# At full speed: each half second the worker sends the page the part of that time for which it was in the module.
+# At full speed, the worker sends the page twice a second the fraction of that time that it spent in the module.
 MODULE_METER = """
 (() => {
   const made = WebAssembly.Instance;
@@ -57,7 +57,7 @@ MODULE_METER = """
     return { exports: { ...exports, bench_serve_and_settle } };
   };
 })();"""
-# Before the page's script: `parts` gets them.
+# Runs before the page's script: `parts` gets these fractions.
 PARTS_METER = """
 window.parts = [];
 const listen = Worker.prototype.addEventListener;
@@ -69,7 +69,7 @@ Worker.prototype.addEventListener = function (kind, act) {
 };"""
 PARTS = "return window.parts"
 
-# A worker of its own with the page's module, for MODULE_ALONE.
+# A separate worker with the page's module, for MODULE_ALONE.
 MODULE_BESIDE = """
 const work = `
 let instance, file, size, input, room, answers, report;
@@ -110,7 +110,7 @@ Promise.all([unpacked("module").arrayBuffer(), unpacked("data").json()]).then(([
   calculator = examples.find(({ name }) => name === "calculator");
   window.serveAlone(true);
 });"""
-# Cycles a second of one long call of that module, which are in `alone` when it is done.
+# Measures the cycles per second of one long call of that module; the result is in `alone`.
 MODULE_ALONE = "window.serveAlone(false)"
 
 # Measures the time from the next key to the next change of the digits.
@@ -123,7 +123,8 @@ new MutationObserver((_, own) => {
 }).observe(document.getElementById("digits"), { childList: true, characterData: true, subtree: true })"""
 KEY_TIME = "return window.seen"
 
-# Searches for what a button leads to, a place that rests if it is one of a change; `searched` gets the cycles a second.
+# Clicks a button that searches for a goal. If the goal is a change, it is a change of a place that never changes. `searched` gets the cycles
+# per second.
 SEARCH = """
 window.searched = 0;
 document.getElementById("change-place").value = "st.0.3.3";

@@ -1,4 +1,4 @@
-"""The parts of a page that page/build has made."""
+"""Reads the parts of a page that page/build has made."""
 
 import base64
 import re
@@ -6,19 +6,19 @@ import zlib
 
 
 def part_of_page(text, name):
-    """Returns the contents of the element of this name that is not shown."""
+    """Returns the contents of the hidden element with this name."""
     return re.search(rf'<script type="[a-z/]+" id="{name}">(.*?)</script>', text, re.S).group(1)
 
 
 def module_of_page(page):
     """Returns the WebAssembly module."""
     kept = base64.b64decode(part_of_page(page.read_text(), "module"))
-    # In older pages it is not packed.
+    # Older pages do not compress it.
     return kept if kept.startswith(b"\0asm") else zlib.decompress(kept, -15)
 
 
 def with_worker_code(text, code):
-    """A page's text with `code` before the script of its worker, which older pages do not pack."""
+    """Returns a page's text with `code` before the script of its worker. (Older pages do not compress that script.)"""
     kept = part_of_page(text, "worker")
     if not re.fullmatch("[A-Za-z0-9+/=]+", kept):
         return text.replace(kept, code + kept, 1)

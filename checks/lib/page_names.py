@@ -1,4 +1,4 @@
-"""What checks/page looks at where the source and the machine meet: lines, names and addresses, beside what mcs4 listing prints."""
+"""What checks/page checks where source and machine meet: lines, names and addresses, compared with the output of mcs4 listing."""
 
 import os
 import pathlib
@@ -17,9 +17,9 @@ POPUP = "const shown = document.querySelector('.popup-message'); return shown.hi
 GO_TO_STATUS = "return document.getElementById('go-to-status').textContent"
 CHOSEN = "return document.getElementById('follow').checked"
 STACK = "return [...document.querySelectorAll('.stack button')].map((row) => [...row.children].map((part) => part.textContent).join(' '))"
-# The addresses of the listing's lines, and the lines whose margin shows a breakpoint.
+# The addresses in the listing, and the lines with a breakpoint in the margin.
 ADDRESSES = "return [...document.querySelectorAll('#lines-of-program button:not([hidden])')].map((row) => row.textContent.match(/[0-9A-F]{3}/)[0])"
-# The margin of the line that has a breakpoint, and the margin of the row of the listing that has one.
+# The margins of the source line and of the listing row that have a breakpoint.
 MARKS = """
 const marks = [...document.querySelectorAll(".mark-breakpoints")].map((mark) => `${mark.textContent} ${mark.title}`);
 const rows = [...document.querySelectorAll("#lines-of-program button[aria-pressed='true']")].filter((row) => !row.hidden);
@@ -28,7 +28,7 @@ LABELS = "return [...document.querySelectorAll('#lines-of-program .labels')].map
 MARGIN = """
 return document.querySelector("#program-editor .cm-editor").lineEditor.marksIn("breakpoints").map((line) => line + 1).join(" ")"""
 
-# Steps a number of times; after each step the counter, and the source line that is marked and seen, with its number in the margin.
+# Steps several times. After each step returns the counter, and the marked visible source line with its number in the margin.
 STEP_THROUGH = """
 // What a line has changed stands behind it, and is no part of it.
 const textOf = (line) => {
@@ -58,7 +58,7 @@ return (async () => {
   return rows;
 })();"""
 
-# Brings the number of a line into view.
+# Scrolls the number of a line into view.
 SHOW_MARGIN = """
 const editor = document.querySelector("#program-editor .cm-editor").lineEditor;
 editor.scrollIntoView({ line: arguments[0] - 1, ch: 0 }, 60);
@@ -67,13 +67,13 @@ const numbers = [...document.querySelectorAll("#program-editor .cm-lineNumbers .
 const node = numbers.find((each) => each.textContent === String(arguments[0]));
 node.scrollIntoView({ block: "center" });
 """
-# Clicks on it, as by the pointer.
+# Clicks on that number, as the pointer does.
 CLICK_MARGIN = SHOW_MARGIN + """
 const { left, top, width, height } = node.getBoundingClientRect();
 const at = { clientX: left + width / 2, clientY: top + height / 2, button: 0, buttons: 1, bubbles: true, cancelable: true, detail: 1 };
 for (const kind of ["mousedown", "mouseup", "click"]) node.dispatchEvent(new MouseEvent(kind, at));"""
 
-# The position of a word of a line on the screen, once that line is in view.
+# The screen position of a word in a line, once that line is visible.
 WORD_PLACE = """
 const editor = document.querySelector("#program-editor .cm-editor").lineEditor;
 const [line, word] = arguments;
@@ -92,8 +92,8 @@ def listing_of(mcs4, *words):
 
 
 def listed(mcs4):
-    """Returns the output of mcs4 listing: by the addresses that they begin at, the numbers and texts of the source lines; and the names'
-    values."""
+    """Returns the output of mcs4 listing: the numbers and texts of the source lines by the addresses at which they begin; and the values of the
+    names."""
     listing = listing_of(mcs4).splitlines()
     # Further rows of a line have no text.
     rows = [row for row in listing if row[17:] or not re.match("[0-9A-F]{3} ", row)]
@@ -178,15 +178,14 @@ def check_inside(browser, source, values, lines):
 
 
 def point_at(browser, line, word):
-    """Moves the pointer to a word of the source, and rests there."""
+    """Moves the pointer to a word of the source, and leaves it there."""
     x, y = browser.script(WORD_PLACE, line, word)
     browser.actions({"type": "pointer", "id": "mouse", "parameters": {"pointerType": "mouse"}, "actions": [
         {"type": "pointerMove", "duration": 0, "x": int(x) + shift, "y": int(y)} for shift in (1, 2)]})
 
 
 def check_pointing(browser, source, values, lines):
-    """Checks that the word at the pointer is explained: a label with its address and line, a number with its value, an instruction, a
-    register."""
+    """Checks the tooltip at a word: a label with its address and line, a number with its value, an instruction, a register."""
     line_of = {word: next(number for number, text in enumerate(lines, 1) if re.search(pattern, text)) for word, pattern in {
         "scan": r"JMS scan\b", "nonzero": r"^nonzero\s*=", "JMS": r"JMS scan\b", "P1": r"FIM P1,"}.items()}
     for word, words in {

@@ -1,5 +1,5 @@
-"""What checks/page tries of odd input: markup in each field and in each name, files of all kinds, numbers out of range, many clicks in one
-go, and a reload right after an edit. Nothing of it becomes an element or a script, and the bench answers after each."""
+"""What checks/page tries with unusual input: markup in each field and in each name, files of all kinds, numbers out of range, many clicks at
+once, and a reload right after an edit. Nothing of it may become an element or a script, and the bench must answer after each."""
 
 import base64
 import re
@@ -10,7 +10,7 @@ from verdicts import eventually, verdict
 MARKUP = "<img src=x onerror=\"window.injected=1\"><script>window.injected=1</script>"
 # Markup without blanks and quotes, for names.
 NAME = "<img/src=x/onerror=injected=1>"
-# The editor has images of its own, without an address.
+# The editor has its own images, without an address.
 HARMLESS = "return !window.injected && document.querySelectorAll('img[src], body script[src], iframe, object').length === 0"
 ASKED = "const box = document.getElementById('ask'); return box !== null && box.open"
 CLOSE_ALL = """
@@ -37,7 +37,7 @@ BOARD = '[[rom]]\nchip = 0\nport = "0000"\n'
 
 
 def check_alive(browser, what):
-    """The bench answers, and nothing was made of the input."""
+    """Checks that the bench answers, and that the input became no element or script."""
     if browser.script(ASKED):
         browser.script("document.getElementById('ask').close('')")
     for _ in range(4):
@@ -82,7 +82,7 @@ def check_fields(browser):
 
 
 def files():
-    """Odd files, by what they are: names with their bytes."""
+    """Returns unusual files by their descriptions, each with a name and bytes."""
     one = {
         "page.html": b"<!doctype html>" + MARKUP.encode(), "picture.png": b"\x89PNG\r\n\x1a\n" + bytes(200), "empty.asm": b"", "none": b"",
         "bad.mcs": b"MCS4" + bytes(5000), "cut.mcsp": b"project 1\n", "open.mcsp": b"project 1 x\nboard\n", "empty.hex": b"",
@@ -105,7 +105,7 @@ def check_files(browser):
         eventually(browser, f"{what} is opened, asked for or refused in words",
               f"{ASKED.replace('return', 'const asks =')}; {NOTICE.replace('return', 'const text =')}; return asks || text !== ''", True)
         check_alive(browser, what)
-    # Of several files, some are still on their way.
+    # If several files are dropped, some are still being read.
     until_ready(browser)
     browser.script(CLOSE_ALL)
 

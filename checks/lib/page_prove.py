@@ -1,6 +1,6 @@
-"""What checks/page looks at of proofs: the properties of an example are proved with the states that mcs4 prove counts; a mark that goes with
-an edit, and returns; a proof that is cancelled; a counterexample that is opened before the step that breaks its property, from where time goes
-back; goals, numbers and texts that are wrong; the keyboard; a phone's width."""
+"""What checks/page checks about proofs. The properties of an example are proved with the same numbers of states as by mcs4 prove. An edit removes
+a mark, and undoing it restores the mark. A proof can be cancelled. A counterexample opens before the step that breaks its property, and the
+machine can go back from there. Also: goals, wrong numbers and texts, the keyboard, and a phone's width."""
 
 import os
 import re
@@ -23,16 +23,16 @@ ROWS = """return [...document.querySelectorAll('#proof-list > li')].map((each) =
 LAMPS_LIT = "return document.querySelectorAll('.bulb.lit').length"
 LIT = "return [...document.querySelectorAll('#proof-list .lit')].length"
 CONTROL, SHIFT, ENTER = "\ue009", "\ue008", "\ue007"
-# The time that a search may need on a machine that has other work.
+# The maximum time of a search, in seconds, on a busy machine.
 LONG = 900
-# The mistakes that every program is asked for.
+# The number of common mistakes that are asked about every program.
 MISTAKES = 7
 CHANGED = "the program, the board or the text has changed since then"
-# The lamp is on while TEST is 0, and nothing turns the other one on.
+# The lamp is on while TEST is 0, and nothing turns the other lamp on.
 BOARD = ('# lamp 0: lit\n# test: button WALK\nlamp = [{ line = "ram0.0.0" }, { line = "ram0.0.1" }]\nrom = [{ chip = 0, port = "0000" }]\n'
          "ram = [{ bank = 0, chips = 1 }]\n")
 PROGRAM = "look:   JCN 1, on\n        LDM 0\n        JUN put\non:     LDM 1\nput:    WMP\n        INC R1\n        JUN look\n"
-# It counts in all registers: no search reaches an end.
+# It counts in all registers, so no search reaches an end.
 COUNTING = "look:   JCN 1, look\n" + "".join(f"        ISZ R{number}, look\n" for number in range(16)) + "        JUN look\n"
 
 
@@ -43,13 +43,13 @@ def prove(browser, states=1000000):
 
 
 def prove_to_end(browser, what, states=1000000):
-    """Proves, and waits for the end: the button has its first label again."""
+    """Proves, and waits for the end, when the button has its first label again."""
     prove(browser, states)
     eventually(browser, what, BUTTON, "Prove", LONG)
 
 
 def proved_by_tool(browser, folder, mcs4):
-    """Returns what mcs4 prove says of the texts of the page: properties, and then mistakes."""
+    """Returns the results of mcs4 prove for the texts of the page: properties, and then mistakes."""
     names = [("board", "board.toml"), ("program", "program.asm"), ("properties", "some.props")]
     for name, file in names:
         (folder / file).write_text(text_of(browser, name))
@@ -78,7 +78,7 @@ def check_example(browser, folder, mcs4):
 
 
 def check_edits(browser):
-    """Checks that a mark is removed with an edit of the program, the board or the property, and is there again once that is undone."""
+    """Checks that an edit of the program, the board or the property removes a mark, and that undoing the edit restores it."""
     count = browser.script(LIT)
     for name, mark in (("program", ";"), ("board", "#")):
         text = text_of(browser, name)
@@ -125,7 +125,7 @@ def check_counterexample(browser):
 
 
 def check_kinds(browser):
-    """Checks all verdicts at once, of a board and a program of the user's own."""
+    """Checks all kinds of verdicts at once, with a separate board and program."""
     choose_example(browser, "empty bench")
     put(browser, "board", BOARD)
     put(browser, "program", PROGRAM)
@@ -167,7 +167,7 @@ def check_wrong(browser):
 
 
 def check_cancelled(browser):
-    """Checks that a search without an end is cancelled at once, also by the keyboard; time runs meanwhile."""
+    """Checks that an endless search can be cancelled at once, also by the keyboard, and that the machine keeps running meanwhile."""
     put(browser, "program", COUNTING)
     put(browser, "properties", "never lamp 1 on\n")
     prove(browser, 999999999)

@@ -1,5 +1,5 @@
-"""The buzzer of a board in a browser: its samples and when they are played, muted until it is asked for, at other speeds, and where there is
-no Web Audio."""
+"""The buzzer of a board in a browser: its samples and their times, muted until the user switches it on, at other speeds, and without Web
+Audio."""
 
 import re
 import time
@@ -23,9 +23,10 @@ wait:   ISZ R3, wait
         ISZ R2, wait
         JUN loop
 """
-# A piece arrives about each 50 ms, 90 ms before it is heard. The host has held up one that arrives this many seconds after the one before.
+# A piece of sound arrives about every 50 ms, 90 ms before it is heard. If it arrives later than this many seconds after the previous one, the
+# host was too busy.
 HELD_UP = 0.1
-# From here on: the pieces that are played, their start, and their arrival, by the clock of the sound and by that of the page.
+# Records the pieces that are played, with their start and their arrival, by the audio clock and by the page's clock.
 WATCH = """
 window.played = [];
 const start = AudioBufferSourceNode.prototype.start;
@@ -38,7 +39,7 @@ AudioBufferSourceNode.prototype.start = function (when) {
   return start.call(this, when);
 };
 """
-# Without a device for sound its clock is 0 in some browsers: that of the page replaces it.
+# Without an audio device, the audio clock stays at 0 in some browsers; the page's clock replaces it.
 CLOCK = """
 const begun = performance.now();
 Object.defineProperty(BaseAudioContext.prototype, "currentTime", { get: () => (performance.now() - begun) / 1000 });
@@ -47,12 +48,12 @@ STANDS = "return window.played.every(({ now }) => now === 0)"
 PRESSED = "return document.getElementById('sound-button').getAttribute('aria-pressed')"
 SOUND_STATUS = "return document.getElementById('sound-status').textContent"
 PLAYED = "return window.played.length"
-# The first piece is sent this many seconds before it is heard, in one of several tries.
+# The first piece must be sent this many seconds before it is heard, in one of several tries.
 EARLY, TRIES = 0.08, 5
 
 
 def begins_later(browser, first):
-    """Returns whether the first piece is sent early enough. Other work on the machine can hold the page up in between: it is tried again."""
+    """Returns whether the first piece is sent early enough. It is tried several times, because other work on the machine can delay the page."""
     for _ in range(TRIES):
         if first["when"] - first["now"] > EARLY:
             return True

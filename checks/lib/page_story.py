@@ -1,6 +1,6 @@
-"""What checks/page looks at as one who comes to the page for the first time would do it, by the keyboard alone: an empty bench gets a board,
-a program is typed, refused, mended and run, stopped and stepped, lost and brought back, saved, and opened again to the byte; then an
-example that is a project, whose session stands where its texts say."""
+"""What checks/page does as a first-time user would, by keyboard alone. An empty bench gets a board. A program is typed, rejected, corrected and
+run, paused and stepped, lost and restored, saved, and opened again with the same bytes. Then an example that is a project is opened, whose
+session is in the state that its texts describe."""
 
 import re
 import time
@@ -19,7 +19,7 @@ OFFERED = "return document.getElementById('board-offer').checkVisibility()"
 OPEN = "return document.getElementById('sessions').open"
 IN_SOURCE = "e.closest('#program-editor .cm-editor') !== null"
 REGISTERS = "return document.getElementById('registers').textContent"
-# It shows on the lamps which keys are down; its comment is what a source of the ROM would lack.
+# Shows on the lamps which keys are down. A source disassembled from ROM would lack its comment.
 TYPED = ["; my first program", "LDM 3", "WRR", "read: RDR", "WMQ", "JUN read"]
 FAULT = "line 5: WMQ is not an instruction; WMP?"
 DROP = """
@@ -100,7 +100,7 @@ def check_keys(browser):
 
 
 def check_stop(browser):
-    """Checks a stop with a breakpoint in the source, and a step."""
+    """Checks a pause at a breakpoint in the source, and a step."""
     browser.keys([F8])
     browser.until(STATUS, re.compile("^Paused"))
     go_to_source(browser)
@@ -117,7 +117,7 @@ def check_stop(browser):
 
 
 def check_loss(browser):
-    """Checks that the text is lost, and brought back."""
+    """Checks that a text that is lost can be restored."""
     mine = browser.script(PROGRAM_TEXT)
     browser.script("document.getElementById('from-rom').focus()")
     browser.keys([ENTER])
@@ -132,7 +132,7 @@ def check_loss(browser):
 
 
 def save_by_keyboard(browser):
-    """Saves by the menu of files: Enter opens it, the arrow moves to Save, Enter saves."""
+    """Saves by the File menu: Enter opens it, an arrow moves to Save, Enter saves."""
     browser.script("document.getElementById('menu-button').focus()")
     browser.keys([ENTER, DOWN])
     verdict("the arrow comes to Save", browser.script("return document.activeElement.id"), "save-button")
@@ -140,7 +140,7 @@ def save_by_keyboard(browser):
 
 
 def check_file(browser, folder):
-    """Checks a file that is saved, a wrong one that is rejected, and one that is opened again to the byte."""
+    """Checks a file that is saved, a wrong file that is rejected, and the saved file, which is opened again with the same bytes."""
     texts = browser.script(TEXTS)
     save_by_keyboard(browser)
     saved = kept_download(folder, "My first board.mcsp")
@@ -166,7 +166,7 @@ def check_file(browser, folder):
 
 
 def check_example(browser):
-    """Checks an example that is a project: its texts have their comments, and its session is where they say."""
+    """Checks an example that is a project: its texts have their comments, and its session is in the state that they describe."""
     browser.script("for (const each of document.querySelectorAll('#notice .dismiss')) each.click()")
     choose_by_keyboard(browser, "a fault to find")
     verdict("its source has its comments", browser.script(PROGRAM_TEXT), re.compile("^; Four lamps should count from 0 to 9"))

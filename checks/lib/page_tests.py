@@ -1,6 +1,6 @@
-"""What checks/page looks at of the tests of programs: those of an example pass, a fault in the program makes one fail, at its line, and the
-session is opened as it is there; counts beside the source; a text with faults, one without tests, a run that is cancelled; that the text is
-kept, and goes with a project."""
+"""What checks/page checks about the tests of programs. Those of an example pass. An error in the program makes one fail at its line, and the
+session opens in that state. Counts are next to the source. Also: a text with errors, a text without tests, a run that is cancelled, and that the
+text is saved with the session and in a project."""
 
 import re
 import time
@@ -45,7 +45,7 @@ def check_passing(browser):
 
 
 def check_failing(browser):
-    """Checks a delay that is a turn shorter; the session is opened at the failure, and its texts are those of the test."""
+    """Checks a delay that is one turn shorter. The session opens at the failure, and its texts are those of the test."""
     program = browser.script(TEXT_OF_EDITOR, "#program-editor")
     browser.script(PUT_INTO_EDITOR, "#program-editor", program.replace("0x0C", "0x0D"))
     verdict("an edit takes the counts away", browser.script(COUNTS), [])
@@ -94,7 +94,7 @@ def check_faults(browser):
 
 
 def insert_sample(browser):
-    """Puts the sample test of the board into an empty text."""
+    """Inserts the sample test of the board into an empty text."""
     browser.script(PUT_INTO_EDITOR, EDITOR, "")
     browser.click("#first-test")
     browser.until(f"{TEXT_OF_EDITOR.replace('arguments[0]', repr(EDITOR))}.includes('expect')", True)
@@ -129,7 +129,7 @@ def check_cancel(browser):
 
 
 def check_kept(browser, folder):
-    """Checks that the text of tests is kept with its session, and is in a project."""
+    """Checks that the text of tests is saved with its session, and is in a project."""
     browser.script(PUT_INTO_EDITOR, EDITOR, "test mine\n  run 5")
     time.sleep(1)
     browser.reload()

@@ -1,5 +1,5 @@
-"""What checks/page looks at in the browser of time: cycles, steps over and out and to goals, back and forward, slow motion. What the page
-says is compared with what the program, mcs4 trace and mcs4 cycles say of the same session."""
+"""What checks/page checks in the browser about time: cycles, steps over and out and to goals, back and forward, slow motion. The page's messages
+are compared with the program, mcs4 trace and mcs4 cycles on the same session."""
 
 import os
 import pathlib
@@ -19,7 +19,7 @@ field.value = arguments[1];
 field.dispatchEvent(new Event("input"))"""
 PRESS = """
 document.body.dispatchEvent(new KeyboardEvent("keydown", { key: arguments[0], shiftKey: arguments[1], bubbles: true, cancelable: true }))"""
-# The bytes of the session that is kept, once they are there.
+# The bytes of the saved session, once they are there.
 KEPT = """
 window.keptFile = "";
 const id = location.hash.slice("#session=".length);
@@ -32,7 +32,7 @@ ALL = "seq\nstate\nram 0\nbreaks\nwatches"
 
 
 class Program:
-    """The program beside the page, on sessions of its own."""
+    """The program next to the page, on separate sessions."""
 
     def __init__(self, folder, mcs4):
         self.folder = folder
@@ -50,7 +50,7 @@ class Program:
         return file, subprocess.run([self.mcs4, "new", file], input=lines, stdout=subprocess.PIPE, text=True, check=True).stdout
 
     def cycles(self, answers):
-        """Returns the cycles of the last run among answers, by mcs4 cycles."""
+        """Returns the cycles of the last run in some answers, as mcs4 cycles counts them."""
         line = len(answers.splitlines())
         return int(self.tool("cycles", line, line, lines=answers).split(" ")[0])
 
@@ -62,7 +62,7 @@ def texts_of(name):
 
 
 def first_call(program, name):
-    """Returns the first JMS of an example: the cycles before it, those over it, its address and the one behind it."""
+    """Returns the first JMS of an example: the cycles before it, the cycles of its subroutine, its address and the next one."""
     file, _ = program.session(name, texts_of(name))
     lines = [line for line in program.tool("trace", file, 3000).splitlines() if re.match(r" *\d+  [0-9A-F]{3} ", line)]
     at = next(at for at, line in enumerate(lines) if " JMS " in line)
@@ -73,13 +73,13 @@ def first_call(program, name):
 
 
 def counted(cycles):
-    """Returns a number of cycles as the page writes it: 10.8 microseconds each."""
+    """Returns a number of cycles and its time as the page writes it, 10.8 microseconds each."""
     time = cycles * 10.8 / 1000
     return f"{cycles:,} cycles, " + (f"{time:.3f} ms" if time < 1000 else f"{time / 1000:.3f} s")
 
 
 def stand(browser):
-    """Pauses the running time."""
+    """Pauses the running machine."""
     if browser.script("return document.getElementById('run').textContent") == "Pause":
         stop_time(browser)
 
@@ -94,13 +94,13 @@ def at_rest(browser, name):
 
 
 def state(browser):
-    """Returns the answers to all questions; the answers of running time may be in the log just before them."""
+    """Returns the answers to all questions. If the machine was running, its answers can be in the log just before them."""
     answers = lines_answered(browser, ALL)
     return answers[answers.index("seqseq"):]
 
 
 def check_over(browser, program, name, example):
-    """Checks over a JMS, into it, out of it, and to the line behind it: as many cycles as the trace has, and nothing stays."""
+    """Checks steps over a JMS, into it, out of it, and to the line after it: the cycles are those of the trace, and no breakpoint stays."""
     before, over, address, behind = first_call(program, example)
     at_rest(browser, name)
     lines_answered(browser, f"run {before}")
@@ -125,7 +125,7 @@ def into_and_out(browser):
 
 
 def check_run_to(browser):
-    """Checks a run to a line of the listing, by Control and a click."""
+    """Checks a run to a line of the listing, by Ctrl and a click."""
     browser.click("#back-stop")
     browser.until(STATUS, re.compile("^Back at"))
     address = browser.script("""
@@ -138,7 +138,7 @@ return row.textContent.match(/[0-9A-F]{3}/)[0]""")
 
 
 def check_run_to_source(browser):
-    """Checks a run to the line of the source that the caret is in, by Control and F10; and to a change of a lamp that is named."""
+    """Checks a run to the source line at the caret, by Ctrl+F10, and a run to a change of a named lamp."""
     at_rest(browser, "three lamps")
     browser.script("""
 const editor = document.querySelector("#program-editor .cm-editor").lineEditor;
@@ -152,7 +152,7 @@ editor.getInputField().dispatchEvent(new KeyboardEvent("keydown", { key: "F10", 
 
 
 def check_many(browser, program):
-    """Checks a number of instructions: as many cycles as the trace has for them."""
+    """Checks a step of several instructions, with the same cycles as in the trace."""
     file, _ = program.session("many", texts_of("three_lamps"))
     lines = [line for line in program.tool("trace", file, 400).splitlines() if re.match(r" *\d+  [0-9A-F]{3} ", line)]
     at_rest(browser, "three lamps")
@@ -165,13 +165,13 @@ def check_many(browser, program):
 
 
 def check_far(browser):
-    """Checks over a delay of 24 seconds, counted separately, and back out of it; it does not wait for ever for a change that does not
-    happen."""
+    """Checks a step over a delay of 24 seconds, counted separately, and a step back before it. A search for a change that never happens must
+    end."""
     choose_example(browser, "empty bench")
     loops = "".join(f"ISZ R{each}, loop\n" for each in range(5))
     lines_answered(browser, "wire\n[[rom]]\nchip = 0\nport = \"0000\"\n.\nasm\nJMS wait\nend: JUN end\n"
                    f"wait: FIM P0, 0\nFIM P1, 0\nFIM P2, 0\nloop: {loops}BBL 0\n.")
-    # An ISZ takes two cycles, and each loop comes 16 times to its end.
+    # An ISZ takes two cycles, and each loop ends 16 times.
     cycles = 0
     for _ in range(5):
         cycles = 16 * (cycles + 2)
@@ -217,7 +217,7 @@ def check_stopwatch(browser):
 
 
 def check_back(browser):
-    """Checks back and forward, over keys that were pressed while time ran: the same answers, and the same file."""
+    """Checks back and forward, over keys that were pressed while running: the answers and the file must be the same."""
     at_rest(browser, "calculator")
     browser.click("#run")
     for legend in "12":
@@ -258,7 +258,7 @@ def check_back(browser):
 
 
 def check_never(browser):
-    """Checks that a goal that is never reached is running time: Stop and F8 end it, a reload too, and only runs are left of it."""
+    """Checks that a run to a goal that is never reached can be ended by Stop, F8 and a reload, and that only runs of it remain."""
     choose_example(browser, "empty bench")
     lines_answered(browser, 'wire\n[[rom]]\nchip = 0\nport = "0000"\n.\nasm\nJMS round\nround: JUN round\n.\nstep')
     for what, stop in {"F8": lambda: browser.script(PRESS, "F8", False), "Stop": lambda: browser.click("#run")}.items():
@@ -275,7 +275,7 @@ def check_never(browser):
     eventually(browser, "a reload ends it, which is reported", STATUS, re.compile("^Paused at 002: the return from the subroutine was not reached, because "
                                                                               "the page was reloaded"))
     browser.click("#back-stop")
-    # How many cycles passed before the session was kept for the last time depends on the browser.
+    # The number of cycles before the session was last saved depends on the browser.
     eventually(browser, "and nothing is lost", STATUS, re.compile("^Back at the stop at 002"))
     verdict("no breakpoint and no watch is left", state(browser)[-len("breaksbreaks -watcheswatches -"):], "breaksbreaks -watcheswatches -")
 
@@ -300,7 +300,8 @@ BBL 6
 
 
 def check_waiting(browser):
-    """Checks over a subroutine that waits for a key: time runs, and the key is pressed; a plain instruction returns from nothing."""
+    """Checks a step over a subroutine that waits for a key: the machine runs, and the key is pressed. A plain instruction returns from
+    nothing."""
     choose_example(browser, "empty bench")
     browser.click("#first-board")
     browser.until("return document.querySelectorAll('#keys button').length", 2)
@@ -319,7 +320,7 @@ def check_waiting(browser):
 
 
 def check_slow(browser):
-    """Checks slow motion, and the line that runs is followed."""
+    """Checks slow motion, and that the running line is followed."""
     at_rest(browser, "three lamps")
     verdict("the speeds", browser.script("return [...document.getElementById('speed').options].map((each) => each.textContent).join(', ')"),
             "real time, 1/10, 1/100, 1/1,000, an instruction a second, full speed")

@@ -1,5 +1,5 @@
-"""The checks of common mistakes on the page: each is reported as it happens, with its line, while time continues; with its
-switch time stops before it, and goes on with it; a program without them has none."""
+"""The checks for common mistakes on the page. Each mistake is reported with its line when it happens, while the machine keeps running. If its
+switch is on, the machine pauses before the mistake, and can continue. A program without mistakes has no report."""
 
 import re
 import time

@@ -1,4 +1,4 @@
-"""Makes a picture small: a PNG of true colours becomes one of at most 64 colours, which is what drawings and letters need."""
+"""Makes a screenshot small: converts a true-colour PNG to one with at most 64 colours, which is enough for drawings and letters."""
 
 import collections
 import struct
@@ -8,7 +8,7 @@ COLOURS = 64
 
 
 def chunks(data):
-    """Yields the parts of a PNG, each with its name."""
+    """Yields the chunks of a PNG, each with its name."""
     at = 8
     while at < len(data):
         length, name = struct.unpack(">I4s", data[at:at + 8])
@@ -31,7 +31,7 @@ def unfilter(kind, row, above, step):
 
 
 def rows_of(data):
-    """Yields the rows of a PNG of 8 bits a channel, as lists of colours."""
+    """Yields the rows of a PNG with 8 bits per channel, as lists of colours."""
     parts = list(chunks(data))
     width, height, depth, kind = struct.unpack(">IIBB", parts[0][1][:10])
     if depth != 8 or kind not in (2, 6):
@@ -46,7 +46,7 @@ def rows_of(data):
 
 
 def palette_of(rows):
-    """Returns the colours that are there most often, each a little apart from the others."""
+    """Returns the most frequent colours that differ from each other."""
     counts = collections.Counter(colour for row in rows for colour in row)
     palette = []
     for colour, _ in counts.most_common():

@@ -1,4 +1,4 @@
-"""The sentences of a document as a reader meets them, and what is wrong with them: too many words, or a word that has a better one."""
+"""Finds the errors in the sentences of a document: too many words, or words that have a better replacement."""
 
 import re
 
@@ -42,12 +42,12 @@ EXCEPTIONS = {
 }
 # Code, and a list of it, counts as one word.
 CODE = r"`[^`]*`(?:(?:,| and|, and)? \(?`[^`]*`\)?)*"
-# What begins a block of its own: a row, a point, a title.
+# The beginning of a new block: a table row, a list item, a heading.
 BEGINS = r"\s*(?:\||- |\d+\. )|#"
 
 
 def blocks_of(text):
-    """Yields paragraphs, points, cells and titles, each with the number of its first line; not what is shown as it is typed."""
+    """Yields paragraphs, list items, cells and headings, each with the number of its first line, without code blocks."""
     block, first, fenced = [], 1, False
     for number, line in enumerate([*text.splitlines(), ""], 1):
         is_fence = line.startswith("```")
@@ -65,14 +65,15 @@ def blocks_of(text):
 
 
 def sentences_of(text):
-    """Yields each sentence with the number of its block's first line, without targets of links and what stands behind the dash of a promise."""
+    """Yields each sentence with the number of its block's first line, without link targets and without the contracts after the dash of a
+    promise."""
     for number, block in blocks_of(text):
         plain = re.sub(CODE, "CODE", re.sub(r"\]\([^)]*\)", "]", block)).partition(" \u2014 ")[0]
         yield from ((number, sentence) for sentence in re.split(r"(?<=[.?!])[*)\"]*\s+", plain))
 
 
 def errors_of(text):
-    """Yields what is wrong with the sentences of a text, with the numbers of their lines."""
+    """Yields descriptions of the errors in the sentences of a text, with the numbers of their lines."""
     for number, sentence in sentences_of(text):
         if sentence.startswith(tuple(EXCEPTIONS)):
             continue

@@ -1,4 +1,4 @@
-"""Lists of writes and flushes whose images are known by hand: what images.py and its builder have to make of them. It needs no machine."""
+"""Lists of writes and flushes whose images are known in advance, as a check of images.py and its builder. It needs no machine."""
 
 from __future__ import annotations
 
@@ -12,22 +12,22 @@ OLD = bytes(SECTOR)
 
 
 def history(events: list[Event], whole_blocks: bool = False, seed: int = 0, first: int = 0) -> History:
-    """A history of these events, of a session that was not there before."""
+    """Returns a history of these events, of a session that did not exist before."""
     return History(events, first, False, set(), whole_blocks, random.Random(seed))
 
 
 def write(number: int, place: int, data: bytes) -> Event:
-    """A write that came."""
+    """Returns the event that a write arrives."""
     return Event("write", number, place, data)
 
 
 def done(what: str, number: int) -> Event:
-    """An answer to a request, or a flush that came, or a command."""
+    """Returns the event that a request is answered, that a flush arrives, or that a command is sent or answered."""
     return Event(what, number)
 
 
 def states(events: History, size: int) -> list[tuple[bytes, Image]]:
-    """What the images of a history have in their first bytes, on a disk of zeros."""
+    """Returns the first bytes of all images of a history, on a disk of zeros, with the images."""
     disk = Disk(BLOCK)
     builder = Builder(disk, events)
     found = []
@@ -42,7 +42,8 @@ def states(events: History, size: int) -> list[tuple[bytes, Image]]:
 
 
 def durable_writes() -> bool:
-    """A write is durable once a flush is answered that came after the write was answered; one that was answered later waits for the next."""
+    """Checks that a write is durable once a flush is answered that arrived after the write was answered. A write that was answered later waits
+    for the next flush."""
     first = [write(1, 0, A), done("wrote", 1), write(2, SECTOR, B), done("flush", 3), done("wrote", 2), done("flushed", 3)]
     then = [write(4, 0, C), done("flush", 5), done("flushed", 5)]
     is_at_the_end = history(first + then[:2]).durable_at() == {1: 6}
@@ -50,20 +51,20 @@ def durable_writes() -> bool:
 
 
 def parts_of_a_write() -> bool:
-    """Of a write that no flush has answered for each sector is old or new."""
+    """Checks that each sector of a write without an answered flush is either old or new."""
     found = [pair for seed in range(20) for pair in states(history([write(1, 0, A + B)], seed=seed), 2 * SECTOR)]
     torn = {A + OLD, OLD + B}
     return {data for data, _ in found} == {OLD + OLD, A + B, *torn} and all(image.is_torn for data, image in found if data in torn)
 
 
 def whole_blocks() -> bool:
-    """Where blocks are written whole, none is torn."""
+    """Checks that no block is torn if blocks are written whole."""
     found = states(history([write(1, 0, A + B)], whole_blocks=True), 2 * SECTOR)
     return {data for data, _ in found} == {OLD + OLD, A + B}
 
 
 def writes_at_one_place() -> bool:
-    """Of two writes at a place the later one is found, or the earlier one without it; once both are durable, the later one."""
+    """Checks two writes at one place: an image has the later one, or the earlier one without it; once both are durable, only the later one."""
     events = [write(1, 0, A), done("wrote", 1), write(2, 0, B), done("wrote", 2)]
     before = states(history(events), SECTOR)
     both = {data for data, image in before if image.kept == {1: None, 2: None}}
@@ -72,7 +73,8 @@ def writes_at_one_place() -> bool:
 
 
 def bounds() -> bool:
-    """What must be found is bound by what was acknowledged before the cut, and sent before it; before a first answer by nothing."""
+    """Checks the bounds of the number of commands: those acknowledged before the cut, and those sent before it. Before the first answer there is
+    no lower bound."""
     events = history([write(1, 0, A), done("answered", 0), done("sent", 1), write(2, 0, B), done("wrote", 2), done("flush", 3),
                     done("flushed", 3), done("answered", 1)])
     found = {(image.durable, len(image.kept)): (image.least, image.most) for image in events.all_images() if image.how != "some"}
@@ -80,13 +82,13 @@ def bounds() -> bool:
 
 
 def bounds_of_a_copy() -> bool:
-    """A session that was copied has the commands that it had, before its first answer too."""
+    """Checks that a session that was copied has the commands that it had, even before its first answer."""
     found = history([write(1, 0, A), done("answered", 7)], first=7).all_images()
     return {(image.least, image.most) for image in found if image.how != "some"} == {(7, 7)}
 
 
 def settled() -> bool:
-    """An image that is settled is the disk from then on."""
+    """Checks that a settled image is the disk from then on."""
     events = history([write(1, 0, A), done("wrote", 1), done("flush", 2), done("flushed", 2), write(3, 0, B)])
     disk = Disk(BLOCK)
     builder = Builder(disk, events)
@@ -103,5 +105,5 @@ CHECKS = (durable_writes, parts_of_a_write, whole_blocks, writes_at_one_place, b
 
 
 def faults() -> list[str]:
-    """What images.py has otherwise than by hand, in words."""
+    """Returns a message for each result of images.py that differs from the known one."""
     return [f"{check.__name__}: {check.__doc__}" for check in CHECKS if not check()]

@@ -1,7 +1,7 @@
-"""A disk of a virtual machine that this process serves, and a list of what happened to it.
+"""A disk of a virtual machine that this process serves, and the list of the events on it.
 
-QEMU reads and writes the disk as a client of NBD, over a Unix socket. So each write and each flush is seen twice, as it comes and as it is
-answered: what stands between the two may be lost by a power cut, whatever the machine believes.
+QEMU reads and writes the disk as a client of NBD, over a Unix socket. So each write and each flush has two events: its arrival and its
+answer. What is written between the two can be lost by a power cut, whatever the machine assumes.
 """
 
 from __future__ import annotations
@@ -16,23 +16,23 @@ from typing import NamedTuple
 
 MAGIC, OPTION_MAGIC, REPLY_MAGIC, REQUEST_ANSWER = 0x4E42444D41474943, 0x49484156454F5054, 0x3E889045565A9, 0x67446698
 FIXED_NEWSTYLE_NO_ZEROES = 3
-# Options, the kinds of their replies, and what a reply of information has.
+# Options, the kinds of their replies, and the content of a reply with information.
 ABORT, INFO, GO = 2, 6, 7
 ACKNOWLEDGED, INFORMED, UNSUPPORTED = 1, 3, (1 << 31) + 1
 EXPORT, BLOCK_SIZE = 0, 3
-# Flags of the disk: it has flags, and takes flushes; and requests.
+# Flags of the disk (it has flags, and accepts flushes), and the kinds of requests.
 HAS_FLAGS, SEND_FLUSH = 1, 4
 READ, WRITE, LEAVE, FLUSH = 0, 1, 2, 3
 OPTION_HEAD, REQUEST_HEAD = 16, 28
 
 
 class Fault(Exception):
-    """What keeps the check from going on: the machine, or the program in it, does something else than it has to do."""
+    """An error that stops the check: the machine, or the program in it, does not do what it must do."""
 
 
 class Event(NamedTuple):
-    """What happened: of the disk a `write` came and was answered (`wrote`), a `flush` came and was answered (`flushed`), each pair with a
-    number of its own; of the program a command was `sent` or `answered`, by its number."""
+    """An event. For the disk: a `write` arrived and was answered (`wrote`), a `flush` arrived and was answered (`flushed`); each pair has a
+    number. For the program: a command was `sent` or `answered`, by its number."""
     what: str
     number: int
     place: int = 0
@@ -40,10 +40,8 @@ class Event(NamedTuple):
 
 
 class Disk:
-    """Bytes that a machine reads and writes, in memory.
-
-    `events`, where it is a list, gets what happens. Where `late` is true, writes and flushes are answered late and out of order, as the
-    queue of a real disk does."""
+    """Bytes in memory that a machine reads and writes as a disk. If `events` is a list, it gets the events. If `late` is true, writes and flushes
+    are answered late and out of order, as by the queue of a real disk."""
 
     def __init__(self, size: int, seed: int = 0) -> None:
         self.memory = os.memfd_create("disk")
@@ -57,34 +55,34 @@ class Disk:
 
     @property
     def file(self) -> str:
-        """A name by which a program on this host finds the bytes."""
+        """A name by which a program on this host can open the bytes."""
         return f"/proc/{os.getpid()}/fd/{self.memory}"
 
     def close(self) -> None:
-        """Gives the memory back."""
+        """Frees the memory."""
         self.bytes.close()
         os.close(self.memory)
 
     def put(self, place: int, data: bytes) -> None:
-        """Writes bytes; `undo`, where it is a list, gets those that were there."""
+        """Writes bytes; if `undo` is a list, it gets the old bytes."""
         if self.undo is not None:
             self.undo.append((place, self.bytes[place:place + len(data)]))
         self.bytes[place:place + len(data)] = data
 
     def take_back(self) -> None:
-        """Takes back all that was put since `undo` was made a list."""
+        """Undoes all writes since `undo` was set to a list."""
         for place, data in reversed(self.undo or []):
             self.bytes[place:place + len(data)] = data
         self.undo = None
 
     def happened(self, what: str, number: int, place: int = 0, data: bytes = b"") -> None:
-        """Adds to the list of events, if there is one."""
+        """Adds an event to the list, if there is one."""
         if self.events is not None:
             self.events.append(Event(what, number, place, data))
 
 
 class Connection:
-    """QEMU's side of a disk: the handshake by which it names the disk, then its requests."""
+    """QEMU's connection to a disk: the handshake in which it names the disk, and its requests."""
 
     def __init__(self, disks: dict[str, Disk], channel: socket.socket, leave: Callable[[socket.socket], None]) -> None:
         self.disks, self.channel, self.leave = disks, channel, leave
@@ -95,7 +93,7 @@ class Connection:
         channel.sendall(struct.pack(">QQH", MAGIC, OPTION_MAGIC, FIXED_NEWSTYLE_NO_ZEROES))
 
     def is_ready(self) -> None:
-        """Serves what has come."""
+        """Serves the data that has arrived."""
         found = self.channel.recv(1 << 20)
         if not found:
             self.leave(self.channel)
@@ -107,11 +105,11 @@ class Connection:
             pass
 
     def reply(self, option: int, kind: int, data: bytes = b"") -> None:
-        """Answers an option."""
+        """Replies to an option."""
         self.channel.sendall(struct.pack(">QIII", REPLY_MAGIC, option, kind, len(data)) + data)
 
     def serve_option(self) -> bool:
-        """Serves an option of the handshake, if it has come whole."""
+        """Serves an option of the handshake, if it has arrived completely; returns whether it has."""
         if not self.is_begun and len(self.input) >= 4:
             del self.input[:4]
             self.is_begun = True
@@ -138,7 +136,7 @@ class Connection:
         return True
 
     def serve_request(self, disk: Disk) -> bool:
-        """Serves a request, if it has come whole."""
+        """Serves a request, if it has arrived completely; returns whether it has."""
         if len(self.input) < REQUEST_HEAD:
             return False
         _, _, kind, handle, place, length = struct.unpack(">IHHQQI", self.input[:REQUEST_HEAD])
@@ -171,13 +169,13 @@ class Connection:
         self.channel.sendall(struct.pack(">IIQ", REQUEST_ANSWER, 0, handle) + data)
 
     def wait(self, what: str, handle: int, disk: Disk) -> None:
-        """Answers a request later, or now."""
+        """Answers a request later if the disk is late, otherwise now."""
         self.waiting.append((what, disk.count, handle))
         if not disk.late:
             self.answer_one()
 
     def answer_one(self) -> None:
-        """Answers one of the requests that wait."""
+        """Answers one of the waiting requests."""
         assert self.disk is not None
         what, number, handle = self.waiting.pop(self.disk.chance.randrange(len(self.waiting)))
         self.disk.happened(what, number)

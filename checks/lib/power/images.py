@@ -1,9 +1,9 @@
-"""What a power cut may leave on a disk, from the list of what happened to it.
+"""The images that a power cut can leave on a disk, computed from the list of events on it.
 
-A write is durable once a flush has been answered that came after the write was answered. Of all other writes an image holds nothing
-(`none`), everything (`all`), or of each write all, nothing or random sectors (`some`). The acknowledgements of the program stand in the
-same list, so at each place it is known what must be found: at least the commands that were acknowledged, at most the one that was sent
-after them.
+A write is durable once a flush has been answered that arrived after the write was answered. All other writes are pending. An image has none
+of the pending writes (`none`), all of them (`all`), or all, nothing or random sectors of each one (`some`). The same list has the program's
+acknowledgements. So at each place the bounds of what must be found are known: at least the acknowledged commands, at most one more that was
+sent after them.
 """
 
 from __future__ import annotations
@@ -16,22 +16,22 @@ from typing import Literal
 from power.disk import Disk, Event
 
 SECTOR, BLOCK = 512, 4096
-# At a write, and at a flush, so many parts are drawn for each write that is not durable, of at most so many of these.
+# At each write and at each flush, this many random parts are drawn for each pending write, from at most this many pending writes.
 PARTS, MOST_PENDING = 12, 4
-# So many events after the first answer still count as its beginning.
+# The number of events after the first answer that still count as the beginning.
 BEGINNING = 20
 
-# When a cut comes: before the program's first answer, soon after it, while a snapshot is written, or otherwise.
+# The phase of a cut: before the program's first answer, soon after it, while a snapshot is written, or otherwise.
 Phase = Literal["opening", "beginning", "snapshot", "serving"]
 PHASES: tuple[Phase, ...] = ("opening", "beginning", "snapshot", "serving")
-# Of a write that is not durable: None is all of it, else the size of a sector, and the sectors that are new as bits.
+# The part of a pending write that an image has: None for the whole write, otherwise the size of a sector, and a bit for each new sector.
 Part = tuple[int, int] | None
 
 
 @dataclasses.dataclass
 class Image:
-    """What may be on the disk after a cut at a place of the list, and at others up to `last`. `least` and `most` bound the commands that
-    may be found after all of them; before a first answer there is no `least` where no session was there before."""
+    """The possible contents of the disk after a cut at a place in the list, and at other places up to `last`. `least` and `most` are the bounds
+    of the number of commands that may be found after all these cuts. Before the first answer `least` is None if no session existed."""
     place: int
     last: int
     phase: Phase
@@ -43,11 +43,11 @@ class Image:
 
     @property
     def is_torn(self) -> bool:
-        """Whether a block of the file system may be half old and half new, which it need not bear."""
+        """True if a block of the file system can be half old and half new, which the file system need not tolerate."""
         return any(part is not None and part[0] < BLOCK for part in self.kept.values())
 
     def tighten(self, place: int, least: int | None, most: int) -> None:
-        """The same image is left by a cut at this place, too."""
+        """Adds a cut at another place that leaves the same image."""
         self.last = place
         if least is not None:
             self.least = least if self.least is None else max(self.least, least)
@@ -55,30 +55,30 @@ class Image:
 
 
 class History:
-    """What happened to a disk while a session was served on it."""
+    """The events on a disk while a session was served on it."""
 
     def __init__(self, events: list[Event], first: int, is_kept: bool, snapshots: set[int], whole_blocks: bool,
                  chance: random.Random) -> None:
-        """`first` is the number of commands in the session at the beginning; it was there, durable, before if `is_kept`. `snapshots` has
-        the commands by which one is written; where `whole_blocks` is true, a block of 4,096 bytes is never torn."""
+        """`first` is the number of commands in the session at the beginning; if `is_kept`, the session existed durably before. `snapshots` are
+        the commands at which a snapshot is written. If `whole_blocks` is true, a block of 4,096 bytes is never torn."""
         self.events, self.first, self.snapshots, self.chance = events, first, snapshots, chance
         self.start = first if is_kept else None
         self.whole_blocks = whole_blocks
         durable_at = self.durable_at()
         never = len(events) + 1
         self.writes = {event.number: event for event in events if event.what == "write"}
-        # In this order they become durable, so the durable writes of an image are the first so many.
+        # The order in which they become durable, so that the durable writes of an image are a prefix.
         self.by_durability = sorted(self.writes, key=lambda number: (durable_at.get(number, never), number))
         self.durable_places = [durable_at.get(number, never) for number in self.by_durability]
         self.rank = {number: rank for rank, number in enumerate(self.by_durability)}
 
     def count(self, what: str) -> int:
-        """How many events of a kind there are."""
+        """Returns the number of events of a kind."""
         return sum(event.what == what for event in self.events)
 
     def durable_at(self) -> dict[int, int]:
-        """For each write that becomes durable the place in the list from which on it is: a flush was answered that came after the write was
-        answered."""
+        """Returns for each write that becomes durable the place in the list from which on it is durable: a flush was answered that arrived after
+        the write was answered."""
         at: dict[int, int] = {}
         answered: list[int] = []
         covered: dict[int, list[int]] = {}
@@ -93,7 +93,7 @@ class History:
         return at
 
     def all_images(self) -> list[Image]:
-        """All that is drawn from, each once, in the order of time."""
+        """Returns all possible images, each once, in the order of time."""
         found: dict[bytes, Image] = {}
         answered, sent, first_answer = self.start, self.first, 0
         durable, pending = 0, list[int]()
@@ -116,7 +116,7 @@ class History:
         return list(found.values())
 
     def phase(self, place: int, first_answer: int, answered: int | None, sent: int) -> Phase:
-        """When a cut at this place comes."""
+        """Returns the phase of a cut at a place."""
         if not first_answer:
             return "opening"
         if sent != answered and sent in self.snapshots:
@@ -124,14 +124,14 @@ class History:
         return "beginning" if place < first_answer + BEGINNING else "serving"
 
     def ways(self, event: Event, pending: list[int]) -> list[tuple[str, dict[int, Part]]]:
-        """What may be kept of the writes that are not durable after this event."""
+        """Returns the ways in which the pending writes can be partly on the disk after an event."""
         found: list[tuple[str, dict[int, Part]]] = [("none", {}), ("all", dict.fromkeys(pending))]
         if event.what in ("write", "flushed"):
             found += [("some", self.part_of(pending)) for _ in range(PARTS * min(len(pending), MOST_PENDING))]
         return found
 
     def part_of(self, pending: list[int]) -> dict[int, Part]:
-        """A part of these writes, by chance: of each all, nothing, or some of its sectors."""
+        """Returns a random part of these writes: of each one all, nothing, or some of its sectors."""
         unit = BLOCK if self.whole_blocks else self.chance.choice((SECTOR, BLOCK))
         found: dict[int, Part] = {}
         for write in pending:
@@ -143,7 +143,7 @@ class History:
         return found
 
     def draw(self, images: list[Image], count: int) -> list[Image]:
-        """At most so many of these images, in the order of time: an even share of each phase, and more where another one has too few."""
+        """Returns at most `count` of these images, in the order of time: equally many from each phase, and more if another phase has too few."""
         groups = sorted(([image for image in images if image.phase == phase] for phase in PHASES), key=len)
         drawn: list[Image] = []
         for index, group in enumerate(groups):
@@ -152,7 +152,7 @@ class History:
 
 
 class Builder:
-    """Puts images of a history on the disk that it began with, one after another, in the order of time."""
+    """Writes the images of a history to the disk as it was at the beginning, one after another, in the order of time."""
 
     def __init__(self, disk: Disk, history: History) -> None:
         self.disk, self.history = disk, history
@@ -161,8 +161,8 @@ class Builder:
         self.replaced: list[tuple[int, bytes]] = []
 
     def build(self, image: Image) -> None:
-        """Puts an image on the disk: its durable writes up to the first that is not durable for good, the others until `disk.take_back`.
-        Writes are put in the order in which they came."""
+        """Writes an image to the disk: its durable writes permanently, the others until `disk.take_back`. Writes are done in the order in which
+        they arrived."""
         rank = self.history.rank
         while self.placed < len(self.order) and rank[self.order[self.placed].number] < image.durable:
             write = self.order[self.placed]
@@ -177,7 +177,7 @@ class Builder:
                 self.put_part(write, image.kept[write.number])
 
     def put_part(self, write: Event, part: Part) -> None:
-        """Puts a part of a write on the disk."""
+        """Writes a part of a write to the disk."""
         if part is None:
             self.disk.put(write.place, write.data)
             return
@@ -187,13 +187,13 @@ class Builder:
                 self.disk.put(write.place + begin, write.data[begin:begin + unit])
 
     def rewind(self) -> None:
-        """Takes back all writes."""
+        """Undoes all writes."""
         for place, data in reversed(self.replaced):
             self.disk.put(place, data)
         self.placed, self.replaced = 0, []
 
     def settle(self, image: Image) -> None:
-        """Puts an image on the disk for good, whichever was there before."""
+        """Writes an image to the disk permanently, whatever was there before."""
         self.rewind()
         self.build(image)
         self.disk.undo = None

@@ -1,6 +1,6 @@
-/* Runs in the machine: for each line `TYPE FILE OPTIONS` mounts /dev/vda as a file system of that type at /mnt, copies FILE of it to
-   /dev/vdb, unmounts it, and answers a line: `size N`, `absent`, `unreadable` or `not mounted`. An empty line ends it. It is one program
-   for all images, since the start of one takes longer than all of this without KVM. */
+/* Runs in the machine. For each input line `TYPE FILE OPTIONS` it mounts /dev/vda as a file system of that type at /mnt, copies FILE from it
+   to /dev/vdb, unmounts it, and prints a line: `size N`, `absent`, `unreadable` or `not mounted`. An empty line ends it. One process looks at
+   all images, because without KVM the start of a process takes longer than looking at an image. */
 #include <errno.h>
 #include <fcntl.h>
 #include <linux/fs.h>
@@ -16,7 +16,7 @@ enum { MOST = 1 << 20 };
 
 static char bytes[MOST];
 
-/* Forgets what the kernel keeps in memory of the disk: it is another one now. */
+/* Drops the kernel's caches of the disk, whose contents have been replaced. */
 static void forget(void) {
     int disk = open("/dev/vda", O_RDONLY);
     if (disk < 0 || ioctl(disk, BLKFLSBUF, 0) < 0 || close(disk) < 0) {
@@ -25,7 +25,7 @@ static void forget(void) {
     }
 }
 
-/* Puts bytes on the disk for what is found; it is there when this returns. */
+/* Writes bytes to the disk for found files; they are durable when this returns. */
 static void hand_on(size_t size) {
     int disk = open("/dev/vdb", O_WRONLY);
     if (disk < 0 || pwrite(disk, bytes, size, 0) != (ssize_t)size || fsync(disk) < 0 || close(disk) < 0) {
@@ -34,7 +34,7 @@ static void hand_on(size_t size) {
     }
 }
 
-/* Copies a file, and says into `state` what it is. */
+/* Copies a file, and writes its description to `state`. */
 static void copy(const char *file, char state[32]) {
     struct stat found;
     int opened = open(file, O_RDONLY);
@@ -65,7 +65,7 @@ int main(void) {
             copy(file, state);
             if (umount("/mnt") < 0) return 1;
         }
-        /* The disk is left alone from here on: it may be another one at once. */
+        /* From here on, the disk is not accessed: its contents can be replaced at any time. */
         puts(state);
         fflush(stdout);
     }

@@ -1,7 +1,7 @@
 """A virtual machine: QEMU without KVM, a kernel of Debian, and an initramfs of busybox, modules, the program and its libraries.
 
-Its first serial line goes to a file, the second one is a shell, and the third one the program's input and output; both end in this process,
-as its disks do (disk.py). All is one thread. So the list of events is in order: whatever the program acknowledges on its line, the disk
+Its first serial line goes to a file. The second one is a shell, and the third one has the program's input and output. This process serves
+both lines and the disks (disk.py) in one thread. So the list of events is in order: whatever the program acknowledges on its line, the disk
 had answered before.
 """
 
@@ -21,7 +21,7 @@ from typing import NamedTuple
 
 from power.disk import Connection, Disk, Fault
 
-# What the machine does first: modules, quiet lines, and then each line that comes, with its status.
+# The machine's first script: it loads modules, silences the lines, and then runs each line that arrives and prints its status.
 FIRST = r"""#!/bin/busybox sh
 /bin/busybox --install -s /bin
 mount -t proc proc /proc
@@ -34,13 +34,13 @@ exec < /dev/ttyS1 > /dev/ttyS1 3<> /dev/vport0p1
 echo ready
 while read -r line; do eval "$line"; echo "done $?"; done
 """
-# `clearcpuid=cx16`: Linux 6.12 meets a fault of CMPXCHG16B in QEMU 7.2 without KVM. `no_timer_check`: where the host is busy, the kernel
-# would find its timer dead. The default processor is too old for Debian's glibc.
+# `clearcpuid=cx16`: Linux 6.12 hits an error of CMPXCHG16B in QEMU 7.2 without KVM. `no_timer_check`: on a busy host, the kernel would consider
+# its timer broken. The default processor is too old for Debian's glibc.
 KERNEL_WORDS = "console=ttyS0 loglevel=5 panic=-1 mitigations=off random.trust_cpu=on clearcpuid=cx16 no_timer_check cryptomgr.notests"
 PROCESSOR = "Nehalem"
 MEMORY = 512
 BOOT_SECONDS = 900
-# How long a late answer of a disk waits for others.
+# The seconds that a late answer of a disk waits for others.
 LATE = 0.0005
 
 
@@ -51,27 +51,27 @@ class Kernel(NamedTuple):
 
     @property
     def release(self) -> str:
-        """Its name, as `uname -r` has it."""
+        """The kernel's release, as `uname -r` prints it."""
         return self.image.name.removeprefix("vmlinuz-")
 
     def has(self, module: str) -> bool:
-        """Whether a module is there, or part of the kernel."""
+        """Returns whether the kernel has a module, loadable or built in."""
         built_in = self.modules / "modules.builtin"
         return module in self.module_files() or (built_in.exists() and f"/{module}.ko\n" in built_in.read_text())
 
     def module_files(self) -> dict[str, pathlib.Path]:
-        """Its modules, by name."""
+        """The files of the modules, by name."""
         return {file.name.split(".ko")[0].replace("-", "_"): file for file in self.modules.rglob("*.ko*")}
 
 
 def module_bytes(file: pathlib.Path) -> bytes:
-    """A module, unpacked."""
+    """Returns the contents of a module file, unpacked."""
     data = file.read_bytes()
     return lzma.decompress(data) if file.suffix == ".xz" else gzip.decompress(data) if file.suffix == ".gz" else data
 
 
 def modules_of(kernel: Kernel, names: list[str]) -> dict[str, bytes]:
-    """These modules and those that they need, in the order to load them. What is not there is part of the kernel."""
+    """Returns these modules and those that they need, in loading order. A module that does not exist is built into the kernel."""
     files = kernel.module_files()
     order: dict[str, bytes] = {}
 
@@ -92,13 +92,13 @@ def modules_of(kernel: Kernel, names: list[str]) -> dict[str, bytes]:
 
 
 def libraries_of(program: str) -> dict[str, str]:
-    """The shared libraries of a program, by their places in the machine; none where it is linked statically."""
+    """Returns the shared libraries of a program, by their paths in the machine; none if it is linked statically."""
     listed = subprocess.run(["ldd", program], stdout=subprocess.PIPE, stderr=subprocess.DEVNULL, text=True, check=False).stdout
     return {place.lstrip("/"): place for place in re.findall(r"(/\S+) \(0x", listed)}
 
 
 def initramfs(folder: pathlib.Path, kernel: Kernel, names: list[str], files: dict[str, str]) -> pathlib.Path:
-    """An archive of busybox, these modules, and files: of each its place in the machine and the one here."""
+    """Makes an archive of busybox, modules, and files, each with its path in the machine and its path here."""
     root = folder / "root"
     shutil.rmtree(root, ignore_errors=True)
     for name in ("bin", "dev", "proc", "sys", "mnt", "modules", "tmp"):
@@ -122,7 +122,7 @@ def initramfs(folder: pathlib.Path, kernel: Kernel, names: list[str], files: dic
 
 
 class Line:
-    """A serial line: what the machine wrote, text by text."""
+    """A serial line: the texts that the machine wrote to it."""
 
     def __init__(self) -> None:
         self.channel: socket.socket | None = None
@@ -130,19 +130,19 @@ class Line:
         self.rest = b""
 
     def is_ready(self) -> None:
-        """Takes what has come."""
+        """Reads the data that has arrived."""
         assert self.channel is not None
         *texts, self.rest = (self.rest + self.channel.recv(1 << 16)).split(b"\n")
         self.texts += [text.decode(errors="replace").rstrip("\r") for text in texts]
 
     def say(self, text: str) -> None:
-        """Types a text and a line feed."""
+        """Writes a text and a line feed to the line."""
         assert self.channel is not None
         self.channel.sendall(text.encode() + b"\n")
 
 
 class Machine:
-    """A machine that runs, with its disks and its two lines."""
+    """A running machine, with its disks and its two lines."""
 
     def __init__(self, folder: pathlib.Path, kernel: Kernel, archive: pathlib.Path, disks: dict[str, Disk]) -> None:
         self.disks, self.release = disks, kernel.release
@@ -158,13 +158,13 @@ class Machine:
             listener.listen()
             self.selector.register(listener, selectors.EVENT_READ, name)
         self.started = time.monotonic()
-        # It ends with this process, however that ends.
+        # It ends with this process, in whatever way this process ends.
         words = ["setpriv", "--pdeathsig", "KILL", *self.words(folder, kernel, archive)]
         with open(self.errors, "wb") as errors:
             self.process = subprocess.Popen(words, stdin=subprocess.DEVNULL, stderr=errors)
 
     def words(self, folder: pathlib.Path, kernel: Kernel, archive: pathlib.Path) -> list[str]:
-        """The words that start QEMU."""
+        """Returns the command line that starts QEMU."""
         words = ["qemu-system-x86_64", "-accel", "tcg", "-cpu", PROCESSOR, "-m", str(MEMORY), "-smp", "1", "-nodefaults", "-no-user-config",
                  "-display", "none", "-nic", "none", "-no-reboot", "-kernel", str(kernel.image), "-initrd", str(archive),
                  "-append", KERNEL_WORDS, "-chardev", f"file,id=console,path={self.console}", "-serial", "chardev:console"]
@@ -176,18 +176,18 @@ class Machine:
         return words
 
     def boot(self) -> float:
-        """Waits until the machine takes lines; the seconds since its start."""
+        """Waits until the machine accepts lines; returns the seconds since its start."""
         if self.hear(self.shell, BOOT_SECONDS) != "ready":
             raise Fault(f"the machine does not begin; its last lines:\n{self.last_lines()}")
         return time.monotonic() - self.started
 
     def last_lines(self) -> str:
-        """What the kernel and QEMU reported last."""
+        """Returns the last output of the kernel and of QEMU."""
         output = self.console.read_bytes()[-4000:] + self.errors.read_bytes()[-1000:]
         return "\n".join("    " + line for line in output.decode(errors="replace").splitlines()[-12:])
 
     def joins(self, name: str, listener: socket.socket) -> None:
-        """QEMU has come for a line or a disk."""
+        """Accepts QEMU's connection to a line or a disk."""
         channel, _ = listener.accept()
         if name == "disk":
             connection = Connection(self.disks, channel, self.leaves)
@@ -199,13 +199,13 @@ class Machine:
             self.selector.register(channel, selectors.EVENT_READ, line)
 
     def leaves(self, channel: socket.socket) -> None:
-        """QEMU has left a disk."""
+        """Handles that QEMU has closed its connection to a disk."""
         self.connections = [connection for connection in self.connections if connection.channel is not channel]
         self.selector.unregister(channel)
         channel.close()
 
     def turn(self, seconds: float) -> None:
-        """Serves what has come, or comes in so many seconds; where nothing comes, late answers go out."""
+        """Serves data that has arrived, or arrives within some seconds. If none arrives, sends late answers."""
         waiting = [connection for connection in self.connections if connection.waiting]
         found = self.selector.select(LATE if waiting else seconds)
         for key, _ in found:
@@ -221,7 +221,7 @@ class Machine:
             raise Fault(f"QEMU has ended with status {self.process.returncode}; the last lines:\n{self.last_lines()}")
 
     def hear(self, line: Line, seconds: float = 600) -> str:
-        """The next text on a line."""
+        """Returns the next text on a line."""
         end = time.monotonic() + seconds
         while not line.texts:
             if time.monotonic() > end:
@@ -230,7 +230,7 @@ class Machine:
         return line.texts.pop(0)
 
     def do(self, text: str) -> tuple[list[str], int]:
-        """Runs a line of shell: its lines of output, and its status."""
+        """Runs a line of shell; returns its lines of output, and its status."""
         self.shell.say(text)
         lines: list[str] = []
         while not re.fullmatch(r"done \d+", line := self.hear(self.shell)):
@@ -238,7 +238,7 @@ class Machine:
         return lines, int(line.split()[1])
 
     def must(self, text: str) -> list[str]:
-        """Runs a line of shell that has to answer 0."""
+        """Runs a line of shell that must have status 0; returns its lines of output."""
         lines, status = self.do(text)
         if status:
             raise Fault(f"{text}: status {status}, {lines}; the machine's last lines:\n{self.last_lines()}")

@@ -1,4 +1,4 @@
-"""What the check needs of this host, and of Debian: programs, a kernel, room."""
+"""The requirements of the check: programs, a kernel, space."""
 
 from __future__ import annotations
 
@@ -11,33 +11,33 @@ import sys
 
 from power.machine import MEMORY, Kernel
 
-# Programs that each machine needs, and Debian's packages of them.
+# Programs that each machine needs, with their Debian packages.
 PROGRAMS = {"qemu-system-x86_64": "qemu-system-x86", "cpio": "cpio", "busybox": "busybox-static", "setpriv": "util-linux",
             os.environ.get("CC", "cc"): "gcc libc6-dev"}
 ALL_PACKAGES = "qemu-system-x86 busybox-static cpio e2fsprogs xfsprogs btrfs-progs dosfstools exfatprogs"
 KERNEL_PACKAGE = "linux-image-cloud-amd64"
-# The folder that `checks/power --fetch` fills, and where it is looked for.
+# The folder that `checks/power --fetch` fills.
 FETCHED = pathlib.Path(os.environ.get("XDG_CACHE_HOME") or pathlib.Path.home() / ".cache") / "fethsaim/kernels"
 MEGA = 1 << 20
 
 
 def path_with_system() -> str:
-    """The PATH, with the folders in which Debian has what makes file systems."""
+    """Returns the PATH with the folders in which Debian has the programs that make file systems."""
     return os.environ.get("PATH", "") + ":/usr/sbin:/sbin"
 
 
 def memory_folder() -> str | None:
-    """A folder in memory, where there is one: the program syncs its file some thousand times."""
+    """Returns a folder in memory, if there is one: the program syncs its file some thousand times."""
     return "/dev/shm" if os.access("/dev/shm", os.W_OK) else None
 
 
 def lacking_packages(programs: dict[str, str]) -> list[str]:
-    """Debian's packages of those of these programs that are not there."""
+    """Returns the Debian packages of missing programs."""
     return sorted({package for program, package in programs.items() if shutil.which(program, path=path_with_system()) is None})
 
 
 def kernels_in(folder: pathlib.Path) -> list[Kernel]:
-    """The kernels in a folder with `boot` and `lib/modules`, by name."""
+    """Returns the kernels in a folder with `boot` and `lib/modules`, by name."""
     found = []
     for image in sorted(folder.glob("boot/vmlinuz-*")):
         release = image.name.removeprefix("vmlinuz-")
@@ -48,7 +48,7 @@ def kernels_in(folder: pathlib.Path) -> list[Kernel]:
 
 
 def find_kernels(folders: list[str]) -> list[Kernel]:
-    """The kernels in these folders; where none are named the newest one that was fetched, or else that is installed."""
+    """Returns the kernels in these folders. Without folders, returns the newest fetched kernel, or else the newest installed one."""
     if folders:
         return [kernel for folder in folders for kernel in kernels_in(pathlib.Path(folder))]
     fetched = [kernel for folder in sorted(FETCHED.glob("*")) for kernel in kernels_in(folder)]
@@ -56,7 +56,7 @@ def find_kernels(folders: list[str]) -> list[Kernel]:
 
 
 def fetch_kernel() -> int:
-    """Downloads Debian's kernel for virtual machines, and unpacks it; nothing of it is installed. The status of the check."""
+    """Downloads and unpacks Debian's kernel for virtual machines, without installing it; returns the exit status."""
     FETCHED.mkdir(parents=True, exist_ok=True)
     depends = subprocess.run(["apt-cache", "depends", KERNEL_PACKAGE], stdout=subprocess.PIPE, stderr=subprocess.PIPE, text=True, check=False)
     found = re.search(r"Depends: (linux-image-\S+)", depends.stdout)
@@ -79,7 +79,8 @@ def fetch_kernel() -> int:
 
 
 def lack_of_room(folder: pathlib.Path, disk: int) -> str:
-    """What there is too little of, in words: memory for a machine and a disk of so many bytes, and room for images of it."""
+    """Returns a message about missing memory for a machine and a disk of this size, or about missing space for its images; "" if there is
+    enough."""
     needed = MEMORY * MEGA + 3 * disk
     memory = pathlib.Path("/proc/meminfo").read_text()
     available = re.search(r"MemAvailable: +(\d+) kB", memory)

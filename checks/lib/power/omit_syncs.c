@@ -1,12 +1,13 @@
-/* Wrong bodies of a program's syncs, where it is started with this library loaded before the C library (LD_PRELOAD). WRONG says which:
+/* Wrong implementations of a program's syncs, for a program that is started with this library loaded before the C library (LD_PRELOAD). The
+   variable WRONG selects one:
      no sync             a sync of data does nothing
-     no first sync       that of a record or of a snapshot does nothing; the one of the byte that makes them count is made
-     no second sync      that of the byte which makes a record or a snapshot count does nothing
-     no snapshot sync    that of a snapshot does nothing
-     second sync first   the sync of such a byte is made before the byte is written
-     answer first        the sync of such a byte is made after the answer went out
-     no opening sync     no sync does anything until something is written
-     no folder sync      that of a folder does nothing */
+     no first sync       the sync of a record or of a snapshot does nothing; the sync of its commit byte or selector is done
+     no second sync      the sync of the commit byte or selector does nothing
+     no snapshot sync    the sync of a snapshot does nothing
+     second sync first   the sync of the commit byte or selector is done before the byte is written
+     answer first        the sync of the commit byte or selector is done after the answer is written
+     no opening sync     no sync does anything before the first write
+     no folder sync      the sync of a folder does nothing */
 #define _GNU_SOURCE
 #include <dlfcn.h>
 #include <stdlib.h>

@@ -1,6 +1,6 @@
-"""The sessions that are served: their commands, the state after each of them, and which of these states a file holds.
+"""The sessions that are served: their commands, the state after each command, and which of these states a file has.
 
-The program itself, run on this host, reports the states; what it answers is looked at by other checks.
+The program itself, run on this host, reports the states; other checks verify its answers.
 """
 
 from __future__ import annotations
@@ -16,7 +16,7 @@ from session_file import LENGTH_BYTES, SLOTS, read
 
 ROMS = 16
 BOARD = "wire\n" + "".join(f'[[rom]]\nchip = {chip}\nport = "0000"\n' for chip in range(ROMS)) + "[[ram]]\nbank = 0\nchips = 4\n."
-# Counts in all characters of bank 0, so each run leaves another state.
+# Counts in all nibbles of bank 0, so each run leaves another state.
 PROGRAM = """asm
 again:  FIM P0, 0x00
 next:   SRC P0
@@ -28,19 +28,19 @@ next:   SRC P0
         ISZ R4, next
         JUN again
 ."""
-# All that a board has: registers and chips, RAM, ROM.
+# Questions about everything on a board: registers and chips, RAM, ROM.
 QUERIES = "state\nram 0\n" + "".join(f"list {256 * chip} 256\n" for chip in range(ROMS))
-# Before this command the log is full of cycles, later of bytes.
+# Before this command the cycles fill the log, after it the bytes.
 SHORT_COMMANDS = 48
-# Of a long text of bytes.
+# The number of bytes in a long text.
 LINES, BYTES_OF_LINE = 37, 100
-# The fifth byte of a state of version 1 is none of its version.
+# The fifth byte of a state of version 1 is not its version.
 VERSION_PLACE, VERSION_2 = 4, 2
 
 
 def commands(count: int) -> list[str]:
-    """The texts of so many commands. A snapshot is written at the 49th, as the log is full of cycles, and then at each 20th, as it is full
-    of bytes: three of four have a record of two blocks, of 4,213 bytes."""
+    """Returns the texts of commands. A snapshot is written at the 49th, when cycles have filled the log, and then at each 20th, when bytes have
+    filled it: three in four have a record of two blocks, of 4,213 bytes."""
     found = [BOARD, PROGRAM]
     for number in range(len(found), count):
         if number >= SHORT_COMMANDS and number % 4:
@@ -54,8 +54,8 @@ def commands(count: int) -> list[str]:
 
 
 def carried_back(data: bytes) -> bytes:
-    """The file of version 1 of a session whose snapshot, of version 2, has no watches: the byte of the version and their count are not
-    there."""
+    """Returns the version 1 form of a session file whose snapshot, of version 2, has no watches: without the byte of the version and without the
+    number of watches."""
     slot = SLOTS[data[8] % 2]
     begin = slot + LENGTH_BYTES
     length = int.from_bytes(data[slot:begin], "big")
@@ -66,18 +66,18 @@ def carried_back(data: bytes) -> bytes:
 
 
 def is_first(data: bytes) -> bool:
-    """Whether a file holds a session of version 1."""
+    """Returns whether a file has a session of version 1."""
     found = read(data)
     return found is not None and found[0][VERSION_PLACE] != VERSION_2
 
 
 def digest(answers: bytes) -> str:
-    """A short name of a state, from the answers to QUERIES."""
+    """Returns a short hash of a state, from the answers to QUERIES."""
     return hashlib.sha256(answers).hexdigest()
 
 
 class Sessions:
-    """The sessions of so many commands, as the program has them, and the files that it finds."""
+    """The sessions after each number of commands, as the program reports them, and the sessions in files that are found."""
 
     def __init__(self, program: str, folder: pathlib.Path, count: int) -> None:
         self.program, self.folder = program, folder
@@ -88,13 +88,14 @@ class Sessions:
         self.serve_all()
 
     def run(self, words: list[str], text: str) -> tuple[str, bytes]:
-        """Runs the program to its end: its first answer, and the others."""
+        """Runs the program to its end; returns its first answer, and the other answers."""
         done = subprocess.run([self.program, *words], input=text.encode(), stdout=subprocess.PIPE, stderr=subprocess.DEVNULL, check=False)
         first, _, others = done.stdout.partition(b"\n")
         return first.decode(errors="replace"), others
 
     def serve_all(self) -> None:
-        """Notes the state after each command, and by which of them a snapshot is written; makes the sessions that are brought along."""
+        """Records the state after each command, and the commands at which a snapshot is written; makes the sessions that are copied to the
+        machine."""
         file = self.folder / "model.mcs"
         slot = 0
         with subprocess.Popen([self.program, "new", str(file)], stdin=subprocess.PIPE, stdout=subprocess.PIPE) as served:
@@ -116,7 +117,7 @@ class Sessions:
             raise Fault("two commands leave the same state")
 
     def after(self, served: subprocess.Popen[bytes], number: int) -> tuple[str, str]:
-        """What a program that is served answers to a command, in one word, and the state after it."""
+        """Returns the first word of a running program's answer to a command, and the state after it."""
         assert served.stdin is not None and served.stdout is not None
         text = (self.commands[number - 1] + "\n" if number else "") + QUERIES + "seq\n"
         served.stdin.write(text.encode())
@@ -128,14 +129,14 @@ class Sessions:
         return begun.decode().split(" ")[0], digest(state)
 
     def found_in(self, data: bytes) -> int | str:
-        """The number of commands in the session of a file, if its state is the one after them; otherwise words."""
+        """Returns the number of commands in a session file, if its state is the one after them; otherwise a message."""
         key = hashlib.sha256(data).digest()
         if key not in self.verdicts:
             self.verdicts[key] = self.opened(data)
         return self.verdicts[key]
 
     def opened(self, data: bytes) -> int | str:
-        """What the program says of a file."""
+        """Returns the result of opening a file by the program: its number of commands, or a message."""
         file = self.folder / "found.mcs"
         file.write_bytes(data)
         first, state = self.run(["open", str(file)], QUERIES)

@@ -1,6 +1,6 @@
-"""A trial: a session is served in the machine, the images that a cut may leave are mounted there in turn, and what is found is judged.
+"""A trial: a session is served in the machine, the images that a cut can leave are mounted there in turn, and the results are judged.
 
-Then one of the images is taken for the disk, the session is opened there and goes on, and the power is cut again: while the file system
+Then one of the images becomes the disk, the session is opened there and continues, and the power is cut again: while the file system
 recovers, while the session is opened, and later.
 """
 
@@ -25,23 +25,23 @@ from power.sessions import Sessions, is_first
 from session_file import SIZE
 
 MEGA = 1 << 20
-# Another program that writes meanwhile, so that the file system's own commits come between.
+# Another program that writes meanwhile, so that the file system commits in between.
 BUSY = "(cd /; n=/mnt/noise; while :; do echo noise >> $n/a; mv $n/a $n/b; sleep 0.3; mv $n/b $n/a; done) & busy=$!"
-# Begins the program on its line, which reports an end that nobody asked for; and ends what is in the file system, where something that was
-# started may still be for a moment.
+# BEGIN starts the program on its line, and reports an unexpected end. END stops everything in the file system; a process can still run there for
+# a moment.
 BEGIN = "{{ {wrong} mcs4 {words} <&3 >&3; reported=$?; [ -e /tmp/end ] || echo ended with status $reported >&3; }} &"
 END = "cd /; : > /tmp/end; kill $busy; killall mcs4; wait; rm /tmp/end; umount /mnt || { sleep 1; umount /mnt; }"
-# What `new` may leave before its first answer, where a file system shows nothing that it was not given.
+# What `new` can leave before its first answer, on a file system that shows only written data.
 BEFORE_NEW = ("absent", "size 0", "blank", 0)
-# So many faults of a recording are reported, and so many images kept in all.
+# The maximum number of errors to report for a recording, and of images to store in all.
 SHOWN, KEPT = 2, 6
 
-# A count of commands, or what else is found.
+# A number of commands, or a description of what was found.
 Found = int | str
 
 
 class Seen(NamedTuple):
-    """What was found on an image; `is_old`: in a file of version 1."""
+    """The result of looking at an image. `is_old`: the file has version 1."""
     image: Image
     found: Found
     is_old: bool
@@ -49,13 +49,13 @@ class Seen(NamedTuple):
 
 @dataclasses.dataclass
 class Outcome:
-    """What came of a trial: images, faults among them, and the first of those in words."""
+    """The result of a trial: the number of images and of errors, and descriptions of the first errors."""
     images: int = 0
     faults: int = 0
     first: str = ""
 
     def add(self, other: Outcome) -> None:
-        """Adds another one."""
+        """Adds another result."""
         self.images += other.images
         self.faults += other.faults
         self.first = self.first or other.first
@@ -63,8 +63,8 @@ class Outcome:
 
 @dataclasses.dataclass
 class Stage:
-    """A session that is served: the words for it, what is done just before, the number of the first answer, the last command, and
-    whether the session was there, durable, before."""
+    """The serving of a session: the arguments of the program, the command just before it, the number in the first answer, the last command, and
+    whether the session existed durably before."""
     words: str
     before: str
     first: int
@@ -74,10 +74,10 @@ class Stage:
 
 
 class Runner:
-    """Makes trials on a machine whose disks are `disk` and `out`, the latter for files that are found."""
+    """Runs trials on a machine with the disks `disk` and `out`; found files are copied to `out`."""
 
     def __init__(self, machine: Machine, sessions: Sessions, keep: pathlib.Path, show: str, seed: int) -> None:
-        """Images with faults are kept in `keep`; `show` is the line that looks at one again, without its name."""
+        """Images with errors are stored in `keep`. `show` is the command line that looks at a stored image again, without its name."""
         self.machine, self.sessions, self.keep, self.show = machine, sessions, keep, show
         self.disk, self.out = machine.disks["disk"], machine.disks["out"]
         self.chance = random.Random(seed)
@@ -85,7 +85,7 @@ class Runner:
         self.kept = 0
 
     def run(self, trial: Trial) -> Outcome:
-        """Makes a trial, and says what came of it."""
+        """Runs a trial; returns its result."""
         kind, case = KINDS[trial.kind], CASES[trial.case]
         self.make(kind, trial, case)
         last = ALL_COMMANDS if case.takes_all else case.begins + (MORE_COMMANDS if case.is_kept else FEW_COMMANDS)
@@ -107,11 +107,11 @@ class Runner:
             stage = self.next_stage(case, following.found, max(15, trial.images // 4))
         return outcome
 
-    # --- a session is served
+    # --- serving a session
 
     @staticmethod
     def options(kind: Kind, trial: Trial) -> str:
-        """The options of the mount."""
+        """Returns the mount options."""
         return ",".join(filter(None, [kind.options, kind.often if trial.is_busy else ""]))
 
     def mount(self, kind: Kind, trial: Trial) -> None:
@@ -120,7 +120,7 @@ class Runner:
         self.machine.must(f"blockdev --flushbufs /dev/vda; mount -t {kind.type} -o {options} /dev/vda /mnt")
 
     def make(self, kind: Kind, trial: Trial, case: Case) -> None:
-        """A new file system on the disk, whose free blocks hold what is no zero, and what the case has there."""
+        """Makes a new file system on the disk, whose free blocks do not contain zeros, and prepares the case on it."""
         size = kind.size * MEGA
         blank = Disk(size)
         for place in range(0, size, MEGA):
@@ -136,7 +136,7 @@ class Runner:
             self.machine.must(f"cd /mnt; {case.setup}; cd /; umount /mnt")
 
     def record(self, kind: Kind, trial: Trial, case: Case, stage: Stage) -> History:
-        """Serves a session; what happened to the disk meanwhile. The disk is as before then."""
+        """Serves a session; returns the events on the disk meanwhile. The disk is restored to its state before."""
         self.disk.undo = []
         self.disk.events = events = list[Event]()
         self.disk.late = True
@@ -157,7 +157,7 @@ class Runner:
         return History(events, stage.first, stage.is_kept, snapshots, kind.whole_blocks, self.chance)
 
     def serve(self, events: list[Event], stage: Stage) -> None:
-        """Sends the commands of a session, one after another, and notes their answers."""
+        """Sends the commands of a session, one after another, and records their answers."""
         number, command = stage.first, ""
         while True:
             answer = self.machine.hear(self.machine.program)
@@ -171,17 +171,17 @@ class Runner:
             events.append(Event("sent", number))
             self.machine.program.say(command)
 
-    # --- what is found
+    # --- looking at images
 
     def look_at(self, builder: Builder, kind: Kind, trial: Trial, case: Case, image: Image) -> Seen:
-        """What is found on an image."""
+        """Returns what is found on an image."""
         builder.build(image)
         found = self.found(kind, self.options(kind, trial), case.file)
         self.disk.take_back()
         return Seen(image, found, isinstance(found, int) and is_first(bytes(self.out.bytes[:SIZE])))
 
     def found(self, kind: Kind, options: str, file: str) -> Found:
-        """What a machine that looks finds on its disk after a cut: a count of commands, or words."""
+        """Returns what a machine finds on its disk after a cut: a number of commands, or a description."""
         self.machine.shell.say(f"{kind.type} {file} {options}")
         answer = self.machine.hear(self.machine.shell)
         if answer != f"size {SIZE}":
@@ -190,7 +190,7 @@ class Runner:
 
     @contextlib.contextmanager
     def looking(self) -> Iterator[None]:
-        """Meanwhile the machine looks at disks (look.c)."""
+        """While this context is active, the machine looks at disks (look.c)."""
         self.machine.shell.say("look")
         yield
         self.machine.shell.say("")
@@ -200,7 +200,7 @@ class Runner:
 
     @staticmethod
     def verdict(trial: Trial, seen: Seen) -> str:
-        """`good`, a note in words, or nothing where it is a fault."""
+        """Returns `good`, or a note, or "" for an error."""
         kind, case = KINDS[trial.kind], CASES[trial.case]
         image, found = seen.image, seen.found
         if found == "not mounted" and image.is_torn:
@@ -211,7 +211,7 @@ class Runner:
         return "good" if isinstance(found, int) and image.least <= found <= image.most else ""
 
     def judge(self, trial: Trial, generation: int, history: History, seen: list[Seen], builder: Builder, seconds: float) -> Outcome:
-        """Reports what was found on the images of a recording; keeps some of those with faults."""
+        """Reports what was found on the images of a recording; stores some of those with errors."""
         notes: collections.Counter[str] = collections.Counter()
         wrong = []
         for one in seen:
@@ -239,7 +239,7 @@ class Runner:
 
     @staticmethod
     def words_of_fault(seen: Seen, places: int) -> str:
-        """A fault, in words."""
+        """Describes an error."""
         image = seen.image
         least = "nothing" if image.least is None else f"command {image.least}"
         found = f"{seen.found} commands" if isinstance(seen.found, int) else seen.found
@@ -247,10 +247,10 @@ class Runner:
         return (f"cut at {image.place}{later} of {places} ({image.phase}): {least} acknowledged{' in the end' * bool(later)}, "
                 f"command {image.most} sent, found: {found}; {image.durable} writes durable, of {len(image.kept)} others {image.how}")
 
-    # --- images that are kept, and the next disk
+    # --- stored images, and the next disk
 
     def keep_image(self, trial: Trial, generation: int, builder: Builder, image: Image) -> None:
-        """Keeps an image in a file, with what is to be found on it, and reports the line that looks at it again."""
+        """Stores an image in a file, with the expected result, and reports the command line that looks at it again."""
         kind, case = KINDS[trial.kind], CASES[trial.case]
         if self.kept == KEPT:
             return
@@ -266,7 +266,7 @@ class Runner:
         print(f"    look at it again: {self.show} --show {name}", flush=True)
 
     def show_again(self, name: pathlib.Path) -> bool:
-        """Reports what is found on an image that was kept; whether that is as it must be."""
+        """Reports what is found on a stored image; returns whether it is right."""
         about = json.loads(name.with_suffix(".json").read_text())
         kind, image = KINDS[about["kind"]], name.read_bytes()
         self.disk.bytes[:len(image)] = image
@@ -278,9 +278,9 @@ class Runner:
         return is_good
 
     def next_disk(self, trial: Trial, generation: int, seen: list[Seen]) -> Seen:
-        """The image that is the disk of the next generation: by turns one that was cut while a snapshot was written and one that was cut
-        while the session was opened, where there is such a one; of a session of version 1 one that still is; first of a new one a blank
-        file."""
+        """Returns the image that becomes the disk of the next generation. It alternates between an image that was cut while a snapshot was
+        written and one that was cut while the session was opened, if there are any. For a session of version 1 it prefers one that still has
+        version 1; for the first of a new session, a blank file."""
         case = CASES[trial.case]
         is_carried = case.name.startswith("carried")
         wanted: Phase = "opening" if is_carried or generation % 2 else "snapshot"
@@ -298,7 +298,7 @@ class Runner:
 
     @staticmethod
     def next_stage(case: Case, found: Found, images: int) -> Stage:
-        """The session of the next generation: it goes on, or is begun where the file is blank."""
+        """Returns the serving of the session in the next generation: it continues, or is created if the file is blank."""
         if not isinstance(found, int):
             return Stage(case.words, "", 0, MORE_COMMANDS, False, images)
         return Stage(f"open {case.file}", "", found, found + MORE_COMMANDS, True, images)
