@@ -1,7 +1,6 @@
-"""The answers of the bench to its lines, after docs/MANUAL.md ("Lines"), over the board of board4004.py: a second reading of commands, of
-`regs`, `state`, `lamps`, `ram`, `list`, `breaks` and `seq`, and of what is asked of a run that is not done, `count` and `trace`. Texts of
-boards are read by Python's own reader of TOML, programs by assembler.py. Lines that are refused are not its business, but those
-for keys, places and ROMs that the board lacks.
+"""The bench's answers to lines, by docs/MANUAL.md ("Lines"), over the board of board4004.py. It is a second implementation of the commands, of `regs`,
+`state`, `lamps`, `ram`, `list`, `breaks` and `seq`, and of `count` and `trace`, which run a copy. Python's TOML parser reads the texts of boards,
+assembler.py those of programs. Of the rejected lines it supports only those for keys, places and ROMs that the board lacks.
 """
 
 from __future__ import annotations

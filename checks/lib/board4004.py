@@ -1,8 +1,8 @@
-"""A board of MCS-4 chips as a second reading, which shares no line with the bench.
+"""A second implementation of a board of MCS-4 chips, which shares no code with the bench.
 
-The 45 instructions and the chips 4001, 4002, 4003 and 4004 are those of Intel's "MCS-4 Micro Computer Set, Users Manual" and data sheets, in
-the words in which docs/MANUAL.md describes them again. What Intel leaves open is as described there, too: when a chain is clocked, which codes are
-not in the table, that an instruction of two cycles does all its work in the first, and what stops a run.
+The 45 instructions and the chips 4001, 4002, 4003 and 4004 follow Intel's "MCS-4 Micro Computer Set, Users Manual" and data sheets, as
+docs/MANUAL.md describes them. Details that Intel leaves open follow docs/MANUAL.md, too: when a chain is clocked, which codes are not instructions,
+that an instruction of two cycles does all its work in the first one, and what stops a run.
 """
 
 from __future__ import annotations

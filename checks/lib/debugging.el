@@ -1,11 +1,11 @@
-;; Drives dap-mode over the lock: what is shown goes to standard error, a line for each thing, after "shown: ". checks/debugging starts it with
-;; the set-up that the manual has, in the folder of the lock.
+;; Drives dap-mode over the lock. Each result is printed on standard error as a line after "shown: ". checks/debugging starts it with the
+;; configuration from the manual, in the folder of the lock.
 (setq dap-breakpoints-file (expand-file-name "breakpoints" (getenv "HOME")) dap-auto-configure-features nil
       dap-print-io nil dap-inhibit-io t)
 (defvar stops 0)
 (add-hook 'dap-stopped-hook (lambda (_) (setq stops (1+ stops))))
 (defun until-stopped (count)
-  "Waits until time has stopped so often, and the frame is known."
+  "Waits until the machine has stopped COUNT times, and the frame is known."
   (let ((turns 0))
     (while (and (< turns 600) (not (and (>= stops count) (dap--cur-session) (dap--debug-session-active-frame (dap--cur-session)))))
       (accept-process-output nil 0.1)

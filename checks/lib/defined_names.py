@@ -1,5 +1,5 @@
-"""What the crates define: the names that checks/documents looks for where a document says that something is a definition, a function or
-a module. A name that merely stands somewhere is not enough: of a definition that was renamed, comments and other languages may keep it.
+"""The names that the crates define. checks/documents looks for them when a document says that a name is a definition, a function or a module. A name
+that only occurs somewhere is not enough: after a renaming, comments and other languages can still contain the old name.
 """
 
 import functools

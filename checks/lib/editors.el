@@ -1,5 +1,5 @@
-;; Drives eglot over a text with faults: what is shown goes to standard error, a line for each thing, after "shown: ". checks/editors starts it
-;; with the set-up that the manual has.
+;; Drives eglot over a text with errors. Each result is printed on standard error as a line after "shown: ". checks/editors starts it with the
+;; configuration from the manual.
 (setq eglot-sync-connect 60 eglot-connect-timeout 60)
 (find-file "wrong.asm")
 (call-interactively 'eglot)

@@ -1,5 +1,5 @@
--- Drives Neovim's language client over the lock, and over a text with faults: what is shown goes to standard output, a line for each thing.
--- checks/editors starts it with the set-up that the manual has.
+-- Drives Neovim's language client over the lock, and over a text with errors. Each result is printed on standard output as a line.
+-- checks/editors starts it with the configuration from the manual.
 local function say(...) io.stdout:write(string.format(...), "\n") io.stdout:flush() end
 local function quit() vim.cmd("qa!") end
 local patience = 60000

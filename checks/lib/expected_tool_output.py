@@ -1,5 +1,5 @@
-"""What the tools have to say of a session, after docs/MANUAL.md ("The workbench", "Testing a program") and the heads of the tools, worked
-out by the board of board4004.py: `trace`, `wave`, `cover`, `profile` and `cycles`. The board that is handed in stays as it is.
+"""The expected output of the tools `trace`, `wave`, `cover`, `profile` and `cycles` for a session, computed with the board of board4004.py. It follows
+docs/MANUAL.md ("The workbench", "Testing a program") and the heads of the tools. The functions do not change the board that they get.
 """
 
 from __future__ import annotations

@@ -1,4 +1,4 @@
-;; The colours that Emacs shows, as checks/lib/grammars.mjs has them: of the file that $TEXT names, into the one that $OUT names.
+;; Writes the colours of the file $TEXT in Emacs to the file $OUT, with the letters of checks/lib/grammars.mjs.
 (find-file (getenv "TEXT"))
 (font-lock-ensure)
 (let ((letters '((font-lock-comment-face . "c") (font-lock-comment-delimiter-face . "c") (font-lock-doc-face . "c")

@@ -1,4 +1,4 @@
-" The colours that Vim shows, as checks/lib/grammars.mjs has them: of the text that is open, into the file that $OUT names.
+" Writes the colours of the open text in Vim to the file $OUT, with the letters of checks/lib/grammars.mjs.
 let s:letters = {'mcs4Comment': 'c', 'mcs4Label': 'l', 'mcs4Constant': 'k', 'mcs4Instruction': 'i', 'mcs4Directive': 'd',
   \ 'mcs4Register': 'r', 'mcs4Number': 'n', 'mcs4Name': 'v', 'mcs4BoardComment': 'c', 'mcs4BoardFace': 'c', 'mcs4BoardTable': 't',
   \ 'mcs4BoardKey': 'p', 'mcs4BoardString': 's', 'mcs4BoardNumber': 'n'}

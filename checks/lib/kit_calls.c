@@ -1,5 +1,5 @@
-/* Says what rattle_arg and its kin answer, with these arguments: linked once with the kit's archives and once with tools/lib/aarch64.c, whose
- * answers must be the same. */
+/* Prints the results of rattle_arg and the similar functions for its arguments. It is linked once with the kit's archives and once with
+ * tools/lib/aarch64.c; both must have the same results. */
 #include <stdint.h>
 #include <stdio.h>
 #include <string.h>
@@ -14,7 +14,7 @@ void rattle_set_errno(int number);
 int64_t rattle_arg_count(void);
 int64_t rattle_arg(uint64_t which, unsigned char *to, uint64_t most);
 
-/* Lends 16 bytes or more, keeps them over a growth, and says whether all went so. */
+/* Allocates 16 bytes or more, grows them, and prints whether they were kept. */
 static void try_heap(uint64_t size) {
     Tried lent = rattle_alloc(size, 8);
     if (lent.ok != 1 || (uint64_t)lent.at % 16) printf("no %llu bytes\n", (unsigned long long)size);

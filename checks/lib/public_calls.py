@@ -1,7 +1,7 @@
 #!/usr/bin/env python3
-"""What the crates give to others: types with their public fields and variants, constants, and calls with the types of their parameters.
-`checks/lib/public_calls.py CRATE..` prints those of some crates, in the form of public_calls.txt, which has those that stay: checks/documents
-compares that list with the sources.
+"""Finds the public interface of the crates: types with their public fields and variants, constants, and calls with the types of their parameters.
+`checks/lib/public_calls.py CRATE..` prints the interface of some crates, in the form of public_calls.txt. That file has the interface that must
+stay: checks/documents compares it with the sources.
 """
 
 import functools
@@ -11,7 +11,7 @@ import sys
 
 TOP = pathlib.Path(__file__).resolve().parent.parent.parent
 LIST = TOP / "checks/lib/public_calls.txt"
-# The end of the head of an item: a clause, its body, or a semicolon.
+# The end of the head of an item: a clause, the body, or a semicolon.
 END = re.compile(r"^\s*(?:requires|ensures|ghost|decreases)\b|[{;]\s*$")
 
 
@@ -22,10 +22,10 @@ def without_comments(text):
 
 
 def parts_of(text):
-    """Returns the parts of a list, cut at the commas outside of brackets."""
+    """Returns the parts of a list, split at the commas outside of brackets."""
     depth, parts, part = 0, [], ""
     for before, char in zip(" " + text, text):
-        # the head of an arrow closes no bracket
+        # The `>` of an arrow closes no bracket.
         depth += (char in "([{<") - (char in ")]}" or (char == ">" and before != "-"))
         if char == "," and depth == 0:
             parts, part = [*parts, part], ""
@@ -40,7 +40,7 @@ def type_of(parameter):
 
 
 def call_of(head):
-    """Returns a call, from the head of its function: its name, the types of its parameters, and that of its result."""
+    """Returns a call from the head of its function: the name, the types of the parameters, and the type of the result."""
     head = re.sub(r"\s+", " ", head).strip()
     name, _, rest = re.sub(r"^(?:pub )?(?:const )?fn ", "", head).partition("(")
     end = next(at for at in range(len(rest)) if rest[:at + 1].count(")") > rest[:at + 1].count("("))
@@ -61,7 +61,7 @@ def head_at(lines, at):
 
 
 def block_at(lines, at):
-    """Returns the lines of the block that begins at a line of no indentation."""
+    """Returns the lines of the block that begins at a line without indentation."""
     return lines[at + 1:next(end for end in range(at, len(lines)) if lines[end].startswith("}"))]
 
 
@@ -74,7 +74,7 @@ def calls_in(lines, at, form):
 def fields_of(lines, at):
     """Returns the variants of an enum, or the public fields of a struct."""
     if lines[at].endswith(";"):
-        # a struct without names for its fields
+        # A struct whose fields have no names.
         return [lines[at][lines[at].index("("):-1]] if "(" in lines[at] else []
     body = re.sub(r"\s+", " ", " ".join(block_at(lines, at)))
     return [part.removeprefix("pub ") for part in parts_of(body) if " enum " in f" {lines[at]} " or part.startswith("pub ")]
@@ -82,7 +82,7 @@ def fields_of(lines, at):
 
 @functools.cache
 def items_of_file(path):
-    """Returns the public declarations of a file: pairs of a name, and what others see of it."""
+    """Returns the public declarations in a file, as pairs of a name and its public form."""
     lines = without_comments(path.read_text()).splitlines()
     items = []
     for at, line in enumerate(lines):
@@ -105,14 +105,14 @@ def items_of_file(path):
 
 
 def handed_on(text):
-    """Yields what the `pub use` of a root file pass on: pairs of the first word of a path and a name."""
+    """Yields the names that `pub use` in a root file re-exports, as pairs of the first word of the path and the name."""
     for path, names in re.findall(r"^pub use ((?:\w+::)*)(\{[^}]*\}|\w+);", text, re.M):
         for name in re.findall(r"\w+", names):
             yield path.partition("::")[0], name
 
 
 def calls_of(crate):
-    """Yields what a crate gives to others, each as a line."""
+    """Yields the public interface of a crate, line by line."""
     source = TOP / "crates" / crate / "src"
     text = without_comments((source / "lib.rt").read_text())
     open_modules = set(re.findall(r"^pub mod (\w+);", text, re.M)) | {"lib"}
@@ -124,7 +124,7 @@ def calls_of(crate):
 
 
 def kept():
-    """Returns the list: for each crate its lines."""
+    """Returns the lines of public_calls.txt for each crate."""
     crates = {}
     for line in LIST.read_text().splitlines():
         if line.startswith("    "):
@@ -135,7 +135,7 @@ def kept():
 
 
 def missing():
-    """Yields the lines of the list that a crate no longer gives, each with its crate."""
+    """Yields the lines of that file that a crate no longer has, each with its crate."""
     for crate, lines in kept().items():
         given = set(calls_of(crate))
         yield from ((crate, line) for line in lines if line not in given)

@@ -1,16 +1,16 @@
-/* Records the calls that a program makes on its files, its input and its output, where it is started with this library loaded before
-   the C library (LD_PRELOAD): a line for each call in the file that CALLS names. One of them, of the number CALL from 1 on, can be
-   treated otherwise, by CALL_DOES:
-     fail E      it does nothing and answers the error of that number
-     head K      a write puts its first K bytes, and the program is killed
-     tail K      a write puts its bytes from the K-th on, and the program is killed
-     noise K     a write puts other bytes in the place of its own, but for the first K, and the program is killed
+/* Records the system calls of a program on its files, its input and its output. The program is started with this library loaded before the C
+   library (LD_PRELOAD). The file that the variable CALLS names gets a line for each call. The call with the number CALL, counted from 1, can be
+   changed by CALL_DOES:
+     fail E      it does nothing and returns the error with number E
+     head K      a write writes only its first K bytes, and the program is killed
+     tail K      a write writes only its bytes from the K-th on, and the program is killed
+     noise K     a write writes its first K bytes and then other bytes, and the program is killed
      rename F    before a lock, the name of its file is given to the file F
-     remove      before a lock, the name of its file is taken away
+     remove      before a lock, the name of its file is removed
      cut K       before a read, its file is cut to its first K bytes
      other K     before a read, its file gets another byte at K
-   CALL_MOST=M: no read or write of a file moves more than M bytes at once. CALL_AGAIN=1: each call on a file answers EINTR once before
-   it is done; these answers have no line. */
+   CALL_MOST=M: no read or write of a file moves more than M bytes at once. CALL_AGAIN=1: each call on a file fails once with EINTR before it
+   is done; these failures have no line. */
 #define _GNU_SOURCE
 #include <dlfcn.h>
 #include <errno.h>
@@ -50,7 +50,7 @@ static void put(const char *line) {
     if (record >= 0 && real_write(record, line, strlen(line)) < 0) _exit(99);
 }
 
-/* Writes the line of a call, and gives what is to be done otherwise with it, or NULL. */
+/* Writes the line of a call; returns the change to make to it, or NULL. */
 static const char *does(const char *form, ...) {
     char line[1024];
     va_list parts;
@@ -64,14 +64,14 @@ static const char *does(const char *form, ...) {
     return number && what && atoi(number) == calls ? what : NULL;
 }
 
-/* A call is to fail. */
+/* Returns true if a call must fail, and sets errno. */
 static int fails(const char *what) {
     if (!what || strncmp(what, "fail ", 5) != 0) return 0;
     errno = atoi(what + 5);
     return 1;
 }
 
-/* A call on a file is to be answered EINTR, once. */
+/* Returns true if a call on a file must fail with EINTR, once. */
 static int interrupts(int fd) {
     static int answered;
     answered = !answered && *name_of(fd) && getenv("CALL_AGAIN");
@@ -111,7 +111,7 @@ int unlink(const char *file) {
     return fails(does("remove %s", end ? end + 1 : file)) ? -1 : real(file);
 }
 
-/* The name of a descriptor's file is to stand for another file, or for none. */
+/* Gives the name of a descriptor's file to another file, or removes it, if that is the change. */
 static void renames(int fd, const char *what) {
     int (*real_unlink)(const char *) = dlsym(RTLD_NEXT, "unlink");
     if (what && strncmp(what, "rename ", 7) == 0 && rename(what + 7, name_of(fd)) < 0) _exit(99);
@@ -148,7 +148,7 @@ int fdatasync(int fd) {
     return fails(does("sync data %s", name_of(fd))) ? -1 : real(fd);
 }
 
-/* The bytes of a descriptor's file are to be others. */
+/* Changes the bytes of a descriptor's file, if that is the change. */
 static void spoils(int fd, const char *what) {
     int (*real_ftruncate)(int, off_t) = dlsym(RTLD_NEXT, "ftruncate");
     ssize_t (*real_pread)(int, void *, size_t, off_t) = dlsym(RTLD_NEXT, "pread");

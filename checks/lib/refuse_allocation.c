@@ -1,5 +1,5 @@
-/* Refuses one allocation of a program that is started with this library loaded before the C library (LD_PRELOAD): the one that
-   REFUSED_ALLOCATION counts, from 1 on. Where it does, it writes a byte to file descriptor 9, so that its caller knows. */
+/* Makes one allocation of a program fail: the one with the number REFUSED_ALLOCATION, counted from 1. The program is started with this library
+   loaded before the C library (LD_PRELOAD). When the allocation fails, a byte is written to file descriptor 9, which reports it to the caller. */
 #include <stdlib.h>
 #include <unistd.h>
 

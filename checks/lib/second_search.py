@@ -1,9 +1,9 @@
-"""A second reading of mcs4-prove over the board of board4004.py: breadth-first through all that a machine can do, whatever its keys and its TEST pin
-do, and what is met on the way. It shares no line with the program.
+"""A second implementation of mcs4-prove over the board of board4004.py. It searches breadth-first through everything that a machine can do, with any
+keys and any TEST pin, and tests conditions on the way. It shares no code with the program.
 
-A state is all that a machine holds but its inputs. It stands at power-on, then where the next cycle reads an input, RDR or JCN with TEST, or where
-a stretch without such a read is cut after so many cycles. From a state it goes on once for each value that its next cycle can read, at keys and
-TEST that give this value, to the next state, or to where it holds again what it held there; conditions are looked at after each cycle.
+A state is everything in a machine except its inputs. There is a state at power-on, before each cycle that reads an input (RDR, or JCN with TEST),
+and after a fixed number of cycles without such a read. The search continues from a state once for each value that the next cycle can read, with
+keys and TEST that give this value. It stops at the next state, or when the machine repeats an earlier state. Conditions are tested after each cycle.
 """
 
 from __future__ import annotations
@@ -15,9 +15,9 @@ from dataclasses import dataclass, field
 import bench4004
 from board4004 import ADDRESSES, CODES, TWO_WORDS, Board
 
-# A comparison, in the words of a question: `in` or `out`, the list, the index, the part, the lowest and the highest number.
+# A comparison, in the words of a question: `in` or `out`, the list, the index, the part, the minimum and the maximum.
 Comparison = tuple[str, str, int, str, int, int]
-# Mistakes of which the next cycle makes one: `mistake` and their names.
+# The condition that the next cycle makes one of some mistakes: `mistake` and their names.
 Mistakes = tuple[str, ...]
 # The keys that are down, by row and column, and the level of TEST.
 Levels = tuple[frozenset[tuple[int, int]], int]
@@ -27,8 +27,8 @@ NO_LEVELS: Levels = (frozenset(), 1)
 
 @dataclass
 class Question:
-    """A board and a program; the conditions that are never to be met, all conditions of a row at once; the most states; and the cut of a
-    stretch."""
+    """A board and a program, the conditions that must never be met (all conditions of a row at once), the maximum number of states, and the
+    maximum length of a stretch."""
 
     board: list[str]
     program: list[str]
@@ -37,37 +37,37 @@ class Question:
     pause: int = 1000000
 
     def lines(self) -> list[str]:
-        """Returns the question as the program reads it."""
+        """Returns the question in the form that the program reads."""
         nevers = [line for row in self.nevers for line in ("never", *(" ".join(map(str, words)) for words in row))]
         return [f"most {self.most}", f"pause {self.pause}", *self.begun(), *nevers, "prove"]
 
     def begun(self) -> list[str]:
-        """Returns the lines that make a session of it."""
+        """Returns the session lines that set up its board and program."""
         return ["wire", *self.board, ".", "asm", *self.program, "."]
 
 
 @dataclass
 class Found:
-    """A verdict: `holds`, `may fail` or `too many`; the number of states found; the values on the way to the failure."""
+    """A verdict: `holds`, `may fail` or `too many`; the number of states found; the values that lead to the failure."""
 
     verdict: str
     states: int
     way: list[int] = field(default_factory=list)
 
     def answer(self) -> str:
-        """Returns the line that the program answers."""
+        """Returns the program's answer."""
         return {"holds": f"holds {self.states}", "may fail": " ".join(["may fail", *map(str, self.way)])}.get(self.verdict, self.verdict)
 
 
-# ---- the values that are looked at
+# ---- the values that conditions compare
 
 def addresses(board: Board) -> list[int]:
-    """Returns the counter and the return addresses, each in two bytes."""
+    """Returns the counter and the return addresses, each as two bytes."""
     return [half for address in (board.pc, *board.ret) for half in divmod(address, 256)]
 
 
 def cell(board: Board, name: str, index: int) -> int:
-    """Returns the number that a cell of a list holds; 0 if the board lacks it."""
+    """Returns the value of a cell; 0 if the board lacks it."""
     chips = board.chips
     if name.startswith("chain"):
         chain = chips.chains[int(name[5:])] if int(name[5:]) < len(chips.chains) else []
@@ -85,12 +85,12 @@ def cell(board: Board, name: str, index: int) -> int:
 
 # ---- mistakes, by the instruction table of the manual
 
-# The most open calls: the processor keeps as many return addresses.
+# The maximum number of open calls: the processor has as many return addresses.
 OPEN_CALLS = 3
 # The instructions for a RAM chip: its characters, its status characters, and its port.
 FOR_RAM = {"WRM", "RDM", "ADM", "SBM", "WMP", *(f"{way}{k}" for way in ("WR", "RD") for k in range(4))}
 MISTAKES = ("code", "call", "return", "ram", "rom", "rdr", "wrr")
-# The calls that are open in a board.
+# The attribute of a board with the number of its open calls.
 CALLS = "calls"
 
 
@@ -105,7 +105,7 @@ def set_calls(board: Board, calls: int) -> None:
 
 
 def read_by(board: Board, name: str) -> list[int]:
-    """Returns the addresses of the ROM words that the instruction at the counter reads: its own, and for FIN the one that it loads."""
+    """Returns the addresses of the ROM words that the instruction at the counter reads: its own, and for FIN the word that it loads."""
     behind = (board.pc + 1) % ADDRESSES
     return [board.pc] + ([behind] if name in TWO_WORDS else []) + ([behind & 0xF00 | board.pair(0)] if name == "FIN" else [])
 
@@ -129,7 +129,7 @@ def mistakes(board: Board) -> set[str]:
 
 
 def cycle(board: Board) -> None:
-    """Does one cycle, which may open a call or close one. A fourth call replaces the first."""
+    """Does one cycle, which can open or close a call. A fourth call replaces the first one."""
     name = "" if board.owed else CODES[board.rom[board.pc]][0]
     change = {"JMS": 1, "BBL": -1}.get(name, 0)
     set_calls(board, min(max(calls_of(board) + change, 0), OPEN_CALLS))
@@ -150,14 +150,14 @@ def is_met(board: Board, condition: Comparison | Mistakes) -> bool:
 
 
 def condition_of(nevers: list[list[Comparison | Mistakes]]) -> Condition:
-    """Returns the function that tests if a row of conditions is met all at once."""
+    """Returns the function that tests whether a row of conditions is met at once."""
     return lambda board: any(all(is_met(board, each) for each in row) for row in nevers)
 
 
 # ---- what a machine reads
 
 def begins(board: Board) -> tuple[str, int]:
-    """Returns the instruction whose work the next cycle does, and its lower half; no name if it does none."""
+    """Returns the instruction whose work the next cycle does, and its lower half; an empty name if it does none."""
     return ("", 0) if board.owed or board.is_outside() else CODES[board.rom[board.pc]]
 
 
@@ -168,7 +168,8 @@ def is_reading(board: Board) -> bool:
 
 
 def port_values(board: Board) -> dict[int, Levels]:
-    """Returns the values that RDR can read, each with keys that give it. Keys add up: both together pull what each of two pulls."""
+    """Returns the values that RDR can read, each with keys that give it. Keys combine: two keys together pull all lines that either of them
+    pulls."""
     chips = board.chips
     port = chips.rom_src >> 4
 
@@ -197,7 +198,7 @@ def values_read(board: Board) -> dict[int, Levels]:
 # ---- from state to state
 
 def saved(board: Board) -> tuple:
-    """Returns all that a machine holds except its inputs, and the number of open calls."""
+    """Returns the whole state of a machine except its inputs, and the number of open calls."""
     chips = board.chips
     return (board.acc, board.cy, board.pc, board.dcl, board.owed, tuple(board.r), tuple(board.ret), chips.rom_src, tuple(chips.bank_src),
             tuple(chips.rom_latch.values()), tuple(chips.ram_latch.values()), tuple(map(tuple, chips.chains)),
@@ -205,7 +206,7 @@ def saved(board: Board) -> tuple:
 
 
 def load(board: Board, state: tuple) -> None:
-    """Makes a machine hold this."""
+    """Loads a state into a machine."""
     chips = board.chips
     board.acc, board.cy, board.pc, board.dcl, board.owed, r, ret, chips.rom_src, srcs, roms, rams, chains, banks, calls = state
     set_calls(board, calls)
@@ -216,13 +217,13 @@ def load(board: Board, state: tuple) -> None:
 
 
 def go_on(board: Board, levels: Levels, is_bad: Condition, pause: int) -> tuple[int, bool]:
-    """Does one cycle at these levels, then continues up to the next state; returns the number of cycles, and true if the forbidden
-    conditions were met after the last."""
+    """Does one cycle at these levels, then continues to the next state; returns the number of cycles, and true if the forbidden conditions were
+    met after the last one."""
     board.chips.down, board.test = set(levels[0]), levels[1]
     at, state = board.pc, saved(board)
     for cycles in range(1, pause + 2):
         if not board.owed and board.is_outside():
-            # Nothing changes any more.
+            # The state repeats, so nothing changes any more.
             return cycles - 1, False
         cycle(board)
         if is_bad(board):
@@ -233,7 +234,7 @@ def go_on(board: Board, levels: Levels, is_bad: Condition, pause: int) -> tuple[
 
 
 def power_on(question: Question) -> Board:
-    """Returns the machine of a question."""
+    """Returns the machine of a question at power-on."""
     board = Board()
     board.wire("\n".join(question.board))
     bench4004.load(board, question.program)
@@ -267,7 +268,7 @@ def search(question: Question) -> Found:
 
 
 def way_to(came: list[tuple[int, int]], at: int) -> list[int]:
-    """Returns the values that led to a state."""
+    """Returns the values that lead to a state."""
     way = []
     while at:
         at, value = came[at]
@@ -276,8 +277,7 @@ def way_to(came: list[tuple[int, int]], at: int) -> list[int]:
 
 
 def is_met_when_driven(question: Question, chance: random.Random, cycles: int) -> bool:
-    """Returns true if the forbidden conditions are met within a number of cycles, before each of which keys and TEST are put at any
-    levels."""
+    """Returns true if the forbidden conditions are met within a number of cycles, with random keys and TEST before each."""
     board, is_bad = power_on(question), condition_of(question.nevers)
     chips = board.chips
     for _cycle in range(cycles):
@@ -290,17 +290,18 @@ def is_met_when_driven(question: Question, chance: random.Random, cycles: int) -
     return is_bad(board)
 
 
-# ---- a way, replayed
+# ---- replaying a counterexample
 
 def commands(levels: Levels, before: Levels) -> list[str]:
-    """Returns the lines of a session that bring keys and TEST to these levels."""
+    """Returns the session lines that set keys and TEST to these levels."""
     lines = [f"release {row} {column}" for row, column in sorted(before[0] - levels[0])]
     lines += [f"press {row} {column}" for row, column in sorted(levels[0] - before[0])]
     return lines + ([f"test {levels[1]}"] if levels[1] != before[1] else [])
 
 
 def replayed(question: Question, way: list[int]) -> tuple[list[str], str]:
-    """Returns a way as lines of a session, up to the cycle after which it meets the forbidden conditions; or what is wrong with it."""
+    """Returns the session lines that replay a counterexample up to the cycle that meets the forbidden conditions; or a description of the
+    error."""
     board, is_bad, before = power_on(question), condition_of(question.nevers), NO_LEVELS
     lines, bad = [*question.begun(), "reset"], is_bad(board)
     for n, value in enumerate(way):
@@ -315,5 +316,5 @@ def replayed(question: Question, way: list[int]) -> tuple[list[str], str]:
 
 
 def parts_of(cycles: int, most: int = 100000) -> list[int]:
-    """Returns cycles as runs that a session accepts."""
+    """Splits a number of cycles into runs that a session accepts."""
     return [min(most, cycles - done) for done in range(0, cycles, most)]

@@ -1,7 +1,7 @@
-"""Boards, programs and what is done with them, by a generator: the same from the same number. All of it are texts, as a user types them.
+"""Random boards, programs and commands, reproducible by a seed. All of them are texts, as a user types them.
 
-Many have what once was reported wrongly: addresses such as 0E0 and 1E2, which are numbers to some readers, as the names `inf` and `nan` are;
-one chain alone, of up to 80 bits, that is clocked often.
+Many contain details that tools once reported wrongly: addresses such as 0E0 and 1E2, and the names `inf` and `nan`, which some parsers read as
+numbers; and a single chain, of up to 80 bits, that is clocked often.
 """
 
 from __future__ import annotations
@@ -15,7 +15,7 @@ OUTSIDE = [*range(1, 16), 0xE3, 0xFE, 0xFF]
 JUMPS = ("JUN", "JMS", "JCN", "ISZ")
 NAMES = ("inf", "nan", "INFINITY", "infinity", "NaN", "INF", "e0", "E1", "_0E0", "x1e2")
 ORIGINS = (0x00, 0x02, 0x1E, 0x40, 0xD9, 0xDE, 0xE0, 0xE1, 0xF0, 0xF9)
-# The greatest number of bytes of the texts of a board and of a program.
+# The maximum number of bytes in the text of a board or of a program.
 LONGEST = 16384
 
 
@@ -25,7 +25,7 @@ class Wiring:
     def __init__(self, chance: random.Random) -> None:
         self.chance = chance
         pages = {0, *chance.choices([1, 1, 2, 14, 15, chance.randrange(16)], k=chance.randrange(1, 3))}
-        # The page after one, too, where instructions at its end go on.
+        # Also the page after one, where instructions at its end continue.
         self.pages = sorted(pages | {(page + 1) % 16 for page in pages if chance.random() < 0.4})
         ports = {*self.pages, *chance.sample(range(16), chance.randrange(4))}
         self.ports = {chip: chance.choice(["0000", "0000", "1111", "".join(chance.choices("i01", k=4)), "iiii"]) for chip in sorted(ports)}
@@ -48,7 +48,7 @@ class Wiring:
         self.lamps = chance.choices(self.lines, k=chance.choice([0, 3, 8, 20])) if self.lines else []
 
     def chain(self) -> tuple[str, str, int]:
-        """Returns a chain's clock and data, mostly of one port, and its chips."""
+        """Returns a chain's clock and data, mostly of one port, and its number of chips."""
         lines = self.chance.choice(self.outputs)
         others = lines if self.chance.random() < 0.8 else self.chance.choice(self.outputs)
         return self.chance.choice(lines), self.chance.choice(others), self.chance.choice([1, 2, 3, 8, 8])
@@ -75,7 +75,7 @@ class Program:
 
     def __init__(self, chance: random.Random, wiring: Wiring) -> None:
         self.chance, self.wiring = chance, wiring
-        # Address and words of a statement; the target of a jump is not there yet.
+        # The address and the words of each statement; the targets of jumps are added later.
         self.statements: dict[int, str] = {}
         self.loops: dict[int, int] = {}
         self.free = set(range(ADDRESSES))
@@ -88,13 +88,13 @@ class Program:
         self.names = self.some_names()
 
     def put_part(self, at: int, phrases: int) -> None:
-        """Puts some phrases from an address on, as far as there is room, and an end: a jump, a code that is not an instruction, or
-        whatever follows."""
+        """Adds some phrases from an address on, as far as there is room, and an end: a jump, a code that is not an instruction, or whatever
+        follows."""
         statement = [word for _n in range(phrases) for word in self.phrase()]
         self.put(at, statement + self.chance.choice([["JUN"], ["JUN"], ["BBL 3"], [f"DB 0x{self.chance.choice(OUTSIDE):02X}"], []]))
 
     def put(self, at: int, statements: list[str]) -> None:
-        """Puts statements from an address on, as far as there is room; `^4` jumps back by four of them."""
+        """Adds statements from an address on, as far as there is room; `^4` jumps back by four of them."""
         put: list[int] = []
         for statement in statements:
             statement, _sign, back = statement.partition(" ^")
@@ -109,13 +109,13 @@ class Program:
             at += size
 
     def put_end_of_page(self, page: int) -> None:
-        """Puts instructions in the last words of a page, whose targets are on the next one."""
+        """Adds instructions in the last words of a page; their targets are on the next page."""
         if (page >> 8) + 1 in self.wiring.pages and {page + 0xFC, page + 0xFD, page + 0xFE, page + 0xFF, page + 0x100} <= self.free:
             name = self.chance.choice(["ISZ R3", "JCN 12", "JCN 4", "JIN P2", "FIN P2"])
             self.put(page + 0xFC, [*self.chance.randrange(2, 4) * ["NOP"], name])
 
     def phrase(self) -> list[str]:
-        """Returns a few instructions that do something together, or one of any kind."""
+        """Returns a few instructions that belong together, or one of any kind."""
         kind = self.chance.random()
         value, pair = self.chance.randrange(16), self.chance.randrange(8)
         if kind < 0.15:
@@ -133,11 +133,11 @@ class Program:
         return [self.any_instruction(value, pair)]
 
     def selected(self) -> int:
-        """Returns an SRC byte, mostly of a chip that is there."""
+        """Returns an SRC byte, mostly of an existing chip."""
         return self.chance.choice([16 * self.chance.choice([*self.wiring.ports]), self.chance.randrange(64), self.chance.randrange(256)])
 
     def clocked(self, pair: int) -> list[str]:
-        """Returns instructions that clock a chain some times."""
+        """Returns instructions that clock a chain several times."""
         clock, data, _chips = self.chance.choice(self.wiring.chains)
         numbers = [int(word) for word in clock[3:].split(".")]
         up, down = (f"LDM {1 << numbers[-1] | self.chance.choice([0, 1 << int(data[-1])]) | self.chance.choice([0, 4])}", "LDM 0")
@@ -157,7 +157,7 @@ class Program:
         return name + (operand or (f" {value}" if name in ("LDM", "BBL", "JCN") else ""))
 
     def some_names(self) -> dict[int, str]:
-        """Returns labels for some addresses, words that read as numbers among them."""
+        """Returns labels for some addresses, some of which read as numbers."""
         there = self.chance.sample(self.begins, min(len(self.begins), self.chance.choice([0, 2, 12])))
         return {at: NAMES[i] if i < len(NAMES) else f"l{at:03X}" for i, at in enumerate(there)}
 
@@ -167,7 +167,7 @@ class Program:
             return self.names.get(self.loops[at], f"0x{self.loops[at]:03X}")
         page = (at + 2) % ADDRESSES >> 8 if name in ("JCN", "ISZ") else self.chance.choice(self.wiring.pages)
         there = [other for other in self.begins if other >> 8 == page]
-        # A loop of a few instructions is left soon.
+        # A loop of a few instructions ends soon.
         near = [other for other in there if at - 12 < other <= at]
         if name == "ISZ" and near and self.chance.random() < 0.7:
             there = near
@@ -191,7 +191,7 @@ class Program:
 
 
 class Seeded:
-    """A board, a program, and the commands before anything is asked."""
+    """A board, a program, and the commands before the first question."""
 
     def __init__(self, seed: int) -> None:
         self.chance = random.Random(seed)
@@ -201,12 +201,11 @@ class Seeded:
         self.program_text = self.program.text()
 
     def begun(self) -> list[str]:
-        """Returns the lines that make the session."""
+        """Returns the lines that set up the session."""
         return ["wire", *self.board_text, ".", "asm", *self.program_text, "."]
 
     def somewhere(self) -> int:
-        """Returns an address, mostly one at which an instruction begins; often before a loop that clocks a chain, or at the end of a
-        page."""
+        """Returns an address, mostly of an instruction; often before a loop that clocks a chain, or at the end of a page."""
         loops = [goal - 3 for goal in self.program.loops.values()]
         if loops and self.chance.random() < 0.3:
             return self.chance.choice(loops)
@@ -216,7 +215,7 @@ class Seeded:
         return self.chance.choice(self.program.begins) if self.chance.random() < 0.95 else self.chance.randrange(ADDRESSES)
 
     def character(self) -> tuple[int, int]:
-        """Returns a RAM nibble, mostly of a chip that is there."""
+        """Returns a RAM nibble, mostly of an existing chip."""
         bank = self.chance.choice([*self.wiring.banks, self.chance.randrange(8)])
         return bank, self.chance.choice([self.program.selected(), self.chance.randrange(256)])
 
@@ -234,7 +233,7 @@ class Seeded:
         return chance.choice(kinds)
 
     def stop(self, board: Board) -> str:
-        """Returns a command that sets or removes a breakpoint or a watch: mostly one that the board reaches, or the one at which it is."""
+        """Returns a command that sets or removes a breakpoint or a watch: mostly one that the board reaches, or the one at which it stopped."""
         ahead, visited, written = board.copy(), [board.pc], [self.character()]
         ahead.breaks = set()
 

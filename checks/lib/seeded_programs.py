@@ -1,7 +1,7 @@
-"""Programs that checks try: those of the examples, and seeded ones, of which most have no fault and some have one or more.
+"""Programs for the checks: those of the examples, and random ones, most of them without an error, some with one or more.
 
-Called as a program, it writes seeded ones into a folder, each as `NUMBER.asm`: so many that the assembler of the checks accepts, and among
-them so many that it refuses: `seeded_programs.py FOLDER ACCEPTED REFUSED`.
+As a command, `seeded_programs.py FOLDER ACCEPTED REFUSED` writes random programs into a folder, as `NUMBER.asm`: ACCEPTED programs that the
+assembler of the checks accepts, and among them REFUSED programs that it rejects.
 """
 
 import itertools
@@ -15,7 +15,7 @@ TOP = pathlib.Path(__file__).resolve().parent.parent.parent
 
 
 def examples():
-    """Yields the examples' programs: files of their own, and texts after `asm` in scripts."""
+    """Yields the programs of the examples: files, and texts after `asm` in scripts."""
     for path in sorted(TOP.glob("examples/**/*.asm")):
         yield path.name, path.read_text().splitlines()
     for path in sorted(TOP.glob("examples/**/*.txt")):
@@ -25,10 +25,10 @@ def examples():
 
 
 def seeded(number):
-    """Returns a program by a generator: most have no error, some have one or more."""
+    """Returns a random program: most have no error, some have one or more."""
     chance = random.Random(number)
     names = [f"n{i}" for i in range(8)]
-    # A name is defined where it is used alone, so that most programs are taken.
+    # A name that is used alone is defined there, so that most programs are accepted.
     free = list(names)
     chance.shuffle(free)
 
@@ -55,13 +55,13 @@ def seeded(number):
     return lines + [f"{name}:" for name in free if chance.random() < 0.98]
 
 
-# Lines with an error of each kind, by themselves or in most places.
+# Lines with an error of each kind, by themselves or in most programs.
 WRONG = ("FOO", "LDM", "NOP NOP", "1: NOP", "DB 1,, 2", "ORG 4096", "n9 = 5000", "n0: NOP", "n1 = 7", "P1 = 3", "ORG 4095", "JUN n20", "LDM 16",
          "DB 256", "FIM P0, 300", "ISZ R1, 0xF00", "JCN 4, 2000", "BBL n21")
 
 
 def wrong(number):
-    """A program by a generator, with some lines that are wrong; in half of them each is wrong in its bytes alone."""
+    """Returns a random program with some wrong lines. In half of the programs, the wrong lines are wrong only in their bytes."""
     chance = random.Random(number)
     lines = seeded(number)
     rows = WRONG if chance.random() < 0.5 else WRONG[11:]

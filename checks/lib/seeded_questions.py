@@ -1,5 +1,5 @@
-"""Questions to mcs4-prove by a generator, the same from the same number: a seeded board (seeded_boards.py), a short program that reads keys and TEST in
-loops, and comparisons of what such a program changes; some of them are met, some never. Some questions ask for mistakes, too.
+"""Random questions to mcs4-prove, reproducible by a seed: a random board (seeded_boards.py), a short program that reads keys and TEST in loops,
+and comparisons of values that such a program changes. Some of the comparisons become true, some never. Some questions also ask for mistakes.
 """
 
 from __future__ import annotations
@@ -12,16 +12,16 @@ from board4004 import Board
 from second_search import MISTAKES, Comparison, Question, cell, go_on, power_on, values_read
 from seeded_boards import OUTSIDE, Program, Seeded, Wiring
 
-# Most of the statements that do nothing with a chip.
+# Most of the instructions that do nothing with a chip.
 HANDY = ["CLB", "CLC", "IAC", "CMC", "CMA", "RAL", "RAR", "TCC", "DAC", "TCS", "STC", "DAA", "KBP"]
 LENGTHS = {"character": 2048, "status": 512, "ramport": 32, "romport": 16, "banksrc": 8, "register": 16, "counter": 14,
            "chain0": 256, "chain1": 256, "chain2": 256, "chain3": 256}
-# The most states that a walk for numbers passes.
+# The maximum number of states in a walk that looks for values.
 WALK = 12
 
 
 class Asking(Program):
-    """A short program that asks for keys and TEST again and again."""
+    """A short program that reads keys and TEST again and again."""
 
     def __init__(self, chance: random.Random, wiring: Wiring) -> None:
         self.chance, self.wiring = chance, wiring
@@ -58,7 +58,7 @@ class Asking(Program):
         return [f"FIM P{pair}, 0x{self.chance.choice(inputs) if inputs and self.chance.random() < 0.8 else self.selected():02X}", f"SRC P{pair}"]
 
     def asked(self) -> list[str]:
-        """Returns phrases of the loop."""
+        """Returns the phrases of the loop."""
         chance = self.chance
         register = chance.choice(self.registers)
         kind = chance.random()
@@ -77,7 +77,7 @@ class Asking(Program):
         return [self.any_instruction(register, register // 2)] if chance.random() < 0.3 else [chance.choice(HANDY)]
 
     def used(self, register: int) -> list[str]:
-        """Returns what is done with a value that was read."""
+        """Returns phrases that use a value that was read."""
         chance = self.chance
         written = [name for name in ALONE if name.startswith("W") and name != "WPM"]
         return chance.choice([
@@ -86,7 +86,7 @@ class Asking(Program):
 
 
 def walked(question: Question, chance: random.Random) -> Iterator[Board]:
-    """Yields the machine at some states of one way, by any values."""
+    """Yields the machine at some states of a random walk."""
     board = power_on(question)
     yield board
     for _n in range(chance.randrange(WALK)):
@@ -96,7 +96,7 @@ def walked(question: Question, chance: random.Random) -> Iterator[Board]:
 
 
 def cells_of(wiring: Wiring) -> list[tuple[str, int]]:
-    """Returns cells that are worth a look: registers, ports, a few of RAM and chains; some of chips that are not there."""
+    """Returns cells to compare: registers, ports, some nibbles of RAM and chains; some of missing chips."""
     cells = [("register", k) for k in range(16)] + [("counter", k) for k in range(14)]
     cells += [("romport", chip) for chip in wiring.ports] + [("banksrc", bank) for bank in wiring.banks]
     cells += [("ramport", 4 * bank + chip) for bank, chips in wiring.banks.items() for chip in range(chips)]
@@ -106,7 +106,7 @@ def cells_of(wiring: Wiring) -> list[tuple[str, int]]:
 
 
 def comparison(chance: random.Random, wiring: Wiring, boards: list[dict[tuple[str, int], int]]) -> Comparison:
-    """Returns a comparison, mostly of a cell that changes on the way, with a number that it has there or another one."""
+    """Returns a comparison, mostly of a cell that changes on the walk, with a value that it has there or another one."""
     name, index = chance.choice(cells_of(wiring))
     changing = [each for each in boards[0] if len({seen[each] for seen in boards}) > 1]
     if changing and chance.random() < 0.8:
@@ -125,7 +125,7 @@ def comparison(chance: random.Random, wiring: Wiring, boards: list[dict[tuple[st
 
 
 def seeded_question(seed: int, most: int) -> Question:
-    """Returns a question; one of each eight has a long program of any instructions."""
+    """Returns a random question; one in eight has a long program of any instructions."""
     chance = random.Random(seed)
     if seed % 8 == 7:
         seeded = Seeded(seed)

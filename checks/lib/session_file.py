@@ -1,7 +1,7 @@
-"""Session files as docs/FORMAT.md has them, written and read without the program, and a bench of a few commands to fill them.
+"""Writes and reads session files by docs/FORMAT.md, without the program, with a bench of a few commands to fill them.
 
-`Kept` is what the file of a session has to hold after each accepted command: its snapshot, its records, and all other bytes, but for the
-rest of a snapshot area, which nobody reads.
+`Kept` has the expected contents of a session's file after each accepted command: its snapshot, its records, and all other bytes, except the
+unused rest of a snapshot area.
 """
 
 import copy
@@ -37,7 +37,7 @@ def chain_line(chain, bit):
 
 
 def name_of(line):
-    """Returns the name that a line has in texts."""
+    """Returns the name of a line in texts."""
     kind, *numbers = line
     return ("rom{}.{}", "ram{}.{}.{}", "chain{}.{}")[kind].format(*numbers)
 
@@ -68,7 +68,7 @@ class Board:
         return self.keys[2] * len(self.keys[3]) if self.keys else 0
 
     def tables(self):
-        """Returns the tables of its text, each with the key that it is below: ROMs and banks by rising number, chains, keys, lamps."""
+        """Returns the tables of the board's text, each with the key that it is below: ROMs and banks by number, chains, keys, lamps."""
         found = [("rom", {"chip": chip, "port": self.roms[chip]}) for chip in sorted(self.roms)]
         found += [("ram", {"bank": bank, "chips": self.banks[bank]}) for bank in sorted(self.banks)]
         found += [("chain", {"clock": name_of(clock), "data": name_of(data), "chips": chips}) for clock, data, chips in self.chains]
@@ -78,11 +78,11 @@ class Board:
         return found + [("lamp", {"line": name_of(line)}) for line in self.lamps]
 
     def text(self):
-        """Returns its text as `board` prints it, in the form of the board in the manual's first hour."""
+        """Returns the board's text as `board` prints it, in the form of the board in the manual's first hour."""
         lines = []
         for below, table in self.tables():
             lines.append(f"[{below}]" if below == "keys" else f"[[{below}]]")
-            # TOML in this form has numbers, texts and lists as JSON has them.
+            # In this form, TOML writes numbers, strings and lists like JSON.
             lines += [f"{key} = {json.dumps(value)}" for key, value in table.items()]
         return "".join(f"{line}\n" for line in lines)
 
@@ -112,7 +112,7 @@ class State:
     watches: list = dataclasses.field(default_factory=list)
 
     def bytes(self, version=2):
-        """Returns the bytes of the state; version 1 has no byte for the version, no watches and no count of them."""
+        """Returns the bytes of the state. Version 1 has no byte for the version, no watches and no number of watches."""
         assert version == 2 or not self.watches
         found = number(self.seq, 4) + (b"\x02" if version == 2 else b"") + self.board.bytes()
         found += self.rom + self.ram + self.status + self.ram_ports + self.rom_ports
@@ -151,7 +151,7 @@ class State:
             assert code == 0, f"the checks have no instruction {code:02X}"
 
     def run(self, cycles):
-        """Runs a number of cycles, or to a breakpoint; returns the words for how many were done, and why it stopped."""
+        """Runs a number of cycles, or to a breakpoint; returns the words about the number of cycles and the reason for the stop."""
         begun = self.place()
         done = left_out = 0
         while done + left_out < cycles:
@@ -160,7 +160,7 @@ class State:
             if not self.owed and self.counter in self.breakpoints:
                 return f" ran {done} break"
             if self.place() == begun and left_out == 0:
-                # It goes round, so whole rounds are left out.
+                # The program loops, so whole rounds are skipped.
                 left_out = (cycles - done) // done * done
         return f" ran {cycles} end"
 
@@ -168,7 +168,7 @@ class State:
         return self.counter, self.owed, self.accumulator, self.carry, bytes(self.registers)
 
     def step(self):
-        """Does one instruction, or the second cycle of one; returns the words for the number of its cycles."""
+        """Runs one instruction, or the second cycle of one; returns the words about its cycles."""
         was_owed = self.owed
         self.cycle()
         if not self.owed or was_owed:
@@ -189,7 +189,7 @@ class State:
 
 @dataclasses.dataclass
 class Command:
-    """Its lines, its record, its effect on a state (which may answer after `ok N`), and the cycles that it counts in a log."""
+    """A command: its lines, its record, its effect on a state (which can answer after `ok N`), and the cycles that it counts in a log."""
     text: str
     record: bytes
     do: object
@@ -209,7 +209,7 @@ def wire(text, board):
 
 
 def load(text, image):
-    """Returns a load of a program, by the bytes that it spells."""
+    """Returns the command that loads a program with these bytes."""
     addresses = sorted(image)
     there = bytearray(512)
     for address in addresses:
@@ -224,12 +224,12 @@ def load(text, image):
 
 
 def run(cycles):
-    """Returns a run. It counts all its cycles, also if a breakpoint stops it."""
+    """Returns the command of a run. It counts all its cycles, even if a breakpoint stops it."""
     return Command(f"run {cycles}\n", bytes([5]) + number(cycles, 4), lambda state: state.run(cycles), cycles)
 
 
 def step():
-    """Returns a step. It counts two cycles."""
+    """Returns the command of a step. It counts two cycles."""
     return Command("step\n", bytes([6]), State.step, 2)
 
 
@@ -266,7 +266,7 @@ def watch(bank, source):
 # --- files
 
 def read(file):
-    """Returns the snapshot and the records that a file holds; None if it holds none."""
+    """Returns the snapshot and the records in a file; None if the file has none."""
     if len(file) != SIZE or file[:8] != NAME or any(file[9:16]):
         return None
     slot = SLOTS[file[8] % 2]
@@ -287,7 +287,7 @@ def read(file):
 
 
 def file_of(snapshot):
-    """Returns a file that holds a snapshot in its first slot, and no record."""
+    """Returns a file with a snapshot in its first slot, and no records."""
     begin = SLOTS[0]
     file = bytearray(NAME + bytes(SIZE - len(NAME)))
     file[begin:begin + LENGTH_BYTES + len(snapshot)] = number(len(snapshot), LENGTH_BYTES) + snapshot
@@ -295,7 +295,7 @@ def file_of(snapshot):
 
 
 def put_record(file, at, record):
-    """Puts a record into a log, and the log's end behind it."""
+    """Writes a record to a log, and the end of the log after it."""
     file[at:at + 3 + len(record) + 1] = b"\x01" + number(len(record), 2) + record + b"\x00"
 
 
@@ -303,7 +303,7 @@ class Kept:
     """A session, and the expected contents of its file."""
 
     def __init__(self, state=None, slot=0, version=2):
-        """Begins a session at this state, as a snapshot in one of the slots."""
+        """Begins a session at this state, with a snapshot in one of the slots."""
         self.state = state or State()
         self.version = version
         self.file = bytearray(SIZE)
@@ -332,7 +332,7 @@ class Kept:
         self.checkpoints += 1
 
     def accept(self, command):
-        """Does a command that is accepted, and returns its answer."""
+        """Accepts a command, and returns its answer."""
         record = command.record
         if self.used + 3 + len(record) + 1 > LOG_BYTES or self.cycles + command.cycles > MOST_CYCLES:
             self.checkpoint()
@@ -348,7 +348,7 @@ class Kept:
         return "".join(self.accept(command) for command in commands)
 
     def fault(self, file):
-        """Returns what is wrong with a file that must be this one; nothing if it is."""
+        """Returns a description of the error if a file differs from this one; "" if it does not."""
         if len(file) != SIZE:
             return f"it has {len(file)} bytes"
         wanted = bytearray(self.file)

@@ -1,5 +1,5 @@
-"""What a session file stands for, after docs/FORMAT.md: a second reading of the bytes of states and of commands. What the commands do, and what
-is answered then, bench4004.py says.
+"""Reads a session file after docs/FORMAT.md: a second reading of the bytes of states and of commands. bench4004.py has the effects of commands
+and their answers.
 """
 
 import re
@@ -8,23 +8,23 @@ import bench4004
 from session_file import MOST_CYCLES, NAME, SIZE, Board, State, read
 
 MOST_COMMANDS = 2**32 - 1
-# In either version.
+# The maximum numbers of chains, and of chips in a chain, by version.
 MOST_CHAINS = {1: 2, 2: 4}
 MOST_CHIPS = {1: 4, 2: 8}
-# Places by their numbers, and the greatest value of each number of theirs, and of what they hold.
+# Places by their numbers: their forms, the maxima of the numbers in them, and the maximum of their value.
 PLACES = (("acc", 15), ("cy", 1), ("pc", 4095), ("r{}", 15, 15), ("dcl", 7), ("rom.{}", 4095, 255), ("ram.{}.{}", 7, 255, 15),
           ("st.{}.{}.{}", 7, 15, 3, 15))
-# The other commands with numbers alone, by their tags.
+# The other commands that have only numbers, by their tags.
 COMMANDS = {3: ("press", 255, 255), 4: ("release", 255, 255), 5: ("run", 2**32 - 1), 6: ("step",), 8: ("test", 1), 9: ("reset",),
             10: ("break", 4095), 11: ("unbreak", 4095), 12: ("watch", 7, 255), 13: ("unwatch", 7, 255)}
 
 
 class Refused(Exception):
-    """The number by which a file is rejected."""
+    """The number of the refusal of a file."""
 
 
 def require(holds):
-    """Raises damage if this does not hold."""
+    """Raises the refusal of a damaged file if a condition does not hold."""
     if not holds:
         raise Refused(51)
 
@@ -47,7 +47,7 @@ class Reader:
         return bytearray(found)
 
     def number(self, most):
-        """Returns a number of as many bytes as its greatest value needs: 1, 2 or 4."""
+        """Returns a number of 1, 2 or 4 bytes, as many as its maximum needs."""
         found = int.from_bytes(self.take(1 if most < 256 else 2 if most < 65536 else 4), "big")
         require(found <= most)
         return found
@@ -69,7 +69,7 @@ def has_line(board, line):
 
 
 def is_input(board, line):
-    """Returns true if a line is an input. A port's text has line 3 first."""
+    """Returns true if a line is an input. The text of a port begins with line 3."""
     return has_line(board, line) and line[0] == 0 and board.roms[line[1]][3 - line[2]] == "i"
 
 
@@ -105,7 +105,7 @@ def read_board(reader, version):
 # --- states
 
 def read_state(snapshot):
-    """Returns the state that a snapshot spells, and its version."""
+    """Parses the state in a snapshot; returns the state and its version."""
     reader = Reader(snapshot)
     seq = reader.number(MOST_COMMANDS)
     version = 2 if snapshot[4:5] == b"\2" else 1
@@ -129,7 +129,7 @@ def read_state(snapshot):
 
 
 def absent_parts(state):
-    """Yields the parts that must be 0, because their chip is absent, or because an input line keeps nothing."""
+    """Yields the parts that must be 0, because their chip is missing, or because an input line stores nothing."""
     for chip in range(16):
         port = state.board.roms.get(chip, "iiii")
         yield b"" if chip in state.board.roms else state.rom[256 * chip:256 * chip + 256]
@@ -143,7 +143,7 @@ def absent_parts(state):
 
 
 def bench_of(state):
-    """Returns a bench that is at a state."""
+    """Returns a bench at a state."""
     bench = bench4004.Bench()
     bench.seq, board = state.seq, bench.board
     board.wire(state.board.text())
@@ -164,8 +164,8 @@ def bench_of(state):
 # --- commands
 
 def read_command(record, version):
-    """Returns the words of the line that a record is of, and the cycles that it counts in a log. A text is a list of lines; of a board
-    it is all."""
+    """Returns the words of the session line of a record, and the cycles that it counts in a log. A text is a list of lines; a board is its whole
+    text."""
     reader = Reader(record)
     tag = reader.number(13 if version == 2 else 11)
     if tag == 1:
@@ -190,7 +190,7 @@ class Standing:
     """The meaning of a file: a bench, the text of its board, and the version."""
 
     def __init__(self, file):
-        """Reads a file; one that stands for no state raises `Refused`."""
+        """Reads a file; raises `Refused` if it has no state."""
         if len(file) != SIZE or file[:8] != NAME:
             raise Refused(50)
         held = read(file)
@@ -203,7 +203,7 @@ class Standing:
             self.accept(words)
 
     def accept(self, words):
-        """Does a command, which must be accepted in its turn."""
+        """Applies a command, which must be accepted at this point."""
         board = self.bench.board
         require(self.bench.seq < MOST_COMMANDS)
         require(words[0] != "run" or 1 <= int(words[1]) <= 100_000)
@@ -213,7 +213,7 @@ class Standing:
             self.board = words[1]
 
     def answers_to(self, questions):
-        """Returns the answers to the first line of a session and to questions."""
+        """Returns the first line of a session and the answers to questions."""
         answers = [f"session {self.bench.seq}"]
         for question in questions:
             answers += ["board", *self.board] if question == "board" else self.bench.answer(*question.split())

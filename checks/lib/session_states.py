@@ -1,14 +1,14 @@
-"""States that a session file may hold, and such as it may not, put down by hand from docs/FORMAT.md ("Bytes of a state")."""
+"""Valid and invalid states of session files, written manually from docs/FORMAT.md ("Bytes of a state")."""
 
 from session_file import Board, State, break_at, chain_line, press, ram_line, rom_line, watch, wire
 
-# The board of the manual's first hour, and as much of each part as a board can have.
+# The board of the manual's first hour, and a board with the maximum of each part.
 WORKED = Board({0: "0000", 1: "iiii", 2: "iiii"}, {0: 1, 1: 1}, [(rom_line(0, 0), rom_line(0, 1), 1)],
                (0, 0, 10, [rom_line(chip, line) for chip in (1, 2) for line in range(4)]),
                [chain_line(0, 0), chain_line(0, 1), ram_line(0, 0, 3)])
 LARGEST = Board(dict.fromkeys(range(16), "1i0i"), dict.fromkeys(range(8), 4), [(rom_line(0, 1), rom_line(0, 3), 8)] * 4,
                 (3, 70, 10, [rom_line(15, 0)] * 8), [chain_line(3, 79)] * 64)
-# The first and the last place of what version 2 keeps of chips, by the part of a state.
+# The first and the last place of each part of a state that version 2 stores.
 ENDS = {"rom": (0, 4_095), "ram": (0, 2_047), "status": (0, 511), "ram_ports": (0, 31), "rom_ports": (0, 15), "bank_sources": (0, 7)}
 
 
@@ -25,7 +25,7 @@ def registers(values):
 
 
 def chained(count, chips):
-    """Returns a state on a board with ROM 0 and `count` chains of as many chips, and nothing else."""
+    """Returns a state on a board with ROM 0 and `count` chains of `chips` chips each, and nothing else."""
     return State(board=Board({0: "0000"}, {}, [(rom_line(0, 1), rom_line(0, 3), chips)] * count), chains=[bytearray(10 * chips)] * count)
 
 
@@ -35,11 +35,11 @@ def on_worked_board(**parts):
 
 
 def in_rom_0(port):
-    """Returns a state on a board with ROM 0 alone, which has this port."""
+    """Returns a state on a board that has only ROM 0, with this port."""
     return State(board=Board({0: port}))
 
 
-# The name of a state, and the questions to its session with their answers, which change nothing. These are states of both versions.
+# The name of a state, and the questions to its session with their answers; the questions change nothing. Both versions have these states.
 STATES = [
     ("a new one", State(), "", ""),
     ("a count of commands of four bytes", State(seq=0xFF00_0000), "seq\n", "seq 4278190080\n"),
@@ -68,7 +68,7 @@ STATES = [
      "1.0.3 000000000000000F 000E\n1.0 out 0\n"),
     ("two chains of four chips", chained(2, 4), "", ""),
 ]
-# States that version 2 alone has.
+# States that only version 2 has.
 LATER_STATES = [
     ("two watches", State(watches=[(0, 1), (5, 0x3F)]), "watches\n", "watches 0.01 5.3F\n"),
     ("three watches", State(watches=[(0, 1), (5, 0x3F), (7, 0xFF)]), "watches\n", "watches 0.01 5.3F 7.FF\n"),
@@ -82,7 +82,7 @@ LATER_STATES = [
      f"lamps {64 * '*'}\n"),
 ]
 
-# The name of a state that spells nothing, in either version.
+# Invalid states in both versions, with their names.
 WRONG_STATES = [
     ("R0 at 16", State(registers=registers({0: 16}))),
     ("R7 at 16", State(registers=registers({7: 16}))),
@@ -110,7 +110,7 @@ WRONG_STATES = [
     ("a bit of a chain at 2", State(board=WORKED, chains=[zeros_but(10, {9: 2})], keys=bytearray(80))),
     ("a key at 2", State(board=WORKED, chains=[bytearray(10)], keys=zeros_but(80, {79: 2}))),
 ]
-# The same of watches, which only version 2 has.
+# Invalid watches, which only version 2 has.
 WRONG_WATCHES = [
     ("a watch twice", [(0, 1), (5, 0x3F), (5, 0x3F)]),
     ("two watches that are one", [(5, 0x3F), (5, 0x3F)]),
@@ -127,7 +127,7 @@ def with_byte(snapshot, place, byte):
 
 
 NEW, NEW_OF_VERSION_1 = State().bytes(), State().bytes(1)
-# Snapshots that no state has, whatever version they are of.
+# Snapshots that are invalid in any version.
 WRONG_SNAPSHOTS = [
     ("no bytes", b""),
     ("four bytes of 2", bytes([2] * 4)),
@@ -145,6 +145,6 @@ WRONG_SNAPSHOTS = [
 ]
 
 
-# The longest state: as many breakpoints and watches as there can be, and a key of the largest board; the breakpoints stop runs at once.
+# The longest state: the maximum number of breakpoints and watches, and a key of the largest board. The breakpoints stop runs at once.
 LONGEST = 7_632
 LONGEST_COMMANDS = [wire(LARGEST.text(), LARGEST), *map(break_at, range(32)), *(watch(7, source) for source in range(8)), press(9, 7)]

@@ -1,6 +1,6 @@
-# Makes a script of what a chapter of a document shows (`title`): its commands, `$ ..`, with the lines that are typed behind them, into
-# `script`, and what they print, into `printed`. What is typed stands between what is printed: a text (after wire or asm, up to its dot),
-# and lines that are no answers. A command may have a text of its own, `<< 'end'`. Pictures are left out.
+# Turns what a chapter of a document shows (`title`) into a script. The commands, `$ ..`, with the lines that are typed after them, go into
+# `script`, and their output into `printed`. Typed lines stand between output lines: they are a text (after wire or asm, up to its dot), or lines
+# that are not answers. A command can have its own text, `<< 'end'`. Pictures are left out.
 
 function is_answer(line) {
     return line ~ /^(session|ok|no) [0-9]|^(lamps|breaks|watches|seq|state|acc|keys) .|^[0-9A-F][0-9A-F][0-9A-F] [0-9A-F][0-9A-F]( |$)|^[0-7]\.[0-3](\.[0-3])? |^ram [0-7] chips|^(rom|ram|chain)[0-9].* (in|out) |^mcs4: /

@@ -1,17 +1,17 @@
 #!/usr/bin/env python3
-"""Runs the gate and the checks side by side: `checks/lib/side_by_side.py all|gate|checks|long|quick FOLDER`, for ./test.
+"""Runs the gate and the checks in parallel: `checks/lib/side_by_side.py all|gate|checks|long|quick FOLDER`, for ./test.
 
-The environment names the programs that are checked. Without a gate it is MCS4. With one it is BUILT_PROGRAM, which the gate builds, and beside the
-gate SHIPPED_PROGRAM; if that is empty, the checks begin after the gate.
+Variables name the program to check. Without a gate it is MCS4. After the gate it is BUILT_PROGRAM, which the gate builds; while the gate runs it
+is SHIPPED_PROGRAM. If that is empty, the checks start after the gate.
 
-As many checks run at a time as there are processors, the longest first. Beside the gate there is one at a time, or more while processors are idle, and
-none on fewer than four. Checks that read what the gate builds run after it. Checks that measure, that type at a terminal, or that need the machine, run
-at the end, one after another. The output of a check is printed in one piece when the check has ended, that of the gate by lines. At a terminal
-a line says what is running and how long the rest takes, from the times of the last run (in the cache folder) or from the table below. Root gets
-missing packages by apt-get; otherwise the check counts as not run. A process that a check leaves is ended. FOLDER/summed gets the numbers of verdicts
-that passed and failed, and FOLDER/left_out the lines 'not run: ..'.
+As many checks run at a time as there are processors, the longest first. While the gate runs, there is one check at a time, or more while
+processors are idle, and none on fewer than four processors. Checks that read what the gate builds run after it. Checks that measure, that type at
+a terminal, or that need the whole machine, run at the end, one after another. The output of a check is printed in one piece when the check has
+ended; the output of the gate is printed line by line. At a terminal a line shows what is running and how long the rest takes, by the times of the
+last run (in the cache folder) or by the table below. As root, missing packages are installed by apt-get; otherwise the check counts as not run. A
+process that a check leaves is ended. FOLDER/summed gets the numbers of verdicts that passed and failed, and FOLDER/left_out the lines 'not run: ..'.
 
-Status 0: all checks have ended, whatever they found. 130: interrupted; what had passed is printed.
+Status 0: all checks have ended, with any results. 130: interrupted; the results so far are printed.
 """
 
 import argparse
@@ -30,14 +30,14 @@ from dataclasses import dataclass, field
 sys.dont_write_bytecode = True
 TOP = pathlib.Path(__file__).resolve().parent.parent.parent
 CACHE = pathlib.Path(os.environ.get("XDG_CACHE_HOME") or pathlib.Path.home() / ".cache") / "fethsaim/check_seconds.json"
-# The least time that a check gets, and how many times its usual one.
+# The minimum time of a check in seconds, and the factor of its usual time, after which it is ended.
 LEAST, TIMES = 900, 5
 PATIENCE = 5
-# The fewest processors with which checks run beside the gate.
+# The minimum number of processors for running checks next to the gate.
 ENOUGH = 4
 SUMMED = re.compile(r"^(\d+) passed, (\d+) failed", re.M)
 
-# Debian's packages that have a command, or a file; a command that is not here is in the package of its name.
+# Debian's packages of commands and files. A command that is not listed is in the package of its name.
 PACKAGES = {
     "aarch64-linux-gnu-gcc": "gcc-aarch64-linux-gnu",
     "/usr/aarch64-linux-gnu/lib/libc.a": "libc6-dev-arm64-cross",
@@ -53,8 +53,8 @@ PACKAGES = {
 
 @dataclass(frozen=True)
 class Check:
-    """A script of checks/: the commands and files that it needs, and those that parts of it need; its usual seconds; its words, by mode if they
-    differ; if it runs alone; if it reads what the gate builds; which part of it this is, if parts run side by side."""
+    """A script in checks/. Its fields: the commands and files that it needs, and those that parts of it need; its usual seconds; its arguments, by
+    mode if they differ; whether it runs alone; whether it reads what the gate builds; which part of it this is, if its parts run in parallel."""
 
     name: str
     needs: str = ""
@@ -69,19 +69,19 @@ class Check:
 
     @property
     def label(self):
-        """The name, with the part."""
+        """The name of the check, with its part."""
         return f"{self.name} {self.part}".rstrip()
 
     def command(self, mode):
         words = self.long if mode == "long" and self.long is not None else self.quick if mode == "quick" else self.words
-        # The page's module is compiled again where the kit is.
+        # The page's module is compiled again if the kit is installed.
         return [f"checks/{self.name}", *(word for word in shlex.split(words or "") if word != "--anew" or shutil.which("rt"))]
 
     def title(self, mode):
         return " ".join(self.command(mode))
 
     def limit(self):
-        """The seconds after which it is ended."""
+        """The seconds after which the check is ended."""
         return int(os.environ.get("CHECK_SECONDS", LEAST + TIMES * self.seconds))
 
 
@@ -121,13 +121,14 @@ CHECKS = [
     Check("sizes", "python3", 10, quick=""),
     Check("memory", "", 5, quick=""),
 ]
-# Its end has no limit: from nothing it takes an hour and more.
+# The gate has no limit: without cached proofs it takes an hour or more.
 GATE = Check("lib/gate", "rt", 3000)
 
 
 @dataclass
 class Running:
-    """A check that runs: its process, the file of its output, and when it began. Its mark is in the environment of all that it starts."""
+    """A running check: its process, the file of its output, and the time of its start. Its mark is in the environment of all processes that it
+    starts."""
 
     check: Check
     process: subprocess.Popen
@@ -143,12 +144,12 @@ class Running:
 
 
 def is_there(need):
-    """Whether a command, or a file that is named by its path, is there."""
+    """Returns whether a command, or a file named by its path, exists."""
     return pathlib.Path(need).exists() if need.startswith("/") else shutil.which(need) is not None
 
 
 def install(checks):
-    """Root gets the packages that these checks lack, by one apt-get."""
+    """As root, installs the packages that these checks lack, by one apt-get."""
     lacking = sorted({PACKAGES.get(need, need) for check in checks for need in f"{check.needs} {check.parts_need}".split() if not is_there(need)})
     if not lacking or os.geteuid() != 0 or not shutil.which("apt-get"):
         return
@@ -160,7 +161,7 @@ def install(checks):
 
 
 def processes_with(mark):
-    """The processes that have this mark in their environment."""
+    """Returns the processes that have this mark in their environment."""
     found = []
     for folder in pathlib.Path("/proc").glob("[0-9]*"):
         try:
@@ -172,7 +173,7 @@ def processes_with(mark):
 
 
 def command_of(process):
-    """What a process was started with."""
+    """Returns the command line of a process."""
     try:
         return pathlib.Path(f"/proc/{process}/cmdline").read_bytes().replace(b"\0", b" ").decode(errors="replace")
     except OSError:
@@ -180,7 +181,7 @@ def command_of(process):
 
 
 def end_processes(mark):
-    """Ends what a check has left: asks twice, so that it can clean up, then forces it."""
+    """Ends the processes that a check has left: asks twice, so that they can clean up, then kills them."""
     for number in (signal.SIGINT, signal.SIGTERM, signal.SIGKILL):
         end = time.monotonic() + PATIENCE
         found = processes_with(mark)
@@ -197,7 +198,7 @@ def end_processes(mark):
 
 
 class Run:
-    """The gate and the checks of a mode, on their way."""
+    """The gate and the checks of a mode while they run."""
 
     def __init__(self, mode, folder):
         self.mode = mode
@@ -213,7 +214,7 @@ class Run:
         self.begun = time.monotonic()
 
     def program(self):
-        """Returns the program that a check of now looks at."""
+        """Returns the program that a check uses if it starts now."""
         if self.mode not in ("all", "gate"):
             return os.environ["MCS4"]
         return os.environ["SHIPPED_PROGRAM"] if self.gate and not self.gate.is_over else os.environ["BUILT_PROGRAM"]
@@ -226,14 +227,14 @@ class Run:
         if check is not GATE:
             environment["MCS4"] = self.program()
         with output.open("wb") as file:
-            # Signals that this process ignores, as in the background, are served by a check: env gives them back.
+            # A check must receive signals that this process ignores, as in the background: env restores them.
             process = subprocess.Popen(["env", "--default-signal=INT,QUIT", *words], cwd=TOP, env=environment, stdin=subprocess.DEVNULL, stdout=file,
                                        stderr=subprocess.STDOUT)
         self.running.append(Running(check, process, output, mark))
         return self.running[-1]
 
     def start(self, check):
-        """Starts a check, or notes that it is not run."""
+        """Starts a check, or records that it is not run."""
         lacking = [PACKAGES.get(need, need) for need in check.needs.split() if not is_there(need)]
         if lacking:
             self.left_out.append(f"not run: checks/{check.name} (Debian's packages: {' '.join(lacking)})")
@@ -243,7 +244,7 @@ class Run:
         self.begin(check, check.command(self.mode))
 
     def end(self, each):
-        """Counts what a check, or the gate, found, and shows the output of a check."""
+        """Counts the results of a check, or of the gate, and prints the output of a check."""
         self.running.remove(each)
         end_processes(each.mark)
         self.ended.append(each.check)
@@ -269,7 +270,7 @@ class Run:
             self.show(f"== {each.check.title(self.mode)}\n{text}checks/{each.check.label} took {seconds:.0f} s")
 
     def most(self):
-        """Returns how many may run now, the gate among them."""
+        """Returns the number of checks that may run now, including the gate."""
         if self.gate is None or self.gate.is_over:
             return self.processors
         if self.processors < ENOUGH or not os.environ["SHIPPED_PROGRAM"]:
@@ -277,7 +278,7 @@ class Run:
         return self.processors if os.getloadavg()[0] < self.processors - 1 else 2
 
     def next(self):
-        """Takes the next check from those that wait, if one can begin now."""
+        """Removes and returns the next waiting check that can start now."""
         is_gate_over = self.gate is None or self.gate.is_over
         if len(self.running) >= self.most():
             return None
@@ -290,7 +291,7 @@ class Run:
         return None
 
     def turn(self):
-        """Ends the checks that are over, and starts others in their places."""
+        """Finishes the checks that have ended, and starts others."""
         for each in list(self.running):
             if each.process.poll() is None and each.is_late():
                 with each.output.open("a") as file:
@@ -307,7 +308,7 @@ class Run:
             self.start(check)
 
     def all(self):
-        """Runs the gate and all checks; those that run alone come last."""
+        """Runs the gate and all checks; checks that run alone are last."""
         if self.mode in ("all", "gate"):
             self.show("== rt ci")
             self.gate = Gate(self.begin(GATE, [f"checks/{GATE.name}"]).output)
@@ -318,11 +319,11 @@ class Run:
             time.sleep(0.2)
 
     def show(self, text):
-        """Prints a text, over the line of progress."""
+        """Prints a text, and the line of progress below it."""
         print(f"\r\033[K{text}" if sys.stdout.isatty() else text, flush=True)
 
     def progress(self):
-        """At a terminal, prints what is done, what is running, and about how long the rest takes."""
+        """At a terminal, prints what is done, what is running, and the estimated time that remains."""
         if not sys.stdout.isatty():
             return
         begun = {each.check.label: each.seconds() for each in self.running}
@@ -344,7 +345,7 @@ class Run:
 
 
 class Gate:
-    """The output of the gate as it grows, how many crates it has passed, and how many of these it has proved anew."""
+    """The growing output of the gate, the number of crates that it has finished, and the number of these that it has proved again."""
 
     def __init__(self, output):
         self.output = output
@@ -354,7 +355,7 @@ class Gate:
         self.crates = len(re.findall(r"^\w+:", (TOP / "crates.txt").read_text(), re.M))
 
     def show(self, show):
-        """Shows the whole lines that are new."""
+        """Shows the new complete lines."""
         with self.output.open("rb") as file:
             file.seek(self.shown)
             text = file.read()
@@ -367,12 +368,12 @@ class Gate:
             show(lines.decode(errors="replace").rstrip("\n"))
 
     def end(self):
-        """Notes that the gate is over."""
+        """Records that the gate has ended."""
         self.is_over = True
 
 
 def times_before(mode):
-    """How long the checks took the last time, by their names."""
+    """Returns the seconds that the checks took last time, by their names."""
     try:
         times = json.loads(CACHE.read_text())[mode]
         return {name: float(seconds) for name, seconds in times.items()}
@@ -381,7 +382,7 @@ def times_before(mode):
 
 
 def keep_times(mode, times):
-    """Keeps the times for the next run; without a cache folder that can be written, they are not kept."""
+    """Stores the times for the next run, if the cache folder is writable."""
     try:
         kept = json.loads(CACHE.read_text()) if CACHE.exists() else {}
         CACHE.parent.mkdir(parents=True, exist_ok=True)

@@ -1,4 +1,4 @@
-"""What the checks in Python share: verdicts are counted, and those that are wrong are reported."""
+"""The common part of the checks in Python: they count verdicts, and report the wrong ones."""
 
 import pathlib
 import sys
@@ -6,7 +6,7 @@ import sys
 from driven import matches
 
 CHECK = f"checks/{pathlib.Path(sys.argv[0]).name}"
-# The part of a value that is printed: its end.
+# The maximum length of a value that is printed; its end is printed.
 LONGEST_SHOWN = 2000
 
 # `again` counts the topics of checks/page that passed only at the second try.
@@ -14,7 +14,7 @@ counts = {"passed": 0, "failed": 0, "again": 0}
 
 
 def judge(is_right, what):
-    """Counts a check, and prints what is wrong."""
+    """Counts a check, and prints an error."""
     counts["passed" if is_right else "failed"] += 1
     if not is_right:
         print(f"{CHECK}: {what}", file=sys.stderr)
@@ -26,11 +26,11 @@ def verdict(what, found, wanted):
 
 
 def eventually(browser, what, code, wanted, seconds=30):
-    """Counts a check of a script's answer, now or within a number of seconds."""
+    """Counts a check of a script's result, now or within a number of seconds."""
     verdict(what, browser.until(code, wanted, seconds), wanted)
 
 
 def end_check():
-    """Prints the last line, and ends."""
+    """Prints the last line, and exits."""
     print(f"{counts['passed']} passed, {counts['failed']} failed")
     sys.exit(0 if counts["failed"] == 0 else 1)

@@ -1,13 +1,13 @@
-# What the checks in shell share: verdicts are counted, and those that are wrong are reported; parts of a check can be run alone. A check reads
-# this by `.`, after it has set `top`, the folder of the repository.
+# The common part of the checks in shell: they count verdicts, report the wrong ones, and can run parts of a check alone. A check reads this file
+# by `.`, after it has set `top`, the folder of the repository.
 # shellcheck shell=sh disable=SC1090,SC2154
 
 check=checks/${0##*/}
 passed=0
 failed=0
 
-# Goes to the top, names the program, `mcs4`, for the check and for the tools, and makes `folder`, in memory where the host has a place for
-# it, which is removed at the end. Nothing is read from standard input but what is redirected there.
+# Changes to the top folder, sets `mcs4` to the program for the check and the tools, and makes `folder`, in memory if possible, which is removed
+# at the end. Standard input is empty, unless it is redirected.
 begin_check() {
     cd "$top"
     mcs4=$(checks/lib/program)
@@ -25,7 +25,7 @@ fault() {
     echo "$check: $1" >&2
 }
 
-# What is, what must be, and of what.
+# Counts a check. Arguments: the value, the expected value, and a description.
 verdict() {
     if [ "$1" = "$2" ]; then
         passed=$((passed + 1))
@@ -38,7 +38,7 @@ verdict() {
     fi
 }
 
-# The same of two files.
+# Counts a check of two files.
 verdict_of_files() {
     if cmp -s -- "$1" "$2"; then
         passed=$((passed + 1))
@@ -48,7 +48,7 @@ verdict_of_files() {
     fi
 }
 
-# Runs a client of the check's own, which writes lines `ok ..` and `fault: ..` into a file, and counts these: the file, the command.
+# Runs a client that writes lines `ok ..` and `fault: ..` to a file, and counts these. Arguments: the file, and the command.
 run_client() {
     report=$1
     shift
@@ -60,14 +60,14 @@ run_client() {
     if [ "$status" -ne 0 ]; then failed=$((failed + 1)); fi
 }
 
-# A command's output, standard error and all, and its status.
+# Prints the output of a command, with standard error, and its status.
 outcome() {
     status=0
     "$@" 2>&1 || status=$?
     echo "status $status"
 }
 
-# A command that is refused: its status and its words, then the command.
+# Checks that a command is rejected. Arguments: its status and its message, then the command.
 refuses() {
     wanted="$2
 status $1"
@@ -75,7 +75,7 @@ status $1"
     verdict "$(outcome "$@")" "$wanted" "$*"
 }
 
-# Wrong arguments: what is wrong with them, then the command, `./mcs4 NAME ..`; its use follows, and the status is 2.
+# Checks wrong arguments: the usage is printed, and the status is 2. Arguments: the message, then the command, `./mcs4 NAME ..`.
 misuses() {
     wanted="$3: $1
 usage: mcs4 $3
@@ -84,12 +84,12 @@ status 2"
     verdict "$(outcome "$@" | short_use)" "$wanted" "$*"
 }
 
-# Shortens the use of a command to its name.
+# Shortens the usage of a command to its name.
 short_use() {
     sed '/^       mcs4 /d; s/^\(usage: mcs4 [a-z]*\).*/\1/'
 }
 
-# A new session in the folder, by its name, and one that goes on: lines come from standard input, `answers` has what is answered.
+# Begins a new session in the folder, or continues one, by its name: lines are read from standard input, and `answers` gets the answers.
 begins() {
     rm -f -- "$folder/$1.mcs"
     "$mcs4" new "$folder/$1.mcs" > "$folder/answers"
@@ -99,8 +99,8 @@ goes_on() {
     "$mcs4" open "$folder/$1.mcs" > "$folder/answers"
 }
 
-# Runs the parts that are named, or all: the scripts in the folder of this check in checks/lib/, each with variables and a folder of its
-# own in the check's, `whole`.
+# Runs the parts that are named, or all parts: the scripts in the check's folder in checks/lib/. Each has its own variables, and its own folder
+# below the check's folder, `whole`.
 run_parts() {
     parts=$(cd "checks/lib/${0##*/}" && echo *.sh | sed 's/\.sh//g')
     for part in "$@"; do
@@ -142,7 +142,7 @@ run_part() {
     rm -rf -- "${whole:?}/$part"
 }
 
-# The last line, and the end.
+# Prints the last line, and exits.
 end_check() {
     echo "$passed passed, $failed failed"
     exit $((failed > 0))

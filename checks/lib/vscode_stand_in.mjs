@@ -1,5 +1,5 @@
-// A stand-in for the module `vscode`, as far as the extension of editors/vscode calls it: `standIn()` makes one. The registrations of the
-// extension are in `registered`, by kind and name; the stand-in keeps the open texts, and what is shown to the user.
+// A stand-in for the module `vscode`, as far as the extension of editors/vscode calls it: `standIn()` makes one. `registered` has the
+// registrations of the extension by kind and name. The stand-in stores the open texts, and what the user would see.
 import { readFileSync, readdirSync, statSync } from "node:fs";
 import { basename, join, sep } from "node:path";
 import { pathToFileURL } from "node:url";
@@ -10,7 +10,7 @@ class Disposable {
   }
 }
 
-/** An event: `fire` calls its listeners. */
+/** Makes an event; `fire` calls its listeners. */
 function eventOf() {
   const listeners = new Set();
   const event = (act) => {
@@ -53,7 +53,7 @@ class Range {
   }
 }
 
-/** The items of tests, by their ids. */
+/** A collection of test items, by their ids. */
 class Items {
   constructor(parent) {
     this.parent = parent;
@@ -86,7 +86,7 @@ function testItem(id, label, uri) {
   return Object.assign(item, { children: new Items(item) });
 }
 
-/** The files below a folder that end as a pattern does, `**` and a name or `*.ending`. */
+/** Returns the files below a folder that match a pattern: `**` and a name or `*.ending`. */
 function filesIn(folder, pattern) {
   const [, name] = /^\*\*\/(.*)$/.exec(pattern);
   const matches = (each) => (name.startsWith("*") ? each.endsWith(name.slice(1)) : each === name);
@@ -186,7 +186,7 @@ export function standIn(folder, settings = {}) {
       },
     },
   };
-  /** A page within the editor: `posted` has what it receives, and `say` sends its messages. */
+  /** Makes a webview: `posted` has the messages that it receives, and `say` sends its messages. */
   function webview() {
     const said = eventOf();
     const own = {
@@ -196,7 +196,7 @@ export function standIn(folder, settings = {}) {
     };
     return own;
   }
-  /** Opens a text, as the editor does: first with the language that package.json gives its name. */
+  /** Opens a text as the editor does: first with the language that package.json assigns to its name. */
   function open(name, languageId) {
     const uri = Uri.file(join(folder, name));
     const text = readFileSync(uri.fsPath, "utf8");

@@ -1,8 +1,8 @@
-# Conditions, states and failures, worked by hand.
+# Conditions, states and failures, worked out manually.
 # shellcheck shell=sh
 
 cat > "$folder/lamps.test" <<'end_of_tests'
-# The right lamp is lit first: FIM, SRC, LDM, XCH, LD and WMP are 7 cycles.
+# The right lamp is on first: FIM, SRC, LDM, XCH, LD and WMP are 7 cycles.
 test the right lamp is lit first
     until lamps right within 7
     expect cycles 7
@@ -86,7 +86,7 @@ tested() {
         "$(cat "$folder/printed")" "$1"
 }
 tested "conditions and failures"
-# Whatever awk is there says the same; mawk reads a pipe line by line if an option says so.
+# Every awk prints the same; mawk reads a pipe line by line with an option.
 for other in gawk mawk original-awk "busybox awk"; do
     if command -v "${other%% *}" > /dev/null; then
         mkdir -p "$folder/bin"
@@ -101,7 +101,7 @@ for other in gawk mawk original-awk "busybox awk"; do
     fi
 done
 
-# Each kind of condition, by the times that the programs below take.
+# Each kind of condition, at times that follow from the programs below.
 cat > "$folder/kinds.asm" <<'program'
         FIM P0, 0x00
         SRC P0
@@ -137,10 +137,10 @@ awk 'BEGIN {
     for (i = 1; i <= count; i++) {
         split(kinds[i], parts, ":")
         print "test " kinds[i] "\n press a\n until " parts[1] " within 40\n expect cycles " parts[2]
-        # Where time begins within an instruction.
+        # A state within an instruction.
         print "test inside " kinds[i] "\n press a\n run 1\n until " parts[1] " within 40\n expect cycles " parts[2]
     }
-    # What never comes, and what comes with the last cycle that is left.
+    # An event that never happens, and one that happens in the last cycle.
     print "test not there\n until not pc 0 within 40\n expect cycles 2"
     print "test never\n until rom1 in 10 within 40"
     print "test too late\n press a\n until acc 7 within 20"

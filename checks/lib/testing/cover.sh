@@ -1,4 +1,4 @@
-# mcs4 cover: the counts are those of a step for each instruction; LCOV's format; a report by hand.
+# mcs4 cover: the counts are those of single steps; LCOV's format; a report that was worked out manually.
 # shellcheck shell=sh
 
 make_count
@@ -68,7 +68,7 @@ only one way: line 2 (always taken)
 status 0" "coverage of a jump that is always taken"
 verdict "$(sed -n '/^BR/p' "$folder/always.info" | tr '\n' ' ')" "BRDA:2,0,0,8 BRDA:2,0,1,0 BRF:2 BRH:1 " "LCOV's format of a jump that is always taken"
 
-# Counts of 6,000 cycles of the calculator with a key down, by \`cover\` and by \`step\` and \`regs\`.
+# The counts in 6,000 cycles of the calculator with a key down, by \`cover\` and by \`step\` and \`regs\`.
 ./mcs4 script $calculator/board.toml $calculator/calculator.asm > "$folder/script"
 {
     cat "$folder/script"
@@ -111,7 +111,7 @@ else
     echo "not run: genhtml (Debian's package lcov)"
 fi
 
-# A file for LCOV's format is written last, and takes the place of such a file alone; what was there before is as it was else.
+# The file in LCOV's format is written last, and replaces only such a file; any other file stays unchanged.
 stays() {
     cp "$1" "$folder/stayed"
     file=$1

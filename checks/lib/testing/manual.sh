@@ -1,4 +1,4 @@
-# What the manual shows of testing is what the tools print.
+# The manual shows about testing what the tools print.
 # shellcheck shell=sh
 
 . "$top/checks/lib/manual.sh"

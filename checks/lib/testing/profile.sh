@@ -1,4 +1,4 @@
-# mcs4 profile: where the cycles go, by hand.
+# mcs4 profile: where the cycles are spent, worked out manually.
 # shellcheck shell=sh
 
 make_count

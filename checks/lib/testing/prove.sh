@@ -1,4 +1,4 @@
-# mcs4 prove: verdicts, counterexamples that mcs4 test has to see fail, answers of provers that are wrong, and what ends it.
+# mcs4 prove: verdicts, counterexamples that mcs4 test must see fail, wrong provers, and interruptions.
 # shellcheck shell=sh disable=SC2034
 
 export MCS4_PROVE="${MCS4_PROVE:-$(. tools/lib/start.sh && find_prover && echo "$program")}"
@@ -6,14 +6,14 @@ if [ -z "$MCS4_PROVE" ]; then
     unset MCS4_PROVE
     echo "not run: mcs4 prove, in checks/testing (its program: tools/build mcs4_prove)"
 else
-    # Of the properties of a text, what is said of each. Those of every program begin with "no".
+    # Prints the remarks about the properties in a text. The properties that every program gets begin with "no".
     remarks() {
         sed -n '/ok [0-9]* - no /d; s/^\(not \)\{0,1\}ok .*# //p; /^status/p' "$@"
     }
     of_every_program() {
         sed -n 's/^\(not \)\{0,1\}ok [0-9]* - \(no .*\)/\1\2/p'
     }
-    # The die shows its six faces alone; two of three lines are proved.
+    # The die shows only its six faces; two of three lines are proved.
     verdict "$(outcome ./mcs4 prove examples/die.txt examples/die.txt examples/die.props | results)" "$(
         sed -n 's/^never \(not .*\)/ok 1 - never \1 # proved for all inputs (13 states)/p' examples/die.props)
 not ok 2 - never lamps none for 1 ms # TODO not decided: a property of the form \"never for\" cannot be proved yet
@@ -35,7 +35,7 @@ status 0" "all is proved"
     verdict "$(outcome ./mcs4 prove examples/die.txt examples/die.txt "$folder/faces.props" --most 12 | remarks)" \
         "TODO not decided: more than 12 states; --most allows more
 status 3" "one state too few"
-    # A face is wrong: the test that is printed fails, and only there.
+    # A face is wrong: the printed test fails, and fails only there.
     sed 's/DB 8, 1, 9, 3, 11, 7/DB 8, 1, 9, 2, 11, 7/' examples/die.txt > "$folder/wrong.txt"
     verdict "$(cmp -s examples/die.txt "$folder/wrong.txt" && echo the same)" "" "a program with a wrong face"
     verdict "$(outcome ./mcs4 prove "$folder/wrong.txt" "$folder/wrong.txt" "$folder/faces.props" > "$folder/out"; remarks "$folder/out")" \
@@ -63,7 +63,7 @@ status 3" "a key that is held for too long"
         "proved for all inputs (1 state)
 broken, 0 steps
 status 1" "an empty program"
-    # A program that makes each mistake behind another key, and a text without a property. mcs4 prove has mcs4 test confirm each test.
+    # A program that makes each mistake after another key, and a text without a property. mcs4 prove has mcs4 test confirm each test.
     cat > "$folder/wrong.toml" << 'END'
 # test: button WALK
 [[rom]]
@@ -115,7 +115,7 @@ not pc 0x2F0
 not @fourth
 not @here
 status 1" "mistakes"
-    # Provers that are wrong: a way that is none, words that are none, and one that does not end.
+    # Wrong provers: one with an invalid counterexample, one with invalid output, and one that does not end.
     prover_that() {
         printf '#!/bin/sh\ncat > /dev/null\n%s\n' "$1" > "$folder/prover"
         chmod +x "$folder/prover"

@@ -1,4 +1,4 @@
-# Sessions that are counted: with breakpoints and watches, within an instruction, that may not be written; a program that ends.
+# Counting over sessions: with breakpoints and watches, within an instruction, read-only; and a program that ends.
 # shellcheck shell=sh
 
 # FIM, SRC, LDM, XCH, LD, WMP are 7 cycles, JMS and FIM 4 more: 011 is in the middle of the first ISZ R3, which has jumped.
@@ -21,7 +21,7 @@ label             at          own  own %     calls with calls    longest
 x                 002           7   77.8
 y                 000           2   22.2
 status 0" "the cycles of a test that ends within an instruction"
-# Calls that leave the return addresses as they are count, too. The oldest of the three that are open was entered at 6.
+# Calls that leave the return addresses unchanged count, too. The oldest of the three open calls was entered at 6.
 printf 'here: JMS here\n' > "$folder/odd.asm"
 verdict "$(outcome ./mcs4 profile $three/board.toml "$folder/odd.asm" "$folder/odd.test" | sed -n '4p; $p')" "here              000           9  100.0         5          3          3
 status 0" "calls that change no return address"
@@ -34,7 +34,7 @@ for words in "cover --session SESSION 5000 $three/three_lamps.asm" "profile --se
     behind=${words#*SESSION}
     verdict "$(outcome ./mcs4 $before"$folder/stopped.mcs"$behind)" "$(outcome ./mcs4 $before"$folder/free.mcs"$behind)" "a session with breakpoints and watches: $words"
 done
-# One that may not be written is read all the same.
+# A read-only session is read all the same.
 chmod 755 "$whole" "$folder"
 mkdir -m 777 "$folder/anyone"
 chmod 444 "$folder/stopped.mcs"

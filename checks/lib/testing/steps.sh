@@ -1,8 +1,8 @@
-# What is done more than once, shared steps, keys that values name, the label that was passed last.
+# Repeated lines, shared steps, keys chosen by values, the label that was passed last.
 # shellcheck shell=sh
 
-# Each lamp is lit for 538 cycles. From there on the turns of the wait begin after 4, 6, 8, 10 and 14, the last one after 520, the JCN to
-# `first` after 532; before a lamp is lit, `first` begins 4 cycles. From power-on `first` is passed after 3, `next` after 5.
+# Each lamp is on for 538 cycles. From there on the turns of the wait begin after 4, 6, 8, 10 and 14, the last one after 520, the JCN to `first`
+# after 532. `first` begins 4 cycles before a lamp is on. From power-on, `first` is passed after 3 cycles, `next` after 5.
 cat > "$folder/shared.test" <<'end_of_tests'
 steps begin
     until lamps right within 7
@@ -82,7 +82,7 @@ not ok 8 - not in this test
   at: \"$folder/shared.test:53\"
 status 1" "what is done more than once"
 
-# Keys that values name: RAM that the lock does not use holds them; its code is 4711.
+# Keys chosen by values: RAM that the lock does not use has the values; its code is 4711.
 cat > "$folder/chosen.test" <<'end_of_tests'
 steps ready
     run 100 ms

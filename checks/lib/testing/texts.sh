@@ -1,4 +1,4 @@
-# Several texts, pipes, comments behind a line, microseconds, lamps beside a display.
+# Several texts, pipes, comments after a line, microseconds, lamps next to a display.
 # shellcheck shell=sh
 
 # A state belongs to its text.
@@ -14,7 +14,7 @@ status 0" "two texts that save a state of one name"
 printf 'test e\n from begun\n' > "$folder/third.test"
 refuses 1 "test: $folder/third.test:2: no earlier test saves a state begun" ./mcs4 test $lock/board.toml $lock/lock.asm "$folder/first.test" "$folder/third.test"
 
-# A test whose state was not saved fails, also where it is the last one.
+# A test whose state was not saved fails, even if it is the last one.
 printf 'test a\n expect acc 1\n save begun\ntest b\n from begun\n' > "$folder/unsaved.test"
 verdict "$(outcome ./mcs4 test $lock/board.toml $lock/lock.asm "$folder/unsaved.test" | results)" "not ok 1 - a
   message: \"acc is 0, but must be 1\"
@@ -23,12 +23,12 @@ not ok 2 - b
   message: \"the state begun is missing, because the test \`a\` did not reach its \`save\`\"
   at: \"$folder/unsaved.test:5\"
 status 1" "a state that was not saved"
-# A text that is not UTF-8 is read as Latin 1, and shown in UTF-8.
+# A text that is not UTF-8 is read as Latin 1, and printed in UTF-8.
 printf 'loop: JUN loop ; \344\n' > "$folder/latin.asm"
 verdict "$(outcome ./mcs4 cover $lock/board.toml "$folder/latin.asm" "$folder/unsaved.test" | sed -n 's/.*loop:/loop:/p')" \
     "loop: JUN loop ; $(printf '\303\244')" "a program in Latin 1"
 
-# Shared steps of one text are known in those after it; where one of them fails, its text and line are reported, and who does them.
+# The shared steps of a text are known in later texts. If one of them fails, its text and line are reported, and the line that runs the steps.
 printf 'steps opened\n expect lamps open\nsteps enter # the code\n keys 4711#\n do opened\n' > "$folder/steps.test"
 printf 'test it opens\n run 100 ms\n do enter\ntest it does not\n run 100 ms\n keys 3\n do enter\n' > "$folder/opens.test"
 verdict "$(outcome ./mcs4 test $lock/board.toml $lock/lock.asm "$folder/steps.test" "$folder/opens.test" | results)" "ok 1 - it opens
@@ -48,7 +48,7 @@ refuses 1 "test: $folder/again.test:1: the steps opened are already at $folder/s
 test: $folder/again.test:3: the steps enter are already at $folder/steps.test:3" \
     ./mcs4 test $lock/board.toml $lock/lock.asm "$folder/steps.test" "$folder/again.test" "$folder/opens.test"
 
-# Pipes, and standard input, where a text is read.
+# Pipes and standard input in place of texts.
 mkfifo "$folder/board.pipe" "$folder/test.pipe"
 cat $lock/board.toml > "$folder/board.pipe" &
 cat "$folder/first.test" > "$folder/test.pipe" &
@@ -69,7 +69,7 @@ verdict "$(outcome ./mcs4 test $lock/board.toml $lock/lock.asm "$folder/test.pip
 status 1" "a fault in a pipe"
 refuses 1 "test: - is empty" ./mcs4 test $lock/board.toml - "$folder/first.test"
 
-# With a display, its lamps do not matter where lamps are named, but for those that have a name.
+# If a board has a display, its lamps do not matter in patterns of lamps, unless they have a name.
 cat > "$folder/display.toml" <<'board'
 # lamp 0: first
 # lamp 5: go

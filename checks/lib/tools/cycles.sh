@@ -6,7 +6,7 @@ make_source
 printf 'run 1\nregs\nstep\nseq\nstate\nrun 1\nrun 2\nreset\nregs\nrun 5\npoke pc 0x100\nrun 100\nregs\n' > "$folder/runs.txt"
 cp "$folder/source.mcs" "$folder/ran.mcs"
 goes_on ran < "$folder/runs.txt"
-# LDM, JUN, XCH and two IAC are six cycles; ROM 1 is not there, and reads as NOP.
+# LDM, JUN, XCH and two IAC are six cycles; ROM 1 is missing, and reads as NOP.
 verdict "$(outcome ./mcs4 cycles --source "$folder/source.asm" "$folder/ran.mcs" < "$folder/answers")" \
     "1 cycle, 10.8 microseconds, to 001 (alone), line 3: JUN on
 2 cycles, 21.6 microseconds, to 003 (on), line 5: on: XCH R2

@@ -1,4 +1,4 @@
-# What the environment has by the names of a tool's own variables changes nothing, and no file of the user is written or removed by it.
+# Variables of the environment with the names of a tool's variables have no effect, and let no file of the user be written or removed.
 # shellcheck shell=sh
 
 begins session < $calculator/quotient.txt
@@ -7,18 +7,18 @@ cp $lock/lock.asm $lock/board.toml "$folder"
 house=$folder/house
 mkdir "$house"
 echo "my rooms" > "$house/room"
-# All names of variables in the tools, but those that a shell keeps to itself, and what tools and checks take from their callers.
+# The names of all variables in the tools, except those of the shell, and those that tools and checks accept from their callers.
 cat mcs4 tools/* tools/lib/*.sh js/node/*.mjs js/node/commands/*.mjs 2> /dev/null | grep -oE '\$\{?[a-z_]+|ENVIRON\["[a-z_]+|env\.[a-z_]+|(^|[ ;{(])[a-z_]+=' |
     sed 's/.*[^a-z_]\([a-z_]\{1,\}\)=$/\1/; s/=$//; s/^\$//; s/^{//; s/^ENVIRON\["//; s/^env\.//; s/^[ ;{(]//' |
     LC_ALL=C sort -u | grep -vxE 'mcs|_' > "$folder/all_names"
 verdict "$(grep -cxE 'built|fault|folder|program|remembered|top' "$folder/all_names")" 6 "names of variables"
-# A command with these in its environment.
+# Runs a command with these variables in its environment.
 runs() {
     # shellcheck disable=SC2086
     outcome env $assignments "$@"
 }
 
-# Commands that fail, and commands that do not.
+# Commands that fail, and commands that succeed.
 commands_of_tools() {
     runs ./mcs4 back none.mcs
     runs ./mcs4 project split none.mcsp "$folder/none"

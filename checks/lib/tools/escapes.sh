@@ -1,10 +1,10 @@
-# Control characters in the texts and names of others reach no terminal: they are shown as `\x1B`.
+# Control characters in the texts and names of others never reach a terminal: they are printed as `\x1B`.
 # shellcheck shell=sh
 
 esc=$(printf '\033')
 odd="${esc}]0;PWNED$(printf '\007')${esc}[2J$(printf '\302\233')31m$(printf '\177')"
 shown='\x1B'
-# What a command writes to a pseudo-terminal at standard output and standard error.
+# Prints what a command writes to a pseudo-terminal by standard output and standard error.
 cat > "$folder/terminal.py" <<'program'
 import os, pty, subprocess, sys
 own, end = pty.openpty()
@@ -21,7 +21,7 @@ child.wait()
 sys.stdout.buffer.write(output.replace(b"\r\n", b"\n"))
 program
 
-# Each place where a stranger's text has them: comments, a title, the name of a key, a test, labels, names of files.
+# Each place where another person's text can have them: comments, a title, the name of a key, a test, labels, names of files.
 mkdir "$folder/$odd"
 { printf '# title: %s\n' "$odd" && sed "s/^# row 0: 1 /# row 0: 1$odd /; s/^# lamp 0: locked/&$odd/" $lock/board.toml; } > "$folder/board.toml"
 sed "s/^        JUN start/        JUN start ; $odd/" $lock/lock.asm > "$folder/lock.asm"
@@ -39,7 +39,7 @@ sed "s/^name .*/name $odd/" examples/a_fault_to_find.mcsp > "$folder/odd.mcsp"
     printf 'fethsaim project 1\ncksum %s\n' "$(cksum < "$folder/rest" | cut -d ' ' -f 1)"
     cat "$folder/rest"
 } > "$folder/named.mcsp"
-# The status, whether the terminal shows the odd text, and the command.
+# The status, whether the terminal shows the escaped text, and the command.
 cat > "$folder/commands" <<commands
 1 y test $folder/board.toml $folder/lock.asm $folder/odd.test
 0 n test $folder/board.toml $folder/lock.asm $folder/good.test
@@ -81,7 +81,7 @@ while read -r wanted is_shown words; do
     ./mcs4 $words < "$answers" > "$folder/output" 2> "$folder/errors" || status=$?
     verdict "$status; $(LC_ALL=C grep -ac "$raw" "$folder/errors")" "$wanted; 0" "standard error of $words"
     case $tool in
-    # The bytes are those of a text that others read.
+    # Output for other programs has the original bytes.
     import | listing) if [ "$wanted" -eq 0 ]; then verdict "$(LC_ALL=C grep -acF "$odd" "$folder/output")" 1 "a file of $words"; fi ;;
     *) verdict "$(LC_ALL=C grep -ac "$raw" "$folder/output")" 0 "standard output of $words" ;;
     esac
@@ -93,7 +93,7 @@ while read -r wanted is_shown words; do
     if LC_ALL=C grep -qaF "$shown" "$folder/terminal"; then is=y; else is=n; fi
     verdict "$is, $(LC_ALL=C grep -ac "$raw" "$folder/terminal") raw" "$is_shown, 0 raw" "a terminal with $words"
 done < "$folder/commands"
-# The odd text is there at the terminal, where nothing shows it otherwise.
+# `cat` prints the text unescaped, so this test would find raw characters.
 if command -v python3 > /dev/null; then
     verdict "$(python3 "$folder/terminal.py" cat "$folder/bogus" | LC_ALL=C grep -ac "$raw")" 1 "a terminal with cat"
 fi

@@ -1,7 +1,7 @@
-# The scripts of the examples have their answers; the calculator shows what is right. (checks/calculator presses seeded chains.)
+# The scripts of the examples have the right answers, and the calculator shows the right numbers. (checks/calculator presses random chains.)
 # shellcheck shell=sh
 
-# Keys, and what the calculator shows after them.
+# Presses keys, and checks what the calculator shows after them.
 calculates() {
     verdict "$(outcome examples/calculator/run "$1")" "$2
 status 0" "keys $1"
@@ -24,7 +24,7 @@ done
 
 board=$calculator/board.toml
 
-# Keys of the calculator, and what it shows; a session that is left and taken up again.
+# Keys of the calculator and what it shows; a session that is closed and continued.
 calculates "12*30=" 360
 calculates "22/7=" 3.1428571
 calculates "1 2 + 3 0 =" 42
@@ -48,7 +48,7 @@ verdict "$(./mcs4 keys "$board" '*7=' | "$mcs4" open "$folder/session.mcs" | ./m
 refuses 1 "script: $top/$board has no key x" examples/calculator/run "12x"
 refuses 2 "usage: run KEYS" examples/calculator/run
 
-# The calculator's `run` with a fault in its program, on a copy: it is reported, and nothing is run.
+# The calculator's `run` with an error in its program, on a copy: the error is reported, and nothing is run.
 mkdir "$folder/copy" "$folder/copy/examples"
 ln -s "$top/mcs4" "$folder/copy/mcs4"
 cp -R examples/calculator "$folder/copy/examples"

@@ -1,4 +1,4 @@
-# The board that the faces of checks/faces are of, by which js/test/face.test.js tries them.
+# The board of the front panels in checks/faces, with which js/test/face.test.js tests them.
 # shellcheck shell=sh
 
 {

@@ -1,9 +1,9 @@
-# What tools do with files: no room for temporary ones, files that are none of theirs, sessions in use, and what is left after Ctrl-C.
+# How tools handle files: no space for temporary files, wrong files, sessions in use, and what remains after Ctrl-C.
 # shellcheck shell=sh
 
 begins session < $calculator/quotient.txt
 
-# A folder for temporary files that is full is reported as such.
+# A full folder for temporary files is reported.
 small=$folder/small
 mkdir "$small"
 if mount -t tmpfs -o size=64k tmpfs "$small" 2> /dev/null; then
@@ -14,14 +14,14 @@ if mount -t tmpfs -o size=64k tmpfs "$small" 2> /dev/null; then
         verdict "$(TMPDIR=$small outcome ./mcs4 $words | tail -n 2)" "${words%% *}: $small has no room for temporary files; make some, or name another place: TMPDIR
 status 1" "no room for the temporary files of $words"
     done
-    # A process that was started may end a moment later.
+    # A process that was started can end a moment later.
     for turn in 1 2 3 4 5 6 7 8 9 10; do if umount "$small" 2> /dev/null; then break; fi; sleep 0.5; done
 else
     echo "not run: a full folder for temporary files (a file system cannot be mounted here)"
 fi
 
-# Files that are none of a command's: empty, a folder, absent, 100 MB, a link to itself, a name that no file can have; and a program that refuses
-# the session.
+# Wrong files for a command: empty, a folder, missing, 100 MB, a link to itself, a name that no file can have. And a program that rejects the
+# session.
 : > "$folder/empty"
 ln -s loop "$folder/loop"
 longest=$(printf '%256s' | tr ' ' x)
@@ -77,12 +77,12 @@ refuses 1 "cycles: cannot read -: it has more than 67108864 bytes" ./mcs4 cycles
 printf '#!/bin/sh\necho "no 53"\necho "mcs4: s.mcs: in use by another program" >&2\nexit 3\n' > "$folder/refusing"
 chmod +x "$folder/refusing"
 for words in "resume $folder/two.txt $folder/session.mcs" "trace $folder/session.mcs 1"; do
-    # It opens a copy, and does not print what the program says of that.
+    # The command opens a copy, and does not print the program's message about that.
     verdict "$(MCS4=$folder/refusing outcome ./mcs4 $words)" "${words%% *}: the session $folder/session.mcs was rejected: no 53: the device failed, or the host rejected the file: does it exist, is it writable, is it in use?
 status 1" "a session in use: $words"
 done
 
-# A session that another program has in use: resume reports it as a fault of its own, and answers nothing.
+# A session that another program has open: resume reports that itself, and answers nothing.
 echo reset | begins held
 if command -v flock > /dev/null; then
     verdict "$(outcome flock "$folder/held.mcs" ./mcs4 resume "$folder/two.txt" "$folder/held.mcs")" \
@@ -94,21 +94,21 @@ verdict "$(outcome ./mcs4 resume "$folder/two.txt" "$folder/held.mcs")" "session
 seq 1
 status 0" "a session that is in use no more"
 
-# Ctrl-C ends a tool as shells report it, with nothing left behind.
+# Ctrl-C ends a tool with the status that shells use, and nothing is left behind.
 awk 'BEGIN { print "test long"; for (i = 0; i < 400; i++) print " run 5 s" }' > "$folder/long.test"
 mkdir "$folder/interrupted"
 for each in INT:130 TERM:143 HUP:129; do
     TMPDIR=$folder/interrupted setsid env --default-signal=INT,TERM,HUP ./mcs4 test $lock/board.toml $lock/lock.asm "$folder/long.test" > "$folder/answers" 2>&1 &
     child=$!
     until ls "$folder/interrupted"/*/1.mcs > /dev/null 2>&1 || ! kill -0 "$child" 2> /dev/null; do sleep 0.05; done
-    # As a terminal does, to all of its group.
+    # As a terminal does it: to the whole process group.
     kill -s "${each%:*}" -- "-$child"
     status=0
     wait "$child" || status=$?
     verdict "$status, $(ls "$folder/interrupted" | wc -l | tr -d ' ') left" "${each#*:}, 0 left" "a tool that gets SIG${each%:*}"
 done
 
-# So does a signal at any moment of its start: the shell that starts the program gets it, too.
+# A signal at any moment of the start has the same effect: the shell that starts the program gets it, too.
 for wait in 60 70 80 90 100 105 110 115 120 125 130 135 140 150 160 170 180 200 220 240; do
     for each in INT:130 TERM:143 HUP:129; do
         TMPDIR=$folder/interrupted setsid env --default-signal=INT,TERM,HUP timeout --foreground -s KILL 20 \
@@ -127,12 +127,13 @@ for wait in 60 70 80 90 100 105 110 115 120 125 130 135 140 150 160 170 180 200 
 done > "$folder/started"
 verdict "$(cat "$folder/started")" "" "signals to a tool that starts"
 
-# TERM to a tool alone ends it at once, with all that it has started: one that runs tests, one that serves a script, one that waits for input.
+# SIGTERM to a tool alone ends it at once, with all processes that it has started: a tool that runs tests, one that serves a script, one that
+# waits for input.
 awk 'BEGIN { print "test longer\nrepeat 100000\nrun 100000\nend" }' > "$folder/longer.test"
 { cat $calculator/quotient.txt && awk 'BEGIN { for (i = 0; i < 300000; i++) print "run 100000" }'; } > "$folder/longer.txt"
 mkfifo "$folder/silent"
 begins session < $calculator/quotient.txt
-# The processes that have this folder for temporary files.
+# Prints the processes that use this folder for temporary files.
 started_here() {
     grep -lzsx "TMPDIR=$folder/interrupted" /proc/[0-9]*/environ | wc -l | tr -d ' '
 }
@@ -141,12 +142,12 @@ for words in "1.mcs test $lock/board.toml $lock/lock.asm $folder/longer.test" \
     begun=${words%% *}
     words=${words#* }
     TMPDIR=$folder/interrupted setsid env --default-signal=TERM timeout 60 ./mcs4 $words <> "$folder/silent" > "$folder/answers" 2>&1 &
-    # While it waits for input it has made nothing yet, but opened its board.
+    # While it waits for input, it has created nothing yet, but opened its board.
     case $begun in
     -) sleep 2 ;;
     *) until ls "$folder/interrupted"/*/"$begun" > /dev/null 2>&1 || ! kill -0 "$!" 2> /dev/null; do sleep 0.05; done ;;
     esac
-    # The tool itself is the one that the limit has started.
+    # The tool itself is the process that `timeout` has started.
     tool=$(sed 's/ .*//' "/proc/$!/task/$!/children")
     kill -s TERM "$tool"
     status=0

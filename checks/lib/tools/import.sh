@@ -1,7 +1,7 @@
 # mcs4 import: programs in the spelling of Intel and of AS.
 # shellcheck shell=sh
 
-# The ROM that a program makes.
+# Prints the ROM contents of a program.
 rom_of() {
     rm -f "$folder/import.mcs"
     { roms 16 && echo asm && LC_ALL=C sed 's/;.*//; s/[ \t]*$//' "$1" && echo . && ./mcs4 rom ask 0 4096; } | "$mcs4" new "$folder/import.mcs" | sed 1,3d
@@ -71,8 +71,8 @@ status 0" "a program that is imported"
 verdict "$(./mcs4 import - < "$folder/intel.src")" "$(cat "$folder/imported")" "a program that is imported from standard input"
 verdict "$(outcome ./mcs4 import "$folder/imported" | sed 's/ *;.*//' | tr -d ' ' | sed '/^$/d')" "$(sed 's/ *;.*//' "$folder/imported" | tr -d ' ' | sed '/^$/d; s/,12,/,12,/')
 status0" "what was imported, imported once more"
-# Bytes that were assembled by hand: a loop that clears a RAM register, one that adds two numbers of sixteen decimal digits, and the AND of
-# two registers, as they are written in the field since the first manuals.
+# Bytes that were assembled manually: a loop that clears a RAM register, one that adds two numbers of sixteen decimal digits, and the AND of two
+# registers, in the classic forms of the first manuals.
 cat > "$folder/clear.src" <<'source'
 / CLEAR RAM REGISTER 0 OF CHIP 0
        FIM 0P, 0       / SRC ADDRESS
@@ -115,7 +115,7 @@ bytes
 ./mcs4 import "$folder/clear.src" > "$folder/clear.asm"
 verdict "$(rom_of "$folder/clear.asm" | awk '{ print $2; if (substr($0, 8, 1) != " ") print $3 }' | head -n 39 | tr '\n' ' ')" "$(tr '\n' ' ' < "$folder/clear.bytes")" "programs as Intel writes them, by hand"
 verdict "$(sed -n 's/.*; //p' "$folder/clear.asm" | grep -v '^AND-2')" "$(sed -n 's/.*\/ //p' "$folder/clear.src")" "their comments are kept"
-# The examples, in Intel's spelling, make the bytes that they make in ours.
+# The examples in Intel's spelling have the same bytes as in the bench's spelling.
 for example in examples/*/*.asm; do
     sed 's/;/ \//; t spelled; :spelled
         s/^\([A-Za-z_][A-Za-z0-9_]*\) *= *0x\([0-9A-Fa-f]*\)/\1 EQU 0\2H/; s/^\([A-Za-z_][A-Za-z0-9_]*\) *= */\1 EQU /; s/^\([A-Za-z_][A-Za-z0-9_]*\):/\1,/
@@ -126,7 +126,7 @@ for example in examples/*/*.asm; do
     verdict "$(rom_of "$folder/example.asm" | cksum)" "$(rom_of "$example" | cksum)" "the bytes of $example in Intel's spelling"
     verdict "$(grep -c , "$folder/example.src" | awk '{ print ($1 > 3) }')" 1 "$example is spelled otherwise there"
 done
-# The other tools hint at the spelling, where a line is in one of these.
+# The other tools give a hint if a line has one of these spellings.
 while IFS='|' read -r line words; do
     echo "$line" > "$folder/spelled.asm"
     refuses 1 "listing: $folder/spelled.asm: line 1: no 30: $words
@@ -140,7 +140,7 @@ LOOP, NOP|LOOP is not an instruction; mcs4 import takes programs in Intel's and 
  NOP / none|NOP takes no operand; mcs4 import takes programs in Intel's and AS's spelling
  JMP 4|JMP is not an instruction; JUN?
 lines
-# What it cannot take is reported by line, and nothing is printed.
+# Unsupported lines are reported, and nothing is printed.
 cat > "$folder/bad.src" <<'source'
        JMP START
 X      EQU Y
@@ -185,7 +185,7 @@ printf ' NOP\n JCN AZ, FAR / too far\n ORG 300H\nFAR, NOP\n' > "$folder/far.src"
 refuses 1 "import: $folder/far.src: line 2: no 34: an address on another page; JCN and ISZ reach the page of the address after their two words
 import:      JCN AZ, FAR / too far" ./mcs4 import "$folder/far.src"
 refuses 1 "import: cannot read none.src: there is no such file" ./mcs4 import none.src
-# A line that no assembler would take, and brackets that are too deep, are refused at once.
+# A line that no assembler would accept, and too deeply nested brackets, are rejected at once.
 awk 'BEGIN { printf " LDM 1"; for (i = 0; i < 300000; i++) printf "+1"; print "" }' > "$folder/long.src"
 awk 'BEGIN { printf " LDM 1 ; "; for (i = 0; i < 300000; i++) printf "+1"; print "" }' > "$folder/remark.src"
 awk 'BEGIN { printf " LDM "; for (i = 0; i < 400; i++) printf "("; printf "1"; for (i = 0; i < 400; i++) printf ")"; print "" }' > "$folder/deep.src"
@@ -212,13 +212,13 @@ import: $folder/blank.src:1: the line has more than 1024 bytes before its commen
 status 1
  ; so far
 status 0" "long lines, and deep brackets"
-# Names and lines that are many take no longer than in proportion: names whose first 16 letters are the same, 1 MiB of short lines.
+# The time grows only linearly with many names and lines: names whose first 16 letters are the same, 1 MiB of short lines.
 awk 'BEGIN { for (i = 0; i < 400; i++) printf "SAME_FIRST_LETTERS_%d EQU %d\n", i, i % 16 }' > "$folder/names.src"
 awk 'BEGIN { for (i = 0; i < 40000; i++) print "LABEL" i " EQU (1+2)*3" }' > "$folder/lines.src"
 for many in names lines; do
     verdict "$(timeout 30 ./mcs4 import "$folder/$many.src" 2>&1 | sed "s/:.*//; 1q")" "$(case $many in names) echo 'SAME_FIRST_LETTE = 0' ;; *) echo import ;; esac)" "many $many"
 done
-# A character that is not of ASCII is no byte of the program; in comments bytes stay as they are.
+# A non-ASCII character is never a byte of the program; comments keep their bytes.
 printf " DB 'a\\344b' ; a\\344b\n" > "$folder/byte.src"
 refuses 1 "import: $folder/byte.src:1: 'a$(printf '\303\244')b' has a character that is not ASCII" ./mcs4 import "$folder/byte.src"
 printf " NOP ; a\\344b\n" > "$folder/byte.src"

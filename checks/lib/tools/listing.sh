@@ -1,7 +1,7 @@
 # mcs4 listing.
 # shellcheck shell=sh
 
-# Assembled by hand: CRLF, labels alone and at ORG, a name used before its line, DB over several lines.
+# Assembled manually: CRLF, labels alone and at ORG, a name that is used before its definition, DB over several lines.
 cat > "$folder/program.asm" <<'program'
 five = 5                ; a number
 start:  LDM five

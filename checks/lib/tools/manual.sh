@@ -1,4 +1,4 @@
-# What the manual shows of lines and of the workbench is what the program and the tools print.
+# The manual shows about lines and about the workbench what the program and the tools print.
 # shellcheck shell=sh
 
 . "$top/checks/lib/manual.sh"
@@ -6,7 +6,7 @@ as_shown "Lines" 3
 rm -rf "$folder/manual"
 as_shown "The workbench" 12
 
-# What stands twice stands alike: lines in the table and in the manual.
+# Texts that occur twice are equal: lines in the table and in the manual.
 verdict "$(awk -F ' [|] ' '
     /^### / { inside = /^### (Commands|Queries)$/ }
     inside && /^[|] `/ {

@@ -1,6 +1,6 @@
-# Where no native program is for the system, commands that keep no session file run on the proved module: they print what they print by the
-# native program, byte for byte. The others say why they cannot. The machine is another one by a `uname` of its own, on a copy of the tree
-# without any program.
+# If no native program is for the system, commands without a session file run on the proved module, with the same output as by the native program,
+# byte for byte. The other commands report why they cannot run. A fake `uname` makes a copy of the tree, without any program, believe that it is
+# on another machine.
 # shellcheck shell=sh
 
 other=$folder/other
@@ -9,19 +9,19 @@ cp -RL mcs4 js examples "$other/tree"
 cp -RL tools/lib "$other/tree/tools"
 cp page/fethsaim.html "$other/tree/page"
 cp -RL shipped/commands "$other/tree/shipped"
-# What is installed is not writable, and neither are its copies.
+# An installation is not writable, and neither are copies of it.
 chmod -R u+w "$other/tree"
 printf '#!/bin/sh\ncase ${1-} in -s) echo Darwin ;; *) echo arm64 ;; esac\n' > "$other/bin/uname"
 chmod +x "$other/bin/uname"
 mkdir -m 700 "$other/cache"
 why="it is for Linux on x86-64, and this is Darwin on arm64"
 
-# A command on the other machine: its words behind `mcs4`.
+# Runs mcs4 with these arguments on the other machine.
 elsewhere() {
     env -u MCS4 -u MCS4_PROVE PATH="$other/bin:$PATH" XDG_CACHE_HOME="$other/cache" "$other/tree/mcs4" "$@"
 }
 
-# Compares output, errors and status of a command on both, which run at a time; standard input is a file.
+# Compares output, errors and status of a command on both, which run at the same time; standard input is a file.
 same_on_module() {
     input=$1
     shift
@@ -31,7 +31,7 @@ same_on_module() {
     verdict_of_files "$folder/by_module" "$folder/native" "on the module: mcs4 $*"
 }
 
-# It is said once, by a command that needs a session.
+# The message appears once, by a command that needs a session.
 verdict "$(outcome elsewhere listing $lock/lock.asm | sed -n '/^mcs4: /p; $p')" \
     "mcs4: commands run on the proved module, more slowly, because the native program is not started: $why. This message appears once
 status 0" "what is said of the module"
@@ -62,7 +62,7 @@ for text in examples/*.txt; do
     same_on_module /dev/null trace "$folder/$name.mcs" 600
     same_on_module /dev/null wave "$folder/$name.mcs" 3000
     same_on_module "$folder/answers" explain "$text"
-    # Its board and its program, as the texts of tests.
+    # A session's board and program, as the texts of tests.
     awk -v folder="$folder" '/^wire$/ { to = folder "/board.toml"; printf "" > to; next } /^asm$/ { to = folder "/program.asm"; printf "" > to; next }
         /^\.$/ { to = "" } to != "" { print > to }' "$text"
     if [ -f "examples/$name.test" ]; then
@@ -92,7 +92,7 @@ same_on_module /dev/null test $lock/board.toml $lock/lock.asm "$folder/fails.tes
 head -c 9000 "$folder/session.mcs" > "$folder/cut.mcs"
 same_on_module /dev/null trace "$folder/cut.mcs" 10
 same_on_module /dev/null trace "$folder/none.mcs" 10
-# The session in a project is made by commands or by a snapshot: its bytes are others, and it is the same session.
+# The session in a project is made by commands or by a snapshot: the bytes differ, but the session is the same.
 cp -R $three "$folder/texts"
 for host in ./mcs4 elsewhere; do
     verdict "$(outcome $host project join "$folder/texts" "$folder/${host##*/}.mcsp")" "status 0" "$host: a project"
@@ -103,14 +103,14 @@ done
 verdict_of_files "$folder/elsewhere.state" "$folder/mcs4.state" "the session of a project that the module has put together"
 verdict "$(diff -r "$folder/elsewhere.split" "$folder/mcs4.split")" "" "the texts of a project that the module has put together"
 
-# --- proofs, of which some are cut off
+# --- proofs, some of which are stopped early
 
 for example in pictures three_lamps lock; do same_on_module /dev/null prove -C examples/$example --most 3000; done
 printf 'press A\nnever lamp open on\nreach lamp open on\n' > "$folder/opens.props"
 sed 's/^press A$/press 4\npress 7\npress 1\npress #/' "$folder/opens.props" > "$folder/found.props"
 same_on_module /dev/null prove $lock/board.toml $lock/lock.asm "$folder/found.props" --most 100000
 
-# --- what cannot be there
+# --- what does not work there
 
 keeps="only the native program keeps a session file, and it is not started: $why. Commands that keep none run here"
 for words in "new $folder/new.mcs" "open $folder/session.mcs"; do

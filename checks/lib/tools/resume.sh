@@ -1,7 +1,7 @@
 # mcs4 resume.
 # shellcheck shell=sh
 
-# A script that ends early is taken up again; after each of its lines, the rest leads to the same state. And one that is killed.
+# A script that ends early is continued. After each of its lines, the rest leads to the same state. Also a script that is killed.
 cat > "$folder/resume.txt" <<'script'
 regs
 wire
@@ -52,7 +52,7 @@ refuses 2 "resume: SESSION is missing
 usage: mcs4 resume SCRIPT SESSION" ./mcs4 resume "$folder/resume.txt"
 rm "$folder/cut.mcs"
 awk 'BEGIN { for (i = 0; i < 400; i++) print "poke r" i % 16 " " int(i / 16) % 16 "\nrun 100000"; print "regs" }' > "$folder/long.txt"
-# Emptied here, since the program's own shell may empty it later than it is looked at.
+# Emptied here, because the program's own shell can empty it too late for this check.
 : > "$folder/answers"
 "$mcs4" new "$folder/cut.mcs" < "$folder/long.txt" > "$folder/answers" &
 child=$!
@@ -65,7 +65,7 @@ verdict "$(./mcs4 resume "$folder/long.txt" "$folder/cut.mcs" | tail -n 1)" \
     "acc 0 cy 0 pc A00 owed 0 dcl 0 test 1 r 8888888888888888 ret 000 000 000" "a script that was killed"
 verdict "$(echo seq | "$mcs4" open "$folder/cut.mcs" | tail -n 1)" "seq 800" "the commands of a script that was killed"
 
-# A session by other lines than the script's first ones: what differs is reported, and nothing is sent.
+# A session that did not begin with the script: the difference is reported, and nothing is sent.
 differs() {
     printf "$1" > "$folder/script"
     printf "$2" | begins other
@@ -87,14 +87,14 @@ differs "${keyed}poke acc 8\nrun 2\npoke acc 0\nreset\n" "${keyed}poke acc 4\nru
 differs "${keyed}poke acc 2\nrun 4\npoke acc 3\npoke acc 3\npoke acc 3\nreset\n" "${keyed}poke acc 1\nrun 2\npoke acc 3\npoke pc 3\nstep\n" \
     "< chains 0000000000
 > chains 1000000000" chains
-# The bytes of the script are sent as they are: of two carriage returns the bench drops one.
+# The bytes of the script are sent unchanged: the bench drops one of two carriage returns.
 printf 'poke r1 1\r\npoke r2 2\r\r\npoke r3 3\n' > "$folder/script"
 printf 'poke r1 1\n' | begins other
 verdict "$(outcome ./mcs4 resume "$folder/script" "$folder/other.mcs")" "session 1
 no 14
 ok 2
 status 0" "a script with a carriage return too many"
-# A listing ends after address FFF, whatever is asked for.
+# A listing ends after address FFF, however much is requested.
 printf 'wire\nrom = [{ chip = 15, port = "0000" }]\n.\npoke rom.0xFFE 0x40\nlist 0xFFE 4\nlist 0xFFF 1\npoke r1 1\npoke r99 1\n' > "$folder/script"
 begins other < "$folder/script"
 verdict "$(outcome ./mcs4 resume "$folder/script" "$folder/other.mcs")" "session 3

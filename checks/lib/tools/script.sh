@@ -1,4 +1,4 @@
-# mcs4 script: what it prints of the calculator, and what it refuses.
+# mcs4 script: its output for the calculator, and its errors.
 # shellcheck shell=sh
 
 board=$calculator/board.toml
