@@ -1,5 +1,5 @@
-"""Browsers that are driven through a driver of their own by the protocol over HTTP (WebDriver): Chromium by chromedriver, and WebKit, the
-engine of Safari and of all browsers of an iPhone, by WebKitWebDriver. Nothing but Python's library is needed."""
+"""Drives browsers by WebDriver, the protocol over HTTP, with Python's library only: Chromium by chromedriver, and WebKit, the engine of Safari
+and of all browsers on an iPhone, by WebKitWebDriver."""
 
 import base64
 import glob
@@ -16,14 +16,14 @@ from driven import BEFORE_SCRIPTS, ELEMENT, Driven, Fault
 
 
 def free_port():
-    """Returns a port that nothing listens at; drivers that are asked to choose one do not all say which."""
+    """Returns a free port. (Drivers that choose a port themselves do not all report it.)"""
     with socket.socket() as line:
         line.bind(("127.0.0.1", 0))
         return line.getsockname()[1]
 
 
 class WebDriver(Driven):
-    """A browser behind `self.root`, the address of its driver, and `self.session`, its session's path there."""
+    """A browser: `self.root` is the address of its driver, and `self.session` the path of its session there."""
 
     def _ask(self, method, path, body=None):
         data = None if body is None else json.dumps(body).encode()
@@ -73,7 +73,7 @@ class WebDriver(Driven):
         return self.do("GET", "/window")
 
     def new_tab(self):
-        """Opens a tab in front of this one, and goes there."""
+        """Opens a tab in front of this one, and switches to it."""
         self.show_tab(self.do("POST", "/window/new", {"type": "tab"})["handle"])
 
     def show_tab(self, handle):
@@ -88,7 +88,7 @@ class WebDriver(Driven):
         return base64.b64decode(self.do("GET", "/screenshot"))
 
     def process(self):
-        """Returns the number of the process that started all of it."""
+        """Returns the process id of the driver."""
         return self.driver.pid
 
     def end(self):
@@ -102,7 +102,7 @@ class WebDriver(Driven):
 
 class Chromium(WebDriver):
     name = "Chromium"
-    # With these settings it keeps no data of any site.
+    # With these settings it stores no data of any site.
     blocks_data = {"profile.default_content_setting_values.cookies": 2}
 
     def __init__(self, folder, downloads, flags=(), **settings):
@@ -122,7 +122,7 @@ class Chromium(WebDriver):
         self.version = begun["capabilities"]["browserVersion"]
 
     def command(self, name, **words):
-        """Sends a command of the browser's own protocol, and returns the answer."""
+        """Sends a command of the browser's own protocol, and returns the result."""
         return self.do("POST", "/goog/cdp/execute", {"cmd": name, "params": words})
 
     def resize(self, width, height, mobile=False):
@@ -136,12 +136,12 @@ class Chromium(WebDriver):
 
 
 class WebKit(WebDriver):
-    """Debian's MiniBrowser of WebKitGTK, or the one that MINIBROWSER names. It has no headless mode: Xvfb is its display."""
+    """The MiniBrowser of Debian's WebKitGTK, or the one that MINIBROWSER names. It has no headless mode, so Xvfb is its display."""
 
     name = "WebKit"
-    # No setting of it blocks the data of sites.
+    # It has no setting that blocks the data of sites.
     blocks_data = None
-    # Its driver moves one pointer, and its tabs are windows, none of which hides another.
+    # Its driver moves only one pointer, and its tabs are windows that do not hide each other.
     has_fingers = False
     hides_tabs = False
     settles = 0.3
@@ -164,7 +164,7 @@ class WebKit(WebDriver):
         self.resize_back()
 
     def _display(self):
-        """Opens a screen of its own, whose number Xvfb chooses, and returns its name."""
+        """Starts Xvfb with a display number that Xvfb chooses; returns the name of the display."""
         self.screen = subprocess.Popen(["Xvfb", "-displayfd", "1", "-screen", "0", "1920x1200x24"], stdout=subprocess.PIPE,
                                        stderr=subprocess.DEVNULL, text=True)
         number = self.screen.stdout.readline().strip()
