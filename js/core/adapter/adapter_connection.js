@@ -1,5 +1,5 @@
-// Requests, responses and events of the protocol of debug adapters over a stream: one request after the other, `initialize` first. Only
-// `cancel` does not wait for its turn.
+// A connection in the debug adapter protocol (DAP): receives requests and sends responses and events. It serves requests in their order,
+// `initialize` first. Only `cancel` is served at once.
 
 import { Cancelled } from "../bench/faults.js";
 import { fieldOf } from "../server/framing.js";
@@ -9,16 +9,18 @@ import * as say from "../../words/adapter.js";
 import { INITIALIZE_FIRST, INITIALIZE_ONCE, NOT_JSON } from "../../words/server.js";
 
 /**
- * A request that is not answered yet. Long work looks at `isCancelled`, and throws Cancelled.
+ * A request without a response yet. Long work checks `isCancelled` and throws Cancelled.
  * @typedef {{ seq: number, command: string, hasBegun: boolean, isCancelled: boolean }} Asked
- * @typedef {(args: any, asked: Asked) => unknown} Act performs a request and returns the body of the response, or a promise of it
+ *
+ * A handler: serves a request and returns the body of its response, or a promise of the body.
+ * @typedef {(args: any, asked: Asked) => unknown} Act
  */
 
-/** A body that something follows. */
+/** The body of a response, and an action that runs once the response is sent. */
 export class Followed {
   /**
    * @param {object | undefined} body
-   * @param {() => void} after is done once the response is sent
+   * @param {() => void} after
    */
   constructor(body, after) {
     this.body = body;
@@ -34,11 +36,11 @@ export class AdapterConnection extends MessageStream {
     this.requests = {};
     this.sent = 0;
     this.isOpen = false;
-    /** Requests are done in the order in which they came. */
+    /** The end of the last queued request: each request waits for the one before it. */
     this.turn = Promise.resolve();
-    /** @type {Set<Asked>} */
+    /** @type {Set<Asked>} the requests without a response yet, both queued and begun */
     this.waiting = new Set();
-    /** @type {(id: string) => void} stops the work that a progress is reported of */
+    /** @type {(id: string) => void} stops the work whose progress has this id */
     this.stopWork = (id) => fail(say.noProgress(id));
   }
 
@@ -73,7 +75,7 @@ export class AdapterConnection extends MessageStream {
   }
 
   /**
-   * Returns why a request cannot be served now; "" if it can.
+   * Returns the error of a request that comes too early or twice; "" if it can be served now.
    * @param {string} command
    */
   faultOfOrder(command) {
@@ -86,7 +88,7 @@ export class AdapterConnection extends MessageStream {
    * @param {any} args
    */
   async request(asked, args) {
-    // A request that was cancelled before its turn is answered already.
+    // A request that was cancelled in the queue has its response already.
     if (!this.waiting.has(asked)) return;
     const { seq, command } = asked;
     asked.hasBegun = true;
@@ -108,7 +110,7 @@ export class AdapterConnection extends MessageStream {
   }
 
   /**
-   * Does what follows a response. An error there belongs to no request.
+   * Runs the action that follows a response. Its errors go to the output because the request has its response already.
    * @param {Followed} followed
    */
   follow({ after }) {
@@ -120,8 +122,8 @@ export class AdapterConnection extends MessageStream {
   }
 
   /**
-   * Serves the request `cancel`: rejects the named request at once if it has not begun; otherwise ends it where possible. A request that is
-   * answered already stays so.
+   * Serves the request `cancel`. A queued request is rejected at once; a begun one is asked to end. A request that already has its response
+   * is not changed.
    * @param {any} args
    */
   cancel(args) {
@@ -136,6 +138,7 @@ export class AdapterConnection extends MessageStream {
   }
 
   /**
+   * Sends the response of a request that failed.
    * @param {number} seq of the request, 0 if unknown
    * @param {string} command
    * @param {unknown} thrown

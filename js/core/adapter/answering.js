@@ -1,4 +1,4 @@
-// Answers to requests while time is paused: the stack, scopes, values, memory, the source.
+// Handlers for requests about the paused machine: stack, scopes, values, memory and source.
 
 import { LAST_ADDRESS } from "../bench/numbers.js";
 import { WORDS } from "../conditions/parser.js";
@@ -23,14 +23,14 @@ import { wordsOfLine } from "../../words/stops.js";
  * @typedef {import("./expression_values.js").Known} Known
  */
 
-/** The reference of the source that is disassembled from ROM. */
+/** The source reference of the text that is disassembled from ROM. */
 const ROM_SOURCE = 1;
-/** The instructions that are reported at once. */
+/** The maximum number of instructions in a response to `disassemble`. */
 const MOST_ROWS = 8192;
 const MOST_COMPLETIONS = 500;
-/** The name of a key that is begun. */
+/** A line whose last word is the start of a key's name. */
 const KEY_BEGUN = /(?:^\s*(?:press|release|keys)\s(?:.*\s)?|\bkey\s+)(\S*)$/;
-/** The number of instructions in which calls are searched for. */
+/** The maximum number of instructions to scan for calls. */
 const MOST_LOOKED = 256;
 
 export class Answering {
@@ -38,7 +38,7 @@ export class Answering {
    * @param {Launched} launched
    * @param {Scopes} scopes
    * @param {Known} known
-   * @param {{ firstLine: number, firstColumn: number }} counting how the client counts lines and columns: from 0 or from 1
+   * @param {{ firstLine: number, firstColumn: number }} counting the client's numbers of the first line and column: 0 or 1
    */
   constructor(launched, scopes, known, { firstLine, firstColumn }) {
     this.launched = launched;
@@ -95,28 +95,28 @@ export class Answering {
   /** @param {any} args */
   scopesOfFrame(args) {
     this.frameOf(args, 1);
-    // No scope has a number in its name.
+    // Scopes show no numbers: this only rejects a malformed `format`.
     baseOf(args);
     return { scopes: this.scopes.all() };
   }
 
   /**
-   * The frame that a request names.
+   * Returns the frame that a request names; fails if the stack has no such frame.
    * @param {any} args
-   * @param {number} [usual] the id that is meant if none is given
+   * @param {number} [usual] the default id
    */
   frameOf(args, usual) {
     return framesOf(this.session)[needNumber(args, "frameId", usual) - 1] || fail(say.NO_FRAME);
   }
 
   /**
-   * Returns the calls from the counter up to where control surely leaves: what a step can enter.
+   * Serves the request `stepInTargets`: the calls that a step can enter from the program counter on.
    * @param {any} args
    */
   stepInTargets(args) {
     const frame = this.frameOf(args);
     const { map } = this.session;
-    // In the frames of callers the call is under way.
+    // A caller's frame is inside its call already.
     if (needNumber(args, "frameId") > 1) return { targets: [] };
     return {
       targets: callsFrom(this.session, frame.address).map(({ address, target }) => {
@@ -145,7 +145,7 @@ export class Answering {
   }
 
   /**
-   * The place whose changes a variable shows; "" for none.
+   * Returns the place to watch for changes of a variable; "" if it has none.
    * @param {number} reference
    * @param {string} name
    */
@@ -196,8 +196,8 @@ export class Answering {
   }
 
   /**
-   * Returns the words that can continue a line, and the word that is begun. After a command that moves keys these are keys, after `lamp`
-   * lamps; otherwise names and the words of conditions, at the beginning of a line also commands.
+   * Returns candidates for the word at the end of a line, and the typed start of this word. After `press`, `release` and `keys` they are
+   * keys; after `lamp`, lamps; otherwise names and the words of conditions, and at the start of a line also commands.
    * @param {string} before
    * @returns {{ words: string[], word: string }}
    */
@@ -224,7 +224,7 @@ export class Answering {
     const count = needNumber(args, "instructionCount");
     if (!(begin >= 0 && begin <= LAST_ADDRESS)) fail(say.ADDRESSES_ARE);
     if (!(count >= 0 && count <= MOST_ROWS)) fail(say.rowsAre(MOST_ROWS));
-    // No address before ROM is readable by a client; after ROM each row has an address of its own.
+    // Clients cannot read negative addresses, so rows before ROM are left out.
     const rows = rowsAt(this.session, begin, needNumber(args, "instructionOffset", 0), count).filter(({ address }) => address >= 0);
     return {
       instructions: rows.map(({ address, bytes, words, line, name }) => ({
@@ -253,9 +253,9 @@ export class Answering {
 }
 
 /**
- * The name of a frame, `show + 3` or `02C`, with its number in a base.
+ * Returns the name of a frame, such as `show + 3` or `02C`, with its number in the requested base.
  * @param {string} name
- * @param {boolean | null} isHex
+ * @param {boolean | null} isHex null: as it is
  */
 function nameInFormat(name, isHex) {
   if (isHex === null) return name;
@@ -265,7 +265,8 @@ function nameInFormat(name, isHex) {
 }
 
 /**
- * Returns the calls from an address up to the first instruction that does not continue with the next one, or that is not the program's.
+ * Returns the calls from an address on. The scan ends at an instruction after which control never continues with the next one, and at one
+ * without a line in the program.
  * @param {import("../debug/debug_session.js").DebugSession} session
  * @param {number} from
  */

@@ -1,5 +1,5 @@
-// The client's breakpoints (lines, labels and addresses), merged with those that the session had before into the debugger's list. Also the
-// places whose changes stop time, and the common mistakes that do.
+// The client's breakpoints on lines, labels and addresses. The debugger gets one list of these and the breakpoints that the session had
+// before. Also the client's data breakpoints (watched places) and its exception filters (common mistakes).
 
 import { watchedPlaces } from "../bench/answers.js";
 import { LAST_ADDRESS } from "../bench/numbers.js";
@@ -19,16 +19,17 @@ import { stopsEachTime } from "../../words/machine.js";
  * @typedef {import("../debug/debug_session.js").DebugSession} DebugSession
  * @typedef {import("../debug/common_mistakes.js").Kind} KindOfFault
  *
- * A requested breakpoint: its location, what it needs to stop, and in `words` why it cannot be set, "" if it can.
+ * A requested breakpoint. `address` is -1 if there is no instruction; `from` is the first hit that stops; `note` is the text to log.
+ * `words` is the error message, "" if the breakpoint can be set.
  * @typedef {{ id: number, line: number, address: number, condition: string, from: number, note: string, words: string }} Wanted
  *
- * As the protocol reports it, with lines counted from 1.
+ * A breakpoint in a response; `line` counts from 1.
  * @typedef {{ id: number, verified: boolean, line?: number, message?: string, address: number }} SentBreakpoint
  * @typedef {"lines" | "labels" | "addresses"} Kind
  *
- * A place whose changes the client watches, by its name, and a common mistake; `words` says why it cannot be watched, "" if it can.
+ * A requested data breakpoint: the name of the place, and in `words` the error message, "" if the place can be watched.
  * @typedef {{ id: number, name: string, condition: string, from: number, words: string }} WantedData
- * @typedef {{ kind: string, condition: string }} WantedFault
+ * @typedef {{ kind: string, condition: string }} WantedFault a requested exception filter
  */
 
 /** @type {Omit<Wanted, "id">} */
@@ -37,7 +38,7 @@ const HITS = /^(?:>=|=|==|>)?\s*(\d{1,9})$/;
 const MOST_DATA = 8;
 
 /**
- * Returns the first hit that stops, from the text that the client calls a hit condition.
+ * Parses a hit condition such as `5` or `> 4`. Returns the first hit that stops, and an error message, "" if there is no error.
  * @param {string} text
  */
 function fromOf(text) {
@@ -49,7 +50,7 @@ function fromOf(text) {
 }
 
 /**
- * Returns the parts that any breakpoint can have.
+ * Reads the fields that all kinds of breakpoints have.
  * @param {any} given
  */
 function partsOf(given) {
@@ -58,7 +59,7 @@ function partsOf(given) {
 }
 
 /**
- * Returns the address that a reference names, or an error message.
+ * Returns the address that a reference and an offset name, -1 if there is none, and an error message, "" if there is no error.
  * @param {string} reference
  * @param {number} offset
  * @param {(reference: string) => number} addressOf
@@ -79,22 +80,22 @@ export class ClientBreakpoints {
     this.made = 0;
     /** @type {Record<Kind, Wanted[]>} */
     this.wanted = { lines: [], labels: [], addresses: [] };
-    /** The addresses of the breakpoints that the session had. */
+    /** The addresses of breakpoints that the client did not set. */
     this.own = session.debugger.session.breaks;
-    /** The RAM characters that the session watched, and those that the client watches, as `B 0xSS`. */
+    /** The RAM characters, as `B 0xSS`, that the bench watches though the client did not ask for it. */
     this.ownWatches = watchesOf(session);
-    /** @type {string[]} */
+    /** @type {string[]} the RAM characters, as `B 0xSS`, that the bench watches for the client */
     this.watched = [];
     /** @type {WantedData[]} */
     this.data = [];
     /** @type {WantedFault[]} */
     this.faults = [];
-    /** @type {Map<number, Wanted>} those of the list, by its ids */
+    /** @type {Map<number, Wanted>} the requested breakpoint for each id in the debugger's list */
     this.byId = new Map();
   }
 
   /**
-   * Takes over the breakpoints of another session before its program is assembled.
+   * Copies the breakpoints of the session before a restart, and moves them with the program. Returns those that moved.
    * @param {ClientBreakpoints} other
    */
   async takeFrom({ wanted, made, data, faults }) {
@@ -114,7 +115,7 @@ export class ClientBreakpoints {
 
   /**
    * @param {any} args
-   * @param {(line: number) => number} lineOf converts a line to the numbering here
+   * @param {(line: number) => number} lineOf converts a line of the client to a line that counts from 1
    */
   setLines(args, lineOf) {
     const { map } = this.session;
@@ -183,7 +184,7 @@ export class ClientBreakpoints {
     return all;
   }
 
-  /** Puts the list into the debugger. Returns why some breakpoints cannot be set. */
+  /** Sets the debugger's breakpoints. Returns an error message for each one that cannot be set or always stops. */
   async apply() {
     const { session } = this;
     /** @type {Map<Wanted, string>} */
@@ -206,8 +207,8 @@ export class ClientBreakpoints {
   }
 
   /**
-   * Returns the client's breakpoint for one of the debugger's, and its kind; 0 for a breakpoint that the session had.
-   * @param {number} id
+   * Returns the client's id of the breakpoint that stopped, and the protocol's reason. The id is 0 if the client did not set it.
+   * @param {number} id in the debugger's list
    */
   ofStop(id) {
     const found = this.byId.get(id);
@@ -217,7 +218,7 @@ export class ClientBreakpoints {
     return { id: found.id, reason: addresses.includes(found) ? "instruction breakpoint" : "breakpoint" };
   }
 
-  /** Moves each breakpoint to where its line is now, after the program has changed. Returns those that moved. */
+  /** Finds the instruction of each line breakpoint again after the program has changed. Returns the breakpoints that moved. */
   async moveWithProgram() {
     const { map } = this.session;
     const moved = this.wanted.lines.filter((each) => {
@@ -252,8 +253,8 @@ export class ClientBreakpoints {
   }
 
   /**
-   * Puts the watched places into the session. The bench watches as many characters of RAM as it can; changes of the others are found ahead.
-   * Returns why some cannot be watched, by their ids.
+   * Sets the watches of the session. The bench watches the first RAM characters without a condition; the debugger finds changes of other
+   * places itself. Returns error messages by the ids of their data breakpoints.
    */
   async applyData() {
     const { session, ownWatches } = this;
@@ -281,7 +282,7 @@ export class ClientBreakpoints {
     return this.applyFaults();
   }
 
-  /** Time stops at these from now on. One whose condition has an error stops each time. */
+  /** Makes the debugger stop at the requested mistakes. A filter whose condition has an error stops each time. Returns the answers. */
   applyFaults() {
     const { session, faults } = this;
     const { usual } = session.debugger;
@@ -296,12 +297,12 @@ export class ClientBreakpoints {
       if (condition) usual.conditions.set(own, condition);
       return fault ? { verified: false, message: stopsEachTime(inColumn(fault, column)) } : { verified: true };
     });
-    // All instructions are checked only if that number of cycles is done at once.
+    // The debugger checks every instruction only in pieces of CYCLES_OF_CALL.
     if (session.largestPiece >= CYCLES_OF_CALL) session.largestPiece = usual.stops.size > 0 ? CYCLES_OF_CALL : LARGEST_PIECE;
     return answers;
   }
 
-  /** Notes the session's own breakpoints, which the client did not set. */
+  /** Updates the breakpoints and watches that the client did not set, after lines in the console changed them. */
   takeOwn() {
     const { lines, labels, addresses } = this.wanted;
     const ofClient = new Set([...lines, ...labels, ...addresses].map(({ address }) => address));
@@ -309,7 +310,7 @@ export class ClientBreakpoints {
     this.ownWatches = watchesOf(this.session).filter((place) => !this.watched.includes(place));
   }
 
-  /** Restores exactly the breakpoints and watches that the session had before. */
+  /** Removes the client's breakpoints and watches. Returns an error message, "" if there is no error. */
   async leave() {
     this.wanted = { lines: [], labels: [], addresses: [] };
     try {
@@ -323,7 +324,7 @@ export class ClientBreakpoints {
 }
 
 /**
- * The characters that a session watches.
+ * Returns the RAM characters that the bench watches, as `B 0xSS`.
  * @param {DebugSession} session
  */
 function watchesOf(session) {
@@ -331,7 +332,7 @@ function watchesOf(session) {
 }
 
 /**
- * Returns the name of a RAM character in `watch`; "" for any other place.
+ * Returns a RAM character as `watch` names it, `B 0xSS`; "" for any other place.
  * @param {string} name
  */
 export function watchOf(name) {
@@ -341,7 +342,7 @@ export function watchOf(name) {
 }
 
 /**
- * Returns the client's name for a place whose changes can stop time, and how they can; null if a variable is no such place.
+ * Returns the response to `dataBreakpointInfo` for a place; null if its changes cannot stop time.
  * @param {string} name
  * @param {DebugSession} session
  */

@@ -1,4 +1,5 @@
-// Lines in the console: those of the bench, with names for addresses; keys by their names; moves that have no button; and expressions.
+// Serves the lines that users type in the debug console: bench lines with labels for addresses, keys by name, moves that have no button,
+// and expressions.
 
 import { ANSWER_FORMS, isQuery } from "../bench/answer_table.js";
 import { readRun, refusalOf } from "../bench/answers.js";
@@ -18,18 +19,19 @@ import { noKey } from "../../words/testing.js";
  * @typedef {import("./expression_values.js").Known} Known
  * @typedef {import("../bench/words.js").Words} Words
  *
- * The result of a line: words, whether the machine has changed, and a move that begins once they are shown.
+ * The result of a line: the text to show, true in `changes` if the machine changed, and a move that begins once the text is shown.
  * @typedef {{ words: string, changes: boolean, move: (() => void) | null }} Done
  *
- * Returns between pieces whether to continue; if not, no line is done.
+ * A callback between pieces of work. Receives the number of characters that are done, and returns false to cancel: then no line has an
+ * effect.
  * @typedef {(done: number) => Promise<boolean>} GoesOn
  */
 
-/** The first words of a line. */
+/** The words with which a line can start. */
 export const FIRST_WORDS = [
   "press", "release", "keys", "until", "change", "back", "forward", "set", "help", "display", ...ANSWER_FORMS.keys(),
 ];
-/** The most characters of lines, and the most lines, that are accepted at once. */
+/** The maximum length of an input in characters, and the maximum number of its bench lines. */
 const LONGEST = 65536;
 const MOST_INPUTS = 1000;
 const COMPARES = /^[^\n]*[=<>]/;
@@ -43,7 +45,7 @@ export class Console {
   /**
    * @param {Machine} machine
    * @param {Known} known
-   * @param {Words} words the messages of refusals
+   * @param {Words} words the messages for refusal numbers
    * @param {{ breaksChanged: () => void, romChanged: () => void }} calls
    */
   constructor(machine, known, words, calls) {
@@ -75,7 +77,7 @@ export class Console {
     if (word === "until" || word === "change" || word === "back" || word === "forward") return this.moveTo(word, rest);
     if (word === "set" && !line.includes("\n")) return this.served(linesOfSet(line.slice("set".length), this.session));
     if (word === "set") return this.serve(line, goesOn);
-    // No line of the bench compares.
+    // Bench lines contain no comparison, so a line with one is an expression.
     return ANSWER_FORMS.has(word) && !COMPARES.test(line) ? this.serve(line, goesOn) : this.valueOf(line, base);
   }
 
@@ -101,7 +103,7 @@ export class Console {
   }
 
   /**
-   * Moves keys: while time is paused a key stays in its new position; while time runs, it is pressed for a short time.
+   * Moves keys. While time is paused a key stays in its new position. While time runs, `press` presses it for a short time.
    * @param {"press" | "release"} word
    * @param {string[]} names
    */
@@ -158,7 +160,7 @@ export class Console {
   }
 
   /**
-   * Returns the place, or the condition, of a search.
+   * Parses the goal of a search: a place or a condition.
    * @param {string} text
    */
   goalOf(text) {
@@ -207,8 +209,8 @@ export class Console {
 }
 
 /**
- * Returns the address of a label or a number.
- * @param {string} text
+ * Returns the address that a text names; fails if it names none.
+ * @param {string} text a label, with or without `@`, or a number
  * @param {Known} known
  * @returns {number}
  */

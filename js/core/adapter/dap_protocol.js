@@ -1,14 +1,14 @@
-// The form of messages in the protocol of debug adapters, and readers of their arguments.
+// Errors of the debug adapter protocol, and readers for the arguments of its requests.
 
 import { fieldOf } from "../server/framing.js";
 import * as say from "../../words/adapter.js";
 import { isText } from "../../words/server.js";
 
-/** The error that answers a request in place of a body. */
+/** The error of a request. */
 export class AdapterError extends Error {
   /**
    * @param {string} words
-   * @param {boolean} [isShown] whether the client is to show them to the user
+   * @param {boolean} [isShown] true if the client must show the message to the user
    */
   constructor(words, isShown = false) {
     super(words);
@@ -16,9 +16,9 @@ export class AdapterError extends Error {
   }
 }
 
-/** The protocol's word for a request while time runs. */
+/** The protocol's message for a request that is rejected while time runs. */
 export const NOT_STOPPED = "notStopped";
-/** The protocol's word for the answer to a request that the client has cancelled. */
+/** The protocol's message for a request that the client has cancelled. */
 export const CANCELLED = "cancelled";
 
 /**
@@ -30,6 +30,7 @@ export function fail(words) {
 }
 
 /**
+ * Returns a required string; fails if it is missing.
  * @param {any} from
  * @param {string} name
  * @returns {string}
@@ -40,7 +41,7 @@ export function needText(from, name) {
 }
 
 /**
- * A text that may be left out: "" then.
+ * Returns an optional string; "" if it is missing.
  * @param {any} from
  * @param {string} name
  */
@@ -50,10 +51,10 @@ export function textOrNone(from, name) {
 }
 
 /**
- * A whole number, with its default if it may be left out.
+ * Returns an integer. If it is missing, returns its default, or fails without one.
  * @param {any} from
  * @param {string} name
- * @param {number} [usual]
+ * @param {number} [usual] the default
  * @returns {number}
  */
 export function needNumber(from, name, usual) {
@@ -63,9 +64,10 @@ export function needNumber(from, name, usual) {
 }
 
 /**
+ * Returns an optional boolean.
  * @param {any} from
  * @param {string} name
- * @param {boolean} usual
+ * @param {boolean} usual the default
  * @returns {boolean}
  */
 export function flagOf(from, name, usual) {
@@ -75,7 +77,7 @@ export function flagOf(from, name, usual) {
 }
 
 /**
- * A list that may be left out: empty then.
+ * Returns an optional list; empty if it is missing.
  * @param {any} from
  * @param {string} name
  * @returns {any[]}
@@ -87,6 +89,7 @@ export function listOf(from, name) {
 }
 
 /**
+ * Returns the message of anything thrown.
  * @param {unknown} thrown
  */
 export function wordsOf(thrown) {

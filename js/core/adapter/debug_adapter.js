@@ -1,8 +1,8 @@
-// The debug adapter: an editor launches a program on a board in it, or a session file, stops it at breakpoints, runs on and back, and shows
-// the state of the machine. The debugger is that of the page (debug/debug_session.js).
+// The debug adapter. An editor launches a program on a board, or opens a session file. It sets breakpoints, runs forward and back, and
+// shows the state of the machine. The debugger is the one of the page (debug/debug_session.js).
 //
 //     const adapter = new DebugAdapter(new AdapterConnection(write), engine, dataOfPage, host);   (launching.js describes a host)
-//     connection.take(bytes) ..; await adapter.leave() once the client has gone
+//     connection.take(bytes) ..; await adapter.leave() once the client has closed the connection
 
 import { Face } from "../board/face.js";
 import { instructionOfLine } from "../debug/breakpoints.js";
@@ -33,7 +33,7 @@ import * as say from "../../words/adapter.js";
  * @typedef {import("./launching.js").Launched} Launched
  * @typedef {import("./debugged_machine.js").Ended} Ended
  *
- * The state after a launch.
+ * The open debug session: exists from launch or attach to the end.
  * @typedef {{ launched: Launched, machine: Machine, breakpoints: ClientBreakpoints, console: Console, answering: Answering }} Open
  */
 
@@ -85,7 +85,7 @@ export class DebugAdapter {
     this.host = host;
     this.words = new Words(refusals);
     this.instructions = instructionsOf(manual);
-    /** How the client counts lines and columns, and which events it accepts. */
+    /** The client's numbers of the first line and column, and the optional events that it accepts. */
     this.firstLine = 1;
     this.firstColumn = 1;
     this.takesInvalidated = false;
@@ -95,17 +95,20 @@ export class DebugAdapter {
     /** @type {Open | null} */
     this.open = null;
     this.isConfigured = false;
-    /** @type {Promise<string> | null} set once the session is left */
+    /** @type {Promise<string> | null} the result of `leaveOnce`; null before the first call */
     this.leaving = null;
     /** @type {Ended | null} the last stop */
     this.ended = null;
-    /** @type {ShownBoard | null} where the client draws the board */
+    /** @type {ShownBoard | null} null until the client asks for the board */
     this.shownBoard = null;
     connection.requests = { ...this.lifeRequests(), ...this.breakpointRequests(), ...this.moves.table(), ...this.askRequests() };
     connection.stopWork = (id) => this.progress.stop(id);
   }
 
-  /** @returns {Open} */
+  /**
+   * Returns the open session; fails if nothing is launched.
+   * @returns {Open}
+   */
   get there() {
     return this.open || fail(say.NOTHING_LAUNCHED);
   }
@@ -146,6 +149,7 @@ export class DebugAdapter {
   }
 
   /**
+   * Serves `launch` and `attach`.
    * @param {any} args
    * @param {typeof launch} act `launch` or `attach`
    */
@@ -180,15 +184,18 @@ export class DebugAdapter {
     if (launched.note) this.output(`${launched.note}\n`, "console");
   }
 
-  /** @param {Launched} launched */
+  /**
+   * Tells the user if ROM no longer has the bytes of the source.
+   * @param {Launched} launched
+   */
   reportRom({ session }) {
     const words = differenceWords(session);
     if (words) this.output(`${say.sourceDiffers(words)}\n`, "console");
   }
 
   /**
-   * Restarts. A session file that is written restarts by a power cycle, one that is only read with its present contents, any other session
-   * with the texts as they are now.
+   * Serves the request `restart`. A session that is written to its file is reset. Any other session is launched again: from the present
+   * texts, or from the present contents of its file.
    * @param {any} args
    */
   async restart(args) {
@@ -206,7 +213,7 @@ export class DebugAdapter {
     return new Followed(undefined, () => this.stopped(this.standing("entry")));
   }
 
-  /** Time that runs is stopped. */
+  /** Pauses the machine and waits for the end of its move. */
   async halt() {
     if (!this.open) return;
     const { machine } = this.open;
@@ -214,7 +221,7 @@ export class DebugAdapter {
     await machine.move;
   }
 
-  /** Leaves the session as it is, with the breakpoints that it had. Returns in words what could not be saved. */
+  /** Ends debugging: restores breakpoints and saves the session once. Returns an error message, "" if everything is saved. */
   leave() {
     if (!this.leaving) this.leaving = this.leaveOnce();
     return this.leaving;
@@ -360,7 +367,7 @@ export class DebugAdapter {
   }
 
   /**
-   * Saves a change that was made to the machine while time is paused.
+   * Saves a change that a request made while time is paused. Returns the result of the request.
    * @template Result
    * @param {Result} result
    */
@@ -406,7 +413,7 @@ export class DebugAdapter {
     });
   }
 
-  /** Takes a new snapshot after a line has changed the machine. */
+  /** Makes the client read the state again after a line has changed the machine. */
   sendInvalidated() {
     this.ended = this.standing("step");
     if (this.takesInvalidated) this.connection.sendEvent("invalidated", { areas: ["all"] });
@@ -426,7 +433,7 @@ export class DebugAdapter {
     return { words };
   }
 
-  /** @param {any} args a key by its place, as sent by a view of the board */
+  /** @param {any} args `place`, the key's row and column, and `isDown` */
   async changeKey(args) {
     const { machine, console: lines } = this.there;
     const key = needText(args, "place");
@@ -437,7 +444,7 @@ export class DebugAdapter {
 
   // --- events ---
 
-  /** Sends the board's news if the client draws the board. */
+  /** Sends the changes of the board if the client draws it. */
   sendBoard() {
     const { shownBoard } = this;
     const news = shownBoard ? shownBoard.take() : {};
@@ -445,8 +452,8 @@ export class DebugAdapter {
   }
 
   /**
-   * Reports that time is paused, for another reason than a stop.
-   * @param {string} reason
+   * Returns the end of a move for a pause that is not a stop.
+   * @param {string} reason in the protocol's words
    * @returns {Ended}
    */
   standing(reason) {

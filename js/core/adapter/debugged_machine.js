@@ -1,5 +1,4 @@
-// The session that is debugged, both while time runs and while it is paused: one move at a time, the work that is done between its pieces,
-// and the report of each stop.
+// Runs the debugged session: one move at a time, in pieces. Other work waits for the end of a piece. Each stop is reported and saved.
 
 import { Cancelled } from "../bench/faults.js";
 import { wordsOfCycles } from "../time/cycles.js";
@@ -18,32 +17,31 @@ import { stoppedAt } from "../../words/stops.js";
  * @typedef {import("./session_writer.js").KeptSession} KeptSession
  * @typedef {ReturnType<import("./progress.js").Progress["begin"]>} Work
  *
- * The end of a move: its reason in the protocol, the message, and the breakpoint that stopped it, 0 for none.
+ * The end of a move: the protocol's reason, the message, and the id of the breakpoint that stopped it, 0 for none.
  * @typedef {{ reason: string, words: string, id: number }} Ended
  */
 
 /**
- * The calls that a moved session makes to its front end.
+ * The callbacks of a machine.
  * @typedef {object} MachineCalls
- * @property {(ended: Ended) => void} stopped Reports that a move has ended. Called once for each move, after the session has stopped.
- * @property {(words: string, category: "console" | "stdout" | "stderr") => void} output Prints words, which end with a line feed, in one of
- *   the client's categories.
- * @property {() => Promise<void>} pause Resolves after other work had its turn; called between the pieces of a move.
- * @property {() => void} looked Reports that time has passed, so what a view shows may be old. Called at most ten times a second while
- *   time runs.
- * @property {(title: string) => Work} [work] Begins the report of a move, which the client gets if the move is long.
+ * @property {(ended: Ended) => void} stopped Reports the end of a move, once for each move.
+ * @property {(words: string, category: "console" | "stdout" | "stderr") => void} output Prints a text that ends with a line feed, in a
+ *   category of the protocol.
+ * @property {() => Promise<void>} pause Resolves after other tasks had their turn. Called between the pieces of a move.
+ * @property {() => void} looked Reports that the state has changed, so views can update.
+ * @property {(title: string) => Work} [work] Begins to report the progress of a move to the client.
  */
 
-/** @type {Record<string, string>} what the protocol calls why a run stopped */
+/** @type {Record<string, string>} the protocol's reason for each stop */
 const REASONS = {
   goal: "step", break: "breakpoint", watch: "data breakpoint", pause: "pause", lacks: "step", arrival: "pause", beginning: "entry",
   call: "restart",
 };
-/** @type {Record<string, string>} why time is paused after going back, by the goal, and by what was met on the way */
+/** @type {Record<string, string>} the reason for a stop after going back, by the kind of the goal */
 const REACHED = { stop: "pause", arrival: "arrival", call: "call" };
-/** @type {Record<string, string>} */
+/** @type {Record<string, string>} the reason for a stop after going back to an arrival, by the event that ended the search */
 const MET = { break: "break", change: "watch", beginning: "beginning" };
-/** The milliseconds between two updates of what is shown. */
+/** The time between two updates of lamps and displays, in milliseconds. */
 const LOOK_TIME = 100;
 
 export class Machine {
@@ -51,12 +49,12 @@ export class Machine {
    * @param {DebugSession} session
    * @param {KeptSession | null} kept the writer of the session's file
    * @param {MachineCalls} calls
-   * @param {boolean} [isRealTime] whether time runs as slowly as on a real 4004
+   * @param {boolean} [isRealTime] true if time runs no faster than on a real 4004
    */
   constructor(session, kept, calls, isRealTime = false) {
     this.isRealTime = isRealTime;
     if (isRealTime) session.largestPiece = FRAME_CYCLES;
-    /** The time at which the move began. */
+    /** The time at which the move began, in milliseconds. */
     this.begun = 0;
     this.session = session;
     this.kept = kept;
@@ -64,15 +62,17 @@ export class Machine {
     this.shown = new Shown(session);
     this.isMoving = false;
     this.isToPause = false;
-    /** True if work in the session is now done between two pieces of running time. */
+    /** Returns true if other work can use the session between two pieces of the present move. */
     this.isOpen = () => false;
-    /** @type {(() => Promise<void>)[]} what waits for that */
+    /** @type {(() => Promise<void>)[]} the work that waits for the end of a piece */
     this.waiting = [];
+    /** The number of log messages of the present move that are reported. */
     this.noted = 0;
+    /** The time of the last update of lamps and displays, in milliseconds. */
     this.looked = 0;
-    /** @type {Promise<void>} of the present move, or the last one */
+    /** @type {Promise<void>} the end of the present move, or of the last one */
     this.move = Promise.resolve();
-    /** @type {Work | null} of the present move; null for time that runs as on a real 4004, which the user watches */
+    /** @type {Work | null} the progress of the present move; null in real time, in which the user sees the lamps change */
     this.work = null;
   }
 
@@ -90,8 +90,8 @@ export class Machine {
   }
 
   /**
-   * Runs to a JMS, and into the subroutine that it calls.
-   * @param {number} address
+   * Runs to a JMS and steps into the subroutine that it calls.
+   * @param {number} address of the JMS
    */
   intoCall(address) {
     const { session } = this;
@@ -117,8 +117,9 @@ export class Machine {
   }
 
   /**
+   * Returns a move through the past as the end of a run.
    * @param {{ isDone: boolean, words: string, end: string, id: number }} went
-   * @param {string} why why time is paused there, unless something met on the way reports it
+   * @param {string} why the reason for the stop, unless MET has one
    */
   wentBack({ isDone, words, end, id }, why) {
     if (!isDone) this.calls.output(`${words}\n`, "console");
@@ -156,7 +157,7 @@ export class Machine {
       ended = { reason: isPause ? "pause" : "exception", words, id: 0 };
     }
     this.isOpen = () => false;
-    // Work that arrives while the session is saved is done too: nothing would do it later.
+    // Work can arrive while the session is saved. It must be done now because no later step would do it.
     do {
       await this.doWaiting();
       await this.stand();
@@ -166,13 +167,16 @@ export class Machine {
     this.calls.stopped(ended);
   }
 
-  /** Pauses time: saves what was done, and reports what is shown. */
+  /** Reports what lamps and displays show, and saves the session. */
   async stand() {
     this.reportShown();
     if (this.kept) await this.keep(this.kept);
   }
 
-  /** @param {KeptSession} kept */
+  /**
+   * Saves the session in its file; reports an error to the user.
+   * @param {KeptSession} kept
+   */
   async keep(kept) {
     try {
       await kept.write(this.session.debugger.session);
@@ -182,9 +186,9 @@ export class Machine {
   }
 
   /**
-   * Between two pieces of work.
+   * Reports the last piece of a move, yields to other tasks and does the waiting work. Returns whether to continue the move.
    * @param {Tally} [tally] of the last piece
-   * @param {number} [done] cycles that were done, or searched
+   * @param {number} [done] the cycles of the move that are run or searched
    */
   async between(tally, done = 0) {
     if (tally) this.reportTally(tally, tally.noted);
@@ -197,8 +201,8 @@ export class Machine {
   }
 
   /**
-   * A real 4004 would have done this number of cycles, too.
-   * @param {number} cycles
+   * Waits until a real 4004 would have run this number of cycles.
+   * @param {number} cycles since the begin of the move
    */
   async waitFor(cycles) {
     this.calls.looked();
@@ -217,7 +221,7 @@ export class Machine {
   }
 
   /**
-   * Does something in the session: at once while time is paused, otherwise between two pieces.
+   * Runs work that uses the session: at once while time is paused, otherwise between two pieces of the move.
    * @template Result
    * @param {() => Result | Promise<Result>} act
    * @returns {Promise<Result>}
@@ -245,8 +249,9 @@ export class Machine {
   }
 
   /**
+   * Prints log messages and common mistakes.
    * @param {Tally} tally
-   * @param {number} count of the unreported notes
+   * @param {number} count the number of log messages that are not reported yet
    */
   reportTally({ notes, usual }, count) {
     this.noted += count;

@@ -1,4 +1,4 @@
-// ROM in the protocol's form: instructions around an address, and bytes.
+// ROM for the requests `disassemble` and `readMemory`: instructions around an address, and bytes.
 
 import { readListing } from "../bench/answers.js";
 import { LAST_ADDRESS, upTo } from "../bench/numbers.js";
@@ -7,18 +7,20 @@ import { MAX_LISTED } from "../bench/rom_bytes.js";
 /**
  * @typedef {import("../debug/debug_session.js").DebugSession} DebugSession
  * @typedef {import("../bench/answers.js").Listed} Listed
- * @typedef {{ address: number, bytes: string, words: string, line: number, name: string }} Row `address` may be outside ROM; `line` is 0 if
- * the program has none
+ *
+ * An instruction: its address, which can be outside ROM, its bytes in hexadecimal, its text, its line in the program (0 for none), and its
+ * label ("" for none).
+ * @typedef {{ address: number, bytes: string, words: string, line: number, name: string }} Row
  */
 
-/** @param {Listed} listed */
+/** @type {(listed: Listed) => number} the address after an instruction */
 const endOf = ({ address, line }) => address + (line.slice(7, 9).trim() === "" ? 1 : 2);
 
 /**
- * Returns the instructions from an address up to another one, which is excluded.
+ * Returns the instructions whose addresses are in a range.
  * @param {DebugSession} session
  * @param {number} from
- * @param {number} to
+ * @param {number} to excluded
  */
 function listed(session, from, to) {
   /** @type {Listed[]} */
@@ -32,8 +34,8 @@ function listed(session, from, to) {
 }
 
 /**
- * Returns `count` instructions, the first one `offset` instructions after the one at an address. A row before or after ROM has only an
- * address of its own, which is negative before ROM.
+ * Returns `count` instructions. The first one is `offset` instructions after the one at an address, or before it if the offset is negative.
+ * Rows outside ROM have only an address, which is negative before ROM.
  * @param {DebugSession} session
  * @param {number} address
  * @param {number} offset
@@ -41,7 +43,7 @@ function listed(session, from, to) {
  * @returns {Row[]}
  */
 export function rowsAt(session, address, offset, count) {
-  // Each has two bytes at most, and those of the program are in step with its lines.
+  // An instruction has at most two bytes. The listing begins at an instruction of the program so that it does not begin at a second byte.
   const begin = Math.max(0, address + 2 * Math.min(0, offset) - 1);
   const inStep = upTo(4).map((more) => begin + more).find((each) => each <= address && session.map.beginsInstruction(each)) ?? begin;
   const whole = (/** @type {number} */ from, /** @type {number} */ to) => listed(session, from, to).filter((each) => endOf(each) <= to);
@@ -74,7 +76,7 @@ function nothingAt(address) {
 }
 
 /**
- * The bytes of ROM.
+ * Returns all bytes of ROM.
  * @param {DebugSession} session
  */
 export function romBytes(session) {

@@ -1,4 +1,4 @@
-// The current value of an expression: a place, a name of the program, a lamp, the display, a sum of values, a condition.
+// Evaluates an expression at the current state: a place, a name of the program, a lamp, the display, a sum, or a condition.
 
 import { hex } from "../bench/numbers.js";
 import { expressionOf } from "../conditions/condition_language.js";
@@ -15,16 +15,17 @@ import { inColumn } from "../../words/conditions.js";
  * @typedef {import("../board/face.js").Face} Face
  * @typedef {import("../help/manual.js").Instruction} Instruction
  * @typedef {import("./number_format.js").Base} Base
- * @typedef {{ session: DebugSession, face: Face, instructions: Map<string, Instruction>, shown: () => string }} Known `shown` says what
- *   lamps and displays show
+ *
+ * The context of an expression. `shown` returns what lamps and displays show.
+ * @typedef {{ session: DebugSession, face: Face, instructions: Map<string, Instruction>, shown: () => string }} Known
  */
 
-/** The places that `trace` writes as hexadecimal digits, and those that are marks and not numbers; any other is a bit. */
+/** The places whose values are hexadecimal digits, and those whose values are marks. The value of any other place is a bit. */
 const OF_DIGITS = /^(acc|dcl|src|r\d+|p\d|ram\.\d\..*|st\..*|rom\d+|ram\d\.\d)$/;
 const OF_MARKS = /^(chain\d|lamps)$/;
 
 /**
- * Returns the value of a place by its name; "" if it is no place, or the board lacks it.
+ * Returns the value of a place; "" if the text is not a place, or the board lacks it.
  * @param {string} text
  * @param {Known} known
  * @param {Base} base
@@ -42,7 +43,7 @@ function placeValue(text, { session, face }, base) {
 }
 
 /**
- * Returns the value of the counter with its line, and of what is not a place.
+ * Returns the value of `pc` with its line, of `test` or of `owed`; "" for another text.
  * @param {string} text
  * @param {DebugSession} session
  * @param {Base} base
@@ -54,12 +55,16 @@ function registerValue(text, session, base) {
   return word === "test" || word === "owed" ? numberInBase(Number(registers[word]), base) : "";
 }
 
-/** @param {DebugSession} session */
+/**
+ * Returns the current line as an addition to an address; "" for none.
+ * @param {DebugSession} session
+ */
 function lineWords(session) {
   return session.line > 0 ? `, line ${session.line}` : "";
 }
 
 /**
+ * Returns the value of a name of the program; "" for another text.
  * @param {string} text
  * @param {DebugSession} session
  */
@@ -72,6 +77,7 @@ function nameValue(text, { map }) {
 }
 
 /**
+ * Returns the current value of an expression as text; throws AdapterError if it cannot be parsed.
  * @param {string} text
  * @param {Known} known
  * @param {Base} [base] of numbers
@@ -90,7 +96,7 @@ export function valueOfExpression(text, known, base = "usual") {
 }
 
 /**
- * Returns the current value of the word at the pointer, as text.
+ * Returns the text of a hover: the current value of the word, the effect of an instruction, or the value of an expression.
  * @param {string} text
  * @param {Known} known
  */

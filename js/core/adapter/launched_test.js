@@ -1,5 +1,5 @@
-// Debugging of a test: the test is run, and its session is rebuilt from what it did. So time can go back from its failure, or from its end,
-// to its beginning.
+// Debugging of a test. The test runs first. A session is then rebuilt from its commands, so time can go back from the failure, or from the
+// end, to the beginning.
 
 import { DebugSession } from "../debug/debug_session.js";
 import { LONGEST_RUN } from "../engine/key_queue.js";
@@ -14,20 +14,20 @@ import * as say from "../../words/adapter.js";
  * @typedef {import("../testing/test_session.js").TestSession} TestSession
  * @typedef {import("../testing/test_suite.js").TestedTexts} TestedTexts
  *
- * The texts of a test: the absolute names of the texts of tests up to its own, board and program, and its name.
+ * A test and the absolute names of its files: `file` has the test, `tests` are the test files up to and including `file`.
  * @typedef {{ name: string, file: string, tests: string[], board: string, program: string }} TestTexts
  */
 
-/** @type {(name: string) => string} the address of a file, as far as folders are distinguished by it */
+/** @type {(name: string) => string} the URI of a file, for modules that find folders in a URI */
 export const addressOf = (name) => `file://${name.split("/").map(encodeURIComponent).join("/")}`;
-/** @type {(uri: string) => string} */
+/** @type {(uri: string) => string} the name of a file; the inverse of `addressOf` */
 export const nameOfAddress = (uri) => decodeURIComponent(uri.slice("file://".length));
 
 /**
- * Finds the texts of a test: those of its project, or those in its folder.
+ * Finds the files of a test: those of its project, or those in its folder.
  * @param {string} name of the test
- * @param {string} file the absolute name of its text
- * @param {(name: string) => string | null} read
+ * @param {string} file the absolute name of its file
+ * @param {(name: string) => string | null} read returns the text of a file; null if it cannot be read
  * @returns {TestTexts}
  */
 export function textsOfTest(name, file, read) {
@@ -36,7 +36,7 @@ export function textsOfTest(name, file, read) {
 }
 
 /**
- * Returns what a test did, in lines for a session.
+ * Returns the lines that repeat in a session what a test did.
  * @param {TestSession} session
  */
 function linesDone({ actions: all }) {
@@ -48,11 +48,11 @@ function linesDone({ actions: all }) {
 }
 
 /**
- * Runs a test. Returns the session with its past, and the result of the test in words.
+ * Runs a test. Returns a session that has done the same, with its past, and the result of the test in words.
  * @param {Engine} engine
  * @param {TestedTexts} texts
  * @param {TestTexts} test
- * @param {() => Promise<void>} pause yields to others
+ * @param {() => Promise<void>} pause yields to other tasks
  */
 export async function sessionOfTest(engine, texts, { name, file }, pause) {
   /** @type {TestSession[]} */

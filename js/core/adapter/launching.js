@@ -1,5 +1,5 @@
-// The sessions that `launch` and `attach` begin. `launch` makes a session in memory from the texts of a board and a program, or from a
-// session file. `attach` opens a session file, in a copy unless the user wants it written.
+// Makes the session for `launch` and `attach`. `launch` makes a session in memory from the texts of a board and a program, or opens or
+// creates a session file. `attach` opens an existing session file: in a copy, unless its `write` is true.
 
 import { refusalOf } from "../bench/answers.js";
 import { BenchRefusal } from "../bench/faults.js";
@@ -23,28 +23,35 @@ import { leadsOut } from "../../words/server.js";
  * @typedef {import("../bench/words.js").Words} Words
  * @typedef {import("./session_writer.js").OpenFile} OpenFile
  *
- * The host's calls: the absolute name of a file, given the folder of a relative one; a text, null if unreadable, and the error if it cannot
- * be read; whether no link leaves a folder; a program that opens a session file, or makes one from lines; the bytes of one that no program
- * has open; and a turn for others.
+ * The calls of the host:
+ * - `nameOf` returns the absolute name of a file, given the folder of relative names; `beside` that of a file named in another file;
+ * - `read` returns a text, null if it cannot be read, and `whyUnread` the error message;
+ * - `isThere` returns whether a file exists; `isInside` whether it is in a folder, also with symbolic links followed;
+ * - `open` and `make` start a program that opens or creates a session file;
+ * - `readSession` returns the bytes of a session file that no program has open;
+ * - `pause` yields to other tasks.
  * @typedef {{ nameOf: (name: string, folder: string) => string, beside: (name: string, other: string) => string,
  *   read: (name: string) => string | null, whyUnread: (name: string) => string, isThere: (name: string) => boolean,
  *   isInside: (name: string, folder: string) => boolean,
  *   open: (name: string) => Promise<OpenFile>, make: (name: string) => Promise<OpenFile>,
  *   readSession: (name: string) => Promise<Uint8Array>, pause: () => Promise<void> }} Host
  *
- * The result of a launch or attach: `program` is the name of its file, "" if its text was disassembled from ROM. `nameOf` returns the
- * absolute name of a file. `test` is the one that is debugged, and `note` its result.
+ * The result of a launch or attach. `program` is a file's name, "" if the text was disassembled from ROM. `nameOf` returns the absolute
+ * name of a file. `test` is the debugged test, null for none; `note` is its result.
  * @typedef {{ session: DebugSession, kept: KeptSession | null, program: string, board: string, stopsOnEntry: boolean, isDebugged: boolean,
  *   isRealTime: boolean, isAttached: boolean, args: any, nameOf: (name: string) => string, test: TestTexts | null, note: string }} Launched
  *
  * @typedef {import("./launched_test.js").TestTexts} TestTexts
- * @typedef {{ board: string, program: string, session: string, load: boolean, test: TestTexts | null }} Wanted absolute names, "" for none
+ *
+ * The arguments of a launch or attach: absolute names of files, "" for none. `load` is true if the program must be put into ROM.
+ * @typedef {{ board: string, program: string, session: string, load: boolean, test: TestTexts | null }} Wanted
  */
 
 /** @param {string} name */
 const lastPart = (name) => name.replace(/^.*[\\/]/, "");
 
 /**
+ * Reads the arguments that name files; finds the files that the project implies.
  * @param {any} args
  * @param {Host} host
  * @returns {Wanted}
@@ -73,8 +80,8 @@ export function readWanted(args, host) {
 }
 
 /**
- * The files that a project names.
- * @param {string} name of its folder, or of its file
+ * Returns the board and the program of a project; throws if its file cannot be read.
+ * @param {string} name of the project's folder, or of its file
  * @param {Host} host
  */
 function filesOf(name, host) {
@@ -92,7 +99,7 @@ function filesOf(name, host) {
 }
 
 /**
- * Returns the board of a program, found as by the language server.
+ * Returns the name of a program's board, found in the same way as in the language server.
  * @param {string} program
  * @param {Host} host
  */
@@ -104,9 +111,9 @@ function boardOf(program, host) {
 }
 
 /**
- * Returns the text of a file, without characters that cannot be sent.
+ * Returns the text of a file with line feeds only; throws if it has a line that the bench cannot accept.
  * @param {string} name
- * @param {";" | "#"} mark
+ * @param {";" | "#"} mark the mark of comments
  * @param {Host} host
  */
 function textIn(name, mark, host) {
@@ -119,7 +126,8 @@ function textIn(name, mark, host) {
 }
 
 /**
- * @param {string} name
+ * Returns the error for a text that the bench rejected.
+ * @param {string} name of the file
  * @param {Refusal} refusal
  * @param {Words} words
  */
@@ -130,7 +138,7 @@ function refused(name, { number, line }, words) {
 }
 
 /**
- * Makes a session from texts only.
+ * Makes a session in memory from the texts of a board and a program.
  * @param {Engine} engine
  * @param {Wanted} wanted
  * @param {Host} host
@@ -160,7 +168,7 @@ async function ofTest(engine, test, host) {
 }
 
 /**
- * Opens the session of a file, and its writer.
+ * Opens a session file, or creates it. Returns the session and its writer.
  * @param {Engine} engine
  * @param {Wanted} wanted
  * @param {Host} host
@@ -191,7 +199,7 @@ async function ofFile(engine, wanted, host, words) {
 }
 
 /**
- * Loads the session of a file into memory: the file is unchanged.
+ * Loads a session file into memory. The file does not change.
  * @param {Engine} engine
  * @param {Wanted} wanted
  * @param {Host} host
@@ -212,10 +220,11 @@ async function ofCopy(engine, wanted, host, words) {
 }
 
 /**
+ * Sends a board or a program to a session; throws if the bench rejects it.
  * @param {DebugSession} session
  * @param {"wire" | "asm"} word
  * @param {string} text
- * @param {string} name
+ * @param {string} name of the text's file
  * @param {Words} words
  */
 async function serveText(session, word, text, name, words) {
@@ -225,7 +234,7 @@ async function serveText(session, word, text, name, words) {
 }
 
 /**
- * Returns the place where ROM differs from the program, in words; "" if the bytes are the same.
+ * Returns where ROM differs from the program, in words; "" if the bytes are the same.
  * @param {DebugSession} session
  */
 export function differenceWords(session) {
@@ -237,6 +246,7 @@ export function differenceWords(session) {
 }
 
 /**
+ * Throws if the program has errors or differs from ROM.
  * @param {DebugSession} session
  * @param {Engine} engine
  * @param {Wanted} wanted
@@ -252,6 +262,7 @@ function needInRom(session, engine, { program, session: file }, words) {
 }
 
 /**
+ * Makes the session of a `launch`: for a test, from texts, or with a session file.
  * @param {Engine} engine
  * @param {any} args
  * @param {Host} host
@@ -267,7 +278,7 @@ export async function launch(engine, args, host, words) {
 }
 
 /**
- * Attaches to an existing session file. Without `write` the file stays as it is.
+ * Makes the session of an `attach` from an existing session file. Without `write` the file does not change.
  * @param {Engine} engine
  * @param {any} args
  * @param {Host} host
@@ -284,6 +295,7 @@ export async function attach(engine, args, host, words) {
 }
 
 /**
+ * Adds the options in the arguments to a session.
  * @param {{ session: DebugSession, kept: KeptSession | null, note: string }} begun
  * @param {Wanted} wanted
  * @param {any} args

@@ -1,6 +1,8 @@
-// The memory that clients read and write. Each place has one number, so that any client can count with a reference: ROM has its addresses,
-// the RAM character of bank B at SRC byte S has 0x10000 + 0x100 * B + S, and status character K of register H of that bank has
-// 0x20000 + 0x100 * B + 4 * H + K.
+// Serves the requests `readMemory` and `writeMemory`. A memory reference is a number:
+//
+//     0x000 + A                          the ROM byte at address A
+//     0x10000 + 0x100 * B + S            the RAM character of bank B that the SRC byte S selects
+//     0x20000 + 0x100 * B + 4 * R + K    status character K of register R of bank B
 
 import { readRam, refusalOf } from "../bench/answers.js";
 import { LAST_ADDRESS, hex, numberOf } from "../bench/numbers.js";
@@ -12,10 +14,10 @@ import * as say from "../../words/adapter.js";
 /**
  * @typedef {import("../debug/debug_session.js").DebugSession} DebugSession
  *
- * A range of memory: the number of its first place, its contents, and for each the place of `poke`.
+ * A range of memory: the number of its first place, its contents, and a function that returns the word of `poke` for an index in it.
  * @typedef {{ begin: number, bytes: Uint8Array, place: (at: number) => string }} Area
  *
- * The place that a request names: a range, and an offset in it, which may be outside.
+ * The place that a request names: a range, and an index in it, which can be outside the range.
  * @typedef {{ area: Area, from: number }} Spot
  */
 
@@ -23,14 +25,15 @@ const [CHARACTERS_AT, STATUS_AT, BANK_SIZE] = [0x10000, 0x20000, 0x100];
 const BANKS = 8;
 
 /**
- * @param {number} number of a place
+ * Returns the memory reference of a place.
+ * @param {number} number
  * @returns {string}
  */
 export function referenceOf(number) {
   return number < 0 ? `-${referenceOf(-number)}` : `0x${hex(number, 3)}`;
 }
 
-/** @param {number} bank */
+/** @type {(bank: number) => string} the memory reference of a bank's first RAM character */
 export const referenceOfBank = (bank) => referenceOf(CHARACTERS_AT + BANK_SIZE * bank);
 
 /**
@@ -46,8 +49,8 @@ export function numberOfPlace(name) {
 }
 
 /**
- * Returns the number that a reference names: a number, a bank as `ram.0`, a RAM character, or an expression for an address.
- * @param {string} reference
+ * Returns the number for a memory reference.
+ * @param {string} reference a number, a bank such as `ram.0`, a RAM or status character, or an expression for an address
  * @param {(reference: string) => number} addressOf
  */
 function numberOfReference(reference, addressOf) {
@@ -59,7 +62,7 @@ function numberOfReference(reference, addressOf) {
 }
 
 /**
- * Returns the range of memory around a place; null if the board has none.
+ * Returns the range of memory that contains a place; null if the board has no such place.
  * @param {DebugSession} session
  * @param {number} number
  * @returns {Area | null}
@@ -80,6 +83,7 @@ function areaAt(session, number) {
 }
 
 /**
+ * Returns the place that a request names; fails if the board has no such place.
  * @param {any} args
  * @param {DebugSession} session
  * @param {(reference: string) => number} addressOf
@@ -110,7 +114,7 @@ export function readMemory(args, session, addressOf) {
 }
 
 /**
- * Serves the request `writeMemory`: all of the bytes, or none if one is rejected. With `allowPartial` those outside of memory are left out.
+ * Serves the request `writeMemory`: writes all bytes, or none if the bench rejects one. With `allowPartial` it skips bytes outside memory.
  * @param {any} args
  * @param {DebugSession} session
  * @param {(reference: string) => number} addressOf
@@ -125,7 +129,7 @@ export async function writeMemory(args, session, addressOf) {
   const given = end > first ? data.subarray(first - from, end - from) : new Uint8Array(0);
   const lines = [...given].map((byte, at) => `poke ${place(first + at)} ${byte}\n`).join("");
   const bench = session.debugger.session;
-  // All of them are tried before the first one is written.
+  // The lines are tried on a copy before the first byte is written.
   const tried = lines === "" ? [] : bench.ask(lines);
   const refused = tried.findIndex((answer) => refusalOf(answer));
   if (refused >= 0) fail(say.benchAnswered(lines.split("\n")[refused], tried[refused]));

@@ -1,4 +1,4 @@
-// Requests that move time: on, over, into, out of, back, to another place; and the subroutine of a frame from its beginning.
+// Handlers for requests that move time: continue, steps, going back, restarting a frame, jumping to a line.
 
 import { LAST_ADDRESS, hex } from "../bench/numbers.js";
 import { instructionOfLine } from "../debug/breakpoints.js";
@@ -50,7 +50,7 @@ export class Moves {
   }
 
   /**
-   * A move begins once its response is sent.
+   * Returns the response of a move; the move begins once the response is sent.
    * @param {any} args
    * @param {(machine: Machine) => void} act
    */

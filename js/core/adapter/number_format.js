@@ -1,14 +1,14 @@
-// The format of numbers: as usual (places of the machine by their hexadecimal digits, sums in decimal), or all of them in one base, if the
-// client asks for it (`format.hex`).
+// The format of numbers in responses. By default values of the machine are hexadecimal and sums are decimal. With `format.hex` a client
+// chooses one base for all numbers.
 
 import { fieldOf } from "../server/framing.js";
 import { fail, flagOf } from "./dap_protocol.js";
 import * as say from "../../words/adapter.js";
 
-/** @typedef {"usual" | "hex" | "decimal"} Base */
+/** @typedef {"usual" | "hex" | "decimal"} Base of numbers; "usual" is the default format */
 
 /**
- * Returns the number format that a request asks for.
+ * Returns a flag in the `format` of a request.
  * @param {any} args
  * @param {"hex" | "line"} name
  * @returns {boolean | null} null if the request does not specify it
@@ -21,6 +21,7 @@ export function formatOf(args, name) {
 }
 
 /**
+ * Returns the base that a request asks for.
  * @param {any} args
  * @returns {Base}
  */
@@ -31,8 +32,8 @@ export function baseOf(args) {
 }
 
 /**
- * Returns a value whose numbers begin with 0x; a name of the program is shown in both bases, `0x1F, 31`.
- * @param {string} text
+ * Converts the numbers in a value to a base.
+ * @param {string} text with numbers that begin with 0x; a name of the program has both bases, `0x1F, 31`
  * @param {Base} base
  */
 export function inBase(text, base) {
@@ -42,7 +43,7 @@ export function inBase(text, base) {
 }
 
 /**
- * Returns a number that is usually decimal.
+ * Formats a number; its default base is decimal.
  * @param {number} number
  * @param {Base} base
  */

@@ -1,18 +1,18 @@
-// Long work that the client shows (`progressStart`, `progressUpdate`, `progressEnd`), if it can, and that its user can stop.
+// Progress of long work for clients that show it (`progressStart`, `progressUpdate`, `progressEnd`). The user can stop the work.
 
 import { AdapterError } from "./dap_protocol.js";
 import * as say from "../../words/adapter.js";
 
-/** Progress is reported after this many milliseconds, and again after each further interval. */
+/** The times until the first report and between two reports, in milliseconds. */
 const REPORTED_AFTER = 1000;
 const REPORTED_EVERY = 500;
 
-/** A piece of long work. */
+/** Work that can take long. */
 class Work {
   /**
    * @param {Progress} progress
    * @param {string} title
-   * @param {() => void} stop ends it early
+   * @param {() => void} stop ends the work early
    */
   constructor(progress, title, stop) {
     this.progress = progress;
@@ -41,27 +41,28 @@ class Work {
 }
 
 export class Progress {
-  /** @param {(event: string, body: object) => void} sendEvent sends an event */
+  /** @param {(event: string, body: object) => void} sendEvent */
   constructor(sendEvent) {
     this.sendEvent = sendEvent;
-    /** True if the client shows it. */
+    /** True if the client shows progress. */
     this.isOn = false;
     this.after = REPORTED_AFTER;
     this.made = 0;
-    /** @type {Map<string, Work>} the work that is reported, by its id */
+    /** @type {Map<string, Work>} the work that is reported, by its progress id */
     this.works = new Map();
   }
 
   /**
-   * Begins some work.
+   * Returns the progress of work that begins now.
    * @param {string} title
-   * @param {() => void} stop ends it early
+   * @param {() => void} stop ends the work early
    */
   begin(title, stop) {
     return new Work(this, title, stop);
   }
 
   /**
+   * Sends the first report. Returns the progress id.
    * @param {Work} work
    * @param {string} message
    */

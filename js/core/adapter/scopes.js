@@ -1,4 +1,4 @@
-// The state of the machine, as scopes of variables: registers, pairs, RAM, ports, lamps, keys, names of the program.
+// The state of the machine as the protocol's scopes of variables: registers, pairs, RAM, ports, lamps, keys, names of the program.
 
 import { readBoard, readMarks } from "../bench/answers.js";
 import { hex, upTo } from "../bench/numbers.js";
@@ -15,24 +15,31 @@ import { sourceOfBank } from "../../words/debug.js";
  * @typedef {import("../debug/debug_session.js").DebugSession} DebugSession
  * @typedef {import("../board/face.js").Face} Face
  *
- * A value with its name, the expression for it, and a reference to its contents, 0 for none. `place`: the place by which set_place.js sets
- * it, "" if it cannot be set; `memory`: its memory reference; `isDecimal`: its value is a decimal number; `watched`: the place whose
- * changes can stop time.
+ * A variable:
+ * - `evaluateName`: an expression with the same value;
+ * - `place`: its place for set_place.js, "" if it cannot be set;
+ * - `inside`: the reference of the variables in it, 0 for none, and `count`, their number;
+ * - `memory`: its memory reference;
+ * - `isDecimal`: true if its value is a decimal number;
+ * - `watched`: the place to watch for its changes, if it is not `place`.
  * @typedef {{ name: string, value: string, evaluateName?: string, place: string, inside: number, count?: number,
  *   memory?: string, isDecimal?: boolean, watched?: string }} Variable
  * @typedef {import("./number_format.js").Base} Base
  *
+ * The state that the scopes show.
  * @typedef {{ standing: Standing, face: Face, session: DebugSession, board: import("../bench/answers.js").Board }} Seen
  */
 
+/** The references of the scopes. */
 const [REGISTERS, PAIRS, RAM, PORTS, LAMPS, KEYS, NAMES] = [1, 2, 3, 4, 5, 6, 7];
-/** A bank has the reference BANK + its number; a register of RAM REGISTER + 16 times its bank's + its own. */
+/** The reference of bank B is BANK + B; that of RAM register R of bank B is REGISTER + 16 * B + R. */
 const [BANK, REGISTER] = [100, 200];
 
 /** @type {(digit: string) => string} */
 const inHex = (digit) => `0x${digit}`;
 
 /**
+ * Makes a variable.
  * @param {string} name
  * @param {string} value
  * @param {string} [place]
@@ -43,15 +50,16 @@ function variable(name, value, place = "") {
 }
 
 /**
+ * Makes a variable whose value is a decimal number.
  * @param {string} name
- * @param {string} value a decimal number
+ * @param {string} value
  * @param {string} [place]
  * @returns {Variable}
  */
 const decimal = (name, value, place) => ({ ...variable(name, value, place), isDecimal: true });
 
 /**
- * A place that is shown and cannot be set.
+ * Makes a variable that cannot be set.
  * @param {string} name
  * @param {string} value
  * @param {string} place
@@ -96,11 +104,11 @@ function registersOfBank({ standing }, bank) {
   });
 }
 
-/** @param {string} place a character of RAM */
+/** @type {(place: string) => string} the memory reference of a RAM character or a status character */
 const memoryOf = (place) => referenceOf(numberOfPlace(place));
 
 /**
- * The characters of a register, each with a name of the program's that has its number, and its status characters.
+ * Returns the characters and status characters of a RAM register. A character's name includes the constants of the program with its number.
  * @param {Seen} seen
  * @param {number} bank
  * @param {number} register
@@ -138,7 +146,7 @@ function ports({ standing, face }) {
   ];
 }
 
-/** @param {string} source the byte that SRC has sent, of a bank with the bank and a dot before it */
+/** @param {string} source the SRC byte that the ROMs keep, as `21`, or a bank keeps, as `0.21` */
 function sourceOf(source) {
   const [bank, byte] = source.split(".");
   if (byte === undefined) return variable("SRC", say.selectsRom(inHex(bank), parseInt(bank[0], 16)));
@@ -207,7 +215,7 @@ export class Scopes {
   }
 
   /**
-   * Returns the variables inside a reference, or null if there is no reference of this number.
+   * Returns the variables of a scope, bank or RAM register; null if the reference is unknown.
    * @param {number} reference
    * @param {Base} [base] of numbers
    * @returns {Variable[] | null}
@@ -218,7 +226,10 @@ export class Scopes {
       { ...each, value: each.isDecimal ? numberInBase(Number(each.value), base) : inBase(each.value, base) }));
   }
 
-  /** @param {number} reference */
+  /**
+   * Returns the variables of a reference in the default format; null if the reference is unknown.
+   * @param {number} reference
+   */
   inside(reference) {
     const { seen } = this;
     if (Object.prototype.hasOwnProperty.call(SCOPES, reference)) return SCOPES[reference].of(seen);
@@ -228,7 +239,7 @@ export class Scopes {
   }
 
   /**
-   * Sets a variable; returns its new value, as it is shown.
+   * Sets a variable. Returns its new value in words.
    * @param {number} reference
    * @param {string} name
    * @param {string} value

@@ -1,5 +1,5 @@
-// Writes what was done in a session in memory to its file, line by line, through a program that has the file open (`mcs4 open FILE`). If
-// going back has left the history of the file, the file is replaced by the session as it was, and the program continues with that.
+// Saves a session in memory to its file. A program that has the file open (`mcs4 open FILE`) receives the session's new lines. If
+// they do not continue the history of the file, as after going back, the file is replaced, and the program continues with it.
 
 import { refusalOf } from "../bench/answers.js";
 import { joinLines } from "../bench/inputs.js";
@@ -10,8 +10,9 @@ import * as say from "../../words/adapter.js";
  * @typedef {import("../engine/worker_session.js").WorkerSession} WorkerSession
  * @typedef {import("../engine/timeline.js").Segment} Segment
  *
- * A program with a session file open. `ask` returns a given number of answers to lines. `replace` replaces the file by a session with these
- * bytes, on which lines were served; if the answers differ, or it cannot, it throws and changes nothing.
+ * A program with a session file open. `ask` sends lines and returns their answers, `count` in number. `replace` replaces the file by a
+ * session with these bytes that has served these lines. If `check` throws, or the file cannot be replaced, `replace` throws and the file
+ * does not change.
  * @typedef {{ bytes: Uint8Array, ask: (lines: string, count: number) => Promise<string[]>,
  *   replace: (bytes: Uint8Array, lines: string, count: number, check: (answers: string[]) => void) => Promise<void>,
  *   end: () => Promise<void> }} OpenFile
@@ -20,17 +21,18 @@ import * as say from "../../words/adapter.js";
 export class KeptSession {
   /**
    * @param {OpenFile} file
-   * @param {WorkerSession} session that was begun with the bytes of the file
+   * @param {WorkerSession} session that began with the bytes of the file
    */
   constructor(file, session) {
     this.file = file;
-    /** @type {Segment | null} the segment whose commands the file has; null if its contents are unknown */
+    /** @type {Segment | null} the segment whose commands the file has; null if the contents of the file are unknown */
     this.segment = session.timeline.last;
+    /** The number of commands since the begin of the segment that the file has. */
     this.count = 0;
   }
 
   /**
-   * Returns the commands that the file lacks; null if they do not continue its history.
+   * Returns the lines that the file lacks; null if they do not continue its history.
    * @param {WorkerSession} session
    */
   missing({ timeline, unrecorded }) {
@@ -41,7 +43,7 @@ export class KeptSession {
   }
 
   /**
-   * Brings the file to the state of the session; throws if it cannot.
+   * Brings the file to the state of the session; throws AdapterError if the program rejects a line or reaches another state.
    * @param {WorkerSession} session
    */
   async write(session) {

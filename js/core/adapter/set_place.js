@@ -1,4 +1,4 @@
-// Sets a place of the machine: any place of `poke`, TEST, a register pair, a key.
+// Sets a place of the machine: a place of `poke`, TEST, a register pair or a key.
 
 import { refusalOf } from "../bench/answers.js";
 import { expressionOf } from "../conditions/condition_language.js";
@@ -14,13 +14,13 @@ import { cannotBeSet, inColumn } from "../../words/conditions.js";
 /** @typedef {import("../debug/debug_session.js").DebugSession} DebugSession */
 
 /**
- * Returns the current value of an expression as a number: a numeral, a name of the program, a place, a sum.
- * @param {string} text
+ * Returns the current value of an expression as a number; throws AdapterError if it has none.
+ * @param {string} text a numeral, a name of the program, a place or a sum
  * @param {DebugSession} session
- * @param {number} [begin] its column in the typed text
+ * @param {number} [begin] the column of the text in the typed line
  */
 export function valueOf(text, session, begin = 0) {
-  // A client sends back what it was shown, perhaps with a remark: `0x012, line 9`.
+  // A client can send back the text that it shows, with its addition: `0x012, line 9`.
   const valueText = text.trim().replace(/^(\w+),.*$/, "$1");
   if (valueText === "") throw new AdapterError(say.noNumber(say.NOTHING));
   const { expression, fault, column } = expressionOf(valueText, session.names);
@@ -30,9 +30,9 @@ export function valueOf(text, session, begin = 0) {
 }
 
 /**
- * Returns the lines that set a place, even if it has that value now.
- * @param {string} place as `settablePlace` gives it, or `key 0 2`
- * @param {string} text
+ * Returns the bench lines that set a place, even if it has the value already.
+ * @param {string} place from `settablePlace`, or a key as `key 0 2`
+ * @param {string} text of the value
  * @param {DebugSession} session
  * @param {number} [begin] the column of the text in the typed line
  */
@@ -49,7 +49,7 @@ function linesFor(place, text, session, begin = 0) {
 }
 
 /**
- * Returns the lines that `set` expands to.
+ * Returns the bench lines for a line with `set`.
  * @param {string} text the text after `set`: `r4 = r5 + 1`
  * @param {DebugSession} session
  */
@@ -63,8 +63,8 @@ export function linesOfSet(text, session) {
 }
 
 /**
- * Returns the place that an expression names, to be set: a place of the machine, or `key NAME`.
- * @param {string} text
+ * Returns the place to set, with a key as `key 0 2`; throws AdapterError if the text names none.
+ * @param {string} text a place of the machine, or `key NAME`
  * @param {import("../board/face.js").Face} face
  * @returns {string}
  */
@@ -78,9 +78,10 @@ export function placeToSet(text, face) {
 }
 
 /**
+ * Sets a place; throws AdapterError if the bench rejects it.
  * @param {DebugSession} session
- * @param {string} place as `settablePlace` gives it, or `key 0 2`
- * @param {string} text
+ * @param {string} place from `settablePlace`, or a key as `key 0 2`
+ * @param {string} text of the value
  */
 export async function setPlace(session, place, text) {
   const { first } = await session.debugger.session.serve(linesFor(place, text, session), async () => true);

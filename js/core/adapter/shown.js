@@ -1,4 +1,4 @@
-// The lamps and displays of a board, in words, and the changes of that text.
+// The lamps and displays of a board as text, and the changes of this text.
 
 import { readMarks } from "../bench/answers.js";
 import { DisplayText } from "../board/display_text.js";
@@ -20,14 +20,14 @@ export class Shown {
     this.before = this.now();
   }
 
-  /** A mark for each lamp, `*` if it is on. */
+  /** Returns a mark for each lamp, `*` if it is on. */
   get marks() {
     return readMarks(this.session.debugger.session.ask("lamps\n")[0]).join("");
   }
 
   /**
-   * Returns the text that a display shows, and the names of the other lamps that are on; without a display also the marks of all lamps. A
-   * multiplexed display shows its digits as perceived.
+   * Returns the text of the display and the names of the other lamps that are on; without a display the marks of all lamps and the names of
+   * those that are on. The digits of a multiplexed display are those that a person perceives.
    */
   now() {
     const { marks } = this;
@@ -37,12 +37,15 @@ export class Shown {
     return `lamps ${marks}${names && ` ${names}`}`;
   }
 
-  /** @param {number} count of lamps */
+  /**
+   * Returns the text of a multiplexed display as perceived.
+   * @param {number} count of lamps
+   */
   seen(count) {
     return new SeenText(this.face, count).read(this.session.debugger.session.ask(SEEN_QUERY));
   }
 
-  /** Returns the display if it differs from the last report; otherwise "". */
+  /** Returns the current text if it differs from the last report; otherwise "". */
   take() {
     const now = this.now();
     if (now === this.before) return "";

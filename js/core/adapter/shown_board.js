@@ -1,5 +1,5 @@
-// The front of a board for an editor that draws it: the board with its text, once; lamps, keys and TEST as they change; and a finger on a
-// key. editor_view.js draws it.
+// The front panel of a board for an editor that draws it (editor_view.js). Sends the board and its text once, and lamps, keys and TEST as
+// they change. Also moves the keys that the user presses in the drawing.
 
 import { readBoard } from "../bench/answers.js";
 import { SnapshotReader } from "../bench/snapshot.js";
@@ -16,9 +16,13 @@ import * as say from "../../words/adapter.js";
  * @typedef {import("./console.js").Console} Console
  * @typedef {import("./debugged_machine.js").Machine} Machine
  *
- * The changes: the answers to `board` and the board's text; a mark for each lamp, `*` if it is on; the keys that are down, as `row.column`;
- * the level of TEST; whether time runs; while it runs, the lamps of the next 30 ms as perceived; and what the printer received since the
- * board was drawn.
+ * The changes since the last report:
+ * - `board`: the answers to `board`, and `boardText`: the board's text;
+ * - `lamps`: a mark for each lamp, `*` if it is on;
+ * - `keys`: the keys that are down, as `row.column`, and `test`: the level of TEST;
+ * - `isRunning`: true if time runs;
+ * - `litShares`: while time runs, the lamps of the next 30 ms as perceived;
+ * - `printed`: the new output of the printer.
  * @typedef {{ board?: string[], boardText?: string, lamps?: string, keys?: string[], test?: string, isRunning?: boolean,
  *   litShares?: import("../engine/brightness_meter.js").LitShares, printed?: import("../engine/printing.js").Printed }} ShownNews
  */
@@ -29,16 +33,16 @@ export class ShownBoard {
     this.machine = machine;
     this.reader = new SnapshotReader();
     this.board = "";
-    /** @type {boolean | null} whether time ran when it was reported last */
+    /** @type {boolean | null} the last report of `isRunning`; null before the first one */
     this.isRunning = null;
     this.face = new Face("");
     this.lampCount = 0;
-    /** The last report of lamps as perceived, "" while time is paused. */
+    /** The last report of `litShares` as JSON, "" while time is paused. */
     this.litShares = "";
   }
 
   /**
-   * Returns the changes since the last report; all values at first.
+   * Returns the changes since the last report; all values the first time.
    * @returns {ShownNews}
    */
   take() {
@@ -72,7 +76,7 @@ export class ShownBoard {
     if (printing) printing.clear();
   }
 
-  /** Returns the changes of the lamps' brightness while time runs. */
+  /** Returns the brightness of the lamps if it changed while time runs. */
   takeLitShares() {
     const { machine, face, lampCount, litShares: before } = this;
     this.litShares = "";
@@ -84,10 +88,10 @@ export class ShownBoard {
 }
 
 /**
- * Moves a key down or up: at once while time is paused, otherwise when its turn comes.
+ * Presses or releases a key: at once while time is paused, otherwise through the key queue.
  * @param {Machine} machine
  * @param {Console} lines
- * @param {string} text of a key: `0 2`, or `test 0`
+ * @param {string} text the key's place: `0 2`, or `test 0`
  * @param {boolean} isDown
  */
 export async function changeKey(machine, lines, text, isDown) {
