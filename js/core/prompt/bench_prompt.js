@@ -1,5 +1,5 @@
-// The prompt of `mcs4 new` and `mcs4 open`: lines of the bench, which the host has served, and what the prompt adds to them: files in the
-// place of typed texts, help, and why a line is rejected, in words.
+// The prompt of `mcs4 new` and `mcs4 open`. The host serves the lines of the bench. The prompt adds files in place of typed texts, help,
+// completion, and an explanation when a line is rejected.
 //
 //     const prompt = new SessionPrompt(calls);
 //     await prompt.take("press 3 9"); prompt.label; prompt.isEnded; await prompt.complete("pr");
@@ -21,40 +21,40 @@ import * as say from "../../words/session_prompt.js";
  * @typedef {import("./line_completion.js").Completion} Completion
  * @typedef {"wire" | "asm" | "map" | "wiring" | "errors"} TextWord
  *
- * An error of a text: its line, from 1, 0 for none; the message.
+ * An error in a text: its line, which counts from 1 (0 for none), and the message.
  * @typedef {{ line: number, words: string }} TextError
  *
- * A text that is being typed: the word that opened it, its lines, and the number of the line that opened it.
+ * A text that is being typed: the word that opened it, its lines, and the line of the source file that opened it (0 if typed).
  * @typedef {{ word: TextWord, lines: string[], at: number }} OpenedText
  */
 
 /**
- * The calls that the prompt of a session makes to its host. `files` and `ask` also serve completion.
+ * The callbacks of the prompt. Completion also uses `files` and `ask`.
  * @typedef {object} SessionPromptCalls
- * @property {(input: string) => Promise<string>} serve Serves an input and prints its answers. Resolves to the first line of them, "" if
- *   there is none.
+ * @property {(input: string) => Promise<string>} serve Serves an input and prints its answers. Resolves to the first answer line, "" for
+ *   none.
  * @property {(line: string) => Promise<string[]>} ask Resolves to the answers to a line, which are not printed.
  * @property {(words: string) => void} print Prints a message on standard output.
  * @property {(words: string) => void} complain Prints a message on standard error.
  * @property {(name: string) => string} read Returns the text of a file; throws an error that says why it cannot be read.
- * @property {(begin: string) => string[]} files Returns the names of the files that begin with a text.
- * @property {(word: TextWord, text: string, board: string) => Promise<TextError[]>} errorsOf Resolves to all errors of a text that the
- *   bench has rejected. A program is read with the board of `board`.
+ * @property {(begin: string) => string[]} files Returns the file names that start with a prefix.
+ * @property {(word: TextWord, text: string, board: string) => Promise<TextError[]>} errorsOf Resolves to all errors in a text that the
+ *   bench rejected. `board` is the text of the board for a program.
  * @property {(number: number) => string} wordsOf Returns the message of a refusal.
  * @property {() => ManualSection[]} manual Returns the sections of the manual, with their tables.
  */
 
 const COMMENT_MARKS = /** @type {const} */ ({ wire: "#", asm: ";", map: ";", wiring: "#", errors: ";" });
 const LONGEST_SHOWN = 120;
-/** Refusals that name something that the board lacks. */
+/** The numbers of refusals that this prompt explains in its own words. */
 const NO_KEY = 41;
 const NO_ROM = 42;
 const NO_RAM = 43;
 const NO_RUN = 44;
-/** The refusals of texts have numbers from the first to the last one. */
+/** The range of the refusal numbers that errors in texts have. */
 const OF_TEXTS = { first: 12, last: 42 };
 
-/** An error at the prompt itself, in words. */
+/** An error that the prompt itself finds. */
 class Rejected extends Error {}
 
 export class SessionPrompt {
@@ -72,26 +72,26 @@ export class SessionPrompt {
     return `${this.opened ? this.opened.word : "mcs4"}> `;
   }
 
-  /** Nothing runs for so long that it could be stopped. */
+  /** Returns false: no line runs long enough to be interrupted. */
   interrupt() {
     return false;
   }
 
-  /** Discards the unfinished text; returns words about it, "" if there is none. */
+  /** Discards the unfinished text. Returns a message about it, "" if there is none. */
   drop() {
     const { opened } = this;
     this.opened = null;
     return opened ? say.textDropped(opened.word) : "";
   }
 
-  /** Returns what the session receives at the end of input: a text without its dot. */
+  /** Returns the unfinished text, which the session receives at the end of input; "" if there is none. */
   get rest() {
     return this.opened ? [this.opened.word, ...this.opened.lines].map((line) => `${line}\n`).join("") : "";
   }
 
   /**
-   * Serves a line; returns false if it is rejected, which is printed.
-   * @param {string} whole
+   * Serves a line. If the line is rejected, prints why and returns false.
+   * @param {string} whole the line, perhaps with a carriage return
    */
   async take(whole) {
     const line = withoutReturn(whole);
@@ -105,6 +105,7 @@ export class SessionPrompt {
   }
 
   /**
+   * Adds a line to the opened text, or serves the text at its dot.
    * @param {string} line
    * @param {OpenedText} opened
    */
@@ -122,6 +123,7 @@ export class SessionPrompt {
   }
 
   /**
+   * Serves a line outside a text.
    * @param {string} line
    * @returns {Promise<boolean>}
    */
@@ -154,7 +156,7 @@ export class SessionPrompt {
   // --- texts ---
 
   /**
-   * Reads a text of a file, as other commands do: without its comments.
+   * Serves a text from a file. As in other commands, its comments are not sent.
    * @param {TextWord} word
    * @param {string} name
    */
@@ -169,8 +171,8 @@ export class SessionPrompt {
   /**
    * @param {TextWord} word
    * @param {string} sent
-   * @param {string} text as its file has it
-   * @param {{ name: string, before: number }} place its file, "" for none, and how many lines are before it
+   * @param {string} text with its comments
+   * @param {{ name: string, before: number }} place the name of its file, "" for none, and the number of lines before the text
    */
   async serveText(word, sent, text, place) {
     const board = word === "asm" ? await this.board() : "";
@@ -182,7 +184,7 @@ export class SessionPrompt {
   }
 
   /**
-   * Returns the errors of a text that was rejected.
+   * Returns the errors in a rejected text.
    * @param {TextWord} word
    * @param {string} text
    * @param {string} board
@@ -192,7 +194,7 @@ export class SessionPrompt {
   async errorsOfText(word, text, board, { number, line }) {
     const isOfText = number >= OF_TEXTS.first && number <= OF_TEXTS.last;
     const errors = isOfText ? await this.calls.errorsOf(word, text, board) : [];
-    // Of a board the bench names the line of a table, and the message is about one of its keys.
+    // For a board the bench reports the line of a table, but an error can be at one of its keys.
     const isSame = line === 0 || COMMENT_MARKS[word] === "#" || errors.some((error) => error.line === line);
     return isSame && errors.length > 0 ? errors : [{ line, words: this.calls.wordsOf(number) }];
   }
@@ -237,9 +239,10 @@ export class SessionPrompt {
     }
   }
 
-  // --- why a line is rejected ---
+  // --- explanations of refusals ---
 
   /**
+   * Explains why the bench rejected a line.
    * @param {string} line
    * @param {Refusal} refusal
    */
@@ -259,8 +262,8 @@ export class SessionPrompt {
   // --- help ---
 
   /**
-   * Prints all lines, or the manual's description of a line, of places, or of the number of a refusal.
-   * @param {string} about
+   * Prints a list of all lines, or the manual's description of one line, of places, or of a refusal number.
+   * @param {string} about "" for all lines
    */
   help(about) {
     const [word = ""] = about.split(/[ \t]+/);
@@ -289,12 +292,12 @@ export class SessionPrompt {
    * @returns {Promise<Completion>}
    */
   async complete(line) {
-    // A tab in a text is one.
+    // In a text the tab key inserts a tab.
     return this.opened ? [["\t"], ""] : completeLine(line, this.calls);
   }
 }
 
-/** The help of all lines. */
+/** Returns the list of all lines. */
 function helpOfAll() {
   const groups = [...LINES_BY_GROUPS, { title: say.OWN_TITLE, lines: say.OWN_LINES }];
   const shown = groups.map(({ title, lines }) => `${title}\n${lines.map(([form, does]) => `  ${form.padEnd(24)} ${does}`).join("\n")}`);

@@ -1,4 +1,4 @@
-// Commands of breakpoints and watches.
+// The prompt's commands for breakpoints and watches.
 
 import { watchedPlaces } from "../bench/answers.js";
 import { addressText, breakpointLines } from "./looks.js";
@@ -11,15 +11,16 @@ import * as say from "../../words/prompt.js";
  */
 
 const BREAK = /^(.*?)(?:\s*\bfrom\s+(\d{1,9}))?(?:\s*\bif\s+(.+?))?(?:\s*\blog\s+"([^"]*)")?$/;
-/** The breakpoint that was set last, as in gdb. */
+/** The word for the breakpoint that was set last, as in gdb. */
 export const LAST = "$bpnum";
+/** A RAM character, which the bench itself watches. */
 const CHARACTER = /^ram\.[0-7]\.\w+$/i;
 
 export class BreakpointCommands {
   /** @param {Prompt} prompt */
   constructor(prompt) {
     this.prompt = prompt;
-    /** The place that `continue` watches, "" for none; the bench watches RAM characters. */
+    /** The place that `continue` watches, "" for none. RAM characters are not here: the bench watches them. */
     this.watched = "";
     /** The number of the breakpoint that was set last, 0 for none. */
     this.last = 0;
@@ -48,7 +49,7 @@ export class BreakpointCommands {
     };
   }
 
-  /** Returns the bench's own breakpoints, including those that a line of the bench has set or deleted. */
+  /** Adds the bench's breakpoints to the list, and removes those that the bench no longer has. */
   takeOwn() {
     const { map, debugger: { session } } = this.prompt.session;
     for (const address of session.breaks) {
@@ -59,8 +60,8 @@ export class BreakpointCommands {
   }
 
   /**
-   * Sets a breakpoint; returns its number.
-   * @param {string} rest
+   * Sets a breakpoint. Returns its number.
+   * @param {string} rest the arguments: place, first hit, condition and note
    */
   async add(rest) {
     const { session, machine, calls } = this.prompt;
@@ -85,7 +86,7 @@ export class BreakpointCommands {
   }
 
   /**
-   * Changes a breakpoint, unless its words cannot be read.
+   * Changes a breakpoint. Restores it and fails if its condition or note has an error.
    * @param {number} id
    * @param {Partial<import("../debug/breakpoints.js").KeptBreakpoint>} some
    */
@@ -107,7 +108,10 @@ export class BreakpointCommands {
     await this.prompt.machine.stand();
   }
 
-  /** @param {string} rest */
+  /**
+   * Returns the numbers of breakpoints; fails if a word names none.
+   * @param {string} rest
+   */
   numbersOf(rest) {
     return rest.split(/\s+/).filter(Boolean).map((word) => {
       const id = word === LAST ? this.last : /^\d+$/.test(word) ? Number(word) : 0;
@@ -147,18 +151,19 @@ export class BreakpointCommands {
     else refuse(say.notWatched(place));
   }
 
-  /** The places that are watched. */
+  /** Returns the watched places. */
   get watchedPlaces() {
     const [answer] = this.prompt.session.debugger.session.ask("watches\n");
     return [...watchedPlaces(answer), ...(this.watched ? [this.watched] : [])];
   }
 
-  /** Returns the name of the watched place. */
+  /** Returns the text of `info watches`. */
   get watches() {
     const places = this.watchedPlaces.map((place) => (place === this.watched ? say.byContinue(place) : place));
     return places.join("\n") || say.NOTHING_WATCHED;
   }
 
+  /** Returns the text of `info breakpoints`. */
   get lines() {
     return breakpointLines(this.prompt.session, (id) => this.prompt.stops.textOf(id));
   }

@@ -1,4 +1,4 @@
-// Commands that change the session while time is paused: keys, values, the program.
+// The prompt's commands that change the session while time is paused: keys, values and the program.
 
 import { linesOfSet } from "../adapter/set_place.js";
 import { refuse } from "./words_of_line.js";
@@ -8,7 +8,6 @@ import * as say from "../../words/prompt.js";
  * @typedef {import("./debugger_prompt.js").Act} Act
  * @typedef {import("./debugger_prompt.js").Prompt} Prompt
  */
-
 
 export class ChangeCommands {
   /** @param {Prompt} prompt */
@@ -37,9 +36,9 @@ export class ChangeCommands {
   }
 
   /**
-   * @param {"press" | "release"} word
-   * @param {string} rest
-   * @param {string} command
+   * @param {"press" | "release"} word of the bench
+   * @param {string} rest the keys
+   * @param {string} command of the prompt, for messages
    */
   async moveKeys(word, rest, command) {
     for (const key of this.prompt.keys.read(rest, command)) await this.prompt.serve(key[word]);

@@ -1,5 +1,5 @@
-// The debugger at a prompt: each line is a command; its output goes to `print`, and errors to `complain`. The engine is that of the
-// page (debug/), on a session in memory; at each stop the session file contains all work up to it.
+// The debugger at a prompt: each line is a command. Output goes to `print`, errors go to `complain`. The debugger is the one of the page
+// (debug/), on a session in memory. At each stop the session is saved to its file.
 //
 //     const prompt = new Prompt(launched, dataOfPage, { print, complain, pause, source, isByHand });   (adapter/launching.js launches)
 //     await prompt.begin(); await prompt.take("break show"); prompt.isEnded; prompt.complete("br")
@@ -29,41 +29,42 @@ import { stoppedAt } from "../../words/stops.js";
 /**
  * @typedef {import("../adapter/launching.js").Launched} Launched
  *
+ * A command: receives the text after the command's name.
  * @typedef {(rest: string) => void | Promise<void>} Act
  */
 
 /**
- * The calls that the debugger's prompt makes to its host. `complain` and `read` also serve files of lines.
+ * The callbacks of the debugger's prompt. `source FILE` also uses `complain` and `read`.
  * @typedef {object} PromptCalls
  * @property {(words: string) => void} print Prints a message on standard output.
  * @property {(words: string) => void} complain Prints a message on standard error.
- * @property {() => Promise<void>} pause Resolves after other work had its turn, such as a typed Ctrl-C.
+ * @property {() => Promise<void>} pause Resolves after other tasks had their turn, such as the handler of Ctrl-C.
  * @property {() => string | null} source Returns the present text of the program's file; null if the program has no file.
  * @property {(name: string) => string} read Returns the text of a file; throws an error that says why it cannot be read.
  * @property {(name: string, text: string) => void} write Writes a text to a file; throws an error that says why it cannot be written.
- * @property {(begin: string) => string[]} files Returns the names of the files that begin with a text.
- * @property {boolean} isByHand Whether somebody can interrupt an endless run.
+ * @property {(begin: string) => string[]} files Returns the file names that start with a prefix.
+ * @property {boolean} isByHand True if a user at a terminal can interrupt an endless run.
  * @property {{ toggle: () => string, turn: (isOn: boolean) => string } | null} view Shows or hides the view (view.js); null without a
- *   terminal. Each call returns why it cannot be shown, "" if it can.
+ *   terminal. Each call returns an error message, "" if there is no error.
  */
 
-/** The most cycles of a move in a script, 18 minutes of the board. */
+/** The maximum number of cycles in a move of a script: 18 minutes on the board. */
 const MOST_CYCLES = 100000000;
-/** The most stops of a script for which the commands of breakpoints run. */
+/** The maximum number of stops in a script's line whose breakpoint commands run. */
 const MOST_STOPS = 100000;
-/** The word of a command, and the text after it. */
+/** A command's word and the text after it. */
 const COMMAND = /^([a-zA-Z-]+|\S)(.*)$/;
 const NO_COMMANDS = { commands: [], isSilent: false, words: "", hasMoved: false };
 /** The commands that an empty line repeats. */
 const AGAIN = /^(next|step|reverse-step|reverse-next|reverse-continue|continue|until|list|run|x)$/;
 
 /**
- * Lines that continue with the name of a file.
+ * The commands with a file name, and the patterns that find it.
  * @type {Record<string, RegExp>}
  */
 const FILE_AFTER = { source: /^\s*\S+\s+(.*)$/, save: /^\s*\S+\s+\S+\s+(.*)$/ };
 
-/** An error that has been reported already. */
+/** An error whose message is printed already. */
 class Reported extends Error {}
 
 export class Prompt {
@@ -77,11 +78,11 @@ export class Prompt {
     this.session = launched.session;
     this.calls = calls;
     this.isEnded = false;
-    /** The line that an empty one does again. */
+    /** The line that an empty line repeats. */
     this.last = "";
     /** The cycle count at the beginning of the last line. */
     this.begun = 0;
-    /** True if the user has stopped the last line. */
+    /** True if the user has interrupted the last line. */
     this.isInterrupted = false;
     /** @type {{ commands: string[], isSilent: boolean, words: string, hasMoved: boolean }} the commands of the last stop */
     this.atStop = NO_COMMANDS;
@@ -122,14 +123,14 @@ export class Prompt {
     return this.breakpoints.watched;
   }
 
-  /** The breakpoints that the session had are those of the prompt, too. */
+  /** Adds the session's breakpoints to the list and shows the current stop. */
   async begin() {
     this.breakpoints.takeOwn();
     await this.session.applyBreakpoints();
     this.showStop(stoppedAt(this.session.counterWords));
   }
 
-  /** Yields to others. If nobody can stop an endless run, it ends after a while. */
+  /** Yields to other tasks. In a script, ends a move that exceeds its maximum. */
   async turn() {
     await this.calls.pause();
     const { count } = this.session.debugger.session;
@@ -142,14 +143,14 @@ export class Prompt {
    */
   output(words, category) {
     if (category === "stderr") this.sources.complain(words.trimEnd());
-    // A failure is reported once, as a refusal.
+    // `moved` reports a move that did nothing.
     else if (!words.startsWith(say.NOTHING_DONE)) this.calls.print(words.trimEnd());
   }
 
   // --- lines ---
 
   /**
-   * Executes a line, and the commands of the breakpoints at which it stops; returns false if one is rejected, which is reported.
+   * Executes a line and the commands of the breakpoints at which it stops. If a line is rejected, prints why and returns false.
    * @param {string} text
    */
   async take(text) {
@@ -158,12 +159,15 @@ export class Prompt {
     this.isInterrupted = false;
     const name = this.nameOf(line);
     const isDone = await this.takeAlone(line);
-    // The lines after those that were listed are next.
+    // A repeated `list` has no argument, so it lists the next lines.
     this.last = isDone && AGAIN.test(name) ? (name === "list" ? name : line) : "";
     return isDone && this.runCommands();
   }
 
-  /** @param {string} line */
+  /**
+   * Executes a line without the commands of breakpoints. If the line is rejected, prints why and returns false.
+   * @param {string} line
+   */
   async takeAlone(line) {
     this.atStop = NO_COMMANDS;
     try {
@@ -177,7 +181,7 @@ export class Prompt {
   }
 
   /**
-   * Returns the name of a line's command, "" if it has none.
+   * Returns the full name of a line's command; "" if the line has none.
    * @param {string} line
    */
   nameOf(line) {
@@ -192,7 +196,10 @@ export class Prompt {
     await this.acts[command ? command.name : refuse(words)](rest.trim());
   }
 
-  /** Runs the commands of the breakpoint that has stopped. Those after a move are skipped: the next stop may have its own. */
+  /**
+   * Runs the commands of the breakpoint that stopped the last line. A command that moves time ends the list; then the commands of its stop
+   * run. Returns false if a command is rejected.
+   */
   async runCommands() {
     let stops = 0;
     for (let { commands } = this.atStop; commands.length > 0 && !this.isInterrupted; { commands } = this.atStop) {
@@ -209,8 +216,8 @@ export class Prompt {
   }
 
   /**
-   * Makes a move, and waits for its end; returns its report.
-   * @param {() => void} act
+   * Begins a move and waits for its end. Returns its report; fails if nothing was done.
+   * @param {() => void} act begins the move
    */
   async moved(act) {
     act();
@@ -223,7 +230,7 @@ export class Prompt {
   }
 
   /**
-   * Serves a line of the bench, and saves it.
+   * Serves a bench line and saves the session.
    * @param {string} line
    */
   async serve(line) {
@@ -232,8 +239,8 @@ export class Prompt {
   }
 
   /**
-   * Shows a stop: its reason, the next instruction and the displays.
-   * @param {string} words
+   * Shows a stop: its reason, the next instruction, and the expressions of `display`.
+   * @param {string} words the reason
    */
   showStop(words) {
     this.looks.listed = 0;
@@ -244,9 +251,9 @@ export class Prompt {
   }
 
   /**
-   * Returns the name of a place of the machine, of a lamp by its own name.
-   * @param {string} text
-   * @param {string} command
+   * Returns the name of a place of the machine; fails if the board has no such place.
+   * @param {string} text a place, or the name of a lamp
+   * @param {string} command of the prompt, for messages
    */
   placeOfWords(text, command) {
     if (text === "") refuse(say.placeForm(command));
@@ -256,12 +263,12 @@ export class Prompt {
     return this.session.values([place.name])[0] === "" ? refuse(boardHasNo(place.name)) : place.name;
   }
 
-  /** Returns the prompt before a line that is typed. */
+  /** Returns the prompt before a line. */
   get label() {
     return this.stops.opened ? "> " : "(mcs4) ";
   }
 
-  /** Stops what is running; returns false if nothing is. */
+  /** Interrupts the present move. Returns false if there is none. */
   interrupt() {
     const { isMoving } = this.machine;
     this.isInterrupted = true;
@@ -269,7 +276,7 @@ export class Prompt {
     return isMoving;
   }
 
-  /** Discards the commands of a breakpoint that are being typed; returns words about them. */
+  /** Discards the unfinished commands of a breakpoint. Returns a message about them, "" if there are none. */
   drop() {
     return this.stops.drop();
   }
@@ -277,8 +284,8 @@ export class Prompt {
   // --- completion ---
 
   /**
-   * Resolves to the completions of a line: words, and the part of the line that they replace.
-   * @param {string} line
+   * Resolves to the completions of a line: the words, and the part of the line that they replace.
+   * @param {string} line up to the cursor
    * @returns {Promise<[string[], string]>}
    */
   async complete(line) {
@@ -293,7 +300,10 @@ export class Prompt {
     return [all.filter((each) => each.toLowerCase().startsWith(word.toLowerCase())), word];
   }
 
-  /** @param {string} command */
+  /**
+   * Returns the words that can follow a command.
+   * @param {string} command
+   */
   wordsFor(command) {
     if (command === "info") return INFOS;
     if (command === "save") return ["breakpoints"];

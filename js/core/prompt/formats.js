@@ -1,4 +1,4 @@
-// Values as `print/FORMAT` shows them.
+// Values in the formats of `print/FORMAT`.
 
 import { expressionOf } from "../conditions/condition_language.js";
 import { valueOfExpression } from "../adapter/expression_values.js";
@@ -12,7 +12,7 @@ import * as say from "../../words/prompt.js";
  * @typedef {import("../adapter/expression_values.js").Known} Known
  */
 
-/** @type {(base: number, mark: string) => (value: number) => string} */
+/** @type {(base: number, mark: string) => (value: number) => string} formats a number in a base, with a mark before its digits */
 const digits = (base, mark) => (value) => `${value < 0 ? "-" : ""}${mark}${Math.abs(value).toString(base).toUpperCase()}`;
 /** @type {Record<string, (value: number, session: DebugSession) => string>} */
 const FORMATS = {
@@ -26,7 +26,7 @@ const FORMATS = {
 };
 
 /**
- * The number that a text is now; a condition is 1 or 0.
+ * Returns the current value of an expression as a number; 1 for a condition that is true, 0 for one that is false.
  * @param {string} text
  * @param {DebugSession} session
  */
@@ -39,8 +39,8 @@ function numberOfText(text, session) {
 }
 
 /**
- * The value of an expression, perhaps with a format before it: `/x r4`.
- * @param {string} text
+ * Returns the current value of an expression as text.
+ * @param {string} text the expression, perhaps with a format before it: `/x r4`
  * @param {Known} known
  */
 export function formattedValue(text, known) {

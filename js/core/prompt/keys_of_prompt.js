@@ -1,4 +1,4 @@
-// Keys as they are named at a prompt: by the board's face, or as row.column.
+// The names of keys at a prompt: those of the board's front panel, or `row.column`.
 
 import { readBoard } from "../bench/answers.js";
 import { matrixKey, textOfKey } from "../board/key_place.js";
@@ -22,7 +22,7 @@ export class KeysOfPrompt {
     this.named = keysOf(face);
   }
 
-  /** Returns the names of all keys: unnamed keys by row and column. */
+  /** Returns the names of all keys; a key without a name is `row.column`. */
   get names() {
     const { rows, columns } = readBoard(this.session.debugger.session.statusQueries.board);
     const taken = new Set([...this.named.values()].map(({ key }) => textOfKey(key)));
@@ -34,6 +34,7 @@ export class KeysOfPrompt {
     return [...this.named.keys(), ...others];
   }
 
+  /** Returns the text of `info keys`. */
   text() {
     const down = keysDown(this.session);
     const { names } = this;
@@ -42,6 +43,7 @@ export class KeysOfPrompt {
   }
 
   /**
+   * Returns the key that a word names; null if there is none.
    * @param {string} word
    * @returns {NamedKey | null}
    */
@@ -55,9 +57,9 @@ export class KeysOfPrompt {
   }
 
   /**
-   * Returns the keys that words name; a word that is not a name is read letter by letter.
+   * Returns the keys that words name; fails if there is no such key. A word that is not a name is read letter by letter.
    * @param {string} text
-   * @param {string} command
+   * @param {string} command of the prompt, for messages
    */
   read(text, command) {
     if (text === "") refuse(say.keyForm(command));

@@ -1,4 +1,4 @@
-// The completions of a line of the bench, or of the prompt around it.
+// Completion of lines at the prompt of `mcs4 new` and `mcs4 open`.
 
 import { ANSWER_FORMS } from "../bench/answer_table.js";
 import { readBoard, readMarks } from "../bench/answers.js";
@@ -6,15 +6,15 @@ import { POKE_NAMES, TRACE_NAMES } from "../bench/line_forms.js";
 import { upTo } from "../bench/numbers.js";
 
 /**
- * The possible completions, and the end of the line that they replace.
+ * The possible words, and the end of the line that they replace.
  * @typedef {[string[], string]} Completion
  */
 
 /**
- * The calls that completion makes to the host and to the session.
+ * The callbacks of completion.
  * @typedef {object} CompletionCalls
- * @property {(begin: string) => string[]} files Returns the names of the files that begin with a text.
- * @property {(line: string) => Promise<string[]>} ask Resolves to the bench's answers to one line, without showing them.
+ * @property {(begin: string) => string[]} files Returns the file names that start with a prefix.
+ * @property {(line: string) => Promise<string[]>} ask Resolves to the bench's answers to a line, which are not printed.
  */
 
 /** Words of the prompt itself. */
@@ -28,18 +28,21 @@ const beginning = (words, begin) => words.filter((word) => word.startsWith(begin
 /** @type {(count: number) => string[]} */
 const numbers = (count) => upTo(count).map(String);
 
-/** @typedef {(at: number, ask: (line: string) => Promise<string[]>) => Promise<string[]>} WordsAt */
+/**
+ * Resolves to the words that can be the argument with an index.
+ * @typedef {(at: number, ask: (line: string) => Promise<string[]>) => Promise<string[]>} WordsAt
+ */
 
-/** @type {(words: string[]) => WordsAt} */
+/** @type {(words: string[]) => WordsAt} proposes words for the first argument only */
 const atFirst = (words) => async (at) => (at === 0 ? words : []);
-/** @type {WordsAt} */
+/** @type {WordsAt} proposes rows, then columns */
 const keysAt = async (at, ask) => {
   const { rows, columns } = readBoard(await ask("board"));
   return at > 1 ? [] : numbers(at === 0 ? rows : columns);
 };
 
 /**
- * The words that may follow the first one, by their position.
+ * The words that can be arguments, by the first word of the line.
  * @type {Record<string, WordsAt>}
  */
 const WORDS_AFTER = {
@@ -55,6 +58,7 @@ const WORDS_AFTER = {
 };
 
 /**
+ * Returns the completions of a line.
  * @param {string} line up to the cursor
  * @param {CompletionCalls} calls
  * @returns {Promise<Completion>}

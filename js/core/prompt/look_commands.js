@@ -1,4 +1,4 @@
-// Commands that show the state of the session, and change nothing.
+// The prompt's commands that show the state of the session without changing it.
 
 import { LAST_ADDRESS } from "../bench/numbers.js";
 import { placeOf } from "../conditions/places.js";
@@ -16,22 +16,22 @@ import { stoppedAt } from "../../words/stops.js";
  */
 
 const MOST_SHOWN = 4096;
-/** The lines of the source that are listed at once. */
+/** The number of source lines that `list` prints. */
 const LISTED = 10;
 export const INFOS = [
   "registers", "ram", "ports", "keys", "breakpoints", "watches", "display", "names", "source", "session", "line", "symbol", "frame",
   "stack", "program", "locals",
 ];
-/** Abbreviations as in gdb. */
+/** gdb's abbreviations of the words after `info`. */
 const SHORT_INFOS = new Map([["r", "registers"], ["s", "stack"], ["f", "frame"], ["args", "locals"], ["all-registers", "registers"]]);
 
 export class LookCommands {
   /** @param {Prompt} prompt */
   constructor(prompt) {
     this.prompt = prompt;
-    /** @type {string[]} what is printed at each stop */
+    /** @type {string[]} the expressions that each stop prints */
     this.displays = [];
-    /** The line of the source that was listed last, 0 for none since the last stop. */
+    /** The last source line that `list` has printed since the last stop, 0 for none. */
     this.listed = 0;
   }
 
@@ -59,7 +59,7 @@ export class LookCommands {
     };
   }
 
-  /** @param {string} rest also as gdb's layout and tui have it */
+  /** @param {string} rest the argument of `view`, or of gdb's `layout` and `tui` */
   view(rest) {
     const { view } = this.prompt.calls;
     if (!/^(|on|off|enable|disable|src|regs|asm|split)$/.test(rest)) refuse(say.VIEW_FORM);
@@ -71,12 +71,18 @@ export class LookCommands {
     if (words) refuse(words);
   }
 
-  /** @param {string} what perhaps with a format before it, as `/x r4` */
+  /**
+   * Returns the current value of an expression as text.
+   * @param {string} what the expression, perhaps with a format before it: `/x r4`
+   */
   value(what) {
     return formattedValue(what, this.prompt.known);
   }
 
-  /** @param {string} what */
+  /**
+   * Returns the current value of an expression as text, or the error message.
+   * @param {string} what
+   */
   valueOrFault(what) {
     try {
       return this.value(what);
@@ -85,7 +91,10 @@ export class LookCommands {
     }
   }
 
-  /** @param {number} [from] those from one on */
+  /**
+   * Prints the expressions of `display` with their values.
+   * @param {number} [from] the index of the first one
+   */
   showDisplays(from = 0) {
     this.displays.slice(from).forEach((what, at) => this.prompt.calls.print(`${from + at + 1}: ${what} = ${this.valueOrFault(what)}`));
   }
@@ -132,13 +141,13 @@ export class LookCommands {
     this.listed = Math.min(count, from + LISTED - 1);
   }
 
-  /** The next instruction, and its subroutine. */
+  /** Returns the text of `frame`: the innermost frame and the next instruction. */
   get frame() {
     const { session } = this.prompt;
     return `${looks.frameLines(session).split("\n")[0]}\n${looks.hereLine(session)}`;
   }
 
-  /** @returns {Record<string, (rest: string) => string>} what `info` shows */
+  /** @returns {Record<string, (rest: string) => string>} functions that return the text of `info`, by the word after it */
   get infos() {
     const { session, keys, launched, breakpoints, ended } = this.prompt;
     return {

@@ -1,4 +1,4 @@
-// The views of a session that a prompt shows: the source round a line, registers, RAM, ports, ROM, calls, breakpoints.
+// The texts with which a prompt shows the state of a session: source, registers, RAM, ports, ROM, calls and breakpoints.
 
 import { counted, hex, numberOf, upTo } from "../bench/numbers.js";
 import { linesOfBreakpoints } from "../debug/breakpoint_lines.js";
@@ -12,13 +12,16 @@ import * as say from "../../words/prompt.js";
 
 /** @typedef {import("../debug/debug_session.js").DebugSession} DebugSession */
 
-/** @param {DebugSession} session */
+/**
+ * Returns the current state of the machine.
+ * @param {DebugSession} session
+ */
 function standingOf(session) {
   return new Standing(session.debugger.session.takeSnapshot());
 }
 
 /**
- * A line of the source with its address; `>` at the next instruction, `*` at an enabled breakpoint.
+ * Returns a source line with its address, `>` at the next instruction and `*` at an enabled breakpoint.
  * @param {DebugSession} session
  * @param {number} line
  */
@@ -33,7 +36,7 @@ export function sourceLine(session, line) {
 }
 
 /**
- * Returns how many lines the source has.
+ * Returns the number of lines of the source.
  * @param {DebugSession} session
  */
 export function linesOfSource({ program }) {
@@ -41,9 +44,10 @@ export function linesOfSource({ program }) {
 }
 
 /**
+ * Returns source lines; fails if the source ends before the first one.
  * @param {DebugSession} session
  * @param {number} from
- * @param {number} to
+ * @param {number} to included
  */
 export function sourceLines(session, from, to) {
   const last = Math.min(to, linesOfSource(session));
@@ -52,7 +56,7 @@ export function sourceLines(session, from, to) {
 }
 
 /**
- * Returns the next instruction: its line of the source, otherwise its code.
+ * Returns the source line of the next instruction; if it has none, the disassembled instruction.
  * @param {DebugSession} session
  */
 export function hereLine(session) {
@@ -60,7 +64,7 @@ export function hereLine(session) {
 }
 
 /**
- * Instructions of ROM from an address on.
+ * Returns disassembled instructions from an address on.
  * @param {DebugSession} session
  * @param {number} address
  * @param {number} count
@@ -74,7 +78,10 @@ export function codeLines(session, address, count) {
   }).join("\n");
 }
 
-/** @param {DebugSession} session */
+/**
+ * Returns the text of `info registers`.
+ * @param {DebugSession} session
+ */
 export function registerLines(session) {
   const { registers } = standingOf(session);
   const pairs = upTo(8).map((at) => `P${at} ${registers.registers[2 * at]}${registers.registers[2 * at + 1]}`).join("  ");
@@ -83,7 +90,10 @@ export function registerLines(session) {
   return `acc ${accumulator}  cy ${carry}  pc ${session.counterWords}  dcl ${bank}  test ${test}${owing}\n${pairs}`;
 }
 
-/** @param {DebugSession} session */
+/**
+ * Returns the text of `info ram`: each register with its status characters, and the output ports.
+ * @param {DebugSession} session
+ */
 export function ramLines(session) {
   const { ram } = standingOf(session);
   const lines = [...ram].flatMap(([bank, { registers, ports }]) => [
@@ -97,7 +107,7 @@ export function ramLines(session) {
 }
 
 /**
- * The SRC bytes, the ports of the ROMs, the chains (their bits in groups of ten), and the keys that are down.
+ * Returns the text of `info ports`: the SRC bytes, the ROM ports, the chains with their bits in groups of ten, and the keys that are down.
  * @param {DebugSession} session
  */
 export function portLines(session) {
@@ -111,7 +121,7 @@ export function portLines(session) {
 }
 
 /**
- * The keys that are down, as row.column.
+ * Returns the keys that are down, as `row.column`.
  * @param {DebugSession} session
  */
 export function keysDown(session) {
@@ -119,7 +129,7 @@ export function keysDown(session) {
 }
 
 /**
- * Returns how many calls wait for their return.
+ * Returns the number of calls that have not returned.
  * @param {DebugSession} session
  */
 export function callsOpen(session) {
@@ -127,6 +137,7 @@ export function callsOpen(session) {
 }
 
 /**
+ * Returns an address with its label or line.
  * @param {DebugSession} session
  * @param {number} address
  */
@@ -135,7 +146,7 @@ export function addressText(session, address) {
 }
 
 /**
- * The line of an instruction, with its addresses.
+ * Returns the text of `info line`: the line of an instruction, with its addresses.
  * @param {DebugSession} session
  * @param {{ line: number, address: number }} place
  */
@@ -145,13 +156,19 @@ export function lineText(session, { line, address }) {
   return say.lineIs(line, hex(address, 3), session.map.nameOf(address) || "", last > address ? hex(last, 3) : "");
 }
 
-/** @param {DebugSession} session */
+/**
+ * Returns the text of `backtrace`, the newest frame first.
+ * @param {DebugSession} session
+ */
 export function frameLines(session) {
   return framesOf(session).map(({ address, line, name }, at) => (
     `#${at}  ${hex(address, 3)}  ${name}${line > 0 ? `, line ${line}` : ""}${at > 0 ? say.THE_CALL : ""}`)).join("\n");
 }
 
-/** @param {DebugSession} session */
+/**
+ * Returns the text of `info names`.
+ * @param {DebugSession} session
+ */
 export function nameLines({ map }) {
   const names = [...map.names.values()];
   if (names.length === 0) return say.NO_NAMES;
@@ -160,8 +177,9 @@ export function nameLines({ map }) {
 }
 
 /**
+ * Returns the text of `info breakpoints`.
  * @param {DebugSession} session
- * @param {(id: number) => string} more the rest of the report on a breakpoint
+ * @param {(id: number) => string} more returns text to add to a breakpoint
  */
 export function breakpointLines({ breakpoints }, more) {
   const { all, kept } = breakpoints;
@@ -172,9 +190,9 @@ export function breakpointLines({ breakpoints }, more) {
 }
 
 /**
- * Bytes of ROM with their instructions, or characters of RAM: `0x00F`, `show`, `ram.0.0x10`.
+ * Returns RAM characters from a place on; fails if the board has no such place.
  * @param {DebugSession} session
- * @param {string} text
+ * @param {string} text the place, such as `ram.0.0x10`
  * @param {number} count
  */
 export function characterLines(session, text, count) {

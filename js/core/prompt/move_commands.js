@@ -1,4 +1,4 @@
-// Commands that let time pass, or go back: one move at a time, whose end is awaited and reported.
+// The prompt's commands that move time forward or back. Each one waits for the end of its move and reports the stop.
 
 import { goalOfText } from "../debug/becoming.js";
 import { callsOpen } from "./looks.js";
@@ -63,15 +63,18 @@ export class MoveCommands {
     };
   }
 
-  /** @param {() => void} act */
+  /**
+   * Makes a move and shows its stop.
+   * @param {() => void} act begins the move
+   */
   async move(act) {
     this.prompt.showStop(await this.prompt.moved(act));
   }
 
   /**
-   * Repeats a move, until one ends differently.
-   * @param {string} rest
-   * @param {() => void} act
+   * Makes a move several times, until it stops for another reason than the end of a step.
+   * @param {string} rest the count, "" for 1
+   * @param {() => void} act begins the move
    */
   async repeat(rest, act) {
     const { prompt } = this;
@@ -99,7 +102,10 @@ export class MoveCommands {
     return this.move(() => machine.go(watched === "" ? null : { kind: "change", place: watched }));
   }
 
-  /** @param {string} rest */
+  /**
+   * Presses keys one after the other while time passes.
+   * @param {string} rest
+   */
   async press(rest) {
     const { prompt } = this;
     const { machine, session } = prompt;

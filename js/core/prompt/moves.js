@@ -1,4 +1,4 @@
-// Moves of a prompt in addition to those of the debugger: back past a subroutine, keys that are pressed while time passes.
+// Moves of the prompt that the debugger does not have: stepping back over a subroutine, and pressing a key while time passes.
 
 import { isCall, isReturn } from "../engine/rom_codes.js";
 import { KEY_DOWN_CYCLES, TOOL_KEY_UP_CYCLES } from "../time/mcs4_time.js";
@@ -10,7 +10,7 @@ import * as say from "../../words/prompt.js";
  */
 
 /**
- * The next byte of ROM.
+ * Returns the first byte of the next instruction.
  * @param {DebugSession} session
  */
 function codeHere(session) {
@@ -18,7 +18,7 @@ function codeHere(session) {
 }
 
 /**
- * An instruction back; from after a return to its call, by the changes of the return addresses.
+ * Steps back over an instruction. If it is the return of a subroutine, goes back to the call; finds it by changes of the return addresses.
  * @param {DebugSession} session
  * @param {GoesOn} goesOn
  */
@@ -36,7 +36,7 @@ export async function backOver(session, goesOn) {
 }
 
 /**
- * A key is down for a while, and up; time passes meanwhile, up to a stop.
+ * Presses and releases a key while time passes. Resolves to the stop that ended it.
  * @param {DebugSession} session
  * @param {import("../board/key_place.js").Key} key
  * @param {GoesOn} goesOn

@@ -1,9 +1,10 @@
-// The commands of the debugger's prompt, by their words.
+// The names, abbreviations and help texts of the commands of the debugger's prompt.
 
 import { COMMAND_WORDS } from "../../words/debug_commands.js";
 import * as say from "../../words/prompt.js";
 
 /**
+ * A command's texts: its name, abbreviations, usage, effect, and further help.
  * @typedef {{ name: string, short: string[], use: string, does: string, more: string }} CommandText
  */
 
@@ -14,7 +15,7 @@ export const COMMANDS = COMMAND_WORDS.map(({ words, use, does, more }) => {
 });
 
 /**
- * Returns the command of a word: its name, an abbreviation, or its unique beginning; otherwise words that say why not.
+ * Returns the command that a word names: by its name, an abbreviation or a unique prefix. Otherwise returns an error message.
  * @param {string} word
  * @returns {{ command: CommandText | null, words: string }}
  */
@@ -27,7 +28,10 @@ export function commandOf(word) {
   return { command: null, words: say.notClear(word, alike.map(({ name }) => name).join(", ")) };
 }
 
-/** @param {string} word "" for all commands */
+/**
+ * Returns the help for a command, or the list of all commands.
+ * @param {string} word "" for the list
+ */
 export function helpOf(word) {
   if (word === "") return COMMANDS.map(({ use, does }) => `${use.padEnd(25)} ${does}`).join("\n");
   const { command, words } = commandOf(word);

@@ -1,39 +1,43 @@
-// Files whose lines a prompt serves (`source FILE`), one inside the other; an error in a line has the file's name and the line's number.
+// Serves the lines of files at a prompt (`source FILE`). A file can contain `source` lines. Error messages name the file and the line.
 
 import * as say from "../../words/session_prompt.js";
 
 /**
- * The server of lines: `take` returns false if a line is rejected; `drop` discards unfinished input, and returns words about it.
+ * The prompt that serves the lines. `take` returns false if a line is rejected. `drop` discards unfinished input and returns a message
+ * about it, "" if there is none.
  * @typedef {{ isEnded: boolean, take: (line: string) => Promise<boolean>, drop: () => string }} Taking
  */
 
-/** The deepest nesting of files that serve the lines of others. */
+/** The maximum nesting of `source` lines. */
 const MOST_SOURCES = 8;
 
 export class Sources {
   /**
    * @param {Taking} taking
-   * @param {{ read: (name: string) => string, complain: (words: string) => void }} calls `read` throws why a file cannot be read
+   * @param {{ read: (name: string) => string, complain: (words: string) => void }} calls `read` throws an error if it cannot read a file
    */
   constructor(taking, calls) {
     this.taking = taking;
     this.calls = calls;
-    /** @type {{ name: string, at: number }[]} the files, the innermost last, with the numbers of their lines */
+    /** @type {{ name: string, at: number }[]} the nested files with their current line numbers, the innermost last */
     this.files = [];
   }
 
-  /** The file whose line is served; undefined if the line was typed. */
+  /** Returns the file whose line is served; undefined if the line was typed. */
   get file() {
     return this.files[this.files.length - 1];
   }
 
-  /** @param {string} words */
+  /**
+   * Reports an error, with its file and line if it is in a file.
+   * @param {string} words
+   */
   complain(words) {
     this.calls.complain(this.file ? say.inFile(this.file.name, this.file.at, words) : words);
   }
 
   /**
-   * Serves the lines of a file, up to one that is rejected; returns false if one is. Throws why the file cannot be served.
+   * Serves the lines of a file up to one that is rejected. Returns false if a line is rejected; throws if the file cannot be served.
    * @param {string} name
    */
   async serve(name) {

@@ -1,4 +1,5 @@
-// The acts of the prompt's breakpoints beyond stopping: they are deleted at their first stop, let hits pass, run commands, and are saved.
+// The prompt's commands for what breakpoints do in addition to stopping: temporary breakpoints, ignored hits, commands at a stop. One
+// command saves the list.
 
 import { hex } from "../bench/numbers.js";
 import { LAST } from "./breakpoint_commands.js";
@@ -10,6 +11,7 @@ import * as say from "../../words/prompt.js";
  * @typedef {import("./debugger_prompt.js").Prompt} Prompt
  * @typedef {import("../debug/breakpoints.js").Breakpoint} Breakpoint
  *
+ * The actions at a stop: deleting the breakpoint, and running commands.
  * @typedef {{ isTemporary: boolean, commands: string[] }} AtStop
  */
 
@@ -20,16 +22,16 @@ const MOST_COMMANDS = 100;
 export const END = "end";
 const SILENT = "silent";
 
-/** @type {(command: string) => string} a command for the breakpoint that was set last */
+/** @type {(command: string) => string} a command applied to the breakpoint that was set last */
 const ofLast = (command) => `${command} ${LAST}`;
 
 export class StopCommands {
   /** @param {Prompt} prompt */
   constructor(prompt) {
     this.prompt = prompt;
-    /** @type {Map<number, AtStop>} by the ids of breakpoints */
+    /** @type {Map<number, AtStop>} the actions of breakpoints by their ids */
     this.atStop = new Map();
-    /** @type {{ id: number, lines: string[] } | null} the commands that are being typed, up to `end` */
+    /** @type {{ id: number, lines: string[] } | null} the commands that are being typed, and their breakpoint; null for none */
     this.opened = null;
   }
 
@@ -51,7 +53,10 @@ export class StopCommands {
     };
   }
 
-  /** @param {number} id */
+  /**
+   * Returns the actions of a breakpoint.
+   * @param {number} id
+   */
   of(id) {
     return this.atStop.get(id) || NOTHING;
   }
@@ -65,9 +70,9 @@ export class StopCommands {
   }
 
   /**
-   * The breakpoint that a word names, and the words after it.
+   * Returns the breakpoint that the first word names, and the text after it; fails if there is no such breakpoint.
    * @param {string} rest
-   * @param {string} form how the command is written
+   * @param {string} form of the command, for messages
    * @returns {{ breakpoint: Breakpoint, more: string }}
    */
   named(rest, form) {
@@ -102,7 +107,7 @@ export class StopCommands {
   }
 
   /**
-   * Stores a line of the commands that are being typed; returns false if there are too many.
+   * Adds a line to the commands that are being typed, or ends them; fails if there are too many.
    * @param {string} line
    */
   take(line) {
@@ -116,7 +121,7 @@ export class StopCommands {
     } else if (line.trim() !== "") lines.push(line.trim());
   }
 
-  /** Discards the commands that are being typed; returns words about them. */
+  /** Discards the commands that are being typed. Returns a message about them, "" if there are none. */
   drop() {
     const { opened } = this;
     this.opened = null;
@@ -124,7 +129,7 @@ export class StopCommands {
   }
 
   /**
-   * Returns the commands of the breakpoint that ended the last move; deletes it if it is temporary.
+   * Returns the commands of the breakpoint that ended the last move. Deletes the breakpoint if it is temporary.
    * @returns {Promise<{ commands: string[], isSilent: boolean, words: string }>}
    */
   async reached() {
@@ -157,7 +162,10 @@ export class StopCommands {
     this.prompt.calls.print(say.savedIn(name, this.list.all.length));
   }
 
-  /** @param {Breakpoint} breakpoint */
+  /**
+   * Returns the lines that set a breakpoint again.
+   * @param {Breakpoint} breakpoint
+   */
   linesOf({ id, line, address, isOn, from, hits, condition, note }) {
     const { isTemporary, commands } = this.of(id);
     const left = from - hits;

@@ -1,8 +1,8 @@
-// The view of a prompt as lines of a terminal: the source around the next instruction, registers, lamps and displays. It only
-// makes texts; js/node/view_on_terminal.mjs positions them.
+// The view above a debugger's prompt, as lines for a terminal: the source around the next instruction, registers, lamps and displays.
+// js/node/view_on_terminal.mjs positions the lines.
 //
 //     const view = new View(prompt);
-//     view.lines(sizeOf(24, 80), { head, here, other });      these highlight a text; sizeOf is null if there is no room
+//     view.lines(sizeOf(24, 80), { head, here, other });      sizeOf returns null if the terminal is too small
 
 import { upTo } from "../bench/numbers.js";
 import { Standing } from "../debug/standing.js";
@@ -13,26 +13,29 @@ import * as say from "../../words/prompt.js";
 
 /**
  * @typedef {import("./debugger_prompt.js").Prompt} Prompt
- * @typedef {{ rows: number, columns: number }} ViewSize how many lines the view has, and how long each is at most
- * @typedef {(text: string) => string} Marked
- * @typedef {{ head: Marked, here: Marked, other: Marked }} Marks of the header line, of the next line, of a value that differs from the one
- * before the last move
+ * @typedef {{ rows: number, columns: number }} ViewSize the number of lines, and their maximum length
+ * @typedef {(text: string) => string} Marked highlights a text
+ *
+ * The highlighting of the header line, of the next instruction, and of a value that the last move changed.
+ * @typedef {{ head: Marked, here: Marked, other: Marked }} Marks
  */
 
-/** The fewest rows and columns of a terminal, and the rows that are left to commands. */
+/** The minimum rows and columns of a terminal, and the minimum rows below the view. */
 export const LEAST_ROWS = 12;
 export const LEAST_COLUMNS = 40;
 const LEAST_FOR_COMMANDS = 5;
 const MOST_ROWS = 40;
-/** Registers are shown next to the source if there are this many columns, otherwise below it. */
+/** The minimum columns for registers next to the source; otherwise they are below it. */
 const WIDE = 72;
+/** The columns of the registers next to the source. */
 const SIDE = 24;
-/** The most expressions of `display` that are shown. */
+/** The maximum number of expressions of `display` in the view. */
 const MOST_DISPLAYS = 4;
 
 /**
- * @param {number} rows of the terminal
- * @param {number} columns of it
+ * Returns the size of the view on a terminal; null if the terminal is too small.
+ * @param {number} rows
+ * @param {number} columns
  * @returns {ViewSize | null}
  */
 export function sizeOf(rows, columns) {
@@ -43,7 +46,7 @@ export function sizeOf(rows, columns) {
 }
 
 /**
- * Pads or cuts a text to this many columns, without characters that would move a cursor.
+ * Cuts a text to a maximum number of columns, and escapes control characters.
  * @param {string} text
  * @param {number} length
  */
@@ -56,14 +59,16 @@ export class View {
   /** @param {Prompt} prompt */
   constructor(prompt) {
     this.prompt = prompt;
-    /** @type {Map<string, string>} the text of each register when time was paused last */
+    /** @type {Map<string, string>} the values of the registers before the last move */
     this.before = new Map();
-    /** @type {Map<string, string>} what is shown of them now */
+    /** @type {Map<string, string>} the values of the registers now */
     this.now = new Map();
+    /** The cycle count of the values in `now`, -1 for none. */
     this.total = -1;
   }
 
   /**
+   * Returns the lines of the view.
    * @param {ViewSize} size
    * @param {Marks} marks
    */
@@ -82,7 +87,7 @@ export class View {
     return [head(this.head(columns)), ...body, ...below, "-".repeat(columns)].slice(0, rows);
   }
 
-  /** Stores the present values, to compare them with those before the last move. */
+  /** Reads the registers; keeps their values from before the last move. */
   look() {
     const { session } = this.prompt;
     const { total } = session.debugger.session.count;
@@ -155,4 +160,3 @@ export class View {
     return [shown, keys && say.down(keys), ...displays].filter(Boolean).map((line) => cut(line, columns));
   }
 }
-

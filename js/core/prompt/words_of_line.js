@@ -1,4 +1,4 @@
-// The arguments of a command: places in the program, counts, times.
+// Parsers for the arguments of the prompt's commands: places in the program, counts, times, conditions.
 
 import { LAST_ADDRESS, numberOf } from "../bench/numbers.js";
 import { wholeDuration } from "../conditions/durations.js";
@@ -9,10 +9,10 @@ import * as say from "../../words/prompt.js";
 
 /**
  * @typedef {import("../debug/debug_session.js").DebugSession} DebugSession
- * @typedef {{ line: number, address: number }} InProgram `line` is 0 if the program has none there
+ * @typedef {{ line: number, address: number }} InProgram a place in the program; `line` is 0 if the address has no line
  */
 
-/** An error of a command, in words. */
+/** The error of a rejected command. */
 export class Refused extends Error {}
 
 /**
@@ -23,10 +23,9 @@ export function refuse(words) {
   throw new Refused(words);
 }
 
-
 /**
- * Returns the address of a label with an offset, or of an address itself; undefined if the text is neither.
- * @param {string} text
+ * Returns the address that a text names; undefined if it names none.
+ * @param {string} text a label or an address, perhaps with an offset: `show + 3`
  * @param {DebugSession} session
  */
 export function addressIn(text, { map }) {
@@ -38,8 +37,8 @@ export function addressIn(text, { map }) {
 }
 
 /**
- * Returns an instruction of the program; without words, the current one. A line without bytes stands for the next one that has some.
- * @param {string} text
+ * Returns the instruction that a text names; fails if there is none. For a line without an instruction it is the next one.
+ * @param {string} text a line, a label or an address; "" for the next instruction
  * @param {DebugSession} session
  * @returns {InProgram}
  */
@@ -58,8 +57,8 @@ export function instructionIn(text, session) {
 }
 
 /**
- * A count that may be left out, and is 1 then.
- * @param {string} text
+ * Parses a count; fails if it is less than 1 or more than the maximum.
+ * @param {string} text "" for 1
  * @param {number} most
  */
 export function countIn(text, most) {
@@ -69,7 +68,7 @@ export function countIn(text, most) {
 }
 
 /**
- * A time, in cycles.
+ * Parses a time such as `20 ms`. Returns it in cycles.
  * @param {string} text
  */
 export function cyclesIn(text) {
@@ -78,7 +77,7 @@ export function cyclesIn(text) {
 }
 
 /**
- * Returns the condition in a text; "" for a place in the program: a line, an address, a label.
+ * Returns a text that is a condition; "" for a place in the program: a line, an address, a label. Fails if the condition has an error.
  * @param {string} text
  * @param {DebugSession} session
  */
