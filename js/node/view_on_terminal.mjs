@@ -1,12 +1,12 @@
 // The debugger's view (js/core/prompt/view.js) on a terminal. It occupies the upper rows; commands scroll in the rows below it. On a
 // terminal that cannot move its cursor (TERM=dumb), it is printed as lines after each command. There, and with NO_COLOR, it has no colours.
-import { LEAST_COLUMNS, LEAST_ROWS, View, sizeOf } from "../core/prompt/view.js";
+import { MIN_COLUMNS, MIN_ROWS, View, sizeOf } from "../core/prompt/view.js";
 import { isDumb, painter } from "./terminal.mjs";
 
 const REVERSE = 7;
 const BOLD = 1;
 const YELLOW = 33;
-const NO_ROOM = `the view needs a terminal of ${LEAST_COLUMNS} columns and ${LEAST_ROWS} rows at least`;
+const NO_ROOM = `the view needs a terminal of ${MIN_COLUMNS} columns and ${MIN_ROWS} rows at least`;
 
 export class ViewOnTerminal {
   /** The callback `prompted` shows the prompt again, at the cursor. */

@@ -254,7 +254,7 @@ test("a frame begins again where its subroutine was called, with what the machin
 test("an error after a response leaves the requests that follow in their order", async () => {
   const { connection, begin, ask, until } = served();
   await begin();
-  connection.follow({ after: () => { throw new Error("too late"); } });
+  connection.runFollowUp({ followUp: () => { throw new Error("too late"); } });
   await until(({ body }) => body && body.output === "too late\n");
   assert.deepEqual((await ask("threads")).threads.length, 1);
 });

@@ -182,7 +182,7 @@ const USES = {
     return fault || note.words(now(note)) === "true";
   },
   evaluate: (text) => orFault(() => valueOfExpression(text, known()) === "true"),
-  console: (text) => orFault(async () => (await new Console({ isMoving: false }, known(), null, {}).take(text)).words === "true"),
+  console: (text) => orFault(async () => (await new Console({ isMoving: false }, known(), null, {}).serveLine(text)).words === "true"),
   trigger: (text) => {
     const { trigger, fault } = readTrigger(text, linesOfBoard(names.board, BOARD, true, []), names);
     return fault || trigger.holds(now(trigger));

@@ -22,7 +22,9 @@ const LOCK = { board: read("lock/board.toml"), program: read("lock/lock.asm") };
 async function prompted({ board, program } = { board: BOARD, program: PROGRAM }, isByHand = false, files = {}) {
   let printed = [];
   const session = new DebugSession(engine, { board, program });
-  const launched = { session, kept: null, program: "p.asm", board: "b.toml", stopsOnEntry: true, isDebugged: true, nameOf: (name) => name };
+  const launched = {
+    session, writer: null, program: "p.asm", board: "b.toml", stopsOnEntry: true, isDebugged: true, nameOf: (name) => name,
+  };
   const calls = {
     print: (words) => printed.push(...words.split("\n")),
     complain: (words) => printed.push(`refused: ${words}`),
@@ -48,7 +50,7 @@ async function prompted({ board, program } = { board: BOARD, program: PROGRAM },
 
 test("the table of commands: each is there, is found by its words, and has help", async () => {
   const { prompt } = await prompted();
-  assert.deepEqual(Object.keys(prompt.acts).sort(), COMMANDS.map(({ name }) => name).sort());
+  assert.deepEqual(Object.keys(prompt.handlers).sort(), COMMANDS.map(({ name }) => name).sort());
   const words = COMMANDS.flatMap(({ name, short }) => [name, ...short]);
   assert.equal(new Set(words).size, words.length);
   for (const word of words) assert.ok(commandOf(word).command, word);

@@ -10,21 +10,21 @@ import { INITIALIZE_FIRST, INITIALIZE_ONCE, NOT_JSON } from "../../words/server.
 
 /**
  * A request without a response yet. Long work checks `isCancelled` and throws Cancelled.
- * @typedef {{ seq: number, command: string, hasBegun: boolean, isCancelled: boolean }} Asked
+ * @typedef {{ seq: number, command: string, hasBegun: boolean, isCancelled: boolean }} PendingRequest
  *
  * A handler: serves a request and returns the body of its response, or a promise of the body.
- * @typedef {(args: any, asked: Asked) => unknown} Act
+ * @typedef {(args: any, pending: PendingRequest) => unknown} RequestHandler
  */
 
 /** The body of a response, and an action that runs once the response is sent. */
-export class Followed {
+export class WithFollowUp {
   /**
    * @param {object | undefined} body
-   * @param {() => void} after
+   * @param {() => void} followUp
    */
-  constructor(body, after) {
+  constructor(body, followUp) {
     this.body = body;
-    this.after = after;
+    this.followUp = followUp;
   }
 }
 
@@ -32,14 +32,14 @@ export class AdapterConnection extends MessageStream {
   /** @param {(bytes: Uint8Array) => void} write */
   constructor(write) {
     super(write);
-    /** @type {Record<string, Act>} */
+    /** @type {Record<string, RequestHandler>} */
     this.requests = {};
     this.sent = 0;
     this.isOpen = false;
     /** The end of the last queued request: each request waits for the one before it. */
     this.turn = Promise.resolve();
-    /** @type {Set<Asked>} the requests without a response yet, both queued and begun */
-    this.waiting = new Set();
+    /** @type {Set<PendingRequest>} the requests without a response yet, both queued and begun */
+    this.unanswered = new Set();
     /** @type {(id: string) => void} stops the work whose progress has this id */
     this.stopWork = (id) => fail(say.noProgress(id));
   }
@@ -68,54 +68,54 @@ export class AdapterConnection extends MessageStream {
       this.refuse(number, typeof command === "string" ? command : "", new AdapterError(words));
       return;
     }
-    const asked = { seq: number, command, hasBegun: false, isCancelled: false };
-    this.waiting.add(asked);
-    if (command === "cancel" && this.isOpen) this.request(asked, message.arguments);
-    else this.turn = this.turn.then(() => this.request(asked, message.arguments));
+    const pending = { seq: number, command, hasBegun: false, isCancelled: false };
+    this.unanswered.add(pending);
+    if (command === "cancel" && this.isOpen) this.serve(pending, message.arguments);
+    else this.turn = this.turn.then(() => this.serve(pending, message.arguments));
   }
 
   /**
    * Returns the error of a request that comes too early or twice; "" if it can be served now.
    * @param {string} command
    */
-  faultOfOrder(command) {
+  orderError(command) {
     if (!this.isOpen && command !== "initialize") return INITIALIZE_FIRST;
     return this.isOpen && command === "initialize" ? INITIALIZE_ONCE : "";
   }
 
   /**
-   * @param {Asked} asked
+   * @param {PendingRequest} pending
    * @param {any} args
    */
-  async request(asked, args) {
+  async serve(pending, args) {
     // A request that was cancelled in the queue has its response already.
-    if (!this.waiting.has(asked)) return;
-    const { seq, command } = asked;
-    asked.hasBegun = true;
+    if (!this.unanswered.has(pending)) return;
+    const { seq, command } = pending;
+    pending.hasBegun = true;
     try {
-      const fault = this.faultOfOrder(command);
+      const fault = this.orderError(command);
       if (fault) throw new AdapterError(fault);
-      const act = Object.prototype.hasOwnProperty.call(this.requests, command) && this.requests[command];
-      if (!act) throw new AdapterError(say.noCommand(command));
-      const given = await act(args, asked);
+      const handler = Object.prototype.hasOwnProperty.call(this.requests, command) && this.requests[command];
+      if (!handler) throw new AdapterError(say.noCommand(command));
+      const result = await handler(args, pending);
       if (command === "initialize") this.isOpen = true;
-      const body = given instanceof Followed ? given.body : given;
-      this.waiting.delete(asked);
+      const body = result instanceof WithFollowUp ? result.body : result;
+      this.unanswered.delete(pending);
       this.send({ type: "response", request_seq: seq, success: true, command, ...(body === undefined ? {} : { body }) });
-      if (given instanceof Followed) this.follow(given);
+      if (result instanceof WithFollowUp) this.runFollowUp(result);
     } catch (thrown) {
-      this.waiting.delete(asked);
-      this.refuse(seq, command, asked.isCancelled && thrown instanceof Cancelled ? new AdapterError(CANCELLED) : thrown);
+      this.unanswered.delete(pending);
+      this.refuse(seq, command, pending.isCancelled && thrown instanceof Cancelled ? new AdapterError(CANCELLED) : thrown);
     }
   }
 
   /**
    * Runs the action that follows a response. Its errors go to the output because the request has its response already.
-   * @param {Followed} followed
+   * @param {WithFollowUp} response
    */
-  follow({ after }) {
+  runFollowUp({ followUp }) {
     try {
-      after();
+      followUp();
     } catch (thrown) {
       this.sendEvent("output", { category: "stderr", output: `${wordsOf(thrown)}\n` });
     }
@@ -129,11 +129,11 @@ export class AdapterConnection extends MessageStream {
   cancel(args) {
     const [number, progress] = [needNumber(args, "requestId", 0), textOrNone(args, "progressId")];
     if (progress !== "") this.stopWork(progress);
-    for (const asked of [...this.waiting].filter(({ seq, command }) => seq === number && command !== "cancel")) {
-      asked.isCancelled = true;
-      if (asked.hasBegun) continue;
-      this.waiting.delete(asked);
-      this.refuse(asked.seq, asked.command, new AdapterError(CANCELLED));
+    for (const pending of [...this.unanswered].filter(({ seq, command }) => seq === number && command !== "cancel")) {
+      pending.isCancelled = true;
+      if (pending.hasBegun) continue;
+      this.unanswered.delete(pending);
+      this.refuse(pending.seq, pending.command, new AdapterError(CANCELLED));
     }
   }
 

@@ -7,7 +7,7 @@ import { FIRST_WORDS } from "./console.js";
 import { rowsAt } from "./disassembly.js";
 import { framesOf } from "./frames.js";
 import { numberOfPlace, readMemory, referenceOf, writeMemory } from "./memory.js";
-import { baseOf, formatOf, inBase, numberInBase } from "./number_format.js";
+import { baseOf, formatFlag, inBase, numberInBase } from "./number_format.js";
 import { isCall, neverContinues, targetOf, wordsOf } from "../engine/rom_codes.js";
 import { fieldOf } from "../server/framing.js";
 import { keysOf } from "../testing/test_text.js";
@@ -20,24 +20,24 @@ import { wordsOfLine } from "../../words/stops.js";
 /**
  * @typedef {import("./launching.js").Launched} Launched
  * @typedef {import("./scopes.js").Scopes} Scopes
- * @typedef {import("./expression_values.js").Known} Known
+ * @typedef {import("./expression_values.js").ExpressionContext} ExpressionContext
  */
 
 /** The source reference of the text that is disassembled from ROM. */
 const ROM_SOURCE = 1;
 /** The maximum number of instructions in a response to `disassemble`. */
-const MOST_ROWS = 8192;
-const MOST_COMPLETIONS = 500;
+const MAX_ROWS = 8192;
+const MAX_COMPLETIONS = 500;
 /** A line whose last word is the start of a key's name. */
-const KEY_BEGUN = /(?:^\s*(?:press|release|keys)\s(?:.*\s)?|\bkey\s+)(\S*)$/;
+const UNFINISHED_KEY = /(?:^\s*(?:press|release|keys)\s(?:.*\s)?|\bkey\s+)(\S*)$/;
 /** The maximum number of instructions to scan for calls. */
-const MOST_LOOKED = 256;
+const MAX_SCANNED = 256;
 
 export class Answering {
   /**
    * @param {Launched} launched
    * @param {Scopes} scopes
-   * @param {Known} known
+   * @param {ExpressionContext} known
    * @param {{ firstLine: number, firstColumn: number }} counting the client's numbers of the first line and column: 0 or 1
    */
   constructor(launched, scopes, known, { firstLine, firstColumn }) {
@@ -82,7 +82,7 @@ export class Answering {
     const all = framesOf(this.session);
     const from = Math.max(0, needNumber(args, "startFrame", 0));
     const levels = needNumber(args, "levels", 0);
-    const [isHex, withLine] = [formatOf(args, "hex"), formatOf(args, "line") === true];
+    const [isHex, withLine] = [formatFlag(args, "hex"), formatFlag(args, "line") === true];
     const frames = all.map(({ address, line, name, call }, at) => ({
       id: at + 1, name: nameInFormat(name, isHex) + (withLine && line > 0 ? `, ${wordsOfLine(line)}` : ""),
       instructionPointerReference: referenceOf(address), canRestart: call >= 0,
@@ -103,10 +103,10 @@ export class Answering {
   /**
    * Returns the frame that a request names; fails if the stack has no such frame.
    * @param {any} args
-   * @param {number} [usual] the default id
+   * @param {number} [defaultId] the default id
    */
-  frameOf(args, usual) {
-    return framesOf(this.session)[needNumber(args, "frameId", usual) - 1] || fail(say.NO_FRAME);
+  frameOf(args, defaultId) {
+    return framesOf(this.session)[needNumber(args, "frameId", defaultId) - 1] || fail(say.NO_FRAME);
   }
 
   /**
@@ -189,7 +189,7 @@ export class Answering {
     const text = lines[at] ?? fail(say.NO_LINE);
     const column = Math.min(text.length, Math.max(0, needNumber(args, "column", text.length + this.firstColumn) - this.firstColumn));
     const { words, word } = this.wordsAt(text.slice(0, column));
-    const targets = words.filter((each) => each.toLowerCase().startsWith(word.toLowerCase())).slice(0, MOST_COMPLETIONS);
+    const targets = words.filter((each) => each.toLowerCase().startsWith(word.toLowerCase())).slice(0, MAX_COMPLETIONS);
     const before = lines.slice(0, at).reduce((sum, line) => sum + line.length + 1, 0);
     const start = before + column - word.length + this.firstColumn;
     return { targets: targets.map((label) => ({ label, start, length: word.length })) };
@@ -203,7 +203,7 @@ export class Answering {
    */
   wordsAt(before) {
     const { session: { map }, known: { face } } = this;
-    const begun = KEY_BEGUN.exec(before);
+    const begun = UNFINISHED_KEY.exec(before);
     if (begun) return { words: [...keysOf(face).keys()], word: begun[1] };
     const word = (/[A-Za-z_@][\w.]*$/.exec(before) || [""])[0];
     const first = before.slice(0, before.length - word.length).trim();
@@ -223,7 +223,7 @@ export class Answering {
     const begin = addressOf(needText(args, "memoryReference")) + needNumber(args, "offset", 0);
     const count = needNumber(args, "instructionCount");
     if (!(begin >= 0 && begin <= LAST_ADDRESS)) fail(say.ADDRESSES_ARE);
-    if (!(count >= 0 && count <= MOST_ROWS)) fail(say.rowsAre(MOST_ROWS));
+    if (!(count >= 0 && count <= MAX_ROWS)) fail(say.rowsAre(MAX_ROWS));
     // Clients cannot read negative addresses, so rows before ROM are left out.
     const rows = rowsAt(this.session, begin, needNumber(args, "instructionOffset", 0), count).filter(({ address }) => address >= 0);
     return {
@@ -272,7 +272,7 @@ function nameInFormat(name, isHex) {
  */
 function callsFrom({ debugger: { session: { codes } }, map }, from) {
   const calls = [];
-  for (let address = from, count = 0; address <= LAST_ADDRESS && count < MOST_LOOKED; count++) {
+  for (let address = from, count = 0; address <= LAST_ADDRESS && count < MAX_SCANNED; count++) {
     const code = codes[address];
     if (isCall(code)) calls.push({ address, target: targetOf(codes, address) });
     if (neverContinues(code) || (address !== from && map.lineOf(address) === 0)) break;

@@ -17,7 +17,7 @@ import { stopsEachTime } from "../../words/machine.js";
 
 /**
  * @typedef {import("../debug/debug_session.js").DebugSession} DebugSession
- * @typedef {import("../debug/common_mistakes.js").Kind} KindOfFault
+ * @typedef {import("../debug/common_mistakes.js").Kind} MistakeKind
  *
  * A requested breakpoint. `address` is -1 if there is no instruction; `from` is the first hit that stops; `note` is the text to log.
  * `words` is the error message, "" if the breakpoint can be set.
@@ -29,22 +29,22 @@ import { stopsEachTime } from "../../words/machine.js";
  *
  * A requested data breakpoint: the name of the place, and in `words` the error message, "" if the place can be watched.
  * @typedef {{ id: number, name: string, condition: string, from: number, words: string }} WantedData
- * @typedef {{ kind: string, condition: string }} WantedFault a requested exception filter
+ * @typedef {{ kind: string, condition: string }} WantedFilter a requested exception filter
  */
 
 /** @type {Omit<Wanted, "id">} */
 const PLAIN = { line: 0, address: -1, condition: "", from: 1, note: "", words: "" };
-const HITS = /^(?:>=|=|==|>)?\s*(\d{1,9})$/;
-const MOST_DATA = 8;
+const HIT_CONDITION = /^(?:>=|=|==|>)?\s*(\d{1,9})$/;
+const MAX_WATCHES = 8;
 
 /**
  * Parses a hit condition such as `5` or `> 4`. Returns the first hit that stops, and an error message, "" if there is no error.
  * @param {string} text
  */
-function fromOf(text) {
+function firstHitOf(text) {
   const trimmed = text.trim();
   if (trimmed === "") return { from: 1, words: "" };
-  const found = HITS.exec(trimmed);
+  const found = HIT_CONDITION.exec(trimmed);
   const from = found ? Number(found[1]) + (trimmed.startsWith(">") && !trimmed.startsWith(">=") ? 1 : 0) : 0;
   return from >= 1 ? { from, words: "" } : { from: 1, words: say.HITS_WORDS };
 }
@@ -53,8 +53,8 @@ function fromOf(text) {
  * Reads the fields that all kinds of breakpoints have.
  * @param {any} given
  */
-function partsOf(given) {
-  const { from, words } = fromOf(textOrNone(given, "hitCondition"));
+function commonFieldsOf(given) {
+  const { from, words } = firstHitOf(textOrNone(given, "hitCondition"));
   return { condition: textOrNone(given, "condition"), note: textOrNone(given, "logMessage"), from, words };
 }
 
@@ -77,18 +77,18 @@ export class ClientBreakpoints {
   /** @param {DebugSession} session */
   constructor(session) {
     this.session = session;
-    this.made = 0;
+    this.lastId = 0;
     /** @type {Record<Kind, Wanted[]>} */
     this.wanted = { lines: [], labels: [], addresses: [] };
     /** The addresses of breakpoints that the client did not set. */
-    this.own = session.debugger.session.breaks;
+    this.otherAddresses = session.debugger.session.breaks;
     /** The RAM characters, as `B 0xSS`, that the bench watches though the client did not ask for it. */
-    this.ownWatches = watchesOf(session);
+    this.otherWatches = watchesOf(session);
     /** @type {string[]} the RAM characters, as `B 0xSS`, that the bench watches for the client */
-    this.watched = [];
+    this.clientWatches = [];
     /** @type {WantedData[]} */
     this.data = [];
-    /** @type {WantedFault[]} */
+    /** @type {WantedFilter[]} */
     this.faults = [];
     /** @type {Map<number, Wanted>} the requested breakpoint for each id in the debugger's list */
     this.byId = new Map();
@@ -98,17 +98,17 @@ export class ClientBreakpoints {
    * Copies the breakpoints of the session before a restart, and moves them with the program. Returns those that moved.
    * @param {ClientBreakpoints} other
    */
-  async takeFrom({ wanted, made, data, faults }) {
-    Object.assign(this, { wanted, made, data, faults });
+  async takeFrom({ wanted, lastId, data, faults }) {
+    Object.assign(this, { wanted, lastId, data, faults });
     await this.applyData();
-    this.applyFaults();
+    this.applyFilters();
     return this.moveWithProgram();
   }
 
   /** @param {Partial<Wanted>} some */
   make(some) {
-    this.made += 1;
-    return { ...PLAIN, ...some, id: this.made };
+    this.lastId += 1;
+    return { ...PLAIN, ...some, id: this.lastId };
   }
 
   // --- requests of the client ---
@@ -121,7 +121,7 @@ export class ClientBreakpoints {
     const { map } = this.session;
     return this.set("lines", listOf(args, "breakpoints").map((given) => {
       const { line, address, words } = instructionOfLine(lineOf(needNumber(given, "line")), map);
-      return this.make({ ...partsOf(given), line, address, ...(address < 0 ? { words } : {}) });
+      return this.make({ ...commonFieldsOf(given), line, address, ...(address < 0 ? { words } : {}) });
     }));
   }
 
@@ -133,7 +133,7 @@ export class ClientBreakpoints {
       const found = map.names.get(name);
       const words = found && found.isLabel ? "" : noLabel(name);
       const address = found && found.isLabel ? found.value : -1;
-      return this.make({ ...partsOf(given), line: address < 0 ? 0 : map.lineOf(address), address, ...(words ? { words } : {}) });
+      return this.make({ ...commonFieldsOf(given), line: address < 0 ? 0 : map.lineOf(address), address, ...(words ? { words } : {}) });
     }));
   }
 
@@ -146,7 +146,7 @@ export class ClientBreakpoints {
     return this.set("addresses", listOf(args, "breakpoints").map((given) => {
       const { wanted, words } = wantedAddress(needText(given, "instructionReference"), needNumber(given, "offset", 0), addressOf);
       const { line, address } = words === "" ? instructionOfAddress(wanted, map) : { line: 0, address: -1 };
-      return this.make({ ...partsOf(given), line, address, ...(words === "" ? {} : { words }) });
+      return this.make({ ...commonFieldsOf(given), line, address, ...(words === "" ? {} : { words }) });
     }));
   }
 
@@ -180,7 +180,7 @@ export class ClientBreakpoints {
     for (const each of [...lines, ...labels, ...addresses]) {
       if (each.words === "" && each.address >= 0 && !all.has(each.address)) all.set(each.address, each);
     }
-    for (const address of this.own) if (!all.has(address)) all.set(address, { ...PLAIN, id: 0, address });
+    for (const address of this.otherAddresses) if (!all.has(address)) all.set(address, { ...PLAIN, id: 0, address });
     return all;
   }
 
@@ -197,9 +197,9 @@ export class ClientBreakpoints {
     this.byId.clear();
     for (const each of all.slice(0, Math.min(MOST_ON, MOST_BREAKPOINTS))) {
       const { address, condition, from, note } = each;
-      const made = session.breakpoints.add({ address, condition, from, note });
-      made.hits = hits.get(address) || 0;
-      this.byId.set(made.id, each);
+      const added = session.breakpoints.add({ address, condition, from, note });
+      added.hits = hits.get(address) || 0;
+      this.byId.set(added.id, each);
     }
     const { faults: unreadable } = await session.applyBreakpoints();
     for (const [id, words] of unreadable) faults.set(/** @type {Wanted} */ (this.byId.get(id)), stopsEachTime(words));
@@ -238,12 +238,12 @@ export class ClientBreakpoints {
     const { board } = this.session.debugger.session.statusQueries;
     this.data = listOf(args, "breakpoints").map((given) => {
       const name = needText(given, "dataId");
-      const { from, words } = fromOf(textOrNone(given, "hitCondition"));
+      const { from, words } = firstHitOf(textOrNone(given, "hitCondition"));
       const place = watchablePlace(name, board);
       const access = textOrNone(given, "accessType") || "write";
-      this.made += 1;
+      this.lastId += 1;
       const wrong = !place ? say.notWatched(name) : access !== "write" ? say.ONLY_CHANGES : words;
-      return { id: this.made, name: place ? place.name : name, condition: textOrNone(given, "condition"), from, words: wrong };
+      return { id: this.lastId, name: place ? place.name : name, condition: textOrNone(given, "condition"), from, words: wrong };
     });
     const faults = await this.applyData();
     return this.data.map(({ id, words }) => {
@@ -257,44 +257,44 @@ export class ClientBreakpoints {
    * places itself. Returns error messages by the ids of their data breakpoints.
    */
   async applyData() {
-    const { session, ownWatches } = this;
-    const right = this.data.filter(({ words }) => words === "");
-    const free = MOST_DATA - ownWatches.length;
-    const plain = right.filter(({ name, condition, from }) => watchOf(name) !== "" && condition.trim() === "" && from === 1);
-    const watched = [...new Set(plain.map(({ name }) => watchOf(name)))].filter((place) => !ownWatches.includes(place)).slice(0, free);
-    const gone = this.watched.filter((place) => !watched.includes(place));
-    const come = watched.filter((place) => !this.watched.includes(place));
-    const lines = [...gone.map((place) => `unwatch ${place}\n`), ...come.map((place) => `watch ${place}\n`)].join("");
+    const { session, otherWatches } = this;
+    const valid = this.data.filter(({ words }) => words === "");
+    const free = MAX_WATCHES - otherWatches.length;
+    const plain = valid.filter(({ name, condition, from }) => watchOf(name) !== "" && condition.trim() === "" && from === 1);
+    const watches = [...new Set(plain.map(({ name }) => watchOf(name)))].filter((place) => !otherWatches.includes(place)).slice(0, free);
+    const removed = this.clientWatches.filter((place) => !watches.includes(place));
+    const added = watches.filter((place) => !this.clientWatches.includes(place));
+    const lines = [...removed.map((place) => `unwatch ${place}\n`), ...added.map((place) => `watch ${place}\n`)].join("");
     if (lines) await session.debugger.session.serve(lines, async () => true);
-    this.watched = watched;
+    this.clientWatches = watches;
     const now = watchesOf(session);
-    return session.debugger.setWatches(right.filter((each) => !plain.includes(each) || !now.includes(watchOf(each.name))), session.names);
+    return session.debugger.setWatches(valid.filter((each) => !plain.includes(each) || !now.includes(watchOf(each.name))), session.names);
   }
 
   // --- common mistakes ---
 
   /** @param {any} args */
-  setFaults(args) {
+  setFilters(args) {
     const plain = listOf(args, "filters").map((kind) => ({ kind: String(kind), condition: "" }));
     const options = listOf(args, "filterOptions").map((given) => (
       { kind: needText(given, "filterId"), condition: textOrNone(given, "condition") }));
     this.faults = [...plain, ...options];
-    return this.applyFaults();
+    return this.applyFilters();
   }
 
   /** Makes the debugger stop at the requested mistakes. A filter whose condition has an error stops each time. Returns the answers. */
-  applyFaults() {
+  applyFilters() {
     const { session, faults } = this;
     const { usual } = session.debugger;
     usual.stops = new Set();
     usual.conditions = new Map();
     const answers = faults.map(({ kind, condition: text }) => {
       if (!Object.prototype.hasOwnProperty.call(KINDS, kind)) return { verified: false, message: say.noFilter(kind) };
-      const own = /** @type {KindOfFault} */ (kind);
+      const mistake = /** @type {MistakeKind} */ (kind);
       const isAlways = text.trim() === "";
       const { condition, fault, column } = isAlways ? { condition: null, fault: "", column: -1 } : conditionOf(text, session.names);
-      usual.stops.add(own);
-      if (condition) usual.conditions.set(own, condition);
+      usual.stops.add(mistake);
+      if (condition) usual.conditions.set(mistake, condition);
       return fault ? { verified: false, message: stopsEachTime(inColumn(fault, column)) } : { verified: true };
     });
     // The debugger checks every instruction only in pieces of CYCLES_OF_CALL.
@@ -303,11 +303,11 @@ export class ClientBreakpoints {
   }
 
   /** Updates the breakpoints and watches that the client did not set, after lines in the console changed them. */
-  takeOwn() {
+  noteOwnBreakpoints() {
     const { lines, labels, addresses } = this.wanted;
     const ofClient = new Set([...lines, ...labels, ...addresses].map(({ address }) => address));
-    this.own = this.session.debugger.session.breaks.filter((address) => !ofClient.has(address));
-    this.ownWatches = watchesOf(this.session).filter((place) => !this.watched.includes(place));
+    this.otherAddresses = this.session.debugger.session.breaks.filter((address) => !ofClient.has(address));
+    this.otherWatches = watchesOf(this.session).filter((place) => !this.clientWatches.includes(place));
   }
 
   /** Removes the client's breakpoints and watches. Returns an error message, "" if there is no error. */

@@ -16,15 +16,15 @@ import { noKey } from "../../words/testing.js";
 
 /**
  * @typedef {import("./debugged_machine.js").Machine} Machine
- * @typedef {import("./expression_values.js").Known} Known
+ * @typedef {import("./expression_values.js").ExpressionContext} ExpressionContext
  * @typedef {import("../bench/words.js").Words} Words
  *
  * The result of a line: the text to show, true in `changes` if the machine changed, and a move that begins once the text is shown.
- * @typedef {{ words: string, changes: boolean, move: (() => void) | null }} Done
+ * @typedef {{ words: string, changes: boolean, move: (() => void) | null }} LineResult
  *
  * A callback between pieces of work. Receives the number of characters that are done, and returns false to cancel: then no line has an
  * effect.
- * @typedef {(done: number) => Promise<boolean>} GoesOn
+ * @typedef {(done: number) => Promise<boolean>} MayContinue
  */
 
 /** The words with which a line can start. */
@@ -32,19 +32,19 @@ export const FIRST_WORDS = [
   "press", "release", "keys", "until", "change", "back", "forward", "set", "help", "display", ...ANSWER_FORMS.keys(),
 ];
 /** The maximum length of an input in characters, and the maximum number of its bench lines. */
-const LONGEST = 65536;
-const MOST_INPUTS = 1000;
-const COMPARES = /^[^\n]*[=<>]/;
+const MAX_LENGTH = 65536;
+const MAX_INPUTS = 1000;
+const HAS_COMPARISON = /^[^\n]*[=<>]/;
 const RUNS = new Set(["run", "step"]);
 const BREAKS = new Set(["break", "unbreak", "watch", "unwatch"]);
 
-/** @type {(words: string) => Done} */
+/** @type {(words: string) => LineResult} */
 const answerWith = (words) => ({ words, changes: false, move: null });
 
 export class Console {
   /**
    * @param {Machine} machine
-   * @param {Known} known
+   * @param {ExpressionContext} known
    * @param {Words} words the messages for refusal numbers
    * @param {{ breaksChanged: () => void, romChanged: () => void }} calls
    */
@@ -62,23 +62,23 @@ export class Console {
 
   /**
    * @param {string} text
-   * @param {GoesOn} [goesOn]
+   * @param {MayContinue} [mayContinue]
    * @param {import("./number_format.js").Base} [base] of numbers
-   * @returns {Promise<Done>}
+   * @returns {Promise<LineResult>}
    */
-  async take(text, goesOn, base) {
+  async serveLine(text, mayContinue, base) {
     const line = text.trim();
-    if (line.length > LONGEST) fail(say.tooLong(LONGEST));
+    if (line.length > MAX_LENGTH) fail(say.tooLong(MAX_LENGTH));
     const [word, ...rest] = line.split("\n")[0].split(/[ \t]+/);
     if (line === "" || line === "help" || line === "?") return answerWith(say.HELP);
     const isNumbers = rest.length === 2 && rest.every((each) => !Number.isNaN(numberOf(each)));
     if ((word === "press" || word === "release") && !isNumbers) return this.moveKeys(word, rest);
     if (word === "keys" && rest.length > 0) return this.typeKeys(rest);
     if (word === "until" || word === "change" || word === "back" || word === "forward") return this.moveTo(word, rest);
-    if (word === "set" && !line.includes("\n")) return this.served(linesOfSet(line.slice("set".length), this.session));
-    if (word === "set") return this.serve(line, goesOn);
+    if (word === "set" && !line.includes("\n")) return this.runBenchLines(linesOfSet(line.slice("set".length), this.session));
+    if (word === "set") return this.serveBenchLines(line, mayContinue);
     // Bench lines contain no comparison, so a line with one is an expression.
-    return ANSWER_FORMS.has(word) && !COMPARES.test(line) ? this.serve(line, goesOn) : this.valueOf(line, base);
+    return ANSWER_FORMS.has(word) && !HAS_COMPARISON.test(line) ? this.serveBenchLines(line, mayContinue) : this.valueOf(line, base);
   }
 
   /**
@@ -96,10 +96,10 @@ export class Console {
   // --- keys ---
 
   /** @param {string} name */
-  keyOf(name) {
-    const there = [...this.keys.keys()].join(" ");
+  keyNamed(name) {
+    const names = [...this.keys.keys()].join(" ");
     const key = this.keys.get(name);
-    return key || fail(noKey(name, there));
+    return key || fail(noKey(name, names));
   }
 
   /**
@@ -109,15 +109,15 @@ export class Console {
    */
   async moveKeys(word, names) {
     if (names.length === 0) fail(say.keyForm(word));
-    const keys = names.map((name) => this.keyOf(name));
+    const keys = names.map((name) => this.keyNamed(name));
     if (this.machine.isMoving && word === "press") return this.queue(keys);
     const lines = keys.map((key) => `${key[word]}\n`).join("");
-    return this.served(lines);
+    return this.runBenchLines(lines);
   }
 
   /** @param {string[]} words */
   typeKeys(words) {
-    const keys = words.flatMap((word) => (this.keys.has(word) ? [word] : [...word])).map((name) => this.keyOf(name));
+    const keys = words.flatMap((word) => (this.keys.has(word) ? [word] : [...word])).map((name) => this.keyNamed(name));
     return this.queue(keys);
   }
 
@@ -136,26 +136,26 @@ export class Console {
   /**
    * @param {string} word
    * @param {string[]} rest
-   * @returns {Done}
+   * @returns {LineResult}
    */
   moveTo(word, rest) {
     if (this.machine.isMoving) fail(say.TIME_RUNS);
-    const where = rest.join(" ");
-    /** @type {(act: () => void) => Done} */
+    const target = rest.join(" ");
+    /** @type {(act: () => void) => LineResult} */
     const move = (act) => ({ words: "", changes: false, move: act });
     if (word === "forward") return move(() => this.machine.forward());
-    if (word === "back" && where === "") return move(() => this.machine.back({ kind: "instruction" }));
+    if (word === "back" && target === "") return move(() => this.machine.back({ kind: "instruction" }));
     if (word === "back") {
-      const goal = this.goalOf(where);
+      const goal = this.goalOf(target);
       return move(() => this.machine.back(goal));
     }
-    if (where === "") fail(say.placeForm(word === "until" ? say.UNTIL_FORM : say.CHANGE_FORM));
-    if (word === "change") return move(() => this.machine.go({ kind: "change", place: where }));
-    if (/[\s=<>!]/.test(where)) {
-      const goal = this.goalOf(where);
+    if (target === "") fail(say.placeForm(word === "until" ? say.UNTIL_FORM : say.CHANGE_FORM));
+    if (word === "change") return move(() => this.machine.go({ kind: "change", place: target }));
+    if (/[\s=<>!]/.test(target)) {
+      const goal = this.goalOf(target);
       return move(() => this.machine.go(goal));
     }
-    const address = addressOf(where, this.known);
+    const address = addressOf(target, this.known);
     return move(() => this.machine.go({ kind: "here", address }));
   }
 
@@ -172,28 +172,28 @@ export class Console {
 
   /**
    * @param {string} line
-   * @param {GoesOn} [goesOn]
-   * @returns {Promise<Done>}
+   * @param {MayContinue} [mayContinue]
+   * @returns {Promise<LineResult>}
    */
-  async serve(line, goesOn) {
+  async serveBenchLines(line, mayContinue) {
     const { lines, words } = replaceNames(`${line}\n`, this.session.map);
     if (words) fail(words);
     const kinds = readInputs(lines).map(({ kind }) => kind);
-    if (kinds.length > MOST_INPUTS) fail(say.tooManyLines(MOST_INPUTS));
+    if (kinds.length > MAX_INPUTS) fail(say.tooManyLines(MAX_INPUTS));
     if (this.machine.isMoving && kinds.some((kind) => RUNS.has(kind))) fail(say.TIME_RUNS);
     if (kinds.every(isQuery)) return answerWith(this.session.debugger.session.ask(lines).join("\n"));
-    const done = await this.served(lines, goesOn);
+    const done = await this.runBenchLines(lines, mayContinue);
     if (kinds.some((kind) => BREAKS.has(kind))) this.calls.breaksChanged();
     return done;
   }
 
   /**
    * @param {string} lines
-   * @param {GoesOn} [goesOn]
-   * @returns {Promise<Done>}
+   * @param {MayContinue} [mayContinue]
+   * @returns {Promise<LineResult>}
    */
-  async served(lines, goesOn) {
-    const { entries, touchesRom, tally, words: stopWords } = await this.session.serve(lines, goesOn);
+  async runBenchLines(lines, mayContinue) {
+    const { entries, touchesRom, tally, words: stopWords } = await this.session.serve(lines, mayContinue);
     if (touchesRom) this.calls.romChanged();
     const answers = entries.flatMap((entry) => entry.answers);
     const words = answers.map((answer) => {
@@ -211,7 +211,7 @@ export class Console {
 /**
  * Returns the address that a text names; fails if it names none.
  * @param {string} text a label, with or without `@`, or a number
- * @param {Known} known
+ * @param {ExpressionContext} known
  * @returns {number}
  */
 export function addressOf(text, { session }) {

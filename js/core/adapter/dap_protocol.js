@@ -54,12 +54,12 @@ export function textOrNone(from, name) {
  * Returns an integer. If it is missing, returns its default, or fails without one.
  * @param {any} from
  * @param {string} name
- * @param {number} [usual] the default
+ * @param {number} [defaultValue] the default
  * @returns {number}
  */
-export function needNumber(from, name, usual) {
+export function needNumber(from, name, defaultValue) {
   const value = fieldOf(from, name);
-  if ((value === undefined || value === null) && usual !== undefined) return usual;
+  if ((value === undefined || value === null) && defaultValue !== undefined) return defaultValue;
   return Number.isSafeInteger(value) ? value : fail(say.isWhole(name));
 }
 
@@ -67,12 +67,12 @@ export function needNumber(from, name, usual) {
  * Returns an optional boolean.
  * @param {any} from
  * @param {string} name
- * @param {boolean} usual the default
+ * @param {boolean} defaultValue the default
  * @returns {boolean}
  */
-export function flagOf(from, name, usual) {
+export function flagOf(from, name, defaultValue) {
   const value = fieldOf(from, name);
-  if (value === undefined || value === null) return usual;
+  if (value === undefined || value === null) return defaultValue;
   return typeof value === "boolean" ? value : fail(say.isBoolean(name));
 }
 

@@ -11,7 +11,7 @@ import { stoppedAt } from "../../words/stops.js";
 import { instructionsOf } from "../help/manual.js";
 import { fieldOf } from "../server/framing.js";
 import { Words } from "../bench/words.js";
-import { Followed } from "./adapter_connection.js";
+import { WithFollowUp } from "./adapter_connection.js";
 import { Answering } from "./answering.js";
 import { ClientBreakpoints, dataOf } from "./client_breakpoints.js";
 import { Console, addressOf } from "./console.js";
@@ -27,14 +27,14 @@ import { ShownBoard, changeKey } from "./shown_board.js";
 import * as say from "../../words/adapter.js";
 
 /**
- * @typedef {import("./adapter_connection.js").Act} Act
+ * @typedef {import("./adapter_connection.js").RequestHandler} RequestHandler
  * @typedef {import("./adapter_connection.js").AdapterConnection} AdapterConnection
  * @typedef {import("./launching.js").Host} Host
  * @typedef {import("./launching.js").Launched} Launched
  * @typedef {import("./debugged_machine.js").Ended} Ended
  *
  * The open debug session: exists from launch or attach to the end.
- * @typedef {{ launched: Launched, machine: Machine, breakpoints: ClientBreakpoints, console: Console, answering: Answering }} Open
+ * @typedef {{ launched: Launched, machine: Machine, breakpoints: ClientBreakpoints, console: Console, answering: Answering }} OpenSession
  */
 
 const CAPABILITIES = {
@@ -88,11 +88,11 @@ export class DebugAdapter {
     /** The client's numbers of the first line and column, and the optional events that it accepts. */
     this.firstLine = 1;
     this.firstColumn = 1;
-    this.takesInvalidated = false;
-    this.takesMemory = false;
+    this.acceptsInvalidated = false;
+    this.acceptsMemory = false;
     this.progress = new Progress((event, body) => connection.sendEvent(event, body));
     this.moves = new Moves(this);
-    /** @type {Open | null} */
+    /** @type {OpenSession | null} */
     this.open = null;
     this.isConfigured = false;
     /** @type {Promise<string> | null} the result of `leaveOnce`; null before the first call */
@@ -101,29 +101,29 @@ export class DebugAdapter {
     this.ended = null;
     /** @type {ShownBoard | null} null until the client asks for the board */
     this.shownBoard = null;
-    connection.requests = { ...this.lifeRequests(), ...this.breakpointRequests(), ...this.moves.table(), ...this.askRequests() };
+    connection.requests = { ...this.lifecycleRequests(), ...this.breakpointRequests(), ...this.moves.table(), ...this.queryRequests() };
     connection.stopWork = (id) => this.progress.stop(id);
   }
 
   /**
    * Returns the open session; fails if nothing is launched.
-   * @returns {Open}
+   * @returns {OpenSession}
    */
-  get there() {
+  get current() {
     return this.open || fail(say.NOTHING_LAUNCHED);
   }
 
   // --- from launch to disconnect ---
 
-  /** @returns {Record<string, Act>} */
-  lifeRequests() {
+  /** @returns {Record<string, RequestHandler>} */
+  lifecycleRequests() {
     return {
       initialize: (args) => {
         if (textOrNone(args, "pathFormat") === "uri") fail(say.PATHS_ONLY);
         this.firstLine = fieldOf(args, "linesStartAt1") === false ? 0 : 1;
         this.firstColumn = fieldOf(args, "columnsStartAt1") === false ? 0 : 1;
-        this.takesInvalidated = fieldOf(args, "supportsInvalidatedEvent") === true;
-        this.takesMemory = fieldOf(args, "supportsMemoryEvent") === true;
+        this.acceptsInvalidated = fieldOf(args, "supportsInvalidatedEvent") === true;
+        this.acceptsMemory = fieldOf(args, "supportsMemoryEvent") === true;
         this.progress.isOn = fieldOf(args, "supportsProgressReporting") === true;
         return CAPABILITIES;
       },
@@ -131,19 +131,20 @@ export class DebugAdapter {
       launch: (args) => this.launch(args, launch),
       attach: (args) => this.launch(args, attach),
       configurationDone: () => {
-        const { launched } = this.there;
+        const { launched } = this.current;
         if (this.isConfigured) fail(say.CONFIGURED_ONCE);
         this.isConfigured = true;
-        return new Followed(undefined, () => (launched.stopsOnEntry ? this.stopped(this.standing("entry")) : this.there.machine.go(null)));
+        const begin = () => (launched.stopsOnEntry ? this.stopped(this.pauseEnd("entry")) : this.current.machine.go(null));
+        return new WithFollowUp(undefined, begin);
       },
       restart: (args) => this.restart(args),
-      terminate: () => new Followed(undefined, () => {
+      terminate: () => new WithFollowUp(undefined, () => {
         this.leave().then(() => this.connection.sendEvent("terminated"));
       }),
       disconnect: async () => {
         const words = await this.leave();
         if (words) this.output(`${words}\n`, "stderr");
-        return new Followed(undefined, () => this.host.end(words ? 1 : 0));
+        return new WithFollowUp(undefined, () => this.host.end(words ? 1 : 0));
       },
     };
   }
@@ -156,14 +157,14 @@ export class DebugAdapter {
   async launch(args, act) {
     if (this.open) fail(say.LAUNCH_ONCE);
     await this.begin(await act(this.engine, args, this.host, this.words));
-    return new Followed(undefined, () => this.connection.sendEvent("initialized"));
+    return new WithFollowUp(undefined, () => this.connection.sendEvent("initialized"));
   }
 
   /** @param {Launched} launched */
   async begin(launched) {
     const { session } = launched;
     /** @type {Machine} */
-    const machine = new Machine(session, launched.kept, {
+    const machine = new Machine(session, launched.writer, {
       stopped: (ended) => this.stopped(ended),
       output: (words, category) => this.output(words, category),
       pause: this.host.pause,
@@ -175,7 +176,7 @@ export class DebugAdapter {
     const face = new Face(session.boardText);
     const known = { session, face, instructions: this.instructions, shown: () => machine.shown.now() };
     const lines = new Console(machine, known, this.words, {
-      breaksChanged: () => breakpoints.takeOwn(), romChanged: () => this.reportRom(launched),
+      breaksChanged: () => breakpoints.noteOwnBreakpoints(), romChanged: () => this.reportRom(launched),
     });
     const answering = new Answering(launched, new Scopes(session, face), known, this);
     this.open = { launched, machine, breakpoints, console: lines, answering };
@@ -199,18 +200,18 @@ export class DebugAdapter {
    * @param {any} args
    */
   async restart(args) {
-    const { machine, launched, breakpoints } = this.there;
+    const { machine, launched, breakpoints } = this.current;
     await this.halt();
-    if (launched.kept) {
+    if (launched.writer) {
       await launched.session.debugger.session.serve("reset\n", async () => true);
-      await machine.stand();
+      await machine.saveAndReport();
     } else {
       const given = fieldOf(args, "arguments");
       const act = launched.isAttached ? attach : launch;
       await this.begin(await act(this.engine, given === undefined ? launched.args : given, this.host, this.words));
-      for (const moved of await this.there.breakpoints.takeFrom(breakpoints)) this.sendBreakpoint(moved);
+      for (const moved of await this.current.breakpoints.takeFrom(breakpoints)) this.sendBreakpoint(moved);
     }
-    return new Followed(undefined, () => this.stopped(this.standing("entry")));
+    return new WithFollowUp(undefined, () => this.stopped(this.pauseEnd("entry")));
   }
 
   /** Pauses the machine and waits for the end of its move. */
@@ -232,22 +233,22 @@ export class DebugAdapter {
     if (!open) return "";
     await this.halt();
     this.open = null;
-    const { kept, session } = open.launched;
-    if (!kept) return "";
+    const { writer, session } = open.launched;
+    if (!writer) return "";
     const words = await open.breakpoints.leave();
     try {
-      await kept.write(session.debugger.session);
+      await writer.write(session.debugger.session);
       return words;
     } catch (thrown) {
       return thrown instanceof Error ? thrown.message : String(thrown);
     } finally {
-      await kept.end();
+      await writer.end();
     }
   }
 
   // --- breakpoints ---
 
-  /** @returns {Record<string, Act>} */
+  /** @returns {Record<string, RequestHandler>} */
   breakpointRequests() {
     return {
       setBreakpoints: (args) => this.setBreakpoints(args),
@@ -256,12 +257,12 @@ export class DebugAdapter {
         this.set((breakpoints) => breakpoints.setAddresses(args, (reference) => this.addressIn(reference)))),
       dataBreakpointInfo: (args) => this.dataInfo(args),
       setDataBreakpoints: (args) => {
-        const { machine, breakpoints } = this.there;
-        return machine.quietly(async () => ({ breakpoints: await breakpoints.setData(args) }));
+        const { machine, breakpoints } = this.current;
+        return machine.whenFree(async () => ({ breakpoints: await breakpoints.setData(args) }));
       },
       setExceptionBreakpoints: (args) => {
-        const { machine, breakpoints } = this.there;
-        return machine.quietly(() => ({ breakpoints: breakpoints.setFaults(args) }));
+        const { machine, breakpoints } = this.current;
+        return machine.whenFree(() => ({ breakpoints: breakpoints.setFilters(args) }));
       },
       breakpointLocations: (args) => this.locations(args),
     };
@@ -270,7 +271,7 @@ export class DebugAdapter {
   /** @param {any} args */
   setBreakpoints(args) {
     const source = fieldOf(args, "source");
-    const { answering, launched } = this.there;
+    const { answering, launched } = this.current;
     if (answering.isProgram(source) && launched.isDebugged) {
       return this.set((breakpoints) => breakpoints.setLines(args, (line) => line + 1 - this.firstLine));
     }
@@ -281,14 +282,14 @@ export class DebugAdapter {
 
   /** @param {(breakpoints: ClientBreakpoints) => Promise<import("./client_breakpoints.js").SentBreakpoint[]>} act */
   async set(act) {
-    const { machine, breakpoints } = this.there;
-    const sent = await machine.quietly(() => act(breakpoints));
+    const { machine, breakpoints } = this.current;
+    const sent = await machine.whenFree(() => act(breakpoints));
     return { breakpoints: sent.map((each) => this.breakpointOf(each)) };
   }
 
   /** @param {import("./client_breakpoints.js").SentBreakpoint} breakpoint */
   breakpointOf({ address, line, ...breakpoint }) {
-    const inSource = line === undefined ? {} : { line: line - 1 + this.firstLine, source: this.there.answering.source };
+    const inSource = line === undefined ? {} : { line: line - 1 + this.firstLine, source: this.current.answering.source };
     return { ...breakpoint, ...inSource, ...(address >= 0 ? { instructionReference: referenceOf(address) } : {}) };
   }
 
@@ -299,7 +300,7 @@ export class DebugAdapter {
 
   /** @param {any} args */
   dataInfo(args) {
-    const { answering, launched } = this.there;
+    const { answering, launched } = this.current;
     const name = needText(args, "name");
     const reference = needNumber(args, "variablesReference", 0);
     const found = reference > 0 ? answering.placeOfVariable(reference, name) : name;
@@ -310,8 +311,8 @@ export class DebugAdapter {
 
   /** @param {any} args */
   locations(args) {
-    const { session } = this.there.launched;
-    if (!this.there.answering.isProgram(fieldOf(args, "source"))) return { breakpoints: [] };
+    const { session } = this.current.launched;
+    if (!this.current.answering.isProgram(fieldOf(args, "source"))) return { breakpoints: [] };
     const from = needNumber(args, "line");
     const to = Math.min(needNumber(args, "endLine", from), from + 65536);
     const lines = [];
@@ -324,35 +325,35 @@ export class DebugAdapter {
 
   // --- requests ---
 
-  /** @returns {Record<string, Act>} */
-  askRequests() {
-    const standing = (/** @type {(answering: Answering, args: any) => unknown} */ act) => (/** @type {any} */ args) => {
-      const { machine, answering } = this.there;
+  /** @returns {Record<string, RequestHandler>} */
+  queryRequests() {
+    const pauseEnd = (/** @type {(answering: Answering, args: any) => unknown} */ act) => (/** @type {any} */ args) => {
+      const { machine, answering } = this.current;
       if (machine.isMoving) fail(NOT_STOPPED);
       return act(answering, args);
     };
     return {
       threads: () => ({ threads: [{ id: THREAD, name: "4004" }] }),
-      stackTrace: standing((answering, args) => answering.stackTrace(args)),
-      scopes: standing((answering, args) => answering.scopesOfFrame(args)),
-      variables: standing((answering, args) => answering.variables(args)),
-      setVariable: standing(async (answering, args) => this.changed(await answering.setVariable(args))),
-      setExpression: standing(async (answering, args) => this.changed(await answering.setExpression(args))),
-      disassemble: standing((answering, args) => answering.disassemble(args, (reference) => this.addressIn(reference))),
-      readMemory: standing((answering, args) => answering.readMemory(args, (reference) => this.addressIn(reference))),
-      writeMemory: standing((answering, args) => this.writeMemory(answering, args)),
-      completions: (args) => this.there.answering.completions(args),
-      loadedSources: () => ({ sources: [this.there.answering.source] }),
-      source: (args) => this.there.answering.sourceText(args),
+      stackTrace: pauseEnd((answering, args) => answering.stackTrace(args)),
+      scopes: pauseEnd((answering, args) => answering.scopesOfFrame(args)),
+      variables: pauseEnd((answering, args) => answering.variables(args)),
+      setVariable: pauseEnd(async (answering, args) => this.changed(await answering.setVariable(args))),
+      setExpression: pauseEnd(async (answering, args) => this.changed(await answering.setExpression(args))),
+      disassemble: pauseEnd((answering, args) => answering.disassemble(args, (reference) => this.addressIn(reference))),
+      readMemory: pauseEnd((answering, args) => answering.readMemory(args, (reference) => this.addressIn(reference))),
+      writeMemory: pauseEnd((answering, args) => this.writeMemory(answering, args)),
+      completions: (args) => this.current.answering.completions(args),
+      loadedSources: () => ({ sources: [this.current.answering.source] }),
+      source: (args) => this.current.answering.sourceText(args),
       exceptionInfo: () => {
         const { reason, words } = this.ended || { reason: "", words: "" };
         return { exceptionId: reason || "none", description: words, breakMode: "always" };
       },
-      evaluate: (args, asked) => this.evaluate(args, asked),
+      evaluate: (args, pending) => this.evaluate(args, pending),
       pressKey: (args) => this.moveKey("press", args),
       releaseKey: (args) => this.moveKey("release", args),
       watchBoard: () => {
-        this.shownBoard = new ShownBoard(this.there.machine);
+        this.shownBoard = new ShownBoard(this.current.machine);
         return this.shownBoard.take();
       },
       changeKey: (args) => this.changeKey(args),
@@ -362,7 +363,7 @@ export class DebugAdapter {
 
   /** @param {string} reference */
   addressIn(reference) {
-    const { console: lines } = this.there;
+    const { console: lines } = this.current;
     return addressOf(reference, lines.known);
   }
 
@@ -372,8 +373,8 @@ export class DebugAdapter {
    * @param {Result} result
    */
   async changed(result) {
-    const { machine } = this.there;
-    await machine.stand();
+    const { machine } = this.current;
+    await machine.saveAndReport();
     return result;
   }
 
@@ -384,30 +385,30 @@ export class DebugAdapter {
   async writeMemory(answering, args) {
     const written = await this.changed(await answering.writeMemory(args, (reference) => this.addressIn(reference)));
     const { offset, bytesWritten: count } = written;
-    if (!this.takesMemory || count === 0) return written;
+    if (!this.acceptsMemory || count === 0) return written;
     const memory = { memoryReference: needText(args, "memoryReference"), offset: needNumber(args, "offset", 0) + offset, count };
-    return new Followed(written, () => this.connection.sendEvent("memory", memory));
+    return new WithFollowUp(written, () => this.connection.sendEvent("memory", memory));
   }
 
   /**
    * @param {any} args
-   * @param {import("./adapter_connection.js").Asked} asked
+   * @param {import("./adapter_connection.js").PendingRequest} pending
    */
-  async evaluate(args, asked) {
-    const { machine, console: lines, answering } = this.there;
+  async evaluate(args, pending) {
+    const { machine, console: lines, answering } = this.current;
     const [expression, context, base] = [needText(args, "expression"), textOrNone(args, "context"), baseOf(args)];
-    if (context !== "repl") return machine.quietly(() => answering.evaluate(expression, context, base));
-    const work = this.progress.begin(say.RUNNING_LINES, () => { asked.isCancelled = true; });
-    const goesOn = async (/** @type {number} */ done) => {
+    if (context !== "repl") return machine.whenFree(() => answering.evaluate(expression, context, base));
+    const work = this.progress.begin(say.RUNNING_LINES, () => { pending.isCancelled = true; });
+    const mayContinue = async (/** @type {number} */ done) => {
       work.passed(() => say.charactersOf(done, expression.length));
       await this.host.pause();
-      return !asked.isCancelled;
+      return !pending.isCancelled;
     };
-    const { words, changes, move } = await machine.quietly(() => lines.take(expression, goesOn, base)).finally(() => work.end());
+    const { words, changes, move } = await machine.whenFree(() => lines.serveLine(expression, mayContinue, base)).finally(() => work.end());
     if (move) this.moves.needStopped();
     const isStanding = !machine.isMoving && this.isConfigured;
-    if (changes && !machine.isMoving) await machine.stand();
-    return new Followed({ result: words, variablesReference: 0 }, () => {
+    if (changes && !machine.isMoving) await machine.saveAndReport();
+    return new WithFollowUp({ result: words, variablesReference: 0 }, () => {
       if (move) move();
       else if (changes && isStanding) this.sendInvalidated();
     });
@@ -415,8 +416,8 @@ export class DebugAdapter {
 
   /** Makes the client read the state again after a line has changed the machine. */
   sendInvalidated() {
-    this.ended = this.standing("step");
-    if (this.takesInvalidated) this.connection.sendEvent("invalidated", { areas: ["all"] });
+    this.ended = this.pauseEnd("step");
+    if (this.acceptsInvalidated) this.connection.sendEvent("invalidated", { areas: ["all"] });
     else this.stopped(this.ended);
   }
 
@@ -426,19 +427,19 @@ export class DebugAdapter {
    * @param {any} args
    */
   async moveKey(word, args) {
-    const { machine, console: lines } = this.there;
+    const { machine, console: lines } = this.current;
     const key = needText(args, "key");
-    const { words } = await machine.quietly(() => lines.moveKeys(word, [key]));
-    if (!machine.isMoving) await machine.stand();
+    const { words } = await machine.whenFree(() => lines.moveKeys(word, [key]));
+    if (!machine.isMoving) await machine.saveAndReport();
     return { words };
   }
 
   /** @param {any} args `place`, the key's row and column, and `isDown` */
   async changeKey(args) {
-    const { machine, console: lines } = this.there;
+    const { machine, console: lines } = this.current;
     const key = needText(args, "place");
-    await machine.quietly(() => changeKey(machine, lines, key, fieldOf(args, "isDown") === true));
-    if (!machine.isMoving) await machine.stand();
+    await machine.whenFree(() => changeKey(machine, lines, key, fieldOf(args, "isDown") === true));
+    if (!machine.isMoving) await machine.saveAndReport();
     return {};
   }
 
@@ -456,8 +457,8 @@ export class DebugAdapter {
    * @param {string} reason in the protocol's words
    * @returns {Ended}
    */
-  standing(reason) {
-    return { reason, words: stoppedAt(this.there.launched.session.counterWords), id: 0 };
+  pauseEnd(reason) {
+    return { reason, words: stoppedAt(this.current.launched.session.counterWords), id: 0 };
   }
 
   /** @param {Ended} ended */

@@ -3,7 +3,7 @@
 import { Cancelled } from "../bench/faults.js";
 import { wordsOfCycles } from "../time/cycles.js";
 import { CYCLE_MS, FRAME_CYCLES } from "../time/mcs4_time.js";
-import { Shown } from "./shown.js";
+import { ShownText } from "./shown.js";
 import { fail, wordsOf } from "./dap_protocol.js";
 import * as say from "../../words/adapter.js";
 import { stoppedAt } from "../../words/stops.js";
@@ -14,7 +14,7 @@ import { stoppedAt } from "../../words/stops.js";
  * @typedef {import("../debug/debugger.js").Tally} Tally
  * @typedef {import("../debug/goals.js").Goal} Goal
  * @typedef {import("../engine/going_back.js").BackGoal} BackGoal
- * @typedef {import("./session_writer.js").KeptSession} KeptSession
+ * @typedef {import("./session_writer.js").SessionWriter} SessionWriter
  * @typedef {ReturnType<import("./progress.js").Progress["begin"]>} Work
  *
  * The end of a move: the protocol's reason, the message, and the id of the breakpoint that stopped it, 0 for none.
@@ -38,30 +38,30 @@ const REASONS = {
   call: "restart",
 };
 /** @type {Record<string, string>} the reason for a stop after going back, by the kind of the goal */
-const REACHED = { stop: "pause", arrival: "arrival", call: "call" };
+const REASONS_BY_GOAL = { stop: "pause", arrival: "arrival", call: "call" };
 /** @type {Record<string, string>} the reason for a stop after going back to an arrival, by the event that ended the search */
-const MET = { break: "break", change: "watch", beginning: "beginning" };
+const REASONS_BY_END = { break: "break", change: "watch", beginning: "beginning" };
 /** The time between two updates of lamps and displays, in milliseconds. */
-const LOOK_TIME = 100;
+const REPORT_INTERVAL = 100;
 
 export class Machine {
   /**
    * @param {DebugSession} session
-   * @param {KeptSession | null} kept the writer of the session's file
+   * @param {SessionWriter | null} writer the writer of the session's file
    * @param {MachineCalls} calls
    * @param {boolean} [isRealTime] true if time runs no faster than on a real 4004
    */
-  constructor(session, kept, calls, isRealTime = false) {
+  constructor(session, writer, calls, isRealTime = false) {
     this.isRealTime = isRealTime;
     if (isRealTime) session.largestPiece = FRAME_CYCLES;
     /** The time at which the move began, in milliseconds. */
     this.begun = 0;
     this.session = session;
-    this.kept = kept;
+    this.writer = writer;
     this.calls = calls;
-    this.shown = new Shown(session);
+    this.shown = new ShownText(session);
     this.isMoving = false;
-    this.isToPause = false;
+    this.mustPause = false;
     /** Returns true if other work can use the session between two pieces of the present move. */
     this.isOpen = () => false;
     /** @type {(() => Promise<void>)[]} the work that waits for the end of a piece */
@@ -85,7 +85,7 @@ export class Machine {
     this.begin(act, isOpen);
   }
 
-  into() {
+  stepInto() {
     this.begin(() => this.session.into(), () => false);
   }
 
@@ -93,7 +93,7 @@ export class Machine {
    * Runs to a JMS and steps into the subroutine that it calls.
    * @param {number} address of the JMS
    */
-  intoCall(address) {
+  stepIntoCall(address) {
     const { session } = this;
     this.begin(async () => {
       if (session.address === address) return session.into();
@@ -108,12 +108,12 @@ export class Machine {
   back(goal) {
     let looked = 0;
     const between = (/** @type {number} */ more) => this.between(undefined, looked += more);
-    const act = async () => this.wentBack(await this.session.back(goal, between), REACHED[goal.kind] || "goal");
+    const act = async () => this.endOfBack(await this.session.back(goal, between), REASONS_BY_GOAL[goal.kind] || "goal");
     this.begin(act, () => false, say.SEARCHING_BACK);
   }
 
   forward() {
-    this.begin(async () => this.wentBack(this.session.forward(), "goal"), () => false);
+    this.begin(async () => this.endOfBack(this.session.forward(), "goal"), () => false);
   }
 
   /**
@@ -121,9 +121,9 @@ export class Machine {
    * @param {{ isDone: boolean, words: string, end: string, id: number }} went
    * @param {string} why the reason for the stop, unless MET has one
    */
-  wentBack({ isDone, words, end, id }, why) {
+  endOfBack({ isDone, words, end, id }, why) {
     if (!isDone) this.calls.output(`${words}\n`, "console");
-    return { why: MET[end] && why === "arrival" ? MET[end] : why, words, id, tally: null };
+    return { why: REASONS_BY_END[end] && why === "arrival" ? REASONS_BY_END[end] : why, words, id, tally: null };
   }
 
   /**
@@ -134,7 +134,7 @@ export class Machine {
   begin(act, isOpen, title = say.RUNNING) {
     if (this.isMoving) fail(say.TIME_RUNS_ALREADY);
     this.isMoving = true;
-    this.isToPause = false;
+    this.mustPause = false;
     this.isOpen = isOpen;
     this.noted = 0;
     this.begun = performance.now();
@@ -160,7 +160,7 @@ export class Machine {
     // Work can arrive while the session is saved. It must be done now because no later step would do it.
     do {
       await this.doWaiting();
-      await this.stand();
+      await this.saveAndReport();
     } while (this.waiting.length > 0);
     if (this.work) this.work.end();
     this.isMoving = false;
@@ -168,18 +168,18 @@ export class Machine {
   }
 
   /** Reports what lamps and displays show, and saves the session. */
-  async stand() {
+  async saveAndReport() {
     this.reportShown();
-    if (this.kept) await this.keep(this.kept);
+    if (this.writer) await this.save(this.writer);
   }
 
   /**
    * Saves the session in its file; reports an error to the user.
-   * @param {KeptSession} kept
+   * @param {SessionWriter} writer
    */
-  async keep(kept) {
+  async save(writer) {
     try {
-      await kept.write(this.session.debugger.session);
+      await writer.write(this.session.debugger.session);
     } catch (thrown) {
       this.calls.output(`${wordsOf(thrown)}\n`, "stderr");
     }
@@ -193,11 +193,11 @@ export class Machine {
   async between(tally, done = 0) {
     if (tally) this.reportTally(tally, tally.noted);
     if (this.work) this.work.passed(() => wordsOfCycles(done));
-    if (performance.now() - this.looked >= LOOK_TIME && this.isOpen()) this.reportShown();
+    if (performance.now() - this.looked >= REPORT_INTERVAL && this.isOpen()) this.reportShown();
     if (this.isRealTime && tally) await this.waitFor(done);
     await this.calls.pause();
     if (this.isOpen()) await this.doWaiting();
-    return !this.isToPause;
+    return !this.mustPause;
   }
 
   /**
@@ -211,7 +211,7 @@ export class Machine {
   }
 
   pause() {
-    this.isToPause = true;
+    this.mustPause = true;
   }
 
   // --- work between pieces ---
@@ -226,7 +226,7 @@ export class Machine {
    * @param {() => Result | Promise<Result>} act
    * @returns {Promise<Result>}
    */
-  async quietly(act) {
+  async whenFree(act) {
     if (!this.isMoving) return act();
     return new Promise((resolve, reject) => {
       this.waiting.push(async () => {

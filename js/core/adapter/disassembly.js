@@ -22,7 +22,7 @@ const endOf = ({ address, line }) => address + (line.slice(7, 9).trim() === "" ?
  * @param {number} from
  * @param {number} to excluded
  */
-function listed(session, from, to) {
+function instructionsIn(session, from, to) {
   /** @type {Listed[]} */
   const all = [];
   for (let address = from; address < to;) {
@@ -46,9 +46,10 @@ export function rowsAt(session, address, offset, count) {
   // An instruction has at most two bytes. The listing begins at an instruction of the program so that it does not begin at a second byte.
   const begin = Math.max(0, address + 2 * Math.min(0, offset) - 1);
   const inStep = upTo(4).map((more) => begin + more).find((each) => each <= address && session.map.beginsInstruction(each)) ?? begin;
-  const whole = (/** @type {number} */ from, /** @type {number} */ to) => listed(session, from, to).filter((each) => endOf(each) <= to);
+  const whole = (/** @type {number} */ from, /** @type {number} */ to) => (
+    instructionsIn(session, from, to).filter((each) => endOf(each) <= to));
   const before = [...whole(begin, inStep), ...whole(inStep, address)];
-  const after = listed(session, address, Math.min(LAST_ADDRESS + 1, address + 2 * Math.max(0, offset + count)));
+  const after = instructionsIn(session, address, Math.min(LAST_ADDRESS + 1, address + 2 * Math.max(0, offset + count)));
   const all = [...before, ...after];
   return upTo(count).map((at) => {
     const index = before.length + offset + at;
@@ -81,7 +82,7 @@ function nothingAt(address) {
  */
 export function romBytes(session) {
   const bytes = new Uint8Array(LAST_ADDRESS + 1);
-  for (const { address, line } of listed(session, 0, LAST_ADDRESS + 1)) {
+  for (const { address, line } of instructionsIn(session, 0, LAST_ADDRESS + 1)) {
     line.slice(4, 9).trim().split(" ").forEach((byte, at) => {
       bytes[address + at] = parseInt(byte, 16);
     });

@@ -17,17 +17,17 @@ import { inColumn } from "../../words/conditions.js";
  * @typedef {import("./number_format.js").Base} Base
  *
  * The context of an expression. `shown` returns what lamps and displays show.
- * @typedef {{ session: DebugSession, face: Face, instructions: Map<string, Instruction>, shown: () => string }} Known
+ * @typedef {{ session: DebugSession, face: Face, instructions: Map<string, Instruction>, shown: () => string }} ExpressionContext
  */
 
 /** The places whose values are hexadecimal digits, and those whose values are marks. The value of any other place is a bit. */
-const OF_DIGITS = /^(acc|dcl|src|r\d+|p\d|ram\.\d\..*|st\..*|rom\d+|ram\d\.\d)$/;
-const OF_MARKS = /^(chain\d|lamps)$/;
+const HEX_PLACES = /^(acc|dcl|src|r\d+|p\d|ram\.\d\..*|st\..*|rom\d+|ram\d\.\d)$/;
+const MARK_PLACES = /^(chain\d|lamps)$/;
 
 /**
  * Returns the value of a place; "" if the text is not a place, or the board lacks it.
  * @param {string} text
- * @param {Known} known
+ * @param {ExpressionContext} known
  * @param {Base} base
  */
 function placeValue(text, { session, face }, base) {
@@ -38,8 +38,8 @@ function placeValue(text, { session, face }, base) {
   const value = place ? session.values([name])[0] : "";
   if (value === "" || !place) return "";
   if (place.name.startsWith("lamp ")) return say.lampIs(value === "*");
-  if (OF_DIGITS.test(place.name)) return inBase(`0x${value}`, base);
-  return OF_MARKS.test(place.name) ? value : numberInBase(Number(value), base);
+  if (HEX_PLACES.test(place.name)) return inBase(`0x${value}`, base);
+  return MARK_PLACES.test(place.name) ? value : numberInBase(Number(value), base);
 }
 
 /**
@@ -79,7 +79,7 @@ function nameValue(text, { map }) {
 /**
  * Returns the current value of an expression as text; throws AdapterError if it cannot be parsed.
  * @param {string} text
- * @param {Known} known
+ * @param {ExpressionContext} known
  * @param {Base} [base] of numbers
  */
 export function valueOfExpression(text, known, base = "usual") {
@@ -98,7 +98,7 @@ export function valueOfExpression(text, known, base = "usual") {
 /**
  * Returns the text of a hover: the current value of the word, the effect of an instruction, or the value of an expression.
  * @param {string} text
- * @param {Known} known
+ * @param {ExpressionContext} known
  */
 export function hoverOf(text, known) {
   const { session, instructions } = known;

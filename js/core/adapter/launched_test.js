@@ -15,31 +15,31 @@ import * as say from "../../words/adapter.js";
  * @typedef {import("../testing/test_suite.js").TestedTexts} TestedTexts
  *
  * A test and the absolute names of its files: `file` has the test, `tests` are the test files up to and including `file`.
- * @typedef {{ name: string, file: string, tests: string[], board: string, program: string }} TestTexts
+ * @typedef {{ name: string, file: string, tests: string[], board: string, program: string }} TestFiles
  */
 
 /** @type {(name: string) => string} the URI of a file, for modules that find folders in a URI */
-export const addressOf = (name) => `file://${name.split("/").map(encodeURIComponent).join("/")}`;
-/** @type {(uri: string) => string} the name of a file; the inverse of `addressOf` */
-export const nameOfAddress = (uri) => decodeURIComponent(uri.slice("file://".length));
+export const uriOf = (name) => `file://${name.split("/").map(encodeURIComponent).join("/")}`;
+/** @type {(uri: string) => string} the name of a file; the inverse of `uriOf` */
+export const nameOfUri = (uri) => decodeURIComponent(uri.slice("file://".length));
 
 /**
  * Finds the files of a test: those of its project, or those in its folder.
  * @param {string} name of the test
  * @param {string} file the absolute name of its file
  * @param {(name: string) => string | null} read returns the text of a file; null if it cannot be read
- * @returns {TestTexts}
+ * @returns {TestFiles}
  */
-export function textsOfTest(name, file, read) {
-  const { board, program, tests } = besideOf(addressOf(file), (uri) => read(nameOfAddress(uri)));
-  return { name, file, tests: tests.map(nameOfAddress), board: nameOfAddress(board), program: nameOfAddress(program) };
+export function testFiles(name, file, read) {
+  const { board, program, tests } = besideOf(uriOf(file), (uri) => read(nameOfUri(uri)));
+  return { name, file, tests: tests.map(nameOfUri), board: nameOfUri(board), program: nameOfUri(program) };
 }
 
 /**
  * Returns the lines that repeat in a session what a test did.
  * @param {TestSession} session
  */
-function linesDone({ actions: all }) {
+function linesOfRun({ actions: all }) {
   return all.map(({ line, cycles }) => {
     if (line !== "run") return `${line}\n`;
     const whole = `run ${LONGEST_RUN}\n`.repeat(Math.floor(cycles / LONGEST_RUN));
@@ -51,7 +51,7 @@ function linesDone({ actions: all }) {
  * Runs a test. Returns a session that has done the same, with its past, and the result of the test in words.
  * @param {Engine} engine
  * @param {TestedTexts} texts
- * @param {TestTexts} test
+ * @param {TestFiles} test
  * @param {() => Promise<void>} pause yields to other tasks
  */
 export async function sessionOfTest(engine, texts, { name, file }, pause) {
@@ -66,7 +66,7 @@ export async function sessionOfTest(engine, texts, { name, file }, pause) {
   if (!outcome) throw new AdapterError(say.noSuchTest(name, file), true);
   if (!run || (outcome.failure && !outcome.failure.file)) throw new AdapterError(failureLine(outcome).trim(), true);
   const session = new DebugSession(engine, { file: engine.bytesOf(run.begun), board: texts.boardText, program: texts.programText });
-  const lines = linesDone(run);
+  const lines = linesOfRun(run);
   if (lines !== "") await session.debugger.session.serve(lines, async () => true);
   return { session, words: outcome.failure ? failureLine(outcome).trim().slice(2) : say.testHasPassed(name) };
 }

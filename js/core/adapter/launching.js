@@ -7,12 +7,12 @@ import { hex } from "../bench/numbers.js";
 import { DebugSession } from "../debug/debug_session.js";
 import { PROJECT_FILE, readProjectToml } from "../project/project_toml.js";
 import { fieldOf } from "../server/framing.js";
-import { addressOf, nameOfAddress, sessionOfTest, textsOfTest } from "./launched_test.js";
+import { uriOf, nameOfUri, sessionOfTest, testFiles } from "./launched_test.js";
 import { boardFor } from "../server/kinds.js";
 import { faultsOfLines, sentText } from "../text/text_fault.js";
 import { readProgram, differenceOf } from "../engine/program_check.js";
 import { sourceOfRom } from "../engine/texts_of_file.js";
-import { KeptSession } from "./session_writer.js";
+import { SessionWriter } from "./session_writer.js";
 import { AdapterError, flagOf, textOrNone } from "./dap_protocol.js";
 import * as say from "../../words/adapter.js";
 import { leadsOut } from "../../words/server.js";
@@ -38,13 +38,14 @@ import { leadsOut } from "../../words/server.js";
  *
  * The result of a launch or attach. `program` is a file's name, "" if the text was disassembled from ROM. `nameOf` returns the absolute
  * name of a file. `test` is the debugged test, null for none; `note` is its result.
- * @typedef {{ session: DebugSession, kept: KeptSession | null, program: string, board: string, stopsOnEntry: boolean, isDebugged: boolean,
- *   isRealTime: boolean, isAttached: boolean, args: any, nameOf: (name: string) => string, test: TestTexts | null, note: string }} Launched
+ * @typedef {{ session: DebugSession, writer: SessionWriter | null, program: string, board: string, stopsOnEntry: boolean,
+ *   isDebugged: boolean, isRealTime: boolean, isAttached: boolean, args: any, nameOf: (name: string) => string, test: TestFiles | null,
+ *   note: string }} Launched
  *
- * @typedef {import("./launched_test.js").TestTexts} TestTexts
+ * @typedef {import("./launched_test.js").TestFiles} TestFiles
  *
  * The arguments of a launch or attach: absolute names of files, "" for none. `load` is true if the program must be put into ROM.
- * @typedef {{ board: string, program: string, session: string, load: boolean, test: TestTexts | null }} Wanted
+ * @typedef {{ board: string, program: string, session: string, load: boolean, test: TestFiles | null }} WantedFiles
  */
 
 /** @param {string} name */
@@ -54,15 +55,15 @@ const lastPart = (name) => name.replace(/^.*[\\/]/, "");
  * Reads the arguments that name files; finds the files that the project implies.
  * @param {any} args
  * @param {Host} host
- * @returns {Wanted}
+ * @returns {WantedFiles}
  */
-export function readWanted(args, host) {
+export function readWantedFiles(args, host) {
   const folder = textOrNone(args, "cwd");
   const test = textOrNone(args, "test");
   if (test !== "") {
     const file = textOrNone(args, "tests");
     if (file === "") throw new AdapterError(say.TEST_NEEDS_TESTS, true);
-    const texts = textsOfTest(test, host.nameOf(file, folder), host.read);
+    const texts = testFiles(test, host.nameOf(file, folder), host.read);
     return { board: texts.board, program: texts.program, session: "", load: false, test: texts };
   }
   const names = ["project", "board", "program", "session"].map((each) => textOrNone(args, each));
@@ -104,9 +105,9 @@ function filesOf(name, host) {
  * @param {Host} host
  */
 function boardOf(program, host) {
-  const { uri, folder } = boardFor(addressOf(program), (each) => host.read(nameOfAddress(each)));
-  const board = nameOfAddress(uri);
-  if (folder !== "" && !host.isInside(board, nameOfAddress(folder))) throw new AdapterError(leadsOut(board), true);
+  const { uri, folder } = boardFor(uriOf(program), (each) => host.read(nameOfUri(each)));
+  const board = nameOfUri(uri);
+  if (folder !== "" && !host.isInside(board, nameOfUri(folder))) throw new AdapterError(leadsOut(board), true);
   return board;
 }
 
@@ -131,7 +132,7 @@ function textIn(name, mark, host) {
  * @param {Refusal} refusal
  * @param {Words} words
  */
-function refused(name, { number, line }, words) {
+function refusalError(name, { number, line }, words) {
   const where = line > 0 ? `, line ${line}` : "";
   const why = number > 0 ? `${words.ofRefusal(number)} (no ${number})` : say.DOT_ALONE;
   return new AdapterError(`${lastPart(name)}${where}: ${why}`, true);
@@ -140,41 +141,41 @@ function refused(name, { number, line }, words) {
 /**
  * Makes a session in memory from the texts of a board and a program.
  * @param {Engine} engine
- * @param {Wanted} wanted
+ * @param {WantedFiles} wanted
  * @param {Host} host
  * @param {Words} words
  */
-function ofTexts(engine, wanted, host, words) {
+function sessionFromTexts(engine, wanted, host, words) {
   if (wanted.board === "") {
     throw new AdapterError(say.noBoardBeside(wanted.program), true);
   }
   const [board, program] = [textIn(wanted.board, "#", host), textIn(wanted.program, ";", host)];
   const session = new DebugSession(engine, { board, program });
-  for (const { word, refusal } of session.refused) throw refused(word === "wire" ? wanted.board : wanted.program, refusal, words);
+  for (const { word, refusal } of session.refused) throw refusalError(word === "wire" ? wanted.board : wanted.program, refusal, words);
   return session;
 }
 
 /**
  * Returns the session of a test, at its failure or at its end.
  * @param {Engine} engine
- * @param {TestTexts} test
+ * @param {TestFiles} test
  * @param {Host} host
  */
-async function ofTest(engine, test, host) {
+async function sessionFromTest(engine, test, host) {
   const sources = test.tests.map((name) => ({ name, text: host.read(name) || "" }));
   const texts = { boardText: textIn(test.board, "#", host), programText: textIn(test.program, ";", host), sources };
   const { session, words } = await sessionOfTest(engine, texts, test, host.pause);
-  return { session, kept: null, note: words };
+  return { session, writer: null, note: words };
 }
 
 /**
  * Opens a session file, or creates it. Returns the session and its writer.
  * @param {Engine} engine
- * @param {Wanted} wanted
+ * @param {WantedFiles} wanted
  * @param {Host} host
  * @param {Words} words
  */
-async function ofFile(engine, wanted, host, words) {
+async function sessionFromFile(engine, wanted, host, words) {
   const board = wanted.board === "" ? "" : textIn(wanted.board, "#", host);
   const program = wanted.program === "" ? "" : textIn(wanted.program, ";", host);
   const isNew = !host.isThere(wanted.session);
@@ -182,16 +183,16 @@ async function ofFile(engine, wanted, host, words) {
     throw new AdapterError(say.sessionMissing(wanted.session), true);
   }
   // Errors in the arguments are reported before the file is opened.
-  if (isNew) ofTexts(engine, wanted, host, words);
+  if (isNew) sessionFromTexts(engine, wanted, host, words);
   const file = await (isNew ? host.make(wanted.session) : host.open(wanted.session));
   try {
     const session = new DebugSession(engine, { file: file.bytes, board, program: program || sourceOfRom(engine, file.bytes) });
-    const kept = new KeptSession(file, session.debugger.session);
+    const writer = new SessionWriter(file, session.debugger.session);
     if (isNew) await serveText(session, "wire", sentText(board, "#"), wanted.board, words);
     if (isNew || wanted.load) await serveText(session, "asm", sentText(program, ";"), wanted.program, words);
-    else if (program !== "") needInRom(session, engine, wanted, words);
-    await kept.write(session.debugger.session);
-    return { session, kept, note: "" };
+    else if (program !== "") checkRom(session, engine, wanted, words);
+    await writer.write(session.debugger.session);
+    return { session, writer, note: "" };
   } catch (thrown) {
     await file.end();
     throw thrown;
@@ -201,21 +202,21 @@ async function ofFile(engine, wanted, host, words) {
 /**
  * Loads a session file into memory. The file does not change.
  * @param {Engine} engine
- * @param {Wanted} wanted
+ * @param {WantedFiles} wanted
  * @param {Host} host
  * @param {Words} words
  */
-async function ofCopy(engine, wanted, host, words) {
+async function sessionFromCopy(engine, wanted, host, words) {
   const board = wanted.board === "" ? "" : textIn(wanted.board, "#", host);
   const program = wanted.program === "" ? "" : textIn(wanted.program, ";", host);
   const file = await host.readSession(wanted.session);
   try {
     const session = new DebugSession(engine, { file, board, program: program || sourceOfRom(engine, file) });
     if (wanted.load && program !== "") await serveText(session, "asm", sentText(program, ";"), wanted.program, words);
-    else if (program !== "") needInRom(session, engine, wanted, words);
-    return { session, kept: null, note: "" };
+    else if (program !== "") checkRom(session, engine, wanted, words);
+    return { session, writer: null, note: "" };
   } catch (thrown) {
-    throw thrown instanceof BenchRefusal ? refused(wanted.session, { number: thrown.number, line: 0 }, words) : thrown;
+    throw thrown instanceof BenchRefusal ? refusalError(wanted.session, { number: thrown.number, line: 0 }, words) : thrown;
   }
 }
 
@@ -230,7 +231,7 @@ async function ofCopy(engine, wanted, host, words) {
 async function serveText(session, word, text, name, words) {
   const { first } = await session.debugger.session.serve(`${word}\n${text}.\n`, async () => true);
   const refusal = refusalOf(first);
-  if (refusal) throw refused(name, refusal, words);
+  if (refusal) throw refusalError(name, refusal, words);
 }
 
 /**
@@ -249,12 +250,12 @@ export function differenceWords(session) {
  * Throws if the program has errors or differs from ROM.
  * @param {DebugSession} session
  * @param {Engine} engine
- * @param {Wanted} wanted
+ * @param {WantedFiles} wanted
  * @param {Words} words
  */
-function needInRom(session, engine, { program, session: file }, words) {
+function checkRom(session, engine, { program, session: file }, words) {
   const { refusal } = readProgram(engine, sentText(session.program, ";"));
-  if (refusal) throw refused(program, refusal, words);
+  if (refusal) throw refusalError(program, refusal, words);
   const fault = differenceWords(session);
   if (fault === "") return;
   const difference = say.notInRomOf(lastPart(program), lastPart(file), fault);
@@ -270,10 +271,10 @@ function needInRom(session, engine, { program, session: file }, words) {
  * @returns {Promise<Launched>}
  */
 export async function launch(engine, args, host, words) {
-  const wanted = readWanted(args, host);
-  const begun = wanted.test ? await ofTest(engine, wanted.test, host)
-    : wanted.session === "" ? { session: ofTexts(engine, wanted, host, words), kept: null, note: "" }
-      : await ofFile(engine, wanted, host, words);
+  const wanted = readWantedFiles(args, host);
+  const begun = wanted.test ? await sessionFromTest(engine, wanted.test, host)
+    : wanted.session === "" ? { session: sessionFromTexts(engine, wanted, host, words), writer: null, note: "" }
+      : await sessionFromFile(engine, wanted, host, words);
   return launchedOf(begun, wanted, args, host);
 }
 
@@ -288,25 +289,25 @@ export async function launch(engine, args, host, words) {
 export async function attach(engine, args, host, words) {
   if (textOrNone(args, "session") === "") throw new AdapterError(say.ATTACH_NEEDS, true);
   const isWritten = flagOf(args, "write", false);
-  const wanted = readWanted(args, host);
+  const wanted = readWantedFiles(args, host);
   if (!host.isThere(wanted.session)) throw new AdapterError(say.noSession(wanted.session), true);
-  const begun = isWritten ? await ofFile(engine, wanted, host, words) : await ofCopy(engine, wanted, host, words);
+  const begun = isWritten ? await sessionFromFile(engine, wanted, host, words) : await sessionFromCopy(engine, wanted, host, words);
   return { ...launchedOf(begun, wanted, args, host), isAttached: true };
 }
 
 /**
  * Adds the options in the arguments to a session.
- * @param {{ session: DebugSession, kept: KeptSession | null, note: string }} begun
- * @param {Wanted} wanted
+ * @param {{ session: DebugSession, writer: SessionWriter | null, note: string }} begun
+ * @param {WantedFiles} wanted
  * @param {any} args
  * @param {Host} host
  * @returns {Launched}
  */
-function launchedOf({ session, kept, note }, { program, board, test }, args, host) {
+function launchedOf({ session, writer, note }, { program, board, test }, args, host) {
   if (session.boardText === "") session.boardText = session.debugger.session.ask("board\n").slice(1).join("\n");
   session.debugger.usual.map = session.map;
   return {
-    session, kept, test, note, program, board, stopsOnEntry: flagOf(args, "stopOnEntry", true),
+    session, writer, test, note, program, board, stopsOnEntry: flagOf(args, "stopOnEntry", true),
     isDebugged: fieldOf(args, "noDebug") !== true,
     isRealTime: flagOf(args, "realTime", false), isAttached: false, args, nameOf: (name) => host.nameOf(name, textOrNone(args, "cwd")),
   };

@@ -15,10 +15,10 @@ import * as say from "../../words/adapter.js";
  * @typedef {import("../debug/debug_session.js").DebugSession} DebugSession
  *
  * A range of memory: the number of its first place, its contents, and a function that returns the word of `poke` for an index in it.
- * @typedef {{ begin: number, bytes: Uint8Array, place: (at: number) => string }} Area
+ * @typedef {{ begin: number, bytes: Uint8Array, place: (at: number) => string }} MemoryRange
  *
  * The place that a request names: a range, and an index in it, which can be outside the range.
- * @typedef {{ area: Area, from: number }} Spot
+ * @typedef {{ area: MemoryRange, from: number }} RangePlace
  */
 
 const [CHARACTERS_AT, STATUS_AT, BANK_SIZE] = [0x10000, 0x20000, 0x100];
@@ -65,9 +65,9 @@ function numberOfReference(reference, addressOf) {
  * Returns the range of memory that contains a place; null if the board has no such place.
  * @param {DebugSession} session
  * @param {number} number
- * @returns {Area | null}
+ * @returns {MemoryRange | null}
  */
-function areaAt(session, number) {
+function rangeAt(session, number) {
   if (number <= LAST_ADDRESS) return { begin: 0, bytes: romBytes(session), place: (at) => `rom.${at}` };
   const isStatus = number >= STATUS_AT;
   const bank = Math.floor((number - (isStatus ? STATUS_AT : CHARACTERS_AT)) / BANK_SIZE);
@@ -87,12 +87,12 @@ function areaAt(session, number) {
  * @param {any} args
  * @param {DebugSession} session
  * @param {(reference: string) => number} addressOf
- * @returns {Spot}
+ * @returns {RangePlace}
  */
-function spotOf(args, session, addressOf) {
+function requestedPlace(args, session, addressOf) {
   const reference = needText(args, "memoryReference").trim();
   const number = numberOfReference(reference, addressOf);
-  const area = areaAt(session, number) || fail(say.boardHasNo(reference));
+  const area = rangeAt(session, number) || fail(say.boardHasNo(reference));
   return { area, from: number - area.begin + needNumber(args, "offset", 0) };
 }
 
@@ -103,7 +103,7 @@ function spotOf(args, session, addressOf) {
  * @param {(reference: string) => number} addressOf
  */
 export function readMemory(args, session, addressOf) {
-  const { area: { begin, bytes }, from } = spotOf(args, session, addressOf);
+  const { area: { begin, bytes }, from } = requestedPlace(args, session, addressOf);
   const count = needNumber(args, "count");
   if (count < 0) fail(say.COUNT_IS);
   const address = referenceOf(begin + from);
@@ -121,7 +121,7 @@ export function readMemory(args, session, addressOf) {
  * @returns {Promise<{ offset: number, bytesWritten: number }>}
  */
 export async function writeMemory(args, session, addressOf) {
-  const { area: { bytes, place }, from } = spotOf(args, session, addressOf);
+  const { area: { bytes, place }, from } = requestedPlace(args, session, addressOf);
   const data = bytesOfBase64(needText(args, "data"));
   const [first, end] = [Math.max(0, from), Math.min(bytes.length, from + data.length)];
   const isWhole = first === from && end === from + data.length;

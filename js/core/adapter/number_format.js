@@ -13,7 +13,7 @@ import * as say from "../../words/adapter.js";
  * @param {"hex" | "line"} name
  * @returns {boolean | null} null if the request does not specify it
  */
-export function formatOf(args, name) {
+export function formatFlag(args, name) {
   const format = fieldOf(args, "format");
   if (format === undefined || format === null) return null;
   if (typeof format !== "object" || Array.isArray(format)) return fail(say.FORMAT_IS);
@@ -26,7 +26,7 @@ export function formatOf(args, name) {
  * @returns {Base}
  */
 export function baseOf(args) {
-  const isHex = formatOf(args, "hex");
+  const isHex = formatFlag(args, "hex");
   if (isHex === null) return "usual";
   return isHex ? "hex" : "decimal";
 }
@@ -38,8 +38,8 @@ export function baseOf(args) {
  */
 export function inBase(text, base) {
   if (base === "usual") return text;
-  const own = text.replace(/^(0x[0-9A-F]+), \d+$/, "$1");
-  return base === "hex" ? own : own.replace(/\b0x[0-9A-F]+\b/g, (digits) => String(Number(digits)));
+  const single = text.replace(/^(0x[0-9A-F]+), \d+$/, "$1");
+  return base === "hex" ? single : single.replace(/\b0x[0-9A-F]+\b/g, (digits) => String(Number(digits)));
 }
 
 /**

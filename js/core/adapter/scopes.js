@@ -27,7 +27,7 @@ import { sourceOfBank } from "../../words/debug.js";
  * @typedef {import("./number_format.js").Base} Base
  *
  * The state that the scopes show.
- * @typedef {{ standing: Standing, face: Face, session: DebugSession, board: import("../bench/answers.js").Board }} Seen
+ * @typedef {{ standing: Standing, face: Face, session: DebugSession, board: import("../bench/answers.js").Board }} ShownState
  */
 
 /** The references of the scopes. */
@@ -67,7 +67,7 @@ const decimal = (name, value, place) => ({ ...variable(name, value, place), isDe
  */
 const shown = (name, value, place) => ({ ...variable(name, value), evaluateName: place, watched: place });
 
-/** @param {Seen} seen */
+/** @param {ShownState} seen */
 function registers({ standing: { registers: all } }) {
   const { accumulator, carry, counter, bank, test, owed } = all;
   return [
@@ -78,12 +78,12 @@ function registers({ standing: { registers: all } }) {
   ];
 }
 
-/** @param {Seen} seen */
+/** @param {ShownState} seen */
 function pairs({ standing }) {
   return upTo(8).map((at) => variable(`P${at}`, inHex(standing.pair(at)), `p${at}`));
 }
 
-/** @param {Seen} seen */
+/** @param {ShownState} seen */
 function banks({ standing }) {
   return [...standing.ram].map(([bank, { registers: all }]) => (
     { ...variable(`bank ${bank}`, say.chipsOf(all.size / 4, bank === standing.bank)),
@@ -91,7 +91,7 @@ function banks({ standing }) {
 }
 
 /**
- * @param {Seen} seen
+ * @param {ShownState} seen
  * @param {number} bank
  */
 function registersOfBank({ standing }, bank) {
@@ -109,7 +109,7 @@ const memoryOf = (place) => referenceOf(numberOfPlace(place));
 
 /**
  * Returns the characters and status characters of a RAM register. A character's name includes the constants of the program with its number.
- * @param {Seen} seen
+ * @param {ShownState} seen
  * @param {number} bank
  * @param {number} register
  */
@@ -132,7 +132,7 @@ function characters({ standing, session }, bank, register) {
   ];
 }
 
-/** @param {Seen} seen */
+/** @param {ShownState} seen */
 function ports({ standing, face }) {
   /** @type {(port: string) => string} */
   const named = (port) => (face.ports.has(port) ? `${port} ${(face.ports.get(port) || { text: "" }).text}` : port);
@@ -153,7 +153,7 @@ function sourceOf(source) {
   return variable(sourceOfBank(bank), `${inHex(byte)}: ${wordsOfCharacter(parseInt(byte, 16))}`);
 }
 
-/** @param {Seen} seen */
+/** @param {ShownState} seen */
 function lamps({ session, face, board }) {
   const marks = readMarks(session.debugger.session.ask("lamps\n")[0]).join("");
   return board.lamps.map((line, at) => {
@@ -162,7 +162,7 @@ function lamps({ session, face, board }) {
   });
 }
 
-/** @param {Seen} seen */
+/** @param {ShownState} seen */
 function keys({ standing, face, board }) {
   const down = new KeysDown(standing.ports.keys);
   return keysOf(board, face).filter(({ legend }) => legend !== "").map(({ key, legend }) => {
@@ -171,14 +171,14 @@ function keys({ standing, face, board }) {
   });
 }
 
-/** @param {Seen} seen */
+/** @param {ShownState} seen */
 function names({ session: { map } }) {
   return [...map.names.values()].map(({ name, value, isLabel }) => (
     { ...variable(name, isLabel ? `0x${hex(value, 3)}, line ${map.lineOf(value)}` : `0x${hex(value, 2)}, ${value}`), evaluateName: name,
       ...(isLabel ? { memory: `0x${hex(value, 3)}` } : {}) }));
 }
 
-/** @type {Record<number, { title: string, of: (seen: Seen) => Variable[], hint?: string }>} */
+/** @type {Record<number, { title: string, of: (seen: ShownState) => Variable[], hint?: string }>} */
 const SCOPES = {
   [REGISTERS]: { title: say.REGISTERS, of: registers, hint: "registers" },
   [PAIRS]: { title: say.PAIRS, of: pairs, hint: "registers" },
@@ -199,7 +199,7 @@ export class Scopes {
     this.face = face;
   }
 
-  /** @returns {Seen} */
+  /** @returns {ShownState} */
   get seen() {
     const { session, face } = this;
     const bench = session.debugger.session;

@@ -18,7 +18,7 @@ import * as say from "../../words/adapter.js";
  *   end: () => Promise<void> }} OpenFile
  */
 
-export class KeptSession {
+export class SessionWriter {
   /**
    * @param {OpenFile} file
    * @param {WorkerSession} session that began with the bytes of the file

@@ -7,7 +7,7 @@ import { SEEN_QUERY, SeenText, hasScannedDisplay } from "../engine/seen_text.js"
 
 /** @typedef {import("../debug/debug_session.js").DebugSession} DebugSession */
 
-export class Shown {
+export class ShownText {
   /** @param {DebugSession} session */
   constructor(session) {
     this.session = session;
@@ -32,7 +32,7 @@ export class Shown {
   now() {
     const { marks } = this;
     if (marks === "") return "";
-    const { number, names } = this.isScanned ? this.seen(marks.length) : this.reader.read(marks);
+    const { number, names } = this.isScanned ? this.perceivedText(marks.length) : this.reader.read(marks);
     if (this.displays.length > 0) return `display ${number}${names && ` ${names}`}`;
     return `lamps ${marks}${names && ` ${names}`}`;
   }
@@ -41,7 +41,7 @@ export class Shown {
    * Returns the text of a multiplexed display as perceived.
    * @param {number} count of lamps
    */
-  seen(count) {
+  perceivedText(count) {
     return new SeenText(this.face, count).read(this.session.debugger.session.ask(SEEN_QUERY));
   }
 

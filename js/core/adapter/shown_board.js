@@ -98,5 +98,5 @@ export async function changeKey(machine, lines, text, isDown) {
   const key = keyOfText(text) || fail(say.KEY_PLACE);
   const word = isDown ? "press" : "release";
   if (machine.isMoving) machine.session.debugger.session.queue[word](key);
-  else await lines.served(`${lineOfKey(word, key)}\n`);
+  else await lines.runBenchLines(`${lineOfKey(word, key)}\n`);
 }

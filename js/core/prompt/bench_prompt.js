@@ -52,10 +52,10 @@ const NO_ROM = 42;
 const NO_RAM = 43;
 const NO_RUN = 44;
 /** The range of the refusal numbers that errors in texts have. */
-const OF_TEXTS = { first: 12, last: 42 };
+const TEXT_REFUSALS = { first: 12, last: 42 };
 
 /** An error that the prompt itself finds. */
-class Rejected extends Error {}
+class RejectedLine extends Error {}
 
 export class SessionPrompt {
   /** @param {SessionPromptCalls} calls */
@@ -98,7 +98,7 @@ export class SessionPrompt {
     try {
       return await (this.opened ? this.takeText(line, this.opened) : this.takeLine(line));
     } catch (thrown) {
-      if (!(thrown instanceof Rejected)) throw thrown;
+      if (!(thrown instanceof RejectedLine)) throw thrown;
       this.sources.complain(thrown.message);
       return false;
     }
@@ -192,11 +192,11 @@ export class SessionPrompt {
    * @returns {Promise<TextError[]>}
    */
   async errorsOfText(word, text, board, { number, line }) {
-    const isOfText = number >= OF_TEXTS.first && number <= OF_TEXTS.last;
-    const errors = isOfText ? await this.calls.errorsOf(word, text, board) : [];
+    const isTextRefusal = number >= TEXT_REFUSALS.first && number <= TEXT_REFUSALS.last;
+    const errors = isTextRefusal ? await this.calls.errorsOf(word, text, board) : [];
     // For a board the bench reports the line of a table, but an error can be at one of its keys.
-    const isSame = line === 0 || COMMENT_MARKS[word] === "#" || errors.some((error) => error.line === line);
-    return isSame && errors.length > 0 ? errors : [{ line, words: this.calls.wordsOf(number) }];
+    const isSameLine = line === 0 || COMMENT_MARKS[word] === "#" || errors.some((error) => error.line === line);
+    return isSameLine && errors.length > 0 ? errors : [{ line, words: this.calls.wordsOf(number) }];
   }
 
   /**
@@ -226,7 +226,7 @@ export class SessionPrompt {
     try {
       return this.calls.read(name);
     } catch (thrown) {
-      throw new Rejected(thrown instanceof Error ? thrown.message : String(thrown));
+      throw new RejectedLine(thrown instanceof Error ? thrown.message : String(thrown));
     }
   }
 
@@ -235,7 +235,7 @@ export class SessionPrompt {
     try {
       return await this.sources.serve(name);
     } catch (thrown) {
-      throw new Rejected(thrown instanceof Error ? thrown.message : String(thrown));
+      throw new RejectedLine(thrown instanceof Error ? thrown.message : String(thrown));
     }
   }
 
@@ -268,7 +268,7 @@ export class SessionPrompt {
   help(about) {
     const [word = ""] = about.split(/[ \t]+/);
     const words = word === "" ? helpOfAll() : this.helpOf(word);
-    if (words === "") throw new Rejected(noLine(word, []));
+    if (words === "") throw new RejectedLine(noLine(word, []));
     this.calls.print(words);
     return true;
   }
@@ -279,9 +279,9 @@ export class SessionPrompt {
     const manual = this.calls.manual();
     const places = rowsOf(manual, say.PLACES_TITLE).map((row) => `  ${row.map(plain).join(", ").replace(", ", ": ")}`);
     if (word === "places") return places.join("\n");
-    const own = say.OWN_LINES.filter(([form]) => form.split(/[ ,]+/).includes(word)).map(([form, does]) => `${form}: ${does}`);
+    const promptLines = say.OWN_LINES.filter(([form]) => form.split(/[ ,]+/).includes(word)).map(([form, does]) => `${form}: ${does}`);
     const lines = fittingLines(linesOfBench(manual), `${word} `).map(({ form, does }) => `${form}: ${does}`);
-    return [...lines, ...(word === "poke" ? places : []), ...own].join("\n");
+    return [...lines, ...(word === "poke" ? places : []), ...promptLines].join("\n");
   }
 
   // --- completion ---

@@ -6,7 +6,7 @@ import { instructionIn, refuse } from "./words_of_line.js";
 import * as say from "../../words/prompt.js";
 
 /**
- * @typedef {import("./debugger_prompt.js").Act} Act
+ * @typedef {import("./debugger_prompt.js").CommandHandler} CommandHandler
  * @typedef {import("./debugger_prompt.js").Prompt} Prompt
  */
 
@@ -30,10 +30,10 @@ export class BreakpointCommands {
     return this.prompt.session.breakpoints;
   }
 
-  /** @returns {Record<string, Act>} */
-  get acts() {
-    /** @type {(isOn: boolean) => Act} */
-    const turn = (isOn) => async (rest) => {
+  /** @returns {Record<string, CommandHandler>} */
+  get handlers() {
+    /** @type {(isOn: boolean) => CommandHandler} */
+    const setOn = (isOn) => async (rest) => {
       if (rest === "") refuse(say.WHICH_ONE);
       for (const id of this.numbersOf(rest)) this.list.change(id, { isOn });
       await this.apply();
@@ -43,14 +43,14 @@ export class BreakpointCommands {
         await this.add(rest);
       },
       delete: (rest) => this.remove(rest),
-      disable: turn(false),
-      enable: turn(true),
+      disable: setOn(false),
+      enable: setOn(true),
       watch: (rest) => this.watch(rest),
     };
   }
 
   /** Adds the bench's breakpoints to the list, and removes those that the bench no longer has. */
-  takeOwn() {
+  syncWithBench() {
     const { map, debugger: { session } } = this.prompt.session;
     for (const address of session.breaks) {
       if (!this.list.atAddress(address)) this.list.add({ line: map.lineOf(address), address });
@@ -65,8 +65,8 @@ export class BreakpointCommands {
    */
   async add(rest) {
     const { session, machine, calls } = this.prompt;
-    const [, where, from = "1", condition = "", note = ""] = /** @type {RegExpExecArray} */ (BREAK.exec(rest));
-    const { line, address } = instructionIn(where, session);
+    const [, place, from = "1", condition = "", note = ""] = /** @type {RegExpExecArray} */ (BREAK.exec(rest));
+    const { line, address } = instructionIn(place, session);
     const before = this.list.atAddress(address);
     if (before) this.list.remove(before.id);
     const made = this.list.add({ line, address, from: Math.max(1, Number(from)), condition, note });
@@ -78,7 +78,7 @@ export class BreakpointCommands {
       await this.apply();
       refuse(fault[1]);
     }
-    await machine.stand();
+    await machine.saveAndReport();
     const { address: placed } = this.list.get(made.id) || made;
     calls.print(say.breakpointAt(made.id, addressText(session, placed)));
     this.last = made.id;
@@ -100,12 +100,12 @@ export class BreakpointCommands {
       await this.apply();
       refuse(fault[1]);
     }
-    await machine.stand();
+    await machine.saveAndReport();
   }
 
   async apply() {
     await this.prompt.session.applyBreakpoints();
-    await this.prompt.machine.stand();
+    await this.prompt.machine.saveAndReport();
   }
 
   /**

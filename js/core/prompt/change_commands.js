@@ -5,7 +5,7 @@ import { refuse } from "./words_of_line.js";
 import * as say from "../../words/prompt.js";
 
 /**
- * @typedef {import("./debugger_prompt.js").Act} Act
+ * @typedef {import("./debugger_prompt.js").CommandHandler} CommandHandler
  * @typedef {import("./debugger_prompt.js").Prompt} Prompt
  */
 
@@ -15,8 +15,8 @@ export class ChangeCommands {
     this.prompt = prompt;
   }
 
-  /** @returns {Record<string, Act>} */
-  get acts() {
+  /** @returns {Record<string, CommandHandler>} */
+  get handlers() {
     const { prompt } = this;
     return {
       hold: (rest) => this.moveKeys("press", rest, "hold"),
@@ -28,9 +28,9 @@ export class ChangeCommands {
         prompt.showStop("");
       },
       bench: async (rest) => {
-        const { words, changes } = await prompt.lines.serve(rest || refuse(say.BENCH_FORM));
+        const { words, changes } = await prompt.lines.serveBenchLines(rest || refuse(say.BENCH_FORM));
         prompt.calls.print(words);
-        if (changes) await prompt.machine.stand();
+        if (changes) await prompt.machine.saveAndReport();
       },
     };
   }
@@ -48,8 +48,8 @@ export class ChangeCommands {
   async set(rest) {
     const { session, machine } = this.prompt;
     const lines = linesOfSet(rest, session);
-    await this.prompt.lines.served(lines);
-    await machine.stand();
+    await this.prompt.lines.runBenchLines(lines);
+    await machine.saveAndReport();
     if (lines.startsWith("poke pc ")) this.prompt.showStop("");
   }
 
@@ -62,7 +62,7 @@ export class ChangeCommands {
       const where = refusal.line ? `, line ${refusal.line}` : "";
       refuse(`no ${refusal.number}${where}: ${lines.words.ofRefusal(refusal.number)}`);
     }
-    await machine.stand();
+    await machine.saveAndReport();
     return this.prompt.showStop(say.SOURCE_IN_ROM);
   }
 }

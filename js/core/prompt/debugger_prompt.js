@@ -16,8 +16,8 @@ import { BreakpointCommands } from "./breakpoint_commands.js";
 import { ChangeCommands } from "./change_commands.js";
 import { COMMANDS, commandOf } from "./prompt_commands.js";
 import { KeysOfPrompt } from "./keys_of_prompt.js";
-import { INFOS, LookCommands } from "./look_commands.js";
-import { hereLine } from "./looks.js";
+import { INFO_WORDS, LookCommands } from "./look_commands.js";
+import { nextInstruction } from "./looks.js";
 import { MoveCommands } from "./move_commands.js";
 import { Sources } from "./sources.js";
 import { StopCommands } from "./stop_commands.js";
@@ -30,7 +30,7 @@ import { stoppedAt } from "../../words/stops.js";
  * @typedef {import("../adapter/launching.js").Launched} Launched
  *
  * A command: receives the text after the command's name.
- * @typedef {(rest: string) => void | Promise<void>} Act
+ * @typedef {(rest: string) => void | Promise<void>} CommandHandler
  */
 
 /**
@@ -49,23 +49,23 @@ import { stoppedAt } from "../../words/stops.js";
  */
 
 /** The maximum number of cycles in a move of a script: 18 minutes on the board. */
-const MOST_CYCLES = 100000000;
+const MAX_CYCLES = 100000000;
 /** The maximum number of stops in a script's line whose breakpoint commands run. */
-const MOST_STOPS = 100000;
+const MAX_STOPS = 100000;
 /** A command's word and the text after it. */
 const COMMAND = /^([a-zA-Z-]+|\S)(.*)$/;
 const NO_COMMANDS = { commands: [], isSilent: false, words: "", hasMoved: false };
 /** The commands that an empty line repeats. */
-const AGAIN = /^(next|step|reverse-step|reverse-next|reverse-continue|continue|until|list|run|x)$/;
+const REPEATED = /^(next|step|reverse-step|reverse-next|reverse-continue|continue|until|list|run|x)$/;
 
 /**
  * The commands with a file name, and the patterns that find it.
  * @type {Record<string, RegExp>}
  */
-const FILE_AFTER = { source: /^\s*\S+\s+(.*)$/, save: /^\s*\S+\s+\S+\s+(.*)$/ };
+const FILE_ARGUMENTS = { source: /^\s*\S+\s+(.*)$/, save: /^\s*\S+\s+\S+\s+(.*)$/ };
 
 /** An error whose message is printed already. */
-class Reported extends Error {}
+class ReportedError extends Error {}
 
 export class Prompt {
   /**
@@ -95,25 +95,26 @@ export class Prompt {
     this.looks = new LookCommands(this);
     this.stops = new StopCommands(this);
     this.sources = new Sources(this, calls);
-    const taken = { breaksChanged: () => this.breakpoints.takeOwn(), romChanged: () => {} };
-    this.lines = new Console(this.machine, this.known, new Words(refusals), taken);
+    const consoleCalls = { breaksChanged: () => this.breakpoints.syncWithBench(), romChanged: () => {} };
+    this.lines = new Console(this.machine, this.known, new Words(refusals), consoleCalls);
     this.keys = new KeysOfPrompt(this.session, this.face);
-    /** @type {Record<string, Act>} */
-    this.acts = {
-      ...new MoveCommands(this).acts, ...this.breakpoints.acts, ...this.stops.acts, ...this.looks.acts, ...new ChangeCommands(this).acts,
+    /** @type {Record<string, CommandHandler>} */
+    this.handlers = {
+      ...new MoveCommands(this).handlers, ...this.breakpoints.handlers, ...this.stops.handlers, ...this.looks.handlers,
+      ...new ChangeCommands(this).handlers,
       source: async (name) => {
-        if (!(await this.sources.serve(name))) throw new Reported();
+        if (!(await this.sources.serve(name))) throw new ReportedError();
       },
     };
   }
 
   makeMachine() {
-    return new Machine(this.session, this.launched.kept, {
+    return new Machine(this.session, this.launched.writer, {
       stopped: (ended) => {
         this.ended = ended;
       },
       output: (words, category) => this.output(words, category),
-      pause: () => this.turn(),
+      pause: () => this.yieldTurn(),
       looked: () => {},
     });
   }
@@ -125,16 +126,16 @@ export class Prompt {
 
   /** Adds the session's breakpoints to the list and shows the current stop. */
   async begin() {
-    this.breakpoints.takeOwn();
+    this.breakpoints.syncWithBench();
     await this.session.applyBreakpoints();
     this.showStop(stoppedAt(this.session.counterWords));
   }
 
   /** Yields to other tasks. In a script, ends a move that exceeds its maximum. */
-  async turn() {
+  async yieldTurn() {
     await this.calls.pause();
     const { count } = this.session.debugger.session;
-    if (!this.calls.isByHand && count.total - this.begun >= MOST_CYCLES) this.machine.pause();
+    if (!this.calls.isByHand && count.total - this.begun >= MAX_CYCLES) this.machine.pause();
   }
 
   /**
@@ -143,7 +144,7 @@ export class Prompt {
    */
   output(words, category) {
     if (category === "stderr") this.sources.complain(words.trimEnd());
-    // `moved` reports a move that did nothing.
+    // `makeMove` reports a move that did nothing.
     else if (!words.startsWith(say.NOTHING_DONE)) this.calls.print(words.trimEnd());
   }
 
@@ -158,9 +159,9 @@ export class Prompt {
     this.begun = this.session.debugger.session.count.total;
     this.isInterrupted = false;
     const name = this.nameOf(line);
-    const isDone = await this.takeAlone(line);
+    const isDone = await this.executeLine(line);
     // A repeated `list` has no argument, so it lists the next lines.
-    this.last = isDone && AGAIN.test(name) ? (name === "list" ? name : line) : "";
+    this.last = isDone && REPEATED.test(name) ? (name === "list" ? name : line) : "";
     return isDone && this.runCommands();
   }
 
@@ -168,14 +169,14 @@ export class Prompt {
    * Executes a line without the commands of breakpoints. If the line is rejected, prints why and returns false.
    * @param {string} line
    */
-  async takeAlone(line) {
+  async executeLine(line) {
     this.atStop = NO_COMMANDS;
     try {
       if (this.stops.opened) this.stops.take(line);
-      else if (line !== "" && !line.startsWith("#")) await this.act(line);
+      else if (line !== "" && !line.startsWith("#")) await this.runCommand(line);
       return true;
     } catch (thrown) {
-      if (!(thrown instanceof Reported)) this.sources.complain(thrown instanceof Error ? thrown.message : String(thrown));
+      if (!(thrown instanceof ReportedError)) this.sources.complain(thrown instanceof Error ? thrown.message : String(thrown));
       return false;
     }
   }
@@ -190,10 +191,10 @@ export class Prompt {
   }
 
   /** @param {string} line */
-  async act(line) {
+  async runCommand(line) {
     const [, word, rest] = /** @type {string[]} */ (COMMAND.exec(line));
     const { command, words } = commandOf(word);
-    await this.acts[command ? command.name : refuse(words)](rest.trim());
+    await this.handlers[command ? command.name : refuse(words)](rest.trim());
   }
 
   /**
@@ -204,12 +205,12 @@ export class Prompt {
     let stops = 0;
     for (let { commands } = this.atStop; commands.length > 0 && !this.isInterrupted; { commands } = this.atStop) {
       for (const line of commands) {
-        if (!(await this.takeAlone(line))) return false;
+        if (!(await this.executeLine(line))) return false;
         if (this.atStop.hasMoved || this.isEnded) break;
       }
       stops += 1;
-      if (!this.atStop.hasMoved || (!this.calls.isByHand && stops === MOST_STOPS)) break;
-      await this.turn();
+      if (!this.atStop.hasMoved || (!this.calls.isByHand && stops === MAX_STOPS)) break;
+      await this.yieldTurn();
     }
     this.atStop = NO_COMMANDS;
     return true;
@@ -217,10 +218,10 @@ export class Prompt {
 
   /**
    * Begins a move and waits for its end. Returns its report; fails if nothing was done.
-   * @param {() => void} act begins the move
+   * @param {() => void} begin begins the move
    */
-  async moved(act) {
-    act();
+  async makeMove(begin) {
+    begin();
     await this.machine.move;
     const words = this.ended.words.replace(say.PAGE_REMEMBERS, say.SESSION_REMEMBERS);
     if (words.startsWith(say.NOTHING_DONE)) refuse(words);
@@ -234,8 +235,8 @@ export class Prompt {
    * @param {string} line
    */
   async serve(line) {
-    await this.lines.served(`${line}\n`);
-    await this.machine.stand();
+    await this.lines.runBenchLines(`${line}\n`);
+    await this.machine.saveAndReport();
   }
 
   /**
@@ -246,7 +247,7 @@ export class Prompt {
     this.looks.listed = 0;
     if (this.atStop.isSilent) return;
     if (words) this.calls.print(words);
-    this.calls.print(hereLine(this.session));
+    this.calls.print(nextInstruction(this.session));
     this.looks.showDisplays();
   }
 
@@ -293,7 +294,7 @@ export class Prompt {
     if (first !== undefined) return [COMMANDS.map(({ name }) => `${name} `).filter((name) => name.startsWith(first)), first];
     const { command } = commandOf((/^\s*([a-zA-Z-]+)/.exec(line) || ["", ""])[1]);
     const name = command ? command.name : "";
-    const file = FILE_AFTER[name] ? FILE_AFTER[name].exec(line) : null;
+    const file = FILE_ARGUMENTS[name] ? FILE_ARGUMENTS[name].exec(line) : null;
     if (file) return [this.calls.files(file[1]), file[1]];
     const [word] = /** @type {string[]} */ (/[\w@.+~*/-]*$/.exec(line));
     const all = this.wordsFor(name);
@@ -305,7 +306,7 @@ export class Prompt {
    * @param {string} command
    */
   wordsFor(command) {
-    if (command === "info") return INFOS;
+    if (command === "info") return INFO_WORDS;
     if (command === "save") return ["breakpoints"];
     if (command === "help") return COMMANDS.map(({ name }) => name);
     if (/^(press|hold|release)$/.test(command)) return this.keys.names;

@@ -9,7 +9,7 @@ import * as say from "../../words/prompt.js";
 
 /**
  * @typedef {import("../debug/debug_session.js").DebugSession} DebugSession
- * @typedef {import("../adapter/expression_values.js").Known} Known
+ * @typedef {import("../adapter/expression_values.js").ExpressionContext} ExpressionContext
  */
 
 /** @type {(base: number, mark: string) => (value: number) => string} formats a number in a base, with a mark before its digits */
@@ -41,7 +41,7 @@ function numberOfText(text, session) {
 /**
  * Returns the current value of an expression as text.
  * @param {string} text the expression, perhaps with a format before it: `/x r4`
- * @param {Known} known
+ * @param {ExpressionContext} known
  */
 export function formattedValue(text, known) {
   const [, format, what = ""] = /^\/(\w*)\s*(.*)$/.exec(text) || [];

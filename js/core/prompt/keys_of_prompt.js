@@ -25,13 +25,13 @@ export class KeysOfPrompt {
   /** Returns the names of all keys; a key without a name is `row.column`. */
   get names() {
     const { rows, columns } = readBoard(this.session.debugger.session.statusQueries.board);
-    const taken = new Set([...this.named.values()].map(({ key }) => textOfKey(key)));
-    const others = [];
+    const namedKeys = new Set([...this.named.values()].map(({ key }) => textOfKey(key)));
+    const unnamed = [];
     for (let at = 0; at < rows * columns; at++) {
       const [row, column] = [Math.floor(at / columns), at % columns];
-      if (!taken.has(textOfKey(matrixKey(row, column)))) others.push(`${row}.${column}`);
+      if (!namedKeys.has(textOfKey(matrixKey(row, column)))) unnamed.push(`${row}.${column}`);
     }
-    return [...this.named.keys(), ...others];
+    return [...this.named.keys(), ...unnamed];
   }
 
   /** Returns the text of `info keys`. */

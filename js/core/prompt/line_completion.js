@@ -18,13 +18,13 @@ import { upTo } from "../bench/numbers.js";
  */
 
 /** Words of the prompt itself. */
-export const OWN_WORDS = ["help", "source", "quit"];
+export const PROMPT_WORDS = ["help", "source", "quit"];
 /** Words that a file name can follow. */
 export const FILE_WORDS = ["wire", "asm", "map", "wiring", "errors", "source"];
 const HELP_WORDS = ["places"];
 
 /** @type {(words: string[], begin: string) => string[]} */
-const beginning = (words, begin) => words.filter((word) => word.startsWith(begin));
+const withPrefix = (words, begin) => words.filter((word) => word.startsWith(begin));
 /** @type {(count: number) => string[]} */
 const numbers = (count) => upTo(count).map(String);
 
@@ -34,7 +34,7 @@ const numbers = (count) => upTo(count).map(String);
  */
 
 /** @type {(words: string[]) => WordsAt} proposes words for the first argument only */
-const atFirst = (words) => async (at) => (at === 0 ? words : []);
+const firstArgument = (words) => async (at) => (at === 0 ? words : []);
 /** @type {WordsAt} proposes rows, then columns */
 const keysAt = async (at, ask) => {
   const { rows, columns } = readBoard(await ask("board"));
@@ -46,10 +46,10 @@ const keysAt = async (at, ask) => {
  * @type {Record<string, WordsAt>}
  */
 const WORDS_AFTER = {
-  help: atFirst([...ANSWER_FORMS.keys(), ...OWN_WORDS, ...HELP_WORDS]),
-  poke: atFirst(POKE_NAMES),
+  help: firstArgument([...ANSWER_FORMS.keys(), ...PROMPT_WORDS, ...HELP_WORDS]),
+  poke: firstArgument(POKE_NAMES),
   trace: async (at) => (at > 0 ? TRACE_NAMES : []),
-  test: atFirst(["0", "1"]),
+  test: firstArgument(["0", "1"]),
   press: keysAt,
   release: keysAt,
   ram: async (at, ask) => (at > 0 ? [] : readBoard(await ask("board")).banks.map(({ bank }) => String(bank))),
@@ -65,12 +65,12 @@ const WORDS_AFTER = {
  */
 export async function completeLine(line, calls) {
   const [, first] = /^[ \t]*(\S*)$/.exec(line) || [];
-  if (first !== undefined) return [beginning([...ANSWER_FORMS.keys(), ...OWN_WORDS], first).map((word) => `${word} `), first];
+  if (first !== undefined) return [withPrefix([...ANSWER_FORMS.keys(), ...PROMPT_WORDS], first).map((word) => `${word} `), first];
   const [, word, rest] = /** @type {RegExpExecArray} */ (/^[ \t]*(\S+)[ \t]+(.*)$/.exec(line));
   if (FILE_WORDS.includes(word)) return [calls.files(rest), rest];
   const words = line.trimStart().split(/[ \t]+/);
   const begin = /** @type {string} */ (words.pop());
   const at = WORDS_AFTER[word];
   const found = ANSWER_FORMS.has(word) || word === "help" ? await (at ? at(words.length - 1, calls.ask) : []) : [];
-  return [beginning(found, begin), begin];
+  return [withPrefix(found, begin), begin];
 }

@@ -11,19 +11,21 @@ import * as say from "../../words/prompt.js";
 import { stoppedAt } from "../../words/stops.js";
 
 /**
- * @typedef {import("./debugger_prompt.js").Act} Act
+ * @typedef {import("./debugger_prompt.js").CommandHandler} CommandHandler
  * @typedef {import("./debugger_prompt.js").Prompt} Prompt
  */
 
-const MOST_SHOWN = 4096;
+const MAX_EXAMINED = 4096;
 /** The number of source lines that `list` prints. */
-const LISTED = 10;
-export const INFOS = [
+const LIST_LENGTH = 10;
+export const INFO_WORDS = [
   "registers", "ram", "ports", "keys", "breakpoints", "watches", "display", "names", "source", "session", "line", "symbol", "frame",
   "stack", "program", "locals",
 ];
 /** gdb's abbreviations of the words after `info`. */
-const SHORT_INFOS = new Map([["r", "registers"], ["s", "stack"], ["f", "frame"], ["args", "locals"], ["all-registers", "registers"]]);
+const INFO_ABBREVIATIONS = new Map([
+  ["r", "registers"], ["s", "stack"], ["f", "frame"], ["args", "locals"], ["all-registers", "registers"],
+]);
 
 export class LookCommands {
   /** @param {Prompt} prompt */
@@ -35,8 +37,8 @@ export class LookCommands {
     this.listed = 0;
   }
 
-  /** @returns {Record<string, Act>} */
-  get acts() {
+  /** @returns {Record<string, CommandHandler>} */
+  get handlers() {
     const { calls, machine, session } = this.prompt;
     return {
       lamps: () => calls.print(machine.shown.now() || say.NO_LAMPS),
@@ -73,19 +75,19 @@ export class LookCommands {
 
   /**
    * Returns the current value of an expression as text.
-   * @param {string} what the expression, perhaps with a format before it: `/x r4`
+   * @param {string} expression the expression, perhaps with a format before it: `/x r4`
    */
-  value(what) {
-    return formattedValue(what, this.prompt.known);
+  value(expression) {
+    return formattedValue(expression, this.prompt.known);
   }
 
   /**
    * Returns the current value of an expression as text, or the error message.
-   * @param {string} what
+   * @param {string} expression
    */
-  valueOrFault(what) {
+  valueOrFault(expression) {
     try {
-      return this.value(what);
+      return this.value(expression);
     } catch (thrown) {
       return thrown instanceof Error ? thrown.message : String(thrown);
     }
@@ -96,7 +98,9 @@ export class LookCommands {
    * @param {number} [from] the index of the first one
    */
   showDisplays(from = 0) {
-    this.displays.slice(from).forEach((what, at) => this.prompt.calls.print(`${from + at + 1}: ${what} = ${this.valueOrFault(what)}`));
+    this.displays.slice(from).forEach((expression, at) => {
+      this.prompt.calls.print(`${from + at + 1}: ${expression} = ${this.valueOrFault(expression)}`);
+    });
   }
 
   /** @param {string} rest */
@@ -118,12 +122,12 @@ export class LookCommands {
   /** @param {string} rest */
   examine(rest) {
     const { calls, session } = this.prompt;
-    const [, count = "", where = ""] = /^(?:\/(\d*)[a-z]?)?\s*(.*)$/.exec(rest) || [];
-    const many = countIn(count, MOST_SHOWN);
-    if (/^ram[. ]/i.test(where)) return calls.print(looks.characterLines(session, (placeOf(where) || { name: where }).name, many));
-    const address = where === "" ? session.address : addressIn(where, session);
-    if (address === undefined || address > LAST_ADDRESS) return refuse(say.noPlaceOfMemory(where));
-    return calls.print(looks.codeLines(session, address, many));
+    const [, count = "", place = ""] = /^(?:\/(\d*)[a-z]?)?\s*(.*)$/.exec(rest) || [];
+    const countShown = countIn(count, MAX_EXAMINED);
+    if (/^ram[. ]/i.test(place)) return calls.print(looks.characterLines(session, (placeOf(place) || { name: place }).name, countShown));
+    const address = place === "" ? session.address : addressIn(place, session);
+    if (address === undefined || address > LAST_ADDRESS) return refuse(say.noPlaceOfMemory(place));
+    return calls.print(looks.codeLines(session, address, countShown));
   }
 
   /** @param {string} rest */
@@ -134,17 +138,17 @@ export class LookCommands {
     if (rest !== "" || this.listed === 0) {
       const line = /^\d+$/.test(rest) ? Number(rest) : instructionIn(rest, session).line;
       if (line === 0) refuse(say.NO_LINE_THERE);
-      from = Math.max(1, line - LISTED / 2);
+      from = Math.max(1, line - LIST_LENGTH / 2);
     }
     if (from > count) refuse(say.sourceHas(count));
-    calls.print(looks.sourceLines(session, from, from + LISTED - 1));
-    this.listed = Math.min(count, from + LISTED - 1);
+    calls.print(looks.sourceLines(session, from, from + LIST_LENGTH - 1));
+    this.listed = Math.min(count, from + LIST_LENGTH - 1);
   }
 
   /** Returns the text of `frame`: the innermost frame and the next instruction. */
   get frame() {
     const { session } = this.prompt;
-    return `${looks.frameLines(session).split("\n")[0]}\n${looks.hereLine(session)}`;
+    return `${looks.frameLines(session).split("\n")[0]}\n${looks.nextInstruction(session)}`;
   }
 
   /** @returns {Record<string, (rest: string) => string>} functions that return the text of `info`, by the word after it */
@@ -157,14 +161,14 @@ export class LookCommands {
       keys: () => keys.text(),
       breakpoints: () => breakpoints.lines,
       watches: () => breakpoints.watches,
-      display: () => this.displays.map((what, at) => `${at + 1}: ${what}`).join("\n") || say.NOTHING_DISPLAYED,
+      display: () => this.displays.map((expression, at) => `${at + 1}: ${expression}`).join("\n") || say.NOTHING_DISPLAYED,
       names: () => looks.nameLines(session),
       source: () => say.linesOf(launched.program || MADE_OF_ROM, looks.linesOfSource(session)),
-      session: () => (launched.kept ? say.SESSION_FILE : say.IN_MEMORY),
-      line: (where) => looks.lineText(session, instructionIn(where, session)),
-      symbol: (where) => {
-        const address = addressIn(where || refuse(say.SYMBOL_FORM), session);
-        return address === undefined ? refuse(say.noPlaceOfMemory(where)) : looks.addressText(session, address);
+      session: () => (launched.writer ? say.SESSION_FILE : say.IN_MEMORY),
+      line: (place) => looks.lineText(session, instructionIn(place, session)),
+      symbol: (place) => {
+        const address = addressIn(place || refuse(say.SYMBOL_FORM), session);
+        return address === undefined ? refuse(say.noPlaceOfMemory(place)) : looks.addressText(session, address);
       },
       frame: () => this.frame,
       stack: () => looks.frameLines(session),
@@ -176,8 +180,8 @@ export class LookCommands {
   /** @param {string} rest */
   info(rest) {
     const [, word = "", more = ""] = /^(\S*)\s*(.*)$/.exec(rest) || [];
-    const found = INFOS.filter((kind) => word !== "" && kind.startsWith(word));
-    const kind = SHORT_INFOS.get(word) || (found.length === 1 ? found[0] : refuse(say.infoShows(INFOS.join(", "))));
+    const found = INFO_WORDS.filter((kind) => word !== "" && kind.startsWith(word));
+    const kind = INFO_ABBREVIATIONS.get(word) || (found.length === 1 ? found[0] : refuse(say.infoShows(INFO_WORDS.join(", "))));
     if (more !== "" && !/^(line|symbol)$/.test(kind)) refuse(say.infoTakesNoArgument(kind));
     return this.infos[kind](more);
   }

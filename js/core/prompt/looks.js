@@ -28,11 +28,11 @@ function standingOf(session) {
 export function sourceLine(session, line) {
   const { map, breakpoints } = session;
   const address = map.addressOf(line);
-  const here = line === session.line ? ">" : " ";
-  const stop = breakpoints.all.some((each) => each.line === line && each.isOn) ? "*" : " ";
+  const pointer = line === session.line ? ">" : " ";
+  const mark = breakpoints.all.some((each) => each.line === line && each.isOn) ? "*" : " ";
   const written = address === undefined ? "   " : hex(address, 3);
   const text = withoutTabs((session.program.split("\n")[line - 1] || "").replace(/\r$/, ""));
-  return `${here}${stop}${String(line).padStart(4)}  ${written}  ${text}`.trimEnd();
+  return `${pointer}${mark}${String(line).padStart(4)}  ${written}  ${text}`.trimEnd();
 }
 
 /**
@@ -59,7 +59,7 @@ export function sourceLines(session, from, to) {
  * Returns the source line of the next instruction; if it has none, the disassembled instruction.
  * @param {DebugSession} session
  */
-export function hereLine(session) {
+export function nextInstruction(session) {
   return session.line > 0 ? sourceLine(session, session.line) : codeLines(session, session.address, 1);
 }
 
@@ -86,8 +86,8 @@ export function registerLines(session) {
   const { registers } = standingOf(session);
   const pairs = upTo(8).map((at) => `P${at} ${registers.registers[2 * at]}${registers.registers[2 * at + 1]}`).join("  ");
   const { accumulator, carry, bank, test, owed } = registers;
-  const owing = owed === "1" ? "  owed 1" : "";
-  return `acc ${accumulator}  cy ${carry}  pc ${session.counterWords}  dcl ${bank}  test ${test}${owing}\n${pairs}`;
+  const owedText = owed === "1" ? "  owed 1" : "";
+  return `acc ${accumulator}  cy ${carry}  pc ${session.counterWords}  dcl ${bank}  test ${test}${owedText}\n${pairs}`;
 }
 
 /**
@@ -132,7 +132,7 @@ export function keysDown(session) {
  * Returns the number of calls that have not returned.
  * @param {DebugSession} session
  */
-export function callsOpen(session) {
+export function openCallCount(session) {
   return framesOf(session).length - 1;
 }
 
@@ -179,14 +179,14 @@ export function nameLines({ map }) {
 /**
  * Returns the text of `info breakpoints`.
  * @param {DebugSession} session
- * @param {(id: number) => string} more returns text to add to a breakpoint
+ * @param {(id: number) => string} extraText returns text to add to a breakpoint
  */
-export function breakpointLines({ breakpoints }, more) {
+export function breakpointLines({ breakpoints }, extraText) {
   const { all, kept } = breakpoints;
   if (all.length === 0) return say.NO_BREAKPOINTS;
   const lines = linesOfBreakpoints(kept);
   return all.map(({ id, hits }, at) => (
-    `${id}  ${lines[at].slice("break ".length)}${hits > 0 ? `, ${counted(hits, "hit")}` : ""}${more(id)}`)).join("\n");
+    `${id}  ${lines[at].slice("break ".length)}${hits > 0 ? `, ${counted(hits, "hit")}` : ""}${extraText(id)}`)).join("\n");
 }
 
 /**
@@ -200,9 +200,9 @@ export function characterLines(session, text, count) {
   const first = numberOf(at || "");
   if (bank === undefined || !(first <= 255)) refuse(say.noPlaceOfRam(text));
   const standing = standingOf(session);
-  const values = upTo(Math.min(count, 256 - first)).map((more) => standing.character(Number(bank), first + more));
-  const lacking = values.findIndex((value) => value === "");
-  if (lacking === 0) refuse(say.noRamAt(text));
-  const known = lacking < 0 ? values : values.slice(0, lacking);
+  const values = upTo(Math.min(count, 256 - first)).map((offset) => standing.character(Number(bank), first + offset));
+  const missing = values.findIndex((value) => value === "");
+  if (missing === 0) refuse(say.noRamAt(text));
+  const known = missing < 0 ? values : values.slice(0, missing);
   return `ram.${bank}.0x${hex(first, 2)}  ${known.join("")}`;
 }

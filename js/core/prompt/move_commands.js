@@ -1,20 +1,20 @@
 // The prompt's commands that move time forward or back. Each one waits for the end of its move and reports the stop.
 
 import { goalOfText } from "../debug/becoming.js";
-import { callsOpen } from "./looks.js";
-import { backOver, pressed } from "./moves.js";
+import { openCallCount } from "./looks.js";
+import { backOver, pressKey } from "./moves.js";
 import { conditionIn, countIn, cyclesIn, instructionIn, refuse } from "./words_of_line.js";
 import * as say from "../../words/prompt.js";
 import { NO_CALL_WAITS, stoppedAt } from "../../words/stops.js";
 
 /**
- * @typedef {import("./debugger_prompt.js").Act} Act
+ * @typedef {import("./debugger_prompt.js").CommandHandler} CommandHandler
  * @typedef {import("./debugger_prompt.js").Prompt} Prompt
  * @typedef {import("../debug/goals.js").Goal} Goal
  * @typedef {import("../engine/going_back.js").BackGoal} BackGoal
  */
 
-const MOST_STEPS = 1000000;
+const MAX_STEPS = 1000000;
 
 export class MoveCommands {
   /** @param {Prompt} prompt */
@@ -22,16 +22,16 @@ export class MoveCommands {
     this.prompt = prompt;
   }
 
-  /** @returns {Record<string, Act>} */
-  get acts() {
+  /** @returns {Record<string, CommandHandler>} */
+  get handlers() {
     const { machine } = this.prompt;
-    /** @type {(goal: BackGoal) => Act} */
+    /** @type {(goal: BackGoal) => CommandHandler} */
     const back = (goal) => (rest) => this.repeat(rest, () => machine.back(goal));
     return {
       "next": (rest) => this.repeat(rest, () => machine.go({ kind: "over" })),
       "step": (rest) => {
-        const count = countIn(rest, MOST_STEPS);
-        return this.move(() => (count === 1 ? machine.into() : machine.go({ kind: "count", count })));
+        const count = countIn(rest, MAX_STEPS);
+        return this.move(() => (count === 1 ? machine.stepInto() : machine.go({ kind: "count", count })));
       },
       "finish": (rest) => this.finish(rest),
       "until": (rest) => {
@@ -41,14 +41,14 @@ export class MoveCommands {
         const { address } = instructionIn(rest, this.prompt.session);
         return this.move(() => machine.go({ kind: "here", address }));
       },
-      "continue": (rest) => this.goOn(rest),
+      "continue": (rest) => this.continueRun(rest),
       "run": (rest) => {
         const cycles = cyclesIn(rest);
         return this.move(() => machine.begin(() => this.prompt.session.pass(cycles, (_, tally) => machine.between(tally)), () => true));
       },
       "reverse-step": back({ kind: "instruction" }),
       "reverse-next": (rest) => this.repeat(rest, () => machine.begin(async () => (
-        machine.wentBack(await backOver(this.prompt.session, () => machine.between()), "goal")), () => false)),
+        machine.endOfBack(await backOver(this.prompt.session, () => machine.between()), "goal")), () => false)),
       "reverse-continue": (rest) => {
         if (rest !== "") refuse(say.REVERSE_FORM);
         return this.move(() => machine.back({ kind: "arrival", place: this.prompt.watched }));
@@ -68,7 +68,7 @@ export class MoveCommands {
    * @param {() => void} act begins the move
    */
   async move(act) {
-    this.prompt.showStop(await this.prompt.moved(act));
+    this.prompt.showStop(await this.prompt.makeMove(act));
   }
 
   /**
@@ -79,9 +79,9 @@ export class MoveCommands {
   async repeat(rest, act) {
     const { prompt } = this;
     let words = "";
-    for (let left = countIn(rest, MOST_STEPS); left > 0; left--) {
-      words = await prompt.moved(act);
-      if (prompt.ended.reason !== "step" || prompt.machine.isToPause) break;
+    for (let left = countIn(rest, MAX_STEPS); left > 0; left--) {
+      words = await prompt.makeMove(act);
+      if (prompt.ended.reason !== "step" || prompt.machine.mustPause) break;
     }
     prompt.showStop(words);
   }
@@ -89,12 +89,12 @@ export class MoveCommands {
   /** @param {string} rest */
   finish(rest) {
     if (rest !== "") refuse(say.FINISH_FORM);
-    if (callsOpen(this.prompt.session) === 0) refuse(NO_CALL_WAITS);
+    if (openCallCount(this.prompt.session) === 0) refuse(NO_CALL_WAITS);
     return this.move(() => this.prompt.machine.go({ kind: "out" }));
   }
 
   /** @param {string} rest */
-  goOn(rest) {
+  continueRun(rest) {
     if (rest !== "") refuse(say.CONTINUE_FORM);
     const { session, watched, calls, machine } = this.prompt;
     const stops = session.breakpoints.countOn > 0 || watched !== "" || session.debugger.session.ask("watches\n")[0] !== "watches -";
@@ -112,8 +112,8 @@ export class MoveCommands {
     const keys = prompt.keys.read(rest, "press");
     for (const [at, { key }] of keys.entries()) {
       let why = "";
-      const words = await prompt.moved(() => machine.begin(async () => {
-        const stop = await pressed(session, key, (_, tally) => machine.between(tally));
+      const words = await prompt.makeMove(() => machine.begin(async () => {
+        const stop = await pressKey(session, key, (_, tally) => machine.between(tally));
         ({ why } = stop);
         return stop;
       }, () => true));

@@ -13,7 +13,7 @@ import * as say from "../../words/prompt.js";
  * Returns the first byte of the next instruction.
  * @param {DebugSession} session
  */
-function codeHere(session) {
+function nextCode(session) {
   return parseInt(session.debugger.session.ask(`list ${session.address} 1\n`)[0].slice(4, 6), 16);
 }
 
@@ -23,16 +23,16 @@ function codeHere(session) {
  * @param {GoesOn} goesOn
  */
 export async function backOver(session, goesOn) {
-  let went = await session.back({ kind: "instruction" }, goesOn);
-  let depth = went.isDone && isReturn(codeHere(session)) ? 1 : 0;
+  let result = await session.back({ kind: "instruction" }, goesOn);
+  let depth = result.isDone && isReturn(nextCode(session)) ? 1 : 0;
   while (depth > 0) {
-    went = await session.back({ kind: "change", place: "ret" }, goesOn);
+    result = await session.back({ kind: "change", place: "ret" }, goesOn);
     const words = say.backInSubroutine(session.counterWords);
-    if (!went.isDone) return { ...went, words, isDone: true };
-    const code = codeHere(session);
+    if (!result.isDone) return { ...result, words, isDone: true };
+    const code = nextCode(session);
     depth += Number(isReturn(code)) - Number(isCall(code));
   }
-  return { ...went, words: went.isDone ? say.backAt(session.counterWords) : went.words };
+  return { ...result, words: result.isDone ? say.backAt(session.counterWords) : result.words };
 }
 
 /**
@@ -41,7 +41,7 @@ export async function backOver(session, goesOn) {
  * @param {import("../board/key_place.js").Key} key
  * @param {GoesOn} goesOn
  */
-export function pressed(session, key, goesOn) {
+export function pressKey(session, key, goesOn) {
   const { queue } = session.debugger.session;
   queue.press(key);
   queue.release(key);

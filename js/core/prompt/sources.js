@@ -5,19 +5,19 @@ import * as say from "../../words/session_prompt.js";
 /**
  * The prompt that serves the lines. `take` returns false if a line is rejected. `drop` discards unfinished input and returns a message
  * about it, "" if there is none.
- * @typedef {{ isEnded: boolean, take: (line: string) => Promise<boolean>, drop: () => string }} Taking
+ * @typedef {{ isEnded: boolean, take: (line: string) => Promise<boolean>, drop: () => string }} LineServer
  */
 
 /** The maximum nesting of `source` lines. */
-const MOST_SOURCES = 8;
+const MAX_NESTING = 8;
 
 export class Sources {
   /**
-   * @param {Taking} taking
+   * @param {LineServer} server
    * @param {{ read: (name: string) => string, complain: (words: string) => void }} calls `read` throws an error if it cannot read a file
    */
-  constructor(taking, calls) {
-    this.taking = taking;
+  constructor(server, calls) {
+    this.server = server;
     this.calls = calls;
     /** @type {{ name: string, at: number }[]} the nested files with their current line numbers, the innermost last */
     this.files = [];
@@ -42,19 +42,19 @@ export class Sources {
    */
   async serve(name) {
     if (name === "") throw new Error(say.SOURCE_FORM);
-    if (this.files.length === MOST_SOURCES) throw new Error(say.tooDeep(MOST_SOURCES));
+    if (this.files.length === MAX_NESTING) throw new Error(say.tooDeep(MAX_NESTING));
     const lines = this.calls.read(name).replace(/\n$/, "").split("\n");
     const file = { name, at: 0 };
     this.files.push(file);
     let isDone = true;
     for (const line of lines) {
       file.at += 1;
-      isDone = await this.taking.take(line);
-      if (!isDone || this.taking.isEnded) break;
+      isDone = await this.server.take(line);
+      if (!isDone || this.server.isEnded) break;
     }
-    const dropped = this.taking.drop();
+    const dropped = this.server.drop();
     this.files.pop();
-    if (isDone && dropped !== "" && !this.taking.isEnded) throw new Error(say.endsTooSoon(name, dropped));
+    if (isDone && dropped !== "" && !this.server.isEnded) throw new Error(say.endsTooSoon(name, dropped));
     return isDone;
   }
 }

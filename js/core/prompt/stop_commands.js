@@ -7,7 +7,7 @@ import { refuse } from "./words_of_line.js";
 import * as say from "../../words/prompt.js";
 
 /**
- * @typedef {import("./debugger_prompt.js").Act} Act
+ * @typedef {import("./debugger_prompt.js").CommandHandler} CommandHandler
  * @typedef {import("./debugger_prompt.js").Prompt} Prompt
  * @typedef {import("../debug/breakpoints.js").Breakpoint} Breakpoint
  *
@@ -17,13 +17,13 @@ import * as say from "../../words/prompt.js";
 
 /** @type {AtStop} */
 const NOTHING = { isTemporary: false, commands: [] };
-const MOST_IGNORED = 999999999;
-const MOST_COMMANDS = 100;
+const MAX_IGNORED = 999999999;
+const MAX_COMMANDS = 100;
 export const END = "end";
 const SILENT = "silent";
 
 /** @type {(command: string) => string} a command applied to the breakpoint that was set last */
-const ofLast = (command) => `${command} ${LAST}`;
+const forLast = (command) => `${command} ${LAST}`;
 
 export class StopCommands {
   /** @param {Prompt} prompt */
@@ -39,8 +39,8 @@ export class StopCommands {
     return this.prompt.session.breakpoints;
   }
 
-  /** @returns {Record<string, Act>} */
-  get acts() {
+  /** @returns {Record<string, CommandHandler>} */
+  get handlers() {
     return {
       tbreak: async (rest) => {
         const id = await this.prompt.breakpoints.add(rest);
@@ -92,7 +92,7 @@ export class StopCommands {
   async ignore(rest) {
     const { breakpoint: { id, hits }, more } = this.named(rest, say.IGNORE_FORM);
     const count = /^\d{1,9}$/.test(more) ? Number(more) : -1;
-    if (count < 0) refuse(say.ignoredIs(MOST_IGNORED.toLocaleString("en"), more || say.NOTHING));
+    if (count < 0) refuse(say.ignoredIs(MAX_IGNORED.toLocaleString("en"), more || say.NOTHING));
     await this.prompt.breakpoints.change(id, { from: count === 0 ? 1 : hits + count + 1 });
     this.prompt.calls.print(say.willPass(id, count));
   }
@@ -115,9 +115,9 @@ export class StopCommands {
     if (line.trim() === END) {
       this.change(id, { commands: lines });
       this.opened = null;
-    } else if (lines.length === MOST_COMMANDS) {
+    } else if (lines.length === MAX_COMMANDS) {
       this.opened = null;
-      refuse(say.tooManyCommands(MOST_COMMANDS));
+      refuse(say.tooManyCommands(MAX_COMMANDS));
     } else if (line.trim() !== "") lines.push(line.trim());
   }
 
@@ -169,11 +169,11 @@ export class StopCommands {
   linesOf({ id, line, address, isOn, from, hits, condition, note }) {
     const { isTemporary, commands } = this.of(id);
     const left = from - hits;
-    const where = line > 0 ? String(line) : `0x${hex(address, 3)}`;
-    const words = [isTemporary ? "tbreak" : "break", where, ...(left > 1 ? [`from ${left}`] : [])];
+    const place = line > 0 ? String(line) : `0x${hex(address, 3)}`;
+    const words = [isTemporary ? "tbreak" : "break", place, ...(left > 1 ? [`from ${left}`] : [])];
     return [
-      `${words.join(" ")}${say.ifCondition(condition)}${say.logNote(note)}`, ...(isOn ? [] : [ofLast("disable")]),
-      ...(commands.length > 0 ? [ofLast("commands"), ...commands.map((each) => `  ${each}`), END] : []),
+      `${words.join(" ")}${say.ifCondition(condition)}${say.logNote(note)}`, ...(isOn ? [] : [forLast("disable")]),
+      ...(commands.length > 0 ? [forLast("commands"), ...commands.map((each) => `  ${each}`), END] : []),
     ];
   }
 }

@@ -14,23 +14,23 @@ import * as say from "../../words/prompt.js";
 /**
  * @typedef {import("./debugger_prompt.js").Prompt} Prompt
  * @typedef {{ rows: number, columns: number }} ViewSize the number of lines, and their maximum length
- * @typedef {(text: string) => string} Marked highlights a text
+ * @typedef {(text: string) => string} Highlight highlights a text
  *
  * The highlighting of the header line, of the next instruction, and of a value that the last move changed.
- * @typedef {{ head: Marked, here: Marked, other: Marked }} Marks
+ * @typedef {{ head: Highlight, here: Highlight, other: Highlight }} Highlights
  */
 
 /** The minimum rows and columns of a terminal, and the minimum rows below the view. */
-export const LEAST_ROWS = 12;
-export const LEAST_COLUMNS = 40;
-const LEAST_FOR_COMMANDS = 5;
-const MOST_ROWS = 40;
+export const MIN_ROWS = 12;
+export const MIN_COLUMNS = 40;
+const MIN_COMMAND_ROWS = 5;
+const MAX_ROWS = 40;
 /** The minimum columns for registers next to the source; otherwise they are below it. */
-const WIDE = 72;
+const WIDE_COLUMNS = 72;
 /** The columns of the registers next to the source. */
-const SIDE = 24;
+const SIDE_COLUMNS = 24;
 /** The maximum number of expressions of `display` in the view. */
-const MOST_DISPLAYS = 4;
+const MAX_DISPLAYS = 4;
 
 /**
  * Returns the size of the view on a terminal; null if the terminal is too small.
@@ -39,10 +39,10 @@ const MOST_DISPLAYS = 4;
  * @returns {ViewSize | null}
  */
 export function sizeOf(rows, columns) {
-  if (!(rows >= LEAST_ROWS && columns >= LEAST_COLUMNS)) return null;
+  if (!(rows >= MIN_ROWS && columns >= MIN_COLUMNS)) return null;
   const wanted = Math.round(rows * 0.6);
   // A terminal wraps after its last column.
-  return { rows: Math.min(MOST_ROWS, wanted, rows - LEAST_FOR_COMMANDS), columns: columns - 1 };
+  return { rows: Math.min(MAX_ROWS, wanted, rows - MIN_COMMAND_ROWS), columns: columns - 1 };
 }
 
 /**
@@ -70,15 +70,15 @@ export class View {
   /**
    * Returns the lines of the view.
    * @param {ViewSize} size
-   * @param {Marks} marks
+   * @param {Highlights} marks
    */
   lines({ rows, columns }, { head, here, other }) {
-    this.look();
-    const isWide = columns >= WIDE;
+    this.readRegisters();
+    const isWide = columns >= WIDE_COLUMNS;
     const registers = isWide ? this.sideLines(other) : this.belowLines(columns, other);
     const below = [...(isWide ? [] : registers), ...this.boardLines(columns)];
     const height = Math.max(1, rows - 2 - below.length);
-    const width = isWide ? columns - SIDE : columns;
+    const width = isWide ? columns - SIDE_COLUMNS : columns;
     const body = this.sourceLines(height).map((line, at) => {
       const text = cut(line, width);
       const own = line.startsWith(">") ? here(text) : text;
@@ -88,7 +88,7 @@ export class View {
   }
 
   /** Reads the registers; keeps their values from before the last move. */
-  look() {
+  readRegisters() {
     const { session } = this.prompt;
     const { total } = session.debugger.session.count;
     const { registers, ports } = new Standing(session.debugger.session.takeSnapshot());
@@ -118,19 +118,19 @@ export class View {
 
   /**
    * @param {string} name
-   * @param {Marked} marked
+   * @param {Highlight} highlight
    * @returns {string}
    */
-  valueText(name, marked) {
+  valueText(name, highlight) {
     const value = this.now.get(name) || "";
     const text = `${name} ${value}`;
-    return this.before.get(name) === value ? text : marked(text);
+    return this.before.get(name) === value ? text : highlight(text);
   }
 
-  /** @param {Marked} marked */
-  sideLines(marked) {
+  /** @param {Highlight} highlight */
+  sideLines(highlight) {
     const { session } = this.prompt;
-    const textOf = (/** @type {string} */ name) => this.valueText(name, marked);
+    const textOf = (/** @type {string} */ name) => this.valueText(name, highlight);
     const calls = session.registers.returns.join(" ");
     return [
       `${textOf("acc")}   ${textOf("cy")}   ${textOf("test")}`,
@@ -142,10 +142,10 @@ export class View {
 
   /**
    * @param {number} columns
-   * @param {Marked} marked
+   * @param {Highlight} highlight
    */
-  belowLines(columns, marked) {
-    const textsOf = (/** @type {string[]} */ names) => names.map((name) => this.valueText(name, marked)).join(" ");
+  belowLines(columns, highlight) {
+    const textsOf = (/** @type {string[]} */ names) => names.map((name) => this.valueText(name, highlight)).join(" ");
     const pairs = upTo(8).map((at) => `P${at}`);
     const line = ["acc", "cy", "test", "dcl", "SRC"];
     return columns >= 60 ? [textsOf(line), textsOf(pairs)] : [textsOf(line), textsOf(pairs.slice(0, 4)), textsOf(pairs.slice(4))];
@@ -156,7 +156,7 @@ export class View {
     const { machine, session, looks } = this.prompt;
     const keys = keysDown(session).join(" ");
     const shown = machine.shown.now();
-    const displays = looks.displays.slice(0, MOST_DISPLAYS).map((what) => `${what} = ${looks.valueOrFault(what)}`);
+    const displays = looks.displays.slice(0, MAX_DISPLAYS).map((what) => `${what} = ${looks.valueOrFault(what)}`);
     return [shown, keys && say.down(keys), ...displays].filter(Boolean).map((line) => cut(line, columns));
   }
 }

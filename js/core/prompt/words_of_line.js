@@ -9,18 +9,18 @@ import * as say from "../../words/prompt.js";
 
 /**
  * @typedef {import("../debug/debug_session.js").DebugSession} DebugSession
- * @typedef {{ line: number, address: number }} InProgram a place in the program; `line` is 0 if the address has no line
+ * @typedef {{ line: number, address: number }} ProgramPlace a place in the program; `line` is 0 if the address has no line
  */
 
 /** The error of a rejected command. */
-export class Refused extends Error {}
+export class RefusedCommand extends Error {}
 
 /**
  * @param {string} words
  * @returns {never}
  */
 export function refuse(words) {
-  throw new Refused(words);
+  throw new RefusedCommand(words);
 }
 
 /**
@@ -40,7 +40,7 @@ export function addressIn(text, { map }) {
  * Returns the instruction that a text names; fails if there is none. For a line without an instruction it is the next one.
  * @param {string} text a line, a label or an address; "" for the next instruction
  * @param {DebugSession} session
- * @returns {InProgram}
+ * @returns {ProgramPlace}
  */
 export function instructionIn(text, session) {
   const words = text.trim().replace(/^[^\s:]*\.[A-Za-z0-9]+:/, "");

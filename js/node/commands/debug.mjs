@@ -82,7 +82,7 @@ async function serve(given) {
     await prompt.begin();
     return await runScript(prompt, at);
   } finally {
-    if (launched.kept) await launched.kept.end();
+    if (launched.writer) await launched.writer.end();
   }
 }
 
