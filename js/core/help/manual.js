@@ -1,26 +1,27 @@
-// The parts of the manual that the page shows: its tables, which page/build extracts from docs/MANUAL.md and page/help.md.
+// The tables of the manual that the page shows. page/build extracts them from docs/MANUAL.md and page/help.md.
 
 import * as say from "../../words/help.js";
 
 /**
- * A table: the line in bold type before it ("" for none), its head and its rows. In a cell, code is between backticks.
+ * A table: its caption ("" for none), its column heads and its rows. Code in a cell is between backticks.
  * @typedef {{ caption: string, head: string[], rows: string[][] }} ManualTable
  * @typedef {{ title: string, tables: ManualTable[] }} ManualSection
  *
- * A piece of a cell.
+ * A piece of text in a cell.
  * @typedef {{ text: string, isCode: boolean }} Piece
  *
- * The manual's description of an instruction.
+ * The manual's description of an instruction; `form` is the mnemonic with its operands, `does` the effect.
  * @typedef {{ form: string, code: string, words: string, cycles: string, does: string }} Instruction
  */
 
+/** The titles of the sections about instructions and about the cells of the machine. */
 export const INSTRUCTIONS = say.INSTRUCTIONS;
 export const CELLS = say.CELLS;
-/** The sections whose rows begin with a line for the bench. */
+/** The titles of the sections whose rows begin with a bench line. */
 const LINES = say.SECTIONS_OF_LINES;
 
 /**
- * The pieces of a cell: plain text and code in turn.
+ * Splits a cell into pieces of plain text and code.
  * @param {string} cell
  * @returns {Piece[]}
  */
@@ -29,7 +30,7 @@ export function piecesOf(cell) {
 }
 
 /**
- * Returns the text of a cell without its marks.
+ * Returns the text of a cell without backticks.
  * @param {string} cell
  */
 export function plain(cell) {
@@ -37,7 +38,7 @@ export function plain(cell) {
 }
 
 /**
- * The rows of a section.
+ * Returns the rows of all tables in a section; none if there is no such section.
  * @param {ManualSection[]} manual
  * @param {string} title
  */
@@ -47,9 +48,9 @@ export function rowsOf(manual, title) {
 }
 
 /**
- * Returns the sections that contain all of some words, whatever their case; a row remains if it contains them, or its section's title does.
+ * Searches the manual for words, in any case. Returns the sections whose titles contain all words, and of other sections the rows that do.
  * @param {ManualSection[]} manual
- * @param {string} wanted
+ * @param {string} wanted the words
  * @returns {ManualSection[]}
  */
 export function searched(manual, wanted) {
@@ -64,14 +65,14 @@ export function searched(manual, wanted) {
 }
 
 /**
- * The instructions by their mnemonics, in upper case.
+ * Returns the instructions by their mnemonics in upper case.
  * @param {ManualSection[]} manual
  * @returns {Map<string, Instruction>}
  */
 export function instructionsOf(manual) {
   const found = new Map();
   for (const row of rowsOf(manual, INSTRUCTIONS)) {
-    // A table without these two columns has instructions of one word and one cycle.
+    // A table without the columns for words and cycles has instructions of one word and one cycle.
     const [forms, code, words, cycles, does] = row.length === 3 ? [row[0], row[1], "1", "1", row[2]] : row;
     for (const [, form] of forms.matchAll(/`([^`]+)`/g)) found.set(form.split(" ")[0], { form, code, words, cycles, does: plain(does) });
   }
@@ -79,7 +80,7 @@ export function instructionsOf(manual) {
 }
 
 /**
- * Returns the condition of JCN for each number.
+ * Returns the meaning of each condition number of JCN.
  * @param {ManualSection[]} manual
  * @returns {Map<number, string>}
  */
@@ -89,7 +90,7 @@ export function conditionsOf(manual) {
 }
 
 /**
- * Returns the lines of the bench: each form with its effect.
+ * Returns the forms of bench lines with their effects.
  * @param {ManualSection[]} manual
  * @returns {{ form: string, does: string }[]}
  */
@@ -99,7 +100,7 @@ export function linesOfBench(manual) {
 }
 
 /**
- * Returns the lines of the bench that begin as the typed text does: by its first word, and while that is being typed by its beginning.
+ * Returns the bench lines whose first word is the typed one, or starts with it while the first word is being typed.
  * @param {{ form: string, does: string }[]} lines
  * @param {string} typed
  */
@@ -111,8 +112,8 @@ export function fittingLines(lines, typed) {
 }
 
 /**
- * Returns the description of a cell: by its name, or by the beginning of its name (`R` for `R5`, `bank` for `bank 0`); "" for none.
- * @param {Map<string, string>} words
+ * Returns the description of a cell; "" for none. `R5` can have the description of `R`, and `bank 0` that of `bank`.
+ * @param {Map<string, string>} words the descriptions by name
  * @param {string} name
  */
 export function wordsOfCell(words, name) {
@@ -120,7 +121,7 @@ export function wordsOfCell(words, name) {
 }
 
 /**
- * Returns the description of each cell of the machine by its name.
+ * Returns the descriptions of the machine's cells by their names.
  * @param {ManualSection[]} manual
  * @returns {Map<string, string>}
  */

@@ -1,11 +1,11 @@
-// The story of an example: a text in steps, with links that do something on the page. `# TITLE` is its first line; each step begins
-// with `## TITLE`; blank lines separate its paragraphs. `[WORDS](ACT)` is a link:
+// The story of an example: a text in steps, with links that are actions on the page. `# TITLE` is its first line; each step begins
+// with `## TITLE`; blank lines separate its paragraphs. `[WORDS](ACT)` is a link. The actions are:
 //
-//     run, stop, back, forward                time runs, is paused, goes back a stop or forward again
-//     go to LABEL, run to LABEL               shows a line of the program; time passes up to it
-//     back to PLACE                           goes back to the point before the last change of a place: r11, ram.0.0x12, rom0.2
-//     press KEY, release KEY                  a click on it: while time is paused it stays down; a key that is down goes up
-//     show VIEW                               brings a text or a panel into view
+//     run, stop, back, forward                runs time; pauses it; goes back to the stop before; goes forward again
+//     go to LABEL, run to LABEL               shows a line of the program; runs time up to it
+//     back to PLACE                           goes back to before the last change of a place, such as r11, ram.0.0x12 or rom0.2
+//     press KEY, release KEY                  presses a key, which stays down while time is paused; releases a key that is down
+//     show VIEW                               shows a text or a panel
 
 /**
  * @typedef {import("./tour.js").Part} Part
@@ -16,7 +16,7 @@
  * @typedef {{ name: ActName, of: string }} Act
  */
 
-/** The parts that can be shown: texts, which have tabs in this order, and panels. */
+/** The views that `show` accepts: texts, in the order of their tabs, and panels. */
 export const TEXTS = ["program", "board", "tests", "properties", "wiring", "waves"];
 export const PANELS = ["front", "processor", "listing", "memory", "ports"];
 
@@ -24,6 +24,7 @@ const ACT = /^(?:(run|stop|back|forward)|(go to|run to|back to|press|release|sho
 const LINK = /\[([^\]]+)\]\(([^()]+)\)/g;
 
 /**
+ * Parses the action of a link; returns null if it is not valid.
  * @param {string} words
  * @returns {Act | null}
  */
@@ -36,7 +37,7 @@ function readAct(words) {
 }
 
 /**
- * Returns the parts of a paragraph. A link without a valid action is shown as its words alone.
+ * Splits a paragraph into text and links. A link without a valid action becomes text.
  * @param {string} text
  * @returns {Part[]}
  */
@@ -54,6 +55,7 @@ function partsOf(text) {
 }
 
 /**
+ * Parses a step of a story.
  * @param {string} text
  * @returns {TourStep}
  */

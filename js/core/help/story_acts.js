@@ -1,4 +1,4 @@
-// The actions of a story's links: each is one action of the page, by the page's own calls.
+// Runs the actions of a story's links. Each one is a call of the page.
 
 import { TEXTS } from "./story.js";
 import * as say from "../../words/help.js";
@@ -11,25 +11,26 @@ import * as say from "../../words/help.js";
  */
 
 /**
- * The actions of a story's links.
+ * The calls of the page.
  * @typedef {object} ActCalls
- * @property {(label: string) => number | undefined} addressOf Returns the address of a label of the program in ROM; undefined if no label
- *   has this name.
+ * @property {(label: string) => number | undefined} addressOf Returns the address of a label of the program in ROM; undefined if there is
+ *   no such label.
  * @property {() => BoardKey[]} keys Returns the keys of the board that is shown.
- * @property {() => void} run Lets time run; a goal that it ran to is dropped.
+ * @property {() => void} run Runs time without a goal.
  * @property {() => Promise<void>} stand Pauses time; resolves once it is paused.
- * @property {(goal: Goal) => Promise<void>} goOn Lets time pass until a goal is reached; resolves once it is reached or time runs to it.
- * @property {(goal: BackGoal) => Promise<void>} goBack Goes back to a goal; resolves once the session is there.
- * @property {() => Promise<void>} goForward Returns to where the last move back began.
+ * @property {(goal: Goal) => Promise<void>} goOn Runs time to a goal; resolves once the goal is reached, or time runs to it.
+ * @property {(goal: BackGoal) => Promise<void>} goBack Goes back to a goal; resolves once the session is at the goal.
+ * @property {() => Promise<void>} goForward Returns to the state before the last move back.
  * @property {(address: number) => void} goTo Shows the line of an address in the source and in the listing.
- * @property {() => boolean} isRunning Returns whether time runs, so that keys wait for their time.
- * @property {(key: BoardKey) => boolean} isDown Returns whether a key will be down after all requests.
- * @property {(key: BoardKey) => void} press Clicks a key: a key that stayed down goes up.
- * @property {(name: string) => void} showText Brings a text to the front, by the name of its tab.
- * @property {(name: string) => void} showPanel Brings a panel to the front, by its name.
+ * @property {() => boolean} isRunning Returns whether time runs, so that keys are queued.
+ * @property {(key: BoardKey) => boolean} isDown Returns whether a key will be down after all queued changes.
+ * @property {(key: BoardKey) => void} press Clicks a key: presses it, or releases it if it is down.
+ * @property {(name: string) => void} showText Shows a text, by the name of its tab.
+ * @property {(name: string) => void} showPanel Shows a panel, by its name.
  */
 
 /**
+ * Calls a function with the address of a label. Returns an error message, "" if there is no error.
  * @param {string} label
  * @param {ActCalls} calls
  * @param {(address: number) => unknown} act
@@ -42,6 +43,7 @@ async function atLabel(label, calls, act) {
 }
 
 /**
+ * Calls a function with the key that has a legend. Returns an error message, "" if there is no error.
  * @param {string} legend
  * @param {ActCalls} calls
  * @param {(key: BoardKey) => unknown} act
@@ -54,7 +56,7 @@ function atKey(legend, calls, act) {
 }
 
 /**
- * The function of each act; it returns the reason if the act was not done, else "".
+ * The functions of the actions. Each one resolves to an error message, "" if there is no error.
  * @type {Record<import("./story.js").ActName, (of: string, calls: ActCalls) => Promise<string>>}
  */
 const ACTS = {
@@ -70,14 +72,17 @@ const ACTS = {
   show: (of, calls) => done(() => (TEXTS.includes(of) ? calls.showText(of) : calls.showPanel(of))),
 };
 
-/** @param {() => unknown} act */
+/**
+ * Calls a function that cannot fail; resolves to "".
+ * @param {() => unknown} act
+ */
 async function done(act) {
   await act();
   return "";
 }
 
 /**
- * Does an action; returns why it was not done, "" if it was.
+ * Runs an action. Resolves to an error message, "" if there is no error.
  * @param {Act} act
  * @param {ActCalls} calls
  */

@@ -1,22 +1,28 @@
-// A first program in five steps: the text of each step, what is typed in it, and when it is done. The page decides by the bench's answers
-// when a step is done.
+// The tour: a first program in five steps. Each step has a text, a program to type, and a condition that the bench's answers must fulfil.
 
 import * as say from "../../words/help.js";
 
 /**
- * The values by which a step is judged: the lamps (a `*` for each that is on), how many different patterns of lamps were seen in this step,
- * how many keys are down, and why a run ended last in this step (`break`, `watch`, "" for no end).
+ * The values that decide whether a step is done:
+ * - `lamps`: a mark for each lamp, `*` if it is on;
+ * - `patterns`: the number of different patterns of lamps in this step;
+ * - `keysDown`: the number of keys that are down;
+ * - `end`: the reason for the last stop in this step, such as `break` or `watch`; "" for none.
  * @typedef {{ lamps: string, patterns: number, keysDown: number, end: string }} Seen
  *
- * A step: its title, its task, the program that is typed ("" if it stays), what the step points at, and when it is done. A paragraph of a
- * story has links that do something.
+ * A piece of a paragraph: text, or in a story a link with an action.
  * @typedef {string | { words: string, act: import("./story.js").Act }} Part
- * @typedef {"send" | "key" | "margin" | "ram"} Target the button that assembles, a key, the margin of the source, a character of RAM
+ *
+ * The control that a step highlights: the button that assembles, a key, the margin of the source, or a RAM character.
+ * @typedef {"send" | "key" | "margin" | "ram"} Target
+ *
+ * A step: its title, its paragraphs, the program to type ("" to leave the program as it is), the control that it highlights, and the
+ * function that returns whether it is done.
  * @typedef {{ title: string, words: (string | Part[])[], program: string, target?: Target, isDone: (seen: Seen) => boolean }} TourStep
  */
 
 /**
- * The texts that it begins with.
+ * The texts with which the tour begins.
  * @type {import("../engine/examples.js").Example}
  */
 export const FIRST_PROGRAM = {
@@ -59,14 +65,14 @@ export const TOUR = [
 ];
 
 /**
- * Returns whether a text contains nothing of the user's own: it is empty, or a program of a step.
+ * Returns whether a text is empty or the program of a step, so that the tour can replace it.
  * @param {string} text
  */
 export function isOfTour(text) {
   return text.trim() === "" || TOUR.some(({ program }) => program === text);
 }
 
-/** Watches over a step. */
+/** The progress of the tour: its current step, and whether that step is done. */
 export class TourWatch {
   /** @param {TourStep[]} steps */
   constructor(steps = TOUR) {
@@ -74,12 +80,15 @@ export class TourWatch {
     this.at = 0;
     /** @type {Seen} */
     this.seen = { lamps: "", patterns: 0, keysDown: 0, end: "" };
-    /** @type {Set<string>} */
+    /** @type {Set<string>} the different patterns of lamps in this step */
     this.patterns = new Set();
     this.isDone = false;
   }
 
-  /** @param {number} at the step that begins */
+  /**
+   * Begins a step.
+   * @param {number} at the index of the step
+   */
   begin(at) {
     this.at = at;
     this.seen = { lamps: "", patterns: 0, keysDown: 0, end: "" };
@@ -92,8 +101,8 @@ export class TourWatch {
   }
 
   /**
-   * The lamps have changed.
-   * @param {string} lamps
+   * Notes the state of the lamps.
+   * @param {string} lamps a mark for each lamp
    */
   seeLamps(lamps) {
     this.patterns.add(lamps);
@@ -105,12 +114,15 @@ export class TourWatch {
     this.see({ keysDown });
   }
 
-  /** @param {string} end why a run ended */
+  /** @param {string} end the reason for a stop */
   noteEnd(end) {
     this.see({ end });
   }
 
-  /** @param {Partial<Seen>} news */
+  /**
+   * Updates the values, and whether the step is done.
+   * @param {Partial<Seen>} news
+   */
   see(news) {
     Object.assign(this.seen, news);
     this.isDone = this.isDone || this.step.isDone(this.seen);

@@ -1,25 +1,26 @@
-// The values of expressions as Intel's assembler and AS write them: names and numbers with + - * / & and brackets, < and > for bytes of an
-// address, $ or * for the address of the line.
+// Evaluates expressions in the syntax of Intel's assembler and of AS. They consist of names, numbers, + - * / & and brackets, < and > for
+// the low and high byte, and $ or * for the address of the line.
 
 import { capitals } from "./source_lines.js";
 import * as say from "../../words/import.js";
 
 /**
- * A value; `isKnown` is false if a name has none yet, and `fault` is why the expression cannot be read, "" if it can.
+ * A value. `isKnown` is false if a name has no value yet. `fault` is an error message, "" if there is no error.
  * @typedef {{ value: number, isKnown: boolean, fault: string }} Evaluated
  *
- * The meaning of names: whether a line defines a name, and its value, if that is known.
+ * The values of names: `isDefined` returns whether a line defines a name, `valueOf` its value, undefined if it is not known yet.
  * @typedef {{ isDefined: (name: string) => boolean, valueOf: (name: string) => number | undefined }} NameValues
  */
 
+/** The maximum nesting of an expression. */
 const MOST_DEPTH = 50;
 const BYTE = 256;
-/** The bits that & uses. */
+/** The highest bit that & compares. */
 const MOST_BITS = 4096;
 const NAME = /[A-Za-z_.?@][A-Za-z0-9_.?@$]*/y;
 const BYTE_OF = /(LOW|HIGH|LO|HI|low|high|lo|hi)[ \t]*\(/y;
 const CHARACTER = /'[^']'|"[^"]"/y;
-/** The forms of numbers, in the order in which they are tried: prefix, suffix and base. */
+/** The patterns of numbers in the order in which they are tried, and their bases. */
 const NUMBERS = [
   { form: /0[xX]([0-9A-Fa-f]+)/y, base: 16 },
   { form: /[$]([0-9A-Fa-f]+)/y, base: 16 },
@@ -31,7 +32,7 @@ const NUMBERS = [
 ];
 
 /**
- * Returns the bits that two numbers have both.
+ * Returns the bitwise AND of two numbers.
  * @param {number} one
  * @param {number} other
  */
@@ -43,7 +44,7 @@ function bitsOfBoth(one, other) {
 }
 
 /**
- * Returns the value of digits of a base.
+ * Returns the value of digits in a base.
  * @param {string} digits
  * @param {number} base
  */
@@ -53,6 +54,7 @@ function numberOfDigits(digits, base) {
   return value;
 }
 
+/** A recursive-descent evaluator: `at` is the index of the next character. */
 class Evaluation {
   /**
    * @param {string} text
@@ -69,11 +71,15 @@ class Evaluation {
     this.fault = "";
   }
 
-  /** @param {string} words whose words are first */
+  /**
+   * Notes an error unless there is one already.
+   * @param {string} words
+   */
   fail(words) {
     if (this.fault === "") this.fault = words;
   }
 
+  /** Skips blanks. */
   skip() {
     while (/[ \t]/.test(this.text[this.at] || "")) this.at += 1;
   }
@@ -85,7 +91,7 @@ class Evaluation {
   }
 
   /**
-   * Returns the expression that begins here, if there is one.
+   * Matches a sticky pattern at the current index; returns null if it does not match.
    * @param {RegExp} form
    */
   match(form) {
@@ -157,7 +163,7 @@ class Evaluation {
     return 0;
   }
 
-  /** @param {string} sign `<` and `>` apply to all that follows */
+  /** @param {string} sign - and + apply to a factor, `<` and `>` to the whole sum after them */
   signed(sign) {
     this.at += 1;
     if (sign === "-") return -this.factor();
@@ -203,7 +209,7 @@ class Evaluation {
 }
 
 /**
- * Returns whether all characters of a text are of ASCII.
+ * Returns whether all characters of a text are ASCII.
  * @param {string} text
  */
 export function isAscii(text) {

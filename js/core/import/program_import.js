@@ -1,5 +1,5 @@
-// Brings a program in the spelling of Intel or of AS into the bench's spelling, a line for each line. Names get their values first, then
-// lines are written.
+// Converts a program in the syntax of Intel's assembler or of AS to the bench's syntax, line by line. The first passes find the values of
+// names; the last one writes the lines.
 
 import { LAST_ADDRESS, hex } from "../bench/numbers.js";
 import { MAX_NAME_LENGTH } from "../text/assembly.js";
@@ -14,34 +14,37 @@ import * as say from "../../words/import.js";
  * @typedef {import("./source_lines.js").SourceLine} SourceLine
  * @typedef {import("./source_lines.js").OperandKind} OperandKind
  *
- * A line that cannot be imported, from 1, and why.
+ * An error in a line; `line` counts from 1.
  * @typedef {{ line: number, words: string }} ImportFault
  *
- * The spelling of an operand's value: its range, the modulus of negative numbers (0 for none), and whether it is always a number.
+ * The rules for an operand's value: its range, the modulus for negative numbers (0 if they are not allowed), and true in `isNumber` if a
+ * name must be replaced by its value.
  * @typedef {{ from?: number, to: number, modulus?: number, isNumber?: boolean }} Figure
  */
 
+/** The maximum number of passes that find the values of names. */
 const MOST_TURNS = 20;
 const NIBBLE = 16;
 const BYTE = 256;
-/** The columns of statements and comments. */
+/** The columns of statements and comments in the output. */
 const COLUMNS = { statement: 8, comment: 24 };
-/** Names that mean something else to the bench. */
+/** Names that are words of the bench's syntax. */
 const RESERVED = /^(ORG|DB|WPM|R[0-9]|R1[0-5]|P[0-7])$/;
 const NAME = /^[A-Za-z_.?@][A-Za-z0-9_.?@$]*$/;
-/** Numbers whose value is written without a note of how they were spelled. */
+/** Numbers whose original text is not kept in a comment. */
 const PLAIN_NUMBER = /^([0-9]+|[0-9][0-9A-Fa-f]*[hH]|(0[xX]|[$%])[0-9A-Fa-f]+)$/;
-/** @type {Map<string, number>} */
+/** @type {Map<string, number>} the condition numbers of JCN by their names */
 const CONDITIONS = new Map(Object.entries({ TZ: 1, T0: 1, TN: 9, T1: 9, CN: 2, C1: 2, CZ: 10, C0: 10, AZ: 4, AN: 12 }));
+/** The bit that inverts a condition. */
 const INVERTED = 8;
 /** @type {Record<string, number>} the bits of a condition by its letters */
 const LETTERS = { Z: 4, C: 2, T: 1 };
 
-/** Why a line cannot be imported; the rest of it is skipped. */
+/** The error of a line that cannot be converted. */
 class LineFault extends Error {}
 
 /**
- * Returns a text that is filled up to a column, with at least one blank after it.
+ * Pads a text to a column, with at least one blank after it.
  * @param {string} text
  * @param {number} column
  */
@@ -49,40 +52,41 @@ function upToColumn(text, column) {
   return text.length < column ? text.padEnd(column) : `${text} `;
 }
 
+/** The conversion of one program. */
 class ProgramImport {
   /** @param {string[]} texts the lines of the source */
   constructor(texts) {
     this.lines = readSource(texts);
     /** @type {ImportFault[]} */
     this.faults = [];
-    /** @type {Map<string, number>} the line that defines each name, by capitals */
+    /** @type {Map<string, number>} the line that defines each name, by the name in capitals */
     this.definedAt = new Map();
-    /** @type {Map<string, number>} */
+    /** @type {Map<string, number>} the values of names, by the name in capitals */
     this.values = new Map();
-    /** @type {Map<string, string>} how each name is written here */
+    /** @type {Map<string, string>} the output spelling of each name, by the name in capitals */
     this.names = new Map();
     this.isForAs = this.lines.some(({ word }) => word === "CPU");
-    /** The address of the line that is written, and how its expressions were spelled. */
+    /** The address of the line that is written. */
     this.address = 0;
-    /** @type {string[]} */
+    /** @type {string[]} the original texts of its expressions, for the comment */
     this.spelled = [];
     /** @type {import("./expressions.js").NameValues} */
     this.meaning = { isDefined: (name) => this.definedAt.has(name), valueOf: (name) => this.values.get(name) };
   }
 
-  /** Returns the lines in the bench's spelling; none if a line has an error. */
+  /** Returns the lines in the bench's syntax; none if a name is defined twice or a line is too long. */
   run() {
     this.lines.forEach((line, at) => this.define(line, at + 1));
     if (this.faults.length > 0) return [];
     this.chooseNames();
     let turns = MOST_TURNS;
-    // Names may be defined by names further down: until nothing changes.
+    // A name can depend on names in later lines, so passes are repeated until no value changes.
     while (turns > 0 && this.locate()) turns -= 1;
     return this.lines.map((line, at) => this.tried(at + 1, () => this.written(line), ""));
   }
 
   /**
-   * Returns the result of an action; notes the error of a line.
+   * Calls a function and returns its result. If it throws a LineFault, notes the error and returns `instead`.
    * @template Result
    * @param {number} line
    * @param {() => Result} act
@@ -101,8 +105,9 @@ class ProgramImport {
   // --- names ---
 
   /**
+   * Notes the line that defines a name.
    * @param {SourceLine} line
-   * @param {number} number
+   * @param {number} number of the line
    */
   define({ label, isLong }, number) {
     this.tried(number, () => {
@@ -115,10 +120,10 @@ class ProgramImport {
     }, undefined);
   }
 
-  /** Gives each name the spelling of the line that defines it, as far as the bench accepts that. */
+  /** Chooses the output spelling of each name: that of its definition, changed if the bench rejects it or another name has it. */
   chooseNames() {
     const taken = new Set();
-    /** @type {Map<string, number>} the next number after a name that is in use */
+    /** @type {Map<string, number>} the next number to append, by the name that is in use */
     const next = new Map();
     for (const [name, line] of this.definedAt) {
       const plain = this.lines[line - 1].label.replace(/[^A-Za-z0-9_]/g, "_").replace(/^(?=[0-9])/, "_");
@@ -144,7 +149,7 @@ class ProgramImport {
     return evaluate(text, here, this.meaning);
   }
 
-  /** Sets the value of each name; returns whether any has changed. */
+  /** Runs a pass that sets the values of names. Returns whether a value has changed. */
   locate() {
     let [at, hasChanged] = [0, false];
     for (const line of this.lines) {
@@ -162,7 +167,7 @@ class ProgramImport {
   /**
    * Returns the address after a line.
    * @param {SourceLine} line
-   * @param {number} at
+   * @param {number} at the address of the line
    */
   addressAfter({ word, operand }, at) {
     if (word === "ORG" || word === "ALIGN" || ROOM_WORDS.has(word)) {
@@ -179,7 +184,10 @@ class ProgramImport {
 
   // --- lines ---
 
-  /** @param {SourceLine} line */
+  /**
+   * Returns the output line with its comment; throws LineFault if the line cannot be converted.
+   * @param {SourceLine} line
+   */
   written(line) {
     const { text, label, word, comment } = line;
     this.spelled = [];
@@ -195,7 +203,10 @@ class ProgramImport {
     return `${written === "" ? "" : upToColumn(written, COLUMNS.comment)};${note}`;
   }
 
-  /** @param {SourceLine} line */
+  /**
+   * Returns the output line without its comment.
+   * @param {SourceLine} line
+   */
   statementLine({ label, word, operand }) {
     const name = this.names.get(capitals(label)) || "";
     if (word === "EQU") return `${name} = ${this.figure(operand, { to: LAST_ADDRESS, isNumber: true })}`;
@@ -225,7 +236,7 @@ class ProgramImport {
   }
 
   /**
-   * Returns the ORG of a statement that leaves room.
+   * Returns the ORG for a directive that reserves bytes.
    * @param {string} word
    * @param {string} operand
    */
@@ -256,7 +267,7 @@ class ProgramImport {
    */
   instruction(word, operand, kinds) {
     let parts = partsOfList(operand);
-    // Without a comma, operands have blanks between them.
+    // Blanks can separate two operands instead of a comma.
     const apart = kinds.length > 1 && parts.length === 1 ? /^([^ \t]+)[ \t]+(.+)$/.exec(operand) : null;
     if (apart) parts = [apart[1], apart[2]];
     if (word === "BBL" && parts.length === 0) parts = ["0"];
@@ -280,7 +291,7 @@ class ProgramImport {
   }
 
   /**
-   * Returns the value of an operand as the bench accepts it: a name stays, and an expression becomes its number, and is noted.
+   * Returns the output text of an operand. A name stays a name. An expression becomes a number; its original text goes into the comment.
    * @param {string} text
    * @param {Figure} figure
    */
@@ -288,7 +299,7 @@ class ProgramImport {
     const { value, isKnown, fault } = this.valueOf(text, this.address);
     if (fault) throw new LineFault(fault);
     if (!isKnown) throw new LineFault(say.hangsUponItself(text));
-    // A byte may be a negative number, too.
+    // A negative number becomes its two's complement.
     const number = modulus > 0 && value < 0 && value >= -modulus / 2 ? value + modulus : value;
     if (!(number >= from && number <= to)) throw new LineFault(say.outOfRange(text, number, from, to));
     if (NAME.test(text) && !isNumber) return this.names.get(capitals(text)) || "";
@@ -301,7 +312,7 @@ class ProgramImport {
   register(text) {
     const word = capitals(text);
     if (/^R([0-9]|1[0-5])$/.test(word) && !this.definedAt.has(word)) return word;
-    // A name may stand for a register, as `COUNT EQU R5`.
+    // A name can be defined as a register, as in `COUNT EQU R5`.
     return `R${this.figure(text, { to: NIBBLE - 1, isNumber: true })}`;
   }
 
@@ -333,9 +344,9 @@ class ProgramImport {
 }
 
 /**
- * Brings a program into the bench's spelling.
+ * Converts a program to the bench's syntax.
  * @param {string} source
- * @returns {{ text: string, faults: ImportFault[] }} the text, if no line has an error
+ * @returns {{ text: string, faults: ImportFault[] }} the text, "" if a line has an error, and the errors
  */
 export function importProgram(source) {
   const texts = source.split("\n").map((line) => line.replace(/\r$/, ""));

@@ -1,16 +1,17 @@
-// A line of a program in Intel's spelling or in that of AS, split into its parts. (text/assembly.js splits the bench's own spelling.)
+// Splits the lines of a program in the syntax of Intel's assembler or of AS. (text/assembly.js splits lines in the bench's syntax.)
 
 /**
- * A line: its label, its word in capitals, the text after that, and its comment. A definition has the word EQU.
+ * A line: its label, its mnemonic or directive in capitals (`word`), the text of its operands, and its comment. The word of a definition is
+ * always EQU. `isLong` is true if the line is too long to be split.
  * @typedef {{ text: string, label: string, word: string, operand: string, comment: string, isLong: boolean }} SourceLine
  *
  * @typedef {"register" | "pair" | "digit" | "byte" | "target" | "condition"} OperandKind
  */
 
-/** Longer lines do not come from an assembler. */
+/** The maximum length of a line without its comment. */
 export const LONGEST_SOURCE_LINE = 1024;
 
-/** @type {[string[], OperandKind[]][]} */
+/** @type {[string[], OperandKind[]][]} mnemonics and the kinds of their operands */
 const FORMS = [
   [["NOP", "CLB", "CLC", "IAC", "CMC", "CMA", "RAL", "RAR", "TCC", "DAC", "TCS", "STC", "DAA", "KBP", "DCL", "WRM", "WMP", "WRR",
     "WR0", "WR1", "WR2", "WR3", "SBM", "RDM", "RDR", "ADM", "RD0", "RD1", "RD2", "RD3"], []],
@@ -22,19 +23,23 @@ const FORMS = [
   [["ISZ"], ["register", "target"]],
   [["JCN"], ["condition", "target"]],
 ];
-/** The operands of each instruction. */
+/** The kinds of operands by mnemonic. */
 export const OPERANDS = new Map(FORMS.flatMap(([names, kinds]) => names.map((name) => /** @type {const} */ ([name, kinds]))));
+/** The instructions that only the 4040 has. */
 export const OF_4040 = new Set(["HLT", "BBS", "LCR", "OR4", "OR5", "AN6", "AN7", "DB0", "DB1", "SB0", "SB1", "EIN", "DIN", "RPM"]);
-/** The words that become comments. */
+/** The directives that become comments. */
 export const REMARKS = new Set(["CPU", "TITLE", "PAGE", "LISTING", "NEWPAGE", "PRTINIT", "PRTEXIT", "SUBTITLE", "EJECT", "NOLIST", "LIST",
   "NAME", "SPACE", "RELAXED", "RADIX", "INTSYNTAX"]);
+/** The directives for bytes, and the directives that reserve bytes. */
 export const BYTE_WORDS = new Set(["DB", "DATA", "BYTE", "DEFB", "FCB", "DC"]);
 export const ROOM_WORDS = new Set(["DS", "RES", "DEFS", "RMB"]);
 const DIRECTIVES = new Set([...BYTE_WORDS, ...ROOM_WORDS, "EQU", "=", "SET", "ORG", "ALIGN", "END"]);
-/** The words that are rejected. */
+/** The directives that cannot be imported. */
 export const FOREIGN = new Set(["MACRO", "ENDM", "IF", "ELSE", "ENDIF", "IFDEF", "IFNDEF", "INCLUDE", "BINCLUDE", "REPT", "IRP", "WHILE",
   "STRUCT", "SECTION", "DW"]);
+/** The instruction that writes program RAM, which the bench does not have. */
 export const PROGRAM_RAM = "WPM";
+/** The words that cannot be labels. */
 const KNOWN = [OPERANDS, OF_4040, REMARKS, DIRECTIVES, FOREIGN, new Set([PROGRAM_RAM])];
 
 const NAME = "[A-Za-z_.?@][A-Za-z0-9_.?@$]*";
@@ -44,7 +49,7 @@ const DEFINITION = /^(=|EQU|SET|:=)(?=[ \t]|$|[^A-Za-z0-9_=])/i;
 const NAMED_DEFINITION = new RegExp(`^(${NAME})[ \\t]*(?:=|[ \\t]EQU[ \\t]|[ \\t]SET[ \\t])`, "i");
 
 /**
- * Returns a text in capitals, as far as its letters are ASCII.
+ * Returns a text with its ASCII letters in capitals.
  * @param {string} text
  */
 export function capitals(text) {
@@ -52,7 +57,7 @@ export function capitals(text) {
 }
 
 /**
- * Returns a text without blanks at its ends.
+ * Returns a text without blanks and tabs at its ends.
  * @param {string} text
  */
 export function trimmed(text) {
@@ -60,7 +65,7 @@ export function trimmed(text) {
 }
 
 /**
- * Returns where the comment of a line begins: its mark is after a blank if it is `/`; -1 for none.
+ * Returns the index of the mark that begins a comment, -1 for none. `/` is a mark only at the start or after a blank.
  * @param {string} line
  */
 function commentAt(line) {
@@ -76,7 +81,7 @@ function commentAt(line) {
 }
 
 /**
- * Splits a line into the text before its comment, and the comment.
+ * Splits a line into the text before its comment and the comment.
  * @param {string} text
  */
 function withoutComment(text) {
@@ -89,7 +94,7 @@ function withoutComment(text) {
 }
 
 /**
- * Splits a line into its label and the text after that. A name at the first column is a label unless it is an instruction.
+ * Splits a line into its label and the text after it. A name in the first column is a label unless it is a mnemonic or a directive.
  * @param {string} line
  */
 function withoutLabel(line) {
@@ -102,7 +107,7 @@ function withoutLabel(line) {
 }
 
 /**
- * Reads the statement of a line after its label; a definition is `X = 5` or `X EQU 5`, with or without a colon.
+ * Splits the statement after a label. A definition is `X = 5` or `X EQU 5`, with or without a colon after X.
  * @param {string} label
  * @param {string} rest
  */
@@ -118,7 +123,7 @@ function statementIn(label, rest) {
 }
 
 /**
- * Reads the lines of a source. The text after END is a comment.
+ * Splits the lines of a source. All lines after END are comments.
  * @param {string[]} texts
  * @returns {SourceLine[]}
  */
@@ -137,7 +142,7 @@ export function readSource(texts) {
 }
 
 /**
- * Returns the parts of a list between commas that are outside brackets and quotes.
+ * Splits a list at the commas outside brackets and quotes.
  * @param {string} list
  */
 export function partsOfList(list) {
@@ -160,7 +165,7 @@ export function partsOfList(list) {
 }
 
 /**
- * Returns the characters of a part that is a text of several characters in quotes; null for any other part.
+ * Returns the characters of a quoted string with more than one character; null for any other part.
  * @param {string} part
  */
 export function lettersOf(part) {

@@ -1,4 +1,4 @@
-// The lamps of a board as rows of characters: those of groups and of the grid in their places, then the others that have names.
+// The lamps of a board as rows of characters: first lamps in groups and in the grid, in their layout, then other lamps that have names.
 
 import { fittingGroups, isScanned, lampNames, looseLamps } from "../board/face_board.js";
 import { lampAt, scannedLampAt } from "../board/seen_lamps.js";
@@ -9,20 +9,21 @@ import { upTo } from "../bench/numbers.js";
  * @typedef {import("../board/face.js").Group} Group
  * @typedef {import("../board/seen_lamps.js").SeenLamp} SeenLamp
  *
- * A place in a row: the lamp that is there, null for a gap; how many columns it takes, its name ("" for none) and its colour.
+ * A cell of a row: its lamp (null for a gap), its width in columns, the name of the lamp ("" for none) and its colour.
  * @typedef {{ seen: SeenLamp | null, width: number, name: string, colour: string }} LampCell
  */
 
-/** From this many columns on, lamps are side by side without gaps. */
+/** The minimum number of columns of a group whose lamps have no gaps between them. */
 const NARROW_FROM = 13;
+/** The width of a cell in a die. */
 const DIE_WIDTH = 4;
-/** A name follows `( ) `, and is followed by a blank. */
+/** The width of a cell with a name, less the name: `( ) ` before it and a blank after it. */
 const BESIDE_NAME = 5;
 const USUAL_COLOUR = "red";
-/** The sign of a lamp for each level of brightness. */
+/** The character of a lamp for each brightness level. */
 const SIGNS = [" ", ":", "+", "*"];
 
-/** Makes the rows of a board's lamps. */
+/** The rows of a board's lamps. */
 class LampRows {
   /**
    * @param {Face} face
@@ -42,14 +43,17 @@ class LampRows {
     for (const lamp of looseLamps(face, count)) if (this.names[lamp] !== "") this.rows.push([this.named(lamp, this.widthOf(lamp))]);
   }
 
-  /** @param {number} lamp */
+  /**
+   * Returns the width of a cell with the name of a lamp; 0 if the lamp has no name.
+   * @param {number} lamp
+   */
   widthOf(lamp) {
     return this.names[lamp] === "" ? 0 : this.names[lamp].length + BESIDE_NAME;
   }
 
   /**
    * @param {SeenLamp} seen
-   * @param {number} lamp whose colour it has
+   * @param {number} lamp the lamp whose colour the cell has
    * @param {number} width
    * @param {string} name
    * @returns {LampCell}
@@ -60,6 +64,7 @@ class LampRows {
   }
 
   /**
+   * Returns the cell of a lamp with its name.
    * @param {number} lamp
    * @param {number} width
    */
@@ -68,8 +73,9 @@ class LampRows {
   }
 
   /**
+   * Adds the rows of a group.
    * @param {Group} group
-   * @param {number} number of the scanned ones, -1 for others
+   * @param {number} number the index among the multiplexed groups, -1 for a group that is not multiplexed
    */
   addGroup(group, number) {
     const { kind, first, rows, columns } = group;
@@ -85,7 +91,7 @@ class LampRows {
   }
 
   /**
-   * Two pips, three, two.
+   * Adds the three rows of a die, with two, three and two pips.
    * @param {LampCell[]} pips
    */
   addDie([first, second, ...others]) {
@@ -126,9 +132,9 @@ export function lampRowsOf(face, count) {
 }
 
 /**
- * Returns a lamp at this brightness level: `( ) red`, or a sign alone.
+ * Returns the text of a lamp: `(*) red`, or one character if it has no name.
  * @param {LampCell} cell
- * @param {number} level
+ * @param {number} level of brightness
  */
 export function textOfCell({ seen, width, name }, level) {
   if (!seen) return " ".repeat(width);

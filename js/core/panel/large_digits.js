@@ -1,16 +1,16 @@
-// A number in large digits of seven segments, as five rows of characters.
+// A number in large seven-segment digits, as five rows of characters.
 
 import { patternOf } from "../board/digit_patterns.js";
 
 export const LARGE_ROWS = 5;
 const BLANK = " ";
 
-/** Returns whether a pattern has the segment of a letter, a to g. */
+/** Returns whether a pattern has a segment, which is a letter from a to g. */
 const has = (/** @type {number} */ pattern, /** @type {string} */ letter) => ((pattern >> "abcdefg".indexOf(letter)) & 1) === 1;
 
 /**
- * Returns the rows of one sign.
- * @param {string} sign
+ * Returns the rows of one character.
+ * @param {string} sign a digit, another character of the display, or a dot
  */
 function rowsOfSign(sign) {
   if (sign === ".") return [...Array(LARGE_ROWS - 1).fill("  "), "# "];

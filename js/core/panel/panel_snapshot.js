@@ -1,5 +1,5 @@
-// The state of a session at one time, from the answers to queries: its state, RAM, the brightness of its lamps, the instructions round
-// the counter.
+// A snapshot of a session for the panel, from the answers to queries: registers, keys, RAM, the brightness of lamps, and the instructions
+// around the program counter.
 
 import { readRam } from "../bench/answers.js";
 import { joinLines, matchAnswers, readInputs } from "../bench/inputs.js";
@@ -21,10 +21,11 @@ import { stretchOf } from "../machine/listing_stretch.js";
  * @typedef {import("./terminal_panel.js").Panel} Panel
  */
 
-/** Each chip has this many rows: its registers and its port. */
+/** The number of rows of a RAM chip: four registers and a port. */
 export const CHIP_ROWS = 5;
-/** A listing begins this many bytes before the counter; it stays while the counter is in it, and not in its last lines. */
+/** A new listing begins this number of bytes before the counter. */
 const BYTES_BEFORE = 6;
+/** The listing is replaced when the counter leaves it, or reaches this number of lines at its end. */
 const LINES_AFTER = 2;
 
 export class PanelSnapshot {
@@ -41,13 +42,13 @@ export class PanelSnapshot {
     /** @type {Registers | null} */
     this.registers = null;
     this.down = new KeysDown();
-    /** Returns a `*` for each lamp that is on at this instant. */
+    /** A mark for each lamp: `*` if it is on at this instant. */
     this.marks = "";
-    /** @type {Brightness | null} that of lamps while time runs */
+    /** @type {Brightness | null} the perceived brightness of the lamps; null while time is paused */
     this.brightness = null;
-    /** @type {string[]} addresses, as answers write them */
+    /** @type {string[]} the addresses of the breakpoints, in three hexadecimal digits */
     this.breakpoints = [];
-    /** @type {Ram} of the chips that are shown */
+    /** @type {Ram} the contents of the chips that are shown */
     this.ram = { registers: new Map(), ports: new Map() };
     /** @type {Listed[]} */
     this.listing = [];
@@ -71,7 +72,7 @@ export class PanelSnapshot {
   }
 
   /**
-   * Returns the chips that fit some rows.
+   * Returns the RAM chips that fit into a number of rows.
    * @param {number} rows
    */
   shownChips(rows) {
@@ -80,8 +81,8 @@ export class PanelSnapshot {
   }
 
   /**
-   * Asks for all that fits some rows.
-   * @param {number} rows 0 for the state only
+   * Queries the session and takes a new snapshot.
+   * @param {number} rows of RAM and listing; 0 for the state only
    */
   async take(rows) {
     const banks = new Set(this.shownChips(rows).map(({ bank }) => bank));
@@ -95,7 +96,7 @@ export class PanelSnapshot {
     if (rows > 0) await this.takeListing(rows);
   }
 
-  /** @param {string} answer */
+  /** @param {string} answer to `state` */
   takeState(answer) {
     const { registers, keys, lamps, breaks } = partsOfState(answer);
     this.commands = valueIn(answer, "seq");
@@ -105,7 +106,7 @@ export class PanelSnapshot {
     this.breakpoints = itemsOf(breaks);
   }
 
-  /** @param {string[][]} answers to the questions for banks */
+  /** @param {string[][]} answers to `ram B`, for each bank that is shown */
   takeRam(answers) {
     const read = answers.map(readRam);
     this.ram = {
@@ -114,7 +115,10 @@ export class PanelSnapshot {
     };
   }
 
-  /** @param {number} rows */
+  /**
+   * Reads the instructions around the counter, unless the present listing still has them.
+   * @param {number} rows
+   */
   async takeListing(rows) {
     const { counter } = this;
     if (this.listing.slice(0, -LINES_AFTER).some(({ address }) => address === counter)) return;
@@ -122,13 +126,13 @@ export class PanelSnapshot {
     this.listing = stretchOf(await this.reader.read({ from, anchor: counter }, rows), from, rows);
   }
 
-  /** The terminal has another size, and other lines. */
+  /** Drops the listing after the size of the terminal has changed. */
   forgetListing() {
     this.listing = [];
   }
 
   /**
-   * Returns the level of brightness of a lamp: as perceived while time runs, otherwise at this instant.
+   * Returns the brightness level of a lamp: as perceived while time runs, otherwise at this instant.
    * @param {SeenLamp} lamp
    */
   levelOf(lamp) {

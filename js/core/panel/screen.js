@@ -1,6 +1,6 @@
-// The rows of the panel's screen: the session and time, the number on the display, registers, the source at the counter; below them side by
-// side RAM, the front panel and the listing; last a message and the keys. A row is text in pieces; those of lamps have the colour and the
-// brightness level of their lamp. js/node/panel_terminal.mjs positions them.
+// The rows of the panel's screen. The top rows show the session and its time, the display, registers, and the source at the counter. Below
+// are, side by side, RAM, the front panel and the listing. The last rows are a message and the help for keys. A row consists of pieces of
+// text; the piece of a lamp has the colour and brightness level of the lamp. js/node/panel_terminal.mjs positions the rows.
 
 import { hex, upTo } from "../bench/numbers.js";
 import { linesOf } from "../board/strip.js";
@@ -17,26 +17,30 @@ import * as say from "../../words/panel.js";
  * @typedef {import("./terminal_panel.js").Panel} Panel
  *
  * @typedef {{ rows: number, columns: number }} ScreenSize
- * @typedef {{ text: string, colour: string, level: number }} Piece `colour` is "" for text that is not a lamp
+ * @typedef {{ text: string, colour: string, level: number }} Piece text; `colour` is "" if it is not a lamp
  * @typedef {{ pieces: Piece[], isInverse: boolean }} ScreenRow
  */
 
-/** The least size of a terminal. */
+/** The minimum size of a terminal. */
 export const LEAST_SIZE = { rows: 24, columns: 80 };
 const TOP_ROWS = 10;
+/** The rows above and below RAM, front panel and listing. */
 const OTHER_ROWS = TOP_ROWS + 2;
 const RAM_WIDTH = 28;
 const FRONT_WIDTH = 24;
+/** The minimum width of a key. */
 const LEAST_CELL = 3;
+/** The minimum rows of the printout. */
 const LEAST_PAPER = 2;
+/** The maximum number of large characters, and the width of their rows. */
 const MOST_LARGE = 18;
 const LARGE_WIDTH = 58;
 
-/** @type {(text: string) => Piece} */
+/** @type {(text: string) => Piece} a piece that is not a lamp */
 const plain = (text) => ({ text, colour: "", level: 0 });
 
 /**
- * Cuts pieces to a width, and fills them up to it.
+ * Cuts or pads a row of pieces to a width.
  * @param {Piece[]} pieces
  * @param {number} width
  */
@@ -51,6 +55,7 @@ function fitted(pieces, width) {
 }
 
 /**
+ * Returns whether a terminal is large enough for the panel.
  * @param {ScreenSize} size
  */
 export function hasRoom({ rows, columns }) {
@@ -58,14 +63,14 @@ export function hasRoom({ rows, columns }) {
 }
 
 /**
- * Returns how many rows RAM, the board's front and the listing have.
+ * Returns the number of rows of RAM, front panel and listing.
  * @param {ScreenSize} size
  */
 export function middleRows({ rows }) {
   return rows - OTHER_ROWS;
 }
 
-/** Makes the rows of one panel. */
+/** The screen of one panel. */
 export class Screen {
   /** @param {Panel} panel */
   constructor(panel) {
@@ -102,7 +107,7 @@ export class Screen {
     ].map((row) => ({ ...row, pieces: fitted(row.pieces, size.columns) }));
   }
 
-  // --- above ---
+  // --- the top rows ---
 
   topRows() {
     const { panel, title, name } = this;
@@ -134,7 +139,7 @@ export class Screen {
   }
 
   /**
-   * Returns the name of an address that the source fills; its digits if it has none.
+   * Returns the name of an address in the source; its hexadecimal digits if it has no name.
    * @param {number} address
    */
   placeOf(address) {
@@ -142,7 +147,7 @@ export class Screen {
     return (source && source.map.nameOf(address)) || hex(address, 3);
   }
 
-  /** The next line of the source. */
+  /** Returns the source line at the counter. */
   sourceText() {
     const { of: { source }, seen: { counter } } = this.panel;
     if (!source) return "";
@@ -151,9 +156,12 @@ export class Screen {
     return say.sourceHere(this.placeOf(counter), line + source.before, escaped(withoutTabs(source.lines[line - 1]).trimStart()));
   }
 
-  // --- in the middle ---
+  // --- RAM, front panel and listing ---
 
-  /** @param {number} at */
+  /**
+   * Returns a row of RAM: a register or the port of a chip.
+   * @param {number} at
+   */
   ramText(at) {
     const { seen } = this.panel;
     const chip = seen.chips[this.panel.firstChip + Math.floor(at / CHIP_ROWS)];
@@ -168,7 +176,7 @@ export class Screen {
   }
 
   /**
-   * A line of the listing, with the counter and the breakpoints; with a source its line, if an instruction begins there.
+   * Returns a row of the listing, with marks for the counter and a breakpoint. If a source line begins at the address, the row shows it.
    * @param {number} at
    */
   listedText(at) {
@@ -183,7 +191,7 @@ export class Screen {
   }
 
   /**
-   * Returns the rows of keys, of the switch at TEST, of lamps and of the printout.
+   * Returns the rows of the front panel: keys, the switch at TEST, lamps and the printout.
    * @param {number} count
    */
   frontRows(count) {
@@ -213,8 +221,8 @@ export class Screen {
   }
 
   /**
-   * Returns the last lines of a printer's paper; two if there is no room.
-   * @param {number} room
+   * Returns the last lines of the printout, at least LEAST_PAPER.
+   * @param {number} room the free rows
    */
   paperRows(room) {
     const { printing, printed, of: { face } } = this.panel;
@@ -233,7 +241,7 @@ function testName({ name }) {
 }
 
 /**
- * Returns the name of a key, and the character that presses it if that differs; for a key without a name only the latter.
+ * Returns the label of a key: its name, with the character that presses it if that differs. A key without a name has only the character.
  * @param {BoardKey} key
  */
 function labelOf({ legend, letter, isNamed }) {
@@ -242,7 +250,7 @@ function labelOf({ legend, letter, isNamed }) {
 }
 
 /**
- * Returns a line of a source without its comment; an instruction without a label is set in.
+ * Returns a source line without its comment and with short indentation.
  * @param {string} line
  */
 function codeOf(line) {

@@ -1,11 +1,13 @@
-// The keys in the input of a terminal: a character each, or a sequence that begins with an escape.
+// Splits the input of a terminal into keys: characters, and sequences that begin with the escape character.
 
+/** One key of the input. */
 // eslint-disable-next-line no-control-regex
 const KEYS = /\u001b(?:\[[0-9;?]*[A-Za-z~]|O[A-Za-z]|[^\u001b[O])?|[^]/gu;
-/** @type {Record<string, string>} */
+/** @type {Record<string, string>} the arrow keys by their sequences, without the escape character */
 const ARROWS = { "[C": "right", OC: "right", "[D": "left", OD: "left" };
 
 /**
+ * A key: `text` is "left" or "right" for an arrow, otherwise its characters.
  * @typedef {{ kind: "arrow" | "sequence" | "escape" | "character", text: string }} TypedKey
  */
 

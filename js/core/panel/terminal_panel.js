@@ -1,5 +1,5 @@
-// The panel of a session in a terminal: time, which runs as fast as in the real chip or is paused; typed keys; and the picture. It does
-// everything by lines that it asks a session, and knows no terminal: js/core/panel/screen.js converts the picture to rows of characters.
+// The panel of a session for a terminal. Time runs as fast as in the real chip, or is paused; typed keys press the keys of the board. The
+// panel only sends lines to a session. screen.js converts its state to rows of characters.
 
 import { refusalOf, readRun } from "../bench/answers.js";
 import { joinLines } from "../bench/inputs.js";
@@ -25,21 +25,21 @@ import * as say from "../../words/panel.js";
  * @typedef {import("../machine/source_map.js").SourceMap} SourceMap
  * @typedef {import("./terminal_keys.js").TypedKey} TypedKey
  *
- * A session that answers lines; throws if it has ended.
+ * Sends lines to the session and resolves to its answers; throws if the session has ended.
  * @typedef {(lines: string) => Promise<string[]>} Ask
  *
- * The program in ROM by its text: the lines of the text, and how many lines of its file precede them.
+ * The source of the program in ROM: its lines, and the number of lines before them in its file.
  * @typedef {{ map: SourceMap, lines: string[], before: number }} PanelSource
  *
- * The subject of the panel: the name of the session, its board with the front panel, its program if that is known; the messages of
- * refusals; whether time is paused at first, and the message then.
+ * The subject of the panel: the name of the session, its board and front panel, its program (null if unknown), and the messages for
+ * refusal numbers. `isPaused` is true if time is paused at first; `note` is the first message.
  * @typedef {{ name: string, board: Board, face: Face, source: PanelSource | null, wordsOfRefusal: (number: number) => string,
  *   isPaused: boolean, note: string }} PanelOf
  */
 
-/** This many changes of keys wait at most. */
+/** The maximum number of key changes in the queue. */
 const MOST_CHANGES = 128;
-/** An instruction takes two cycles at most. */
+/** The maximum number of cycles of an instruction. */
 const STEP_CYCLES = 2;
 
 export class Panel {
@@ -54,24 +54,24 @@ export class Panel {
     const { board, face } = of;
     this.keys = keysOf(board, { keys: face.keys, test: null });
     this.queue = new KeyQueue();
-    /** @type {Key[]} the keys that went down here, and are down */
+    /** @type {Key[]} the keys that this panel holds down */
     this.own = [];
     this.time = new RealTime(now, now);
     this.isPaused = of.isPaused;
-    /** Why time is paused, in words; "" if the user paused it. */
+    /** The reason for the pause, in words; "" if the user paused time. */
     this.why = "";
     this.message = of.note;
-    /** The first RAM chip that is shown. */
+    /** The index of the first RAM chip that is shown. */
     this.firstChip = 0;
     this.isEnded = false;
     const printer = printerOf(board, face);
     this.printing = printer && new Printing({ ...printer, codes: [] });
-    /** The number of cycles run here. */
+    /** The number of cycles that this panel has run. */
     this.cycles = 0;
     this.seen = new PanelSnapshot(this);
   }
 
-  /** Begins: a session that is at a breakpoint is paused. */
+  /** Takes the first snapshot; pauses if the session is at a breakpoint. */
   async begin() {
     await this.seen.take(0);
     if (this.seen.isAtBreakpoint) this.pause(REASONS.break);
@@ -80,7 +80,7 @@ export class Panel {
   // --- lines ---
 
   /**
-   * Sends a command; reports a refusal. Returns the answer.
+   * Sends a command and returns its answer. Shows a message if the bench rejects it.
    * @param {string} line
    */
   async act(line) {
@@ -130,8 +130,8 @@ export class Panel {
   }
 
   /**
-   * Does the next event within some cycles: a change of a key, or a run; returns how many cycles were done.
-   * @param {number} cycles
+   * Does the next event of the key queue: a change of a key, or a run up to the next change. Returns the number of cycles run.
+   * @param {number} cycles the maximum
    */
   async goOnFor(cycles) {
     const [planned] = this.queue.plan(cycles);
@@ -143,7 +143,7 @@ export class Panel {
   }
 
   /**
-   * Moves a key up or down.
+   * Presses or releases a key.
    * @param {Change} change
    */
   async change(change) {
@@ -154,7 +154,7 @@ export class Panel {
   }
 
   /**
-   * Runs; returns how many cycles were done.
+   * Runs time up to a stop. Returns the number of cycles run; if the bench rejects the run, the number planned.
    * @param {PlannedLine} planned
    */
   async run(planned) {
@@ -178,7 +178,7 @@ export class Panel {
     if (run && run.end !== "end") this.why = REASONS[run.end];
   }
 
-  /** The codes that were sent to the printer up to now. */
+  /** Returns the codes that the printer has received. */
   get printed() {
     if (!this.printing) return [];
     return this.printing.codes.slice(0, this.printing.countAt(this.cycles)).map(([, code]) => code);
@@ -200,15 +200,18 @@ export class Panel {
     else if (kind === "sequence") this.message = say.NOTHING_HERE;
   }
 
-  /** @param {number} by chips */
+  /**
+   * Scrolls the RAM chips.
+   * @param {number} by the number of chips
+   */
   moveRam(by) {
     const last = this.seen.chips.length - 1;
     this.firstChip = Math.max(0, Math.min(last, this.firstChip + by));
   }
 
   /**
-   * Handles a key of the board: while time runs it goes down and up when its turn comes; otherwise it goes down or up at once.
-   * @param {string} typed
+   * Handles a key of the board. While time runs, queues a short press. While time is paused, presses or releases the key at once.
+   * @param {string} typed the character
    */
   async typeKey(typed) {
     const found = keyOfKeyboard(this.keys, typed);
@@ -220,19 +223,22 @@ export class Panel {
     }
   }
 
-  /** @param {Key} key */
+  /**
+   * Presses a key that is up, or releases one that is down.
+   * @param {Key} key
+   */
   async toggle(key) {
     this.queue.forget(key);
     await this.change({ key, word: this.seen.isDown(key) ? "release" : "press" });
   }
 
-  /** Sets the breakpoint at the counter, or clears it. */
+  /** Sets a breakpoint at the counter, or deletes it. */
   async toggleBreakpoint() {
     const { counter } = this.seen;
     await this.act(`${this.seen.isAtBreakpoint ? "unbreak" : "break"} 0x${hex(counter, 3)}`);
   }
 
-  /** Ends: typed keys get their time, and keys that the panel pressed go up. */
+  /** Ends the panel: completes the queued key presses while time runs, and releases the keys that the panel holds down. */
   async end() {
     while (!this.isPaused && this.queue.changes.length > 0) await this.goOnFor(LONGEST_RUN);
     for (const key of this.own) await this.act(lineOfKey("release", key));
@@ -246,7 +252,7 @@ const step = (panel) => panel.step();
 const end = (panel) => panel.end();
 
 /**
- * The acts of keys that do not belong to the board.
+ * The actions of the keys that do not belong to the board: blank, Enter, Tab, Ctrl-T, Ctrl-R, Ctrl-C and Ctrl-D.
  * @type {Record<string, (panel: Panel, now: number) => Promise<unknown> | void>}
  */
 const ACTS = {

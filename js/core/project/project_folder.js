@@ -1,4 +1,4 @@
-// A project with its folder: the files that it names must exist.
+// Reads a project from its folder. The files that the project file names must exist.
 
 import { LONGEST_PROJECT_FILE, PROJECT_FILE, filesNamed, readProjectToml } from "./project_toml.js";
 import * as say from "../../words/server.js";
@@ -6,19 +6,19 @@ import * as say from "../../words/server.js";
 /**
  * @typedef {import("./project_toml.js").ProjectNames} ProjectNames
  *
- * A project: the paths of its files, each from its folder.
+ * A project: the paths of its files, relative to its folder. `speed` is "" if the project has none.
  * @typedef {{ board: string, program: string, tests: string[], properties: string[], speed: string }} ProjectFolder
  *
- * Returns why a path names no file of the folder, in words; "" if it does.
+ * Checks that a path names a file in the folder. Returns an error message, "" if it does.
  * @typedef {(path: string) => string} LookAtFile
  */
 
-/** Why a folder is not a project; its message names the file, the line and the error. */
+/** The error of a folder that is not a valid project. Its message names the file, the line and the error. */
 export class ProjectFault extends Error {
   /**
    * @param {string} file
    * @param {string} words
-   * @param {number} line 0 if no line is to blame
+   * @param {number} line 0 if the error is not in a line
    */
   constructor(file, words, line = 0) {
     super(line > 0 ? `${file}: line ${line}: ${words}` : `${file}: ${words}`);
@@ -29,7 +29,7 @@ export class ProjectFault extends Error {
 }
 
 /**
- * Why bytes are no project file, as far as they are not even read.
+ * Checks the bytes of a project file before they are decoded. Returns an error message, "" if there is no error.
  * @param {Uint8Array} bytes
  */
 function faultOfBytes(bytes) {
@@ -40,6 +40,7 @@ function faultOfBytes(bytes) {
 }
 
 /**
+ * Returns the paths of a project's files.
  * @param {ProjectNames} names
  * @returns {ProjectFolder}
  */
@@ -49,10 +50,10 @@ function pathsOf({ board, program, tests, properties, speed }) {
 }
 
 /**
- * Returns a project from the bytes of its file; throws the first error.
+ * Returns the project in a project file; throws ProjectFault for its first error.
  * @param {Uint8Array} bytes
  * @param {LookAtFile} look
- * @param {string} file the name of the project file in errors
+ * @param {string} file the name of the project file in error messages
  * @returns {ProjectFolder}
  */
 export function readProject(bytes, look, file = PROJECT_FILE) {

@@ -1,4 +1,4 @@
-// The project file, `mcs4.toml`: which files of a folder belong together.
+// The parser of project files, `mcs4.toml`, which name the board, program, tests and properties of a project.
 
 import { readBoardText } from "../text/board_reader.js";
 import { SPEEDS } from "../time/speeds.js";
@@ -9,7 +9,7 @@ import * as say from "../../words/server.js";
  * @typedef {import("../text/board_reader.js").Value} Value
  * @typedef {import("../text/text_fault.js").Fault} Fault
  *
- * A path as the text has it, with its place.
+ * A path in the project file, with its key and its range: the line counts from 1, columns from 0.
  * @typedef {{ path: string, key: string, line: number, from: number, to: number }} NamedFile
  *
  * The contents of a project file; `speed` is "" if it has none.
@@ -17,11 +17,11 @@ import * as say from "../../words/server.js";
  */
 
 export const PROJECT_FILE = "mcs4.toml";
-/** The largest project file, in bytes. */
+/** The maximum length of a project file, in bytes. */
 export const LONGEST_PROJECT_FILE = 16384;
 
 const SPEED_NAMES = SPEEDS.map(({ id }) => `"${id}"`);
-/** The meaning of each key, in words. */
+/** The description of each key, for error messages. */
 const KEYS = new Map([
   ["board", say.BOARD_IS],
   ["program", say.PROGRAM_IS],
@@ -33,6 +33,7 @@ const LISTS = ["tests", "properties"];
 const NEEDED = ["board", "program"];
 
 /**
+ * Returns an error at a range.
  * @param {{ line: number, from: number, to: number }} range
  * @param {string} words
  * @returns {Fault}
@@ -42,7 +43,7 @@ function faultAt({ line, from, to }, words) {
 }
 
 /**
- * Returns why a text is not a path in a project; "" if it is one.
+ * Returns the error message of a path that a project must not have; "" if the path is valid.
  * @param {string} key
  * @param {string} path
  */
@@ -57,6 +58,7 @@ function faultOfPath(key, path) {
 }
 
 /**
+ * Returns the errors of a key and its value.
  * @param {Key} key
  * @returns {Fault[]}
  */
@@ -75,7 +77,7 @@ function faultsOfKey({ name, line, from, to, value }) {
 }
 
 /**
- * Keys that occur twice.
+ * Returns an error for each key that occurs a second time.
  * @param {Key[]} keys
  * @returns {Fault[]}
  */
@@ -90,6 +92,7 @@ function faultsOfTwice(keys) {
 }
 
 /**
+ * Returns the files that a key names; none if the key is missing.
  * @param {Key[]} keys
  * @param {string} name
  * @returns {NamedFile[]}
@@ -102,13 +105,13 @@ function filesOf(keys, name) {
 }
 
 /**
- * Parses a project file. Returns its content, or null and the errors by rising line.
+ * Parses a project file. Returns its contents, or null and the errors in the order of their lines.
  * @param {string} text
  * @returns {{ names: ProjectNames | null, faults: Fault[] }}
  */
 export function readProjectToml(text) {
   const { entries, others, keys, faults } = readBoardText(text.replace(/^\uFEFF/, ""));
-  // The boards' reader treats an empty list as a list of tables.
+  // The board reader does not list the key of an empty list in `others`.
   const lists = keys.filter(({ value: { inner } }) => Array.isArray(inner) && inner.length === 0);
   const found = [
     ...faults.map((fault) => ({ ...fault, number: 0 })),
@@ -127,7 +130,7 @@ export function readProjectToml(text) {
 }
 
 /**
- * All files that a project names, in their order.
+ * Returns all files that a project names: board, program, tests, properties.
  * @param {ProjectNames} names
  */
 export function filesNamed({ board, program, tests, properties }) {

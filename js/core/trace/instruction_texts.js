@@ -1,4 +1,4 @@
-// The lines of a trace for an instruction, up to its effect: its label, the cycles before it, its address, bytes and text.
+// The part of a trace line before an instruction's effect: the elapsed cycles, the address, the bytes and the text. A label has its own line.
 
 import { hex } from "../bench/numbers.js";
 import { ADDRESSES } from "../bench/rom_bytes.js";
@@ -10,21 +10,22 @@ import { wordsOf } from "../engine/rom_codes.js";
  * @typedef {import("../engine/engine_host.js").State} State
  * @typedef {import("../machine/source_map.js").SourceMap} SourceMap
  *
- * The names of a program, with the lines of its source if they are wanted; `before` is how many lines of its file precede them.
+ * The names of a program. `source` has its lines if the trace shows them; `before` is the number of lines before them in the file.
  * @typedef {{ map: SourceMap, source: { lines: string[], before: number } | null }} TraceNames
  */
 
+/** The width of an instruction's text, without and with the source. */
 const WIDTH = 25;
 const WIDTH_OF_SOURCE = 42;
 const TAB = 8;
-/** JUN, JMS, JCN and ISZ of two words in a line of the listing; their target is last. */
+/** A listing line with JUN, JMS, JCN or ISZ, whose target is last. */
 const JUMP = /^(?=.{10}(?:JUN|JMS|JCN|ISZ) )(.{7}[^ ].*)0x([0-9A-F]{3})$/;
 const LAST_ADDRESS = ADDRESSES - 1;
-/** The position of the byte at its address in a line of the listing. */
+/** The range of the first byte in a listing line. */
 const CODE_IN_LINE = /** @type {const} */ ([4, 6]);
 
 /**
- * Returns the cycles before an instruction, as a line of a trace begins.
+ * Returns the start of a trace line: the cycles before an instruction.
  * @param {number} cycles
  */
 function cyclesText(cycles) {
@@ -32,7 +33,7 @@ function cyclesText(cycles) {
 }
 
 /**
- * Returns a line of a source without its comment and with blanks for its tabs.
+ * Returns a source line without its comment and with blanks for its tabs.
  * @param {string} line
  */
 function codeOfLine(line) {
@@ -41,7 +42,10 @@ function codeOfLine(line) {
   return expanded.replace(/;.*/, "").replace(/ +$/, "");
 }
 
-/** @type {Record<number, [string, (operand: number, digits: string) => string]>} instructions of two words by their first digit */
+/**
+ * The mnemonics of instructions of two bytes by their first digit, and functions that format their operands.
+ * @type {Record<number, [string, (operand: number, digits: string) => string]>}
+ */
 const TWO_WORDS = {
   0x1: ["JCN", (operand, digits) => `${operand}, 0x0${digits}`],
   0x2: ["FIM", (operand, digits) => `P${operand >> 1}, 0x${digits}`],
@@ -51,9 +55,9 @@ const TWO_WORDS = {
 };
 
 /**
- * Returns the line of a listing for an instruction at the last address, whose second word is at address 0.
- * @param {number} code
- * @param {number} second
+ * Returns the listing line of an instruction at the last address whose second byte is at address 0.
+ * @param {number} code the first byte
+ * @param {number} second the second byte
  */
 function textRoundTheEnd(code, second) {
   const digits = hex(second, 2);
@@ -64,16 +68,16 @@ function textRoundTheEnd(code, second) {
 export class InstructionTexts {
   /** @param {TraceNames | null} names */
   constructor(names) {
-    /** The first bytes of the instructions whose texts were read. */
+    /** The first bytes of the instructions whose texts are read. */
     this.codes = new Uint8Array(ADDRESSES);
     this.names = names;
     this.width = names && names.source ? WIDTH_OF_SOURCE : WIDTH;
-    /** @type {Map<number, { label: string, text: string }>} by address */
+    /** @type {Map<number, { label: string, text: string }>} the texts of instructions by their addresses */
     this.known = new Map();
   }
 
   /**
-   * Reads the texts of the instructions at some addresses.
+   * Reads the texts of the instructions at these addresses.
    * @param {EngineHost} engine
    * @param {State} state
    * @param {number[]} addresses
@@ -81,7 +85,7 @@ export class InstructionTexts {
   read(engine, state, addresses) {
     const news = addresses.filter((address) => !this.known.has(address));
     if (news.length === 0) return;
-    // An instruction at the last address may have its second byte at the first one.
+    // An instruction at the last address can have its second byte at address 0.
     const listed = news.includes(LAST_ADDRESS) ? [...news, 0] : news;
     const { answers } = engine.ask(state, joinLines(listed.map((address) => `list 0x${hex(address, 3)} 1`)));
     listed.forEach((address, at) => {
@@ -91,8 +95,9 @@ export class InstructionTexts {
   }
 
   /**
+   * Returns the label line and the text of an instruction.
    * @param {number} address
-   * @param {string} listed
+   * @param {string} listed its listing line
    */
   linesAt(address, listed) {
     const { codes, names } = this;
@@ -106,7 +111,7 @@ export class InstructionTexts {
   }
 
   /**
-   * Replaces the address of a jump's target by its label.
+   * Returns a listing line with the label of a jump's target in place of its address.
    * @param {string} text
    */
   withTarget(text) {
@@ -116,8 +121,8 @@ export class InstructionTexts {
   }
 
   /**
-   * Replaces a text by the line of the source that begins at an address, with its number.
-   * @param {string} text
+   * Returns a listing line with the number and the text of its source line in place of the instruction.
+   * @param {string} text the listing line
    * @param {number} address
    */
   sourceText(text, address) {
@@ -129,8 +134,8 @@ export class InstructionTexts {
   }
 
   /**
-   * Returns the lines of an instruction whose text was read, up to its effect.
-   * @param {number} cycles before it
+   * Returns the trace line of an instruction up to its effect, with its label line. `read` must have read the text.
+   * @param {number} cycles before the instruction
    * @param {number} address
    */
   at(cycles, address) {
@@ -139,8 +144,8 @@ export class InstructionTexts {
   }
 
   /**
-   * Returns such a line with other words in place of an instruction.
-   * @param {number} cycles
+   * Returns a trace line with other words in place of an instruction.
+   * @param {number} cycles before it
    * @param {string} words
    */
   line(cycles, words) {

@@ -1,4 +1,4 @@
-// The trace of a session from now on, piece by piece, on a copy of its state.
+// Traces a session from its present state on, in pieces. Works on a copy of the state.
 
 import { readBoard, readRun } from "../bench/answers.js";
 import { LONGEST_RUN } from "../engine/key_queue.js";
@@ -12,20 +12,20 @@ import * as say from "../../words/trace.js";
  * @typedef {import("../engine/engine_host.js").State} State
  * @typedef {import("./instruction_texts.js").TraceNames} TraceNames
  *
- * Is called between pieces of long work.
+ * A callback between pieces of long work.
  * @typedef {() => Promise<any>} YieldToMessages
  */
 
-/** The first lines appear soon, however many cycles there are. */
+/** The cycles of the first piece, and of the others: a short first piece shows the first lines soon. */
 const FIRST_PIECE = 500;
 const PIECE = 10000;
 const NO_STOP = "end";
 
 /**
- * Runs a state; returns after how many cycles it stopped, and why.
+ * Runs a state. Returns the number of cycles run, and the reason for the stop, `end` if all cycles are run.
  * @param {EngineHost} engine
- * @param {State} state is moved on
- * @param {number} cycles
+ * @param {State} state receives the state after the run
+ * @param {number} cycles the maximum
  * @param {YieldToMessages} yieldToMessages
  */
 async function runOn(engine, state, cycles, yieldToMessages) {
@@ -54,7 +54,7 @@ export class SessionTrace {
   }
 
   /**
-   * Yields the lines of the next cycles, whatever breakpoints and watches there are.
+   * Yields the lines of the next cycles. Ignores breakpoints and watches.
    * @param {number} cycles
    * @param {TraceNames | null} names
    */
@@ -66,13 +66,13 @@ export class SessionTrace {
   /**
    * Yields the lines of the last instructions before the first stop.
    * @param {number} count of the instructions
-   * @param {number} cycles the most up to the stop
+   * @param {number} cycles the maximum up to the stop
    * @param {TraceNames | null} names
    */
   async* last(count, cycles, names) {
     const { engine, yieldToMessages } = this;
     const stop = await runOn(engine, this.begun.slice(), cycles, yieldToMessages);
-    // An instruction takes two cycles at most, and the session may begin within one.
+    // An instruction takes at most two cycles, and the session can begin between the two.
     const from = Math.max(0, stop.cycles - 2 * count - 2);
     const state = withoutStops(engine, this.begun);
     await runOn(engine, state, from, yieldToMessages);
@@ -84,9 +84,9 @@ export class SessionTrace {
   }
 
   /**
-   * Yields the lines of a range of cycles; after them, that of the instruction before which the session stops.
-   * @param {State} state is moved on
-   * @param {{ from: number, to: number, end: string }} range and why the session stops at its end
+   * Yields the lines of a range of cycles. If the session stops, the last line is the instruction before which it stops.
+   * @param {State} state receives the state after the run
+   * @param {{ from: number, to: number, end: string }} range with the reason for the stop at its end
    * @param {TraceNames | null} names
    */
   async* lines(state, { from, to, end }, names) {

@@ -1,4 +1,5 @@
-// A trace: a line for each instruction of a run, with its changes. The bench is asked before the run; nothing is run here.
+// The lines of a trace: one for each instruction of a run, with its changes. They are made from the answers to the bench's queries `count`
+// and `trace`, which do not change the state.
 
 import { MOST_PLACES } from "../bench/inputs.js";
 import { valueIn } from "../bench/state_line.js";
@@ -16,20 +17,20 @@ import * as say from "../../words/trace.js";
  * @typedef {import("./instruction_texts.js").InstructionTexts} InstructionTexts
  * @typedef {import("./trace_places.js").TracePlace} TracePlace
  *
- * The values of some places, their texts, and the rows that change them, by the cycle.
+ * A group of places in one `trace` query: their current values, and the rows with new values by the cycle of the change.
  * @typedef {{ places: TracePlace[], values: string[], rows: Map<number, string> }} Group
  */
 
-/** The registers that are queried with the counter, the accumulator and the carry. */
+/** The number of registers in the query with the counter, the accumulator and the carry. */
 const SHOWN_REGISTERS = 13;
 const MAIN_PLACES = ["pc", "acc", "cy", ...upTo(SHOWN_REGISTERS).map((at) => `r${at}`)];
-/** A row of these is ` PPP A C R R ..`. */
+/** The indices in a row of MAIN_PLACES, which is ` PPP A C R R ..`. */
 const IN_ROW = { pc: 1, acc: 5, cy: 7, registers: 9 };
 
 /**
- * Returns the registers that differ between two rows.
+ * Returns the changes of registers between two rows as text.
  * @param {string} row
- * @param {string} before
+ * @param {string} before the previous row
  */
 function changedRegisters(row, before) {
   let changes = "";
@@ -41,7 +42,7 @@ function changedRegisters(row, before) {
 }
 
 /**
- * Reads a row of a group of places; returns its changes.
+ * Updates the values of a group from a row. Returns the changes as text.
  * @param {Group} group
  * @param {string | undefined} row undefined if nothing changes
  */
@@ -71,9 +72,9 @@ export class TraceLines {
   }
 
   /**
-   * Returns the line of the cycle that an instruction still takes at the beginning; none if no instruction was begun before.
+   * Returns the line for the second cycle of an instruction that began before the trace; none if there is no such cycle.
    * @param {State} state
-   * @param {number} elapsed
+   * @param {number} elapsed the cycles before the line
    */
   secondCycle(state, elapsed) {
     const [answer] = this.engine.ask(state, "state\n").answers;
@@ -82,10 +83,10 @@ export class TraceLines {
   }
 
   /**
-   * Returns the trace of a run, an instruction a line, with labels on lines of their own.
+   * Returns the lines of a run: one for each instruction, and one for each label.
    * @param {State} state
-   * @param {number} cycles of the run, at most as many as the bench accepts
-   * @param {number} elapsed the cycles before it
+   * @param {number} cycles of the run; the bench limits them
+   * @param {number} elapsed the cycles before the run
    */
   ofRun(state, cycles, elapsed) {
     const { engine, texts, board } = this;
@@ -103,9 +104,10 @@ export class TraceLines {
   }
 
   /**
+   * Merges the answers to the queries into lines.
    * @param {Group[]} groups
-   * @param {Trace} main the counter, the accumulator, the carry and the first registers
-   * @param {{ elapsed: number, due: number }} from the cycles before, and where the first instruction begins
+   * @param {Trace} main the answer for MAIN_PLACES
+   * @param {{ elapsed: number, due: number }} from the cycles before the run, and the cycle in which its first instruction begins
    */
   linesOf(groups, main, { elapsed, due }) {
     /** @type {string[]} */
@@ -119,7 +121,7 @@ export class TraceLines {
       lines.push(`${this.texts.at(elapsed + at, address)}acc ${row[IN_ROW.acc]} cy ${row[IN_ROW.cy]}${changes && ` ${changes}`}`);
       next = at + cyclesOf(this.texts.codes[address]);
     };
-    // An instruction that jumps to itself and changes nothing has no row.
+    // A jump to itself that changes nothing has no row: it repeats up to the next row.
     const stand = (/** @type {number} */ to) => {
       while (next < to) put(next, parseInt(row.slice(IN_ROW.pc, IN_ROW.acc - 1), 16), row);
     };
@@ -133,9 +135,9 @@ export class TraceLines {
   }
 
   /**
-   * Returns the line of the next instruction, up to its effect.
+   * Returns the line of the next instruction up to its effect.
    * @param {State} state
-   * @param {number} elapsed
+   * @param {number} elapsed the cycles before the instruction
    */
   next(state, elapsed) {
     const { engine, texts } = this;
@@ -146,7 +148,7 @@ export class TraceLines {
 }
 
 /**
- * Returns places with the answer about them.
+ * Returns the group for places and the answer to their query.
  * @param {TracePlace[]} places
  * @param {Trace} trace
  * @returns {Group}

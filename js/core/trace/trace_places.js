@@ -1,4 +1,4 @@
-// The places whose changes a trace reports after each instruction, in order.
+// The places whose changes a trace shows, in the order of its lines.
 
 import { hex, upTo } from "../bench/numbers.js";
 import { WRR } from "../engine/rom_codes.js";
@@ -6,19 +6,20 @@ import { WRR } from "../engine/rom_codes.js";
 /**
  * @typedef {import("../bench/answers.js").Board} Board
  *
- * A place of `trace`, and the text of a change by its new value. Values with the same text are no change.
+ * A place in a `trace` query. `textOf` returns the text of a change to a new value; two values with the same text are not a change.
  * @typedef {{ name: string, textOf: (value: string) => string }} TracePlace
  *
- * Returns whether a run begins an instruction with this code, which writes RAM or a port.
+ * Returns whether a run executes an instruction with this code.
  * @typedef {(code: number) => boolean} Begins
  */
 
 const WRM = 0xE0;
 const WMP = 0xE1;
-/** The first of the four instructions that write status characters. */
+/** The first of the four instructions WR0 to WR3, which write status characters. */
 const WR0 = 0xE4;
 
 /**
+ * Makes a place; its text is by default its name and value.
  * @param {string} name
  * @param {(value: string) => string} [textOf]
  * @returns {TracePlace}
@@ -28,7 +29,7 @@ function place(name, textOf = (value) => ` ${name} ${value}`) {
 }
 
 /**
- * Returns the places of a RAM chip that the begun instructions write.
+ * Returns the places of a RAM chip that the executed instructions can write.
  * @param {number} bank
  * @param {number} chip
  * @param {Begins} begins
@@ -42,7 +43,7 @@ function placesOfChip(bank, chip, begins) {
 }
 
 /**
- * Returns the places of the ROMs that have outputs. A change at their inputs is not the program's.
+ * Returns the output ports of the ROMs. Changes of inputs are left out because the program does not make them.
  * @param {Board} board
  */
 function placesOfRoms({ roms }) {
@@ -53,9 +54,9 @@ function placesOfRoms({ roms }) {
 }
 
 /**
- * Returns the places of registers from the first on, and all others that the begun instructions change.
+ * Returns the places that the executed instructions can change.
  * @param {Board} board
- * @param {number} register
+ * @param {number} register the first register that needs a place
  * @param {Begins} begins
  * @returns {TracePlace[]}
  */
@@ -66,7 +67,7 @@ export function tracePlaces(board, register, begins) {
     place("ret", (value) => ` ret ${value.replace(/,/g, " ")}`),
     ...board.banks.flatMap(({ bank, chips }) => upTo(chips).flatMap((chip) => placesOfChip(bank, chip, begins))),
     ...(begins(WRR) ? placesOfRoms(board) : []),
-    // Any port may clock a chain.
+    // Any output port can clock a chain.
     ...(begins(WMP) || begins(WRR) ? board.chains.map((_, at) => place(`chain${at}`)) : []),
     place("lamps", (value) => ` lamps ${value.replace(/^-$/, "")}`),
   ];
