@@ -1,4 +1,4 @@
-// The part of a trace line before an instruction's effect: the elapsed cycles, the address, the bytes and the text. A label has its own line.
+// The part of a trace line before an instruction's effect: elapsed cycles, address, bytes and text. A label has its own line.
 
 import { hex } from "../bench/numbers.js";
 import { ADDRESSES } from "../bench/rom_bytes.js";
