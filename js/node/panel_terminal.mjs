@@ -1,7 +1,7 @@
 // The terminal of the panel. It draws on the whole screen and reads keys one by one. It is restored however the panel ends.
 import { writeSync } from "node:fs";
 import { keysIn } from "../core/panel/terminal_keys.js";
-import { LEAST_SIZE, hasRoom } from "../core/panel/screen.js";
+import { MIN_SIZE, hasRoom } from "../core/panel/screen.js";
 import * as say from "../words/panel.js";
 import { CommandError } from "./output.mjs";
 import { isDumb } from "./terminal.mjs";
@@ -19,7 +19,7 @@ const END = "\x1b[0m\x1b[?7h\x1b[?25h\x1b[?1049l";
 const CLEAR = "\x1b[2J";
 const PLAIN = "\x1b[0m";
 const INVERSE = "\x1b[7m";
-const MIN_SIZE_TEXT = say.columnsByRows(LEAST_SIZE.columns, LEAST_SIZE.rows);
+const MIN_SIZE_TEXT = say.columnsByRows(MIN_SIZE.columns, MIN_SIZE.rows);
 /** The least bits for a colour of a terminal with 256 colours, and of one with 8. */
 const MIN_BITS = { colours256: 8, colours8: 4 };
 /** Each colour on a terminal with 256 colours, in three levels: dim, half and full. */
@@ -162,7 +162,7 @@ export class PanelTerminal {
     if (!this.isOn) return;
     const { columns, rows } = this.size;
     this.shown = [];
-    this.output.write(`\x1b[H${CLEAR}${say.needsRoom(`${LEAST_SIZE.columns} by ${LEAST_SIZE.rows}`, columns, rows)}`);
+    this.output.write(`\x1b[H${CLEAR}${say.needsRoom(`${MIN_SIZE.columns} by ${MIN_SIZE.rows}`, columns, rows)}`);
   }
 
   /** @param {ScreenRow} row */

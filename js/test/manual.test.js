@@ -1,7 +1,7 @@
 import assert from "node:assert/strict";
 import { execFileSync } from "node:child_process";
 import { test } from "node:test";
-import { cellWords, fittingLines, instructionsOf, linesOfBench, piecesOf, plain, searched, wordsOfCell } from "../core/help/manual.js";
+import { cellWords, fittingLines, instructionsOf, linesOfBench, piecesOf, plain, searchManual, wordsOfCell } from "../core/help/manual.js";
 
 const SCRIPT = "import json; from manual_tables import manual_tables; print(json.dumps(manual_tables()))";
 const PAGE = new URL("../../page/", import.meta.url);
@@ -30,13 +30,13 @@ test("a line of the bench is found by what is typed of it", () => {
 });
 
 test("a search finds rows, and whole sections by their titles", () => {
-  const found = searched(MANUAL, "decimal adjust");
+  const found = searchManual(MANUAL, "decimal adjust");
   assert.deepEqual(found.map(({ title }) => title), ["The 45 instructions"]);
   assert.equal(found[0].tables.length, 1);
   assert.equal(found[0].tables[0].rows.length, 1);
-  assert.deepEqual(searched(MANUAL, "zzz"), []);
-  assert.equal(searched(MANUAL, "PLACES").find(({ title }) => title === "Places").tables[0].rows.length, 8);
-  assert.equal(searched(MANUAL, "").length, MANUAL.length);
+  assert.deepEqual(searchManual(MANUAL, "zzz"), []);
+  assert.equal(searchManual(MANUAL, "PLACES").find(({ title }) => title === "Places").tables[0].rows.length, 8);
+  assert.equal(searchManual(MANUAL, "").length, MANUAL.length);
 });
 
 test("cells have words", () => {

@@ -19,7 +19,10 @@ test("a text becomes steps, paragraphs and places", () => {
   const steps = stepsOfStory(`# All\n\n${one}## Two\n`);
   assert.deepEqual(steps.map(({ title, words }) => [title, words]), [
     ["One", [
-      ["Press ", { words: "5", act: { name: "press", of: "5" } }, " and ", { words: "go on", act: { name: "run to", of: "add_up" } }, "."],
+      [
+        "Press ", { words: "5", act: { name: "press", argument: "5" } }, " and ",
+        { words: "go on", act: { name: "run to", argument: "add_up" } }, ".",
+      ],
       ["Then ", "?", ", ", "x", "."],
     ]],
     ["Two", []],
@@ -36,10 +39,10 @@ for (const name of stories) {
     const acts = actsOf(stepsOfStory(text));
     // Each `[` begins a valid link.
     assert.equal(acts.length, text.split("](").length - 1);
-    for (const { name: act, of } of acts) {
-      if (act === "go to" || act === "run to") assert.match(program, new RegExp(`^${of}:`, "m"));
-      if (act === "press" || act === "release") assert.ok(keys.includes(of), of);
-      if (act === "back to") assert.ok(placeOf(of), of);
+    for (const { name: act, argument } of acts) {
+      if (act === "go to" || act === "run to") assert.match(program, new RegExp(`^${argument}:`, "m"));
+      if (act === "press" || act === "release") assert.ok(keys.includes(argument), argument);
+      if (act === "back to") assert.ok(placeOf(argument), argument);
     }
   });
 }
@@ -58,26 +61,26 @@ test("an act calls the page, and says why it cannot", async () => {
     goBack: note("goBack"), goForward: note("goForward"), goTo: note("goTo"), press: note("press"), showText: note("showText"),
     showPanel: note("showPanel"),
   };
-  for (const [name, of = ""] of [
+  for (const [name, argument = ""] of [
     ["run"], ["stop"], ["back"], ["forward"], ["go to", "turn"], ["run to", "turn"], ["back to", "r11"], ["press", "7"],
     ["show", "waves"], ["show", "memory"],
-  ]) assert.equal(await doAct({ name, of }, calls), "");
+  ]) assert.equal(await doAct({ name, argument }, calls), "");
   assert.deepEqual(done, [
     ["run"], ["stand"], ["goBack", { kind: "stop" }], ["goForward"], ["goTo", 2], ["goOn", { kind: "here", address: 2 }],
     ["goBack", { kind: "change", place: "r11" }], ["press", key], ["showText", "waves"], ["showPanel", "memory"],
   ]);
   done.length = 0;
-  assert.match(await doAct({ name: "run to", of: "nowhere" }, calls), /no label nowhere/);
-  assert.match(await doAct({ name: "press", of: "8" }, calls), /no key 8/);
-  assert.match(await doAct({ name: "release", of: "8" }, calls), /no key 8/);
+  assert.match(await doAct({ name: "run to", argument: "nowhere" }, calls), /no label nowhere/);
+  assert.match(await doAct({ name: "press", argument: "8" }, calls), /no key 8/);
+  assert.match(await doAct({ name: "release", argument: "8" }, calls), /no key 8/);
   // A key that is up is not released; one that stays down is not pressed again, and is released.
-  await doAct({ name: "release", of: "7" }, calls);
+  await doAct({ name: "release", argument: "7" }, calls);
   isDown = true;
-  await doAct({ name: "press", of: "7" }, calls);
+  await doAct({ name: "press", argument: "7" }, calls);
   assert.deepEqual(done, []);
-  await doAct({ name: "release", of: "7" }, calls);
+  await doAct({ name: "release", argument: "7" }, calls);
   isRunning = true;
-  await doAct({ name: "press", of: "7" }, calls);
+  await doAct({ name: "press", argument: "7" }, calls);
   assert.deepEqual(done, [["press", key], ["press", key]]);
 });
 

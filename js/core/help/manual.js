@@ -53,7 +53,7 @@ export function rowsOf(manual, title) {
  * @param {string} wanted the words
  * @returns {ManualSection[]}
  */
-export function searched(manual, wanted) {
+export function searchManual(manual, wanted) {
   const words = wanted.toLowerCase().split(/\s+/).filter((word) => word !== "");
   /** @type {(text: string) => boolean} */
   const hasAll = (text) => words.every((word) => text.toLowerCase().includes(word));

@@ -13,7 +13,7 @@
  *
  * The action of a link, with its argument, "" if it needs none.
  * @typedef {"run" | "stop" | "back" | "forward" | "go to" | "run to" | "back to" | "press" | "release" | "show"} ActName
- * @typedef {{ name: ActName, of: string }} Act
+ * @typedef {{ name: ActName, argument: string }} Act
  */
 
 /** The views that `show` accepts: texts, in the order of their tabs, and panels. */
@@ -31,9 +31,9 @@ const LINK = /\[([^\]]+)\]\(([^()]+)\)/g;
 function readAct(words) {
   const found = ACT.exec(words);
   if (!found) return null;
-  const [, alone, name, of = ""] = found;
-  if (name === "show" && !TEXTS.includes(of) && !PANELS.includes(of)) return null;
-  return { name: /** @type {ActName} */ (alone || name), of };
+  const [, alone, name, argument = ""] = found;
+  if (name === "show" && !TEXTS.includes(argument) && !PANELS.includes(argument)) return null;
+  return { name: /** @type {ActName} */ (alone || name), argument };
 }
 
 /**

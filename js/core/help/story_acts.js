@@ -57,19 +57,19 @@ function atKey(legend, calls, act) {
 
 /**
  * The functions of the actions. Each one resolves to an error message, "" if there is no error.
- * @type {Record<import("./story.js").ActName, (of: string, calls: ActCalls) => Promise<string>>}
+ * @type {Record<import("./story.js").ActName, (argument: string, calls: ActCalls) => Promise<string>>}
  */
 const ACTS = {
   run: (_, calls) => done(() => calls.run()),
   stop: (_, calls) => done(() => calls.stand()),
   back: (_, calls) => done(() => calls.goBack({ kind: "stop" })),
   forward: (_, calls) => done(() => calls.goForward()),
-  "go to": (of, calls) => atLabel(of, calls, (address) => calls.goTo(address)),
-  "run to": (of, calls) => atLabel(of, calls, (address) => calls.goOn({ kind: "here", address })),
-  "back to": (of, calls) => done(() => calls.goBack({ kind: "change", place: of })),
-  press: async (of, calls) => atKey(of, calls, (key) => (calls.isRunning() || !calls.isDown(key)) && calls.press(key)),
-  release: async (of, calls) => atKey(of, calls, (key) => calls.isDown(key) && calls.press(key)),
-  show: (of, calls) => done(() => (TEXTS.includes(of) ? calls.showText(of) : calls.showPanel(of))),
+  "go to": (argument, calls) => atLabel(argument, calls, (address) => calls.goTo(address)),
+  "run to": (argument, calls) => atLabel(argument, calls, (address) => calls.goOn({ kind: "here", address })),
+  "back to": (argument, calls) => done(() => calls.goBack({ kind: "change", place: argument })),
+  press: async (argument, calls) => atKey(argument, calls, (key) => (calls.isRunning() || !calls.isDown(key)) && calls.press(key)),
+  release: async (argument, calls) => atKey(argument, calls, (key) => calls.isDown(key) && calls.press(key)),
+  show: (argument, calls) => done(() => (TEXTS.includes(argument) ? calls.showText(argument) : calls.showPanel(argument))),
 };
 
 /**
@@ -86,6 +86,6 @@ async function done(act) {
  * @param {Act} act
  * @param {ActCalls} calls
  */
-export function doAct({ name, of }, calls) {
-  return ACTS[name](of, calls);
+export function doAct({ name, argument }, calls) {
+  return ACTS[name](argument, calls);
 }

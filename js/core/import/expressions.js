@@ -13,10 +13,10 @@ import * as say from "../../words/import.js";
  */
 
 /** The maximum nesting of an expression. */
-const MOST_DEPTH = 50;
+const MAX_DEPTH = 50;
 const BYTE = 256;
 /** The highest bit that & compares. */
-const MOST_BITS = 4096;
+const HIGHEST_BIT = 4096;
 const NAME = /[A-Za-z_.?@][A-Za-z0-9_.?@$]*/y;
 const BYTE_OF = /(LOW|HIGH|LO|HI|low|high|lo|hi)[ \t]*\(/y;
 const CHARACTER = /'[^']'|"[^"]"/y;
@@ -36,10 +36,10 @@ const NUMBERS = [
  * @param {number} one
  * @param {number} other
  */
-function bitsOfBoth(one, other) {
+function bitwiseAnd(one, other) {
   const has = (/** @type {number} */ number, /** @type {number} */ bit) => Math.trunc(number / bit) % 2 !== 0;
   let bits = 0;
-  for (let bit = 1; bit <= MOST_BITS; bit *= 2) if (has(one, bit) && has(other, bit)) bits += bit;
+  for (let bit = 1; bit <= HIGHEST_BIT; bit *= 2) if (has(one, bit) && has(other, bit)) bits += bit;
   return bits;
 }
 
@@ -80,13 +80,13 @@ class Evaluation {
   }
 
   /** Skips blanks. */
-  skip() {
+  skipBlanks() {
     while (/[ \t]/.test(this.text[this.at] || "")) this.at += 1;
   }
 
   /** Returns the next character that is not a blank, "" at the end. */
-  next() {
-    this.skip();
+  peek() {
+    this.skipBlanks();
     return this.text[this.at] || "";
   }
 
@@ -101,7 +101,7 @@ class Evaluation {
 
   sum() {
     let value = this.product();
-    for (let sign = this.next(); sign === "+" || sign === "-"; sign = this.next()) {
+    for (let sign = this.peek(); sign === "+" || sign === "-"; sign = this.peek()) {
       this.at += 1;
       const other = this.product();
       value = sign === "+" ? value + other : value - other;
@@ -111,11 +111,11 @@ class Evaluation {
 
   product() {
     let value = this.factor();
-    for (let sign = this.next(); sign === "*" || sign === "/" || sign === "&"; sign = this.next()) {
+    for (let sign = this.peek(); sign === "*" || sign === "/" || sign === "&"; sign = this.peek()) {
       this.at += 1;
       const other = this.factor();
       if (sign === "*") value *= other;
-      else if (sign === "&") value = bitsOfBoth(value, other);
+      else if (sign === "&") value = bitwiseAnd(value, other);
       else if (other !== 0) value = Math.trunc(value / other);
       else if (this.isKnown) this.fail(say.DIVISION_BY_0);
     }
@@ -126,18 +126,18 @@ class Evaluation {
   factor() {
     this.depth += 1;
     let value = 0;
-    if (this.depth > MOST_DEPTH) {
-      this.fail(say.tooDeep(MOST_DEPTH));
+    if (this.depth > MAX_DEPTH) {
+      this.fail(say.tooDeep(MAX_DEPTH));
       this.at = this.text.length;
     } else {
-      value = this.factorHere();
+      value = this.operand();
     }
     this.depth -= 1;
     return value;
   }
 
-  factorHere() {
-    const letter = this.next();
+  operand() {
+    const letter = this.peek();
     if (letter === "(") return this.bracketed();
     if (letter !== "" && "-+<>".includes(letter)) return this.signed(letter);
     const byteOf = this.match(BYTE_OF);
@@ -157,7 +157,7 @@ class Evaluation {
       return this.here;
     }
     const name = this.match(NAME);
-    if (name) return this.named(name[0]);
+    if (name) return this.nameValue(name[0]);
     this.fail(letter === "" ? say.NO_OPERAND : say.notUnderstood(this.text.slice(this.at)));
     this.at += 1;
     return 0;
@@ -175,7 +175,7 @@ class Evaluation {
   bracketed() {
     this.at += 1;
     const value = this.sum();
-    if (this.next() !== ")") this.fail(say.NO_BRACKET);
+    if (this.peek() !== ")") this.fail(say.NO_BRACKET);
     this.at += 1;
     return value;
   }
@@ -198,7 +198,7 @@ class Evaluation {
   }
 
   /** @param {string} spelled */
-  named(spelled) {
+  nameValue(spelled) {
     this.at += spelled.length;
     const name = capitals(spelled);
     const value = this.names.valueOf(name);
@@ -226,7 +226,7 @@ export function isAscii(text) {
 export function evaluate(text, here, names) {
   const evaluation = new Evaluation(text, here, names);
   const value = evaluation.sum();
-  evaluation.skip();
+  evaluation.skipBlanks();
   if (evaluation.at < text.length) evaluation.fail(say.notUnderstood(text.slice(evaluation.at)));
   const { fault, isKnown } = evaluation;
   return { value, isKnown: isKnown && fault === "", fault };

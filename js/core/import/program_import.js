@@ -5,8 +5,8 @@ import { LAST_ADDRESS, hex } from "../bench/numbers.js";
 import { MAX_NAME_LENGTH } from "../text/assembly.js";
 import { evaluate, isAscii } from "./expressions.js";
 import {
-  BYTE_WORDS, FOREIGN, LONGEST_SOURCE_LINE, OF_4040, OPERANDS, PROGRAM_RAM, REMARKS, ROOM_WORDS, capitals, lettersOf, partsOfList,
-  readSource, trimmed,
+  BYTE_WORDS, LONGEST_SOURCE_LINE, OF_4040, OPERANDS, PROGRAM_RAM, REMARKS, RESERVE_WORDS, UNSUPPORTED, capitals, partsOfList,
+  quotedCharacters, readSource, trimmed,
 } from "./source_lines.js";
 import * as say from "../../words/import.js";
 
@@ -19,11 +19,11 @@ import * as say from "../../words/import.js";
  *
  * The rules for an operand's value: its range, the modulus for negative numbers (0 if they are not allowed), and true in `isNumber` if a
  * name must be replaced by its value.
- * @typedef {{ from?: number, to: number, modulus?: number, isNumber?: boolean }} Figure
+ * @typedef {{ from?: number, to: number, modulus?: number, isNumber?: boolean }} OperandRules
  */
 
 /** The maximum number of passes that find the values of names. */
-const MOST_TURNS = 20;
+const MAX_PASSES = 20;
 const NIBBLE = 16;
 const BYTE = 256;
 /** The columns of statements and comments in the output. */
@@ -69,7 +69,7 @@ class ProgramImport {
     /** The address of the line that is written. */
     this.address = 0;
     /** @type {string[]} the original texts of its expressions, for the comment */
-    this.spelled = [];
+    this.originals = [];
     /** @type {import("./expressions.js").NameValues} */
     this.meaning = { isDefined: (name) => this.definedAt.has(name), valueOf: (name) => this.values.get(name) };
   }
@@ -79,10 +79,10 @@ class ProgramImport {
     this.lines.forEach((line, at) => this.define(line, at + 1));
     if (this.faults.length > 0) return [];
     this.chooseNames();
-    let turns = MOST_TURNS;
+    let passes = MAX_PASSES;
     // A name can depend on names in later lines, so passes are repeated until no value changes.
-    while (turns > 0 && this.locate()) turns -= 1;
-    return this.lines.map((line, at) => this.tried(at + 1, () => this.written(line), ""));
+    while (passes > 0 && this.locateNames()) passes -= 1;
+    return this.lines.map((line, at) => this.attempt(at + 1, () => this.outputLine(line), ""));
   }
 
   /**
@@ -92,7 +92,7 @@ class ProgramImport {
    * @param {() => Result} act
    * @param {Result} instead
    */
-  tried(line, act, instead) {
+  attempt(line, act, instead) {
     try {
       return act();
     } catch (thrown) {
@@ -110,7 +110,7 @@ class ProgramImport {
    * @param {number} number of the line
    */
   define({ label, isLong }, number) {
-    this.tried(number, () => {
+    this.attempt(number, () => {
       if (isLong) throw new LineFault(say.longLine(LONGEST_SOURCE_LINE));
       if (label === "") return;
       const name = capitals(label);
@@ -122,20 +122,20 @@ class ProgramImport {
 
   /** Chooses the output spelling of each name: that of its definition, changed if the bench rejects it or another name has it. */
   chooseNames() {
-    const taken = new Set();
+    const used = new Set();
     /** @type {Map<string, number>} the next number to append, by the name that is in use */
     const next = new Map();
     for (const [name, line] of this.definedAt) {
       const plain = this.lines[line - 1].label.replace(/[^A-Za-z0-9_]/g, "_").replace(/^(?=[0-9])/, "_");
       const isReserved = OPERANDS.has(capitals(plain)) || RESERVED.test(capitals(plain));
       const base = (isReserved ? `${plain}_` : plain).slice(0, MAX_NAME_LENGTH);
-      let here = base;
-      for (let number = next.get(base) || 2; taken.has(here); number++) {
-        here = `${base.slice(0, MAX_NAME_LENGTH - `_${number}`.length)}_${number}`;
+      let spelling = base;
+      for (let number = next.get(base) || 2; used.has(spelling); number++) {
+        spelling = `${base.slice(0, MAX_NAME_LENGTH - `_${number}`.length)}_${number}`;
         next.set(base, number + 1);
       }
-      taken.add(here);
-      this.names.set(name, here);
+      used.add(spelling);
+      this.names.set(name, spelling);
     }
   }
 
@@ -143,14 +143,14 @@ class ProgramImport {
 
   /**
    * @param {string} text
-   * @param {number} here
+   * @param {number} address of the line
    */
-  valueOf(text, here) {
-    return evaluate(text, here, this.meaning);
+  valueOf(text, address) {
+    return evaluate(text, address, this.meaning);
   }
 
   /** Runs a pass that sets the values of names. Returns whether a value has changed. */
-  locate() {
+  locateNames() {
     let [at, hasChanged] = [0, false];
     for (const line of this.lines) {
       const { value, isKnown } = line.word === "EQU" ? this.valueOf(line.operand, at) : { value: at, isKnown: true };
@@ -170,14 +170,14 @@ class ProgramImport {
    * @param {number} at the address of the line
    */
   addressAfter({ word, operand }, at) {
-    if (word === "ORG" || word === "ALIGN" || ROOM_WORDS.has(word)) {
+    if (word === "ORG" || word === "ALIGN" || RESERVE_WORDS.has(word)) {
       const { value, isKnown } = this.valueOf(operand, at);
       if (!isKnown) return at;
       if (word === "ORG") return value;
       if (word !== "ALIGN") return at + value;
       return value > 0 ? Math.trunc((at + value - 1) / value) * value : at;
     }
-    if (BYTE_WORDS.has(word)) return partsOfList(operand).reduce((sum, part) => sum + (lettersOf(part) || " ").length, at);
+    if (BYTE_WORDS.has(word)) return partsOfList(operand).reduce((sum, part) => sum + (quotedCharacters(part) || " ").length, at);
     const kinds = OPERANDS.get(word);
     return kinds ? at + (kinds.length > 1 || kinds.includes("target") ? 2 : 1) : at;
   }
@@ -188,19 +188,19 @@ class ProgramImport {
    * Returns the output line with its comment; throws LineFault if the line cannot be converted.
    * @param {SourceLine} line
    */
-  written(line) {
+  outputLine(line) {
     const { text, label, word, comment } = line;
-    this.spelled = [];
-    let written = "";
+    this.originals = [];
+    let output = "";
     try {
-      written = this.statementLine(line);
+      output = this.statementLine(line);
     } finally {
       this.address = this.addressAfter(line, this.address);
     }
-    const spelled = this.spelled.join(", ");
-    const note = spelled === "" ? comment : ` ${spelled}${comment && ` ;${comment}`}`;
-    if (note === "") return word === "" && label === "" && /^[ \t]*[;*/]/.test(text) ? ";" : written;
-    return `${written === "" ? "" : upToColumn(written, COLUMNS.comment)};${note}`;
+    const originals = this.originals.join(", ");
+    const note = originals === "" ? comment : ` ${originals}${comment && ` ;${comment}`}`;
+    if (note === "") return word === "" && label === "" && /^[ \t]*[;*/]/.test(text) ? ";" : output;
+    return `${output === "" ? "" : upToColumn(output, COLUMNS.comment)};${note}`;
   }
 
   /**
@@ -209,7 +209,7 @@ class ProgramImport {
    */
   statementLine({ label, word, operand }) {
     const name = this.names.get(capitals(label)) || "";
-    if (word === "EQU") return `${name} = ${this.figure(operand, { to: LAST_ADDRESS, isNumber: true })}`;
+    if (word === "EQU") return `${name} = ${this.operandText(operand, { to: LAST_ADDRESS, isNumber: true })}`;
     const statement = this.statement(word, operand);
     const mark = name === "" ? "" : `${name}:`;
     return statement === "" ? mark : upToColumn(mark, COLUMNS.statement) + statement;
@@ -221,14 +221,14 @@ class ProgramImport {
    */
   statement(word, operand) {
     if (word === "" || word === "END" || REMARKS.has(word)) {
-      if (word !== "") this.spelled = [trimmed(`${word} ${operand}`)];
+      if (word !== "") this.originals = [trimmed(`${word} ${operand}`)];
       return "";
     }
     if (OF_4040.has(word)) throw new LineFault(say.of4040(word));
     if (word === PROGRAM_RAM) throw new LineFault(say.NO_PROGRAM_RAM);
-    if (FOREIGN.has(word)) throw new LineFault(say.notSupported(word));
-    if (word === "ORG") return `ORG ${this.figure(operand, { to: LAST_ADDRESS, isNumber: true })}`;
-    if (word === "ALIGN" || ROOM_WORDS.has(word)) return this.room(word, operand);
+    if (UNSUPPORTED.has(word)) throw new LineFault(say.notSupported(word));
+    if (word === "ORG") return `ORG ${this.operandText(operand, { to: LAST_ADDRESS, isNumber: true })}`;
+    if (word === "ALIGN" || RESERVE_WORDS.has(word)) return this.reserve(word, operand);
     if (BYTE_WORDS.has(word)) return `DB ${this.bytes(operand)}`;
     const kinds = OPERANDS.get(word);
     if (!kinds) throw new LineFault(say.noInstruction(word));
@@ -240,9 +240,9 @@ class ProgramImport {
    * @param {string} word
    * @param {string} operand
    */
-  room(word, operand) {
-    this.figure(operand, { to: LAST_ADDRESS + 1, isNumber: true });
-    this.spelled = [`${word} ${operand}`];
+  reserve(word, operand) {
+    this.operandText(operand, { to: LAST_ADDRESS + 1, isNumber: true });
+    this.originals = [`${word} ${operand}`];
     const next = this.addressAfter({ text: "", label: "", word, operand, comment: "", isLong: false }, this.address);
     if (next > LAST_ADDRESS) throw new LineFault(say.PAST_LAST);
     return `ORG 0x${hex(next, 3)}`;
@@ -253,8 +253,8 @@ class ProgramImport {
     const parts = partsOfList(list);
     if (parts.length === 0) throw new LineFault(say.NO_VALUES);
     return parts.flatMap((part) => {
-      const letters = lettersOf(part);
-      if (letters === null) return [this.figure(part, { to: BYTE - 1, modulus: BYTE })];
+      const letters = quotedCharacters(part);
+      if (letters === null) return [this.operandText(part, { to: BYTE - 1, modulus: BYTE })];
       if (!isAscii(letters)) throw new LineFault(say.noCharacter(part));
       return [...letters].map((letter) => `0x${hex(letter.charCodeAt(0), 2)}`);
     }).join(", ");
@@ -268,8 +268,8 @@ class ProgramImport {
   instruction(word, operand, kinds) {
     let parts = partsOfList(operand);
     // Blanks can separate two operands instead of a comma.
-    const apart = kinds.length > 1 && parts.length === 1 ? /^([^ \t]+)[ \t]+(.+)$/.exec(operand) : null;
-    if (apart) parts = [apart[1], apart[2]];
+    const separated = kinds.length > 1 && parts.length === 1 ? /^([^ \t]+)[ \t]+(.+)$/.exec(operand) : null;
+    if (separated) parts = [separated[1], separated[2]];
     if (word === "BBL" && parts.length === 0) parts = ["0"];
     if (parts.length !== kinds.length) throw new LineFault(say.operandCount(word, kinds.length));
     return [word, kinds.map((kind, at) => this.operand(kind, parts[at])).join(", ")].filter(Boolean).join(" ");
@@ -284,18 +284,18 @@ class ProgramImport {
       case "register": return this.register(text);
       case "pair": return this.pair(text);
       case "condition": return this.condition(text);
-      case "digit": return this.figure(text, { to: NIBBLE - 1, modulus: NIBBLE });
-      case "byte": return this.figure(text, { to: BYTE - 1, modulus: BYTE });
-      default: return this.figure(text, { to: LAST_ADDRESS });
+      case "digit": return this.operandText(text, { to: NIBBLE - 1, modulus: NIBBLE });
+      case "byte": return this.operandText(text, { to: BYTE - 1, modulus: BYTE });
+      default: return this.operandText(text, { to: LAST_ADDRESS });
     }
   }
 
   /**
    * Returns the output text of an operand. A name stays a name. An expression becomes a number; its original text goes into the comment.
    * @param {string} text
-   * @param {Figure} figure
+   * @param {OperandRules} rules
    */
-  figure(text, { from = 0, to, modulus = 0, isNumber = false }) {
+  operandText(text, { from = 0, to, modulus = 0, isNumber = false }) {
     const { value, isKnown, fault } = this.valueOf(text, this.address);
     if (fault) throw new LineFault(fault);
     if (!isKnown) throw new LineFault(say.hangsUponItself(text));
@@ -303,7 +303,7 @@ class ProgramImport {
     const number = modulus > 0 && value < 0 && value >= -modulus / 2 ? value + modulus : value;
     if (!(number >= from && number <= to)) throw new LineFault(say.outOfRange(text, number, from, to));
     if (NAME.test(text) && !isNumber) return this.names.get(capitals(text)) || "";
-    if (!PLAIN_NUMBER.test(text)) this.spelled.push(text);
+    if (!PLAIN_NUMBER.test(text)) this.originals.push(text);
     if (/^[0-9]+$/.test(text) || to < NIBBLE || (isNumber && number < 10)) return String(number);
     return `0x${hex(number, number > BYTE - 1 || (to > BYTE - 1 && !isNumber) ? 3 : 2)}`;
   }
@@ -313,7 +313,7 @@ class ProgramImport {
     const word = capitals(text);
     if (/^R([0-9]|1[0-5])$/.test(word) && !this.definedAt.has(word)) return word;
     // A name can be defined as a register, as in `COUNT EQU R5`.
-    return `R${this.figure(text, { to: NIBBLE - 1, isNumber: true })}`;
+    return `R${this.operandText(text, { to: NIBBLE - 1, isNumber: true })}`;
   }
 
   /** @param {string} text */
@@ -333,11 +333,11 @@ class ProgramImport {
   /** @param {string} text */
   condition(text) {
     const word = capitals(text);
-    if (this.definedAt.has(word)) return this.figure(text, { to: NIBBLE - 1 });
+    if (this.definedAt.has(word)) return this.operandText(text, { to: NIBBLE - 1 });
     const known = CONDITIONS.get(word);
     if (known !== undefined) return String(known);
     if (word === "NC" && !this.isForAs) throw new LineFault(say.NC_OF_WHOM);
-    if (!/^N?[ZCT]+$/.test(word)) return this.figure(text, { to: NIBBLE - 1 });
+    if (!/^N?[ZCT]+$/.test(word)) return this.operandText(text, { to: NIBBLE - 1 });
     const letters = new Set(word.replace(/^N/, ""));
     return String([...letters].reduce((sum, letter) => sum + LETTERS[letter], word.startsWith("N") ? INVERTED : 0));
   }

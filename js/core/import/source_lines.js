@@ -32,15 +32,15 @@ export const REMARKS = new Set(["CPU", "TITLE", "PAGE", "LISTING", "NEWPAGE", "P
   "NAME", "SPACE", "RELAXED", "RADIX", "INTSYNTAX"]);
 /** The directives for bytes, and the directives that reserve bytes. */
 export const BYTE_WORDS = new Set(["DB", "DATA", "BYTE", "DEFB", "FCB", "DC"]);
-export const ROOM_WORDS = new Set(["DS", "RES", "DEFS", "RMB"]);
-const DIRECTIVES = new Set([...BYTE_WORDS, ...ROOM_WORDS, "EQU", "=", "SET", "ORG", "ALIGN", "END"]);
+export const RESERVE_WORDS = new Set(["DS", "RES", "DEFS", "RMB"]);
+const DIRECTIVES = new Set([...BYTE_WORDS, ...RESERVE_WORDS, "EQU", "=", "SET", "ORG", "ALIGN", "END"]);
 /** The directives that cannot be imported. */
-export const FOREIGN = new Set(["MACRO", "ENDM", "IF", "ELSE", "ENDIF", "IFDEF", "IFNDEF", "INCLUDE", "BINCLUDE", "REPT", "IRP", "WHILE",
-  "STRUCT", "SECTION", "DW"]);
+export const UNSUPPORTED = new Set(["MACRO", "ENDM", "IF", "ELSE", "ENDIF", "IFDEF", "IFNDEF", "INCLUDE", "BINCLUDE", "REPT", "IRP",
+  "WHILE", "STRUCT", "SECTION", "DW"]);
 /** The instruction that writes program RAM, which the bench does not have. */
 export const PROGRAM_RAM = "WPM";
 /** The words that cannot be labels. */
-const KNOWN = [OPERANDS, OF_4040, REMARKS, DIRECTIVES, FOREIGN, new Set([PROGRAM_RAM])];
+const KNOWN_WORDS = [OPERANDS, OF_4040, REMARKS, DIRECTIVES, UNSUPPORTED, new Set([PROGRAM_RAM])];
 
 const NAME = "[A-Za-z_.?@][A-Za-z0-9_.?@$]*";
 const MARKED_LABEL = new RegExp(`^[ \\t]*(${NAME})[ \\t]*[:,]`);
@@ -102,7 +102,7 @@ function withoutLabel(line) {
   if (marked) return { label: marked[1], rest: trimmed(line.slice(marked[0].length)) };
   const [first = ""] = FIRST_NAME.exec(line) || [];
   const rest = trimmed(line.slice(first.length));
-  const isLabel = first !== "" && !KNOWN.some((names) => names.has(capitals(first))) && !rest.startsWith("=");
+  const isLabel = first !== "" && !KNOWN_WORDS.some((names) => names.has(capitals(first))) && !rest.startsWith("=");
   return isLabel ? { label: first, rest } : { label: "", rest: trimmed(line) };
 }
 
@@ -130,10 +130,10 @@ function statementIn(label, rest) {
 export function readSource(texts) {
   let isEnded = false;
   return texts.map((text) => {
-    const none = { text, label: "", word: "", operand: "", isLong: false };
-    if (isEnded) return { ...none, comment: text };
+    const emptyLine = { text, label: "", word: "", operand: "", isLong: false };
+    if (isEnded) return { ...emptyLine, comment: text };
     const { rest, comment } = withoutComment(text);
-    if (rest.length > LONGEST_SOURCE_LINE) return { ...none, comment, isLong: true };
+    if (rest.length > LONGEST_SOURCE_LINE) return { ...emptyLine, comment, isLong: true };
     const { label, rest: afterLabel } = withoutLabel(rest);
     const statement = statementIn(label, afterLabel);
     isEnded = statement.word === "END";
@@ -168,6 +168,6 @@ export function partsOfList(list) {
  * Returns the characters of a quoted string with more than one character; null for any other part.
  * @param {string} part
  */
-export function lettersOf(part) {
+export function quotedCharacters(part) {
   return part.length > 3 && /^("[^"]*"|'[^']*')$/.test(part) ? part.slice(1, -1) : null;
 }

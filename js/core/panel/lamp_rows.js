@@ -14,14 +14,14 @@ import { upTo } from "../bench/numbers.js";
  */
 
 /** The minimum number of columns of a group whose lamps have no gaps between them. */
-const NARROW_FROM = 13;
+const MIN_NARROW_COLUMNS = 13;
 /** The width of a cell in a die. */
 const DIE_WIDTH = 4;
 /** The width of a cell with a name, less the name: `( ) ` before it and a blank after it. */
-const BESIDE_NAME = 5;
-const USUAL_COLOUR = "red";
+const NAME_PADDING = 5;
+const DEFAULT_COLOUR = "red";
 /** The character of a lamp for each brightness level. */
-const SIGNS = [" ", ":", "+", "*"];
+const LEVEL_CHARACTERS = [" ", ":", "+", "*"];
 
 /** The rows of a board's lamps. */
 class LampRows {
@@ -40,7 +40,7 @@ class LampRows {
       this.addGroup(group, isScanned(group) ? scanned++ : -1);
     }
     this.addGrid(face.grid.filter(({ lamp }) => lamp < count));
-    for (const lamp of looseLamps(face, count)) if (this.names[lamp] !== "") this.rows.push([this.named(lamp, this.widthOf(lamp))]);
+    for (const lamp of looseLamps(face, count)) if (this.names[lamp] !== "") this.rows.push([this.namedCell(lamp, this.widthOf(lamp))]);
   }
 
   /**
@@ -48,7 +48,7 @@ class LampRows {
    * @param {number} lamp
    */
   widthOf(lamp) {
-    return this.names[lamp] === "" ? 0 : this.names[lamp].length + BESIDE_NAME;
+    return this.names[lamp] === "" ? 0 : this.names[lamp].length + NAME_PADDING;
   }
 
   /**
@@ -60,7 +60,7 @@ class LampRows {
    */
   cell(seen, lamp, width, name) {
     const colour = this.face.colours.get(lamp);
-    return { seen, width, name, colour: colour ? colour.text : USUAL_COLOUR };
+    return { seen, width, name, colour: colour ? colour.text : DEFAULT_COLOUR };
   }
 
   /**
@@ -68,7 +68,7 @@ class LampRows {
    * @param {number} lamp
    * @param {number} width
    */
-  named(lamp, width) {
+  namedCell(lamp, width) {
     return this.cell(lampAt(lamp), lamp, width, this.names[lamp]);
   }
 
@@ -79,7 +79,7 @@ class LampRows {
    */
   addGroup(group, number) {
     const { kind, first, rows, columns } = group;
-    const width = kind === "die" ? DIE_WIDTH : columns < NARROW_FROM ? 2 : 1;
+    const width = kind === "die" ? DIE_WIDTH : columns < MIN_NARROW_COLUMNS ? 2 : 1;
     const cells = upTo(rows * columns).map((at) => {
       if (number < 0) return this.cell(lampAt(first + at), first + at, width, "");
       const seen = scannedLampAt(group, number, at);
@@ -95,8 +95,8 @@ class LampRows {
    * @param {LampCell[]} pips
    */
   addDie([first, second, ...others]) {
-    const between = gap(DIE_WIDTH);
-    this.rows.push([first, between, second], others.slice(0, 3), [others[3], between, others[4]]);
+    const space = gap(DIE_WIDTH);
+    this.rows.push([first, space, second], others.slice(0, 3), [others[3], space, others[4]]);
   }
 
   /** @param {Face["grid"]} grid */
@@ -107,7 +107,7 @@ class LampRows {
     for (const row of upTo(Math.max(...grid.map((each) => each.row)) + 1)) {
       this.rows.push(columns.map((column) => {
         const found = grid.find((each) => each.row === row && each.column === column);
-        return found ? this.named(found.lamp, widths[column]) : gap(widths[column]);
+        return found ? this.namedCell(found.lamp, widths[column]) : gap(widths[column]);
       }));
     }
     this.rows.push([]);
@@ -138,6 +138,6 @@ export function lampRowsOf(face, count) {
  */
 export function textOfCell({ seen, width, name }, level) {
   if (!seen) return " ".repeat(width);
-  const text = name === "" ? (level > 0 ? SIGNS[level] : ".") : `(${SIGNS[level]}) ${name}`;
+  const text = name === "" ? (level > 0 ? LEVEL_CHARACTERS[level] : ".") : `(${LEVEL_CHARACTERS[level]}) ${name}`;
   return text.padEnd(width);
 }

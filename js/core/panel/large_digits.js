@@ -10,11 +10,11 @@ const has = (/** @type {number} */ pattern, /** @type {string} */ letter) => ((p
 
 /**
  * Returns the rows of one character.
- * @param {string} sign a digit, another character of the display, or a dot
+ * @param {string} character a digit, another character of the display, or a dot
  */
-function rowsOfSign(sign) {
-  if (sign === ".") return [...Array(LARGE_ROWS - 1).fill("  "), "# "];
-  const pattern = patternOf(sign);
+function characterRows(character) {
+  if (character === ".") return [...Array(LARGE_ROWS - 1).fill("  "), "# "];
+  const pattern = patternOf(character);
   const across = (/** @type {string} */ letter) => (has(pattern, letter) ? " ###  " : BLANK.repeat(6));
   const sides = (/** @type {string} */ letters) => `${[...letters].map((letter) => (has(pattern, letter) ? "#" : BLANK)).join("   ")} `;
   return [across("a"), sides("fb"), across("g"), sides("ec"), across("d")];
@@ -25,6 +25,6 @@ function rowsOfSign(sign) {
  * @param {string} number
  */
 export function largeRows(number) {
-  const signs = [...number].map(rowsOfSign);
-  return Array.from({ length: LARGE_ROWS }, (_, at) => signs.map((rows) => rows[at]).join(""));
+  const characters = [...number].map(characterRows);
+  return Array.from({ length: LARGE_ROWS }, (_, at) => characters.map((rows) => rows[at]).join(""));
 }

@@ -32,7 +32,7 @@ export class PanelSnapshot {
   /** @param {Panel} panel */
   constructor(panel) {
     this.panel = panel;
-    const { board, face } = panel.of;
+    const { board, face } = panel.subject;
     /** @type {{ bank: number, name: string }[]} the RAM chips of the board, named as in `0.1` */
     this.chips = board.banks.flatMap(({ bank, chips }) => upTo(chips).map((chip) => ({ bank, name: `${bank}.${chip}` })));
     this.hasDisplay = face.groups.some(({ kind }) => kind === "display");
@@ -86,13 +86,13 @@ export class PanelSnapshot {
    */
   async take(rows) {
     const banks = new Set(this.shownChips(rows).map(({ bank }) => bank));
-    const isShining = rows > 0 && !this.panel.isPaused && this.panel.of.board.lamps.length > 0;
-    const questions = `${joinLines(["state", ...[...banks].map((bank) => `ram ${bank}`)])}${isShining ? SEEN_QUERY : ""}`;
+    const showsBrightness = rows > 0 && !this.panel.isPaused && this.panel.subject.board.lamps.length > 0;
+    const questions = `${joinLines(["state", ...[...banks].map((bank) => `ram ${bank}`)])}${showsBrightness ? SEEN_QUERY : ""}`;
     const answers = matchAnswers(readInputs(questions), await this.panel.ask(questions));
     this.takeState(answers[0][0]);
     this.takeRam(answers.slice(1, 1 + banks.size));
-    const { face, board } = this.panel.of;
-    this.brightness = isShining ? seenBrightness(face, board.lamps.length, answers[answers.length - 1]) : null;
+    const { face, board } = this.panel.subject;
+    this.brightness = showsBrightness ? seenBrightness(face, board.lamps.length, answers[answers.length - 1]) : null;
     if (rows > 0) await this.takeListing(rows);
   }
 

@@ -22,18 +22,18 @@ import * as say from "../../words/panel.js";
  */
 
 /** The minimum size of a terminal. */
-export const LEAST_SIZE = { rows: 24, columns: 80 };
+export const MIN_SIZE = { rows: 24, columns: 80 };
 const TOP_ROWS = 10;
 /** The rows above and below RAM, front panel and listing. */
 const OTHER_ROWS = TOP_ROWS + 2;
 const RAM_WIDTH = 28;
 const FRONT_WIDTH = 24;
 /** The minimum width of a key. */
-const LEAST_CELL = 3;
+const MIN_KEY_WIDTH = 3;
 /** The minimum rows of the printout. */
-const LEAST_PAPER = 2;
+const MIN_PRINTOUT_ROWS = 2;
 /** The maximum number of large characters, and the width of their rows. */
-const MOST_LARGE = 18;
+const MAX_LARGE = 18;
 const LARGE_WIDTH = 58;
 
 /** @type {(text: string) => Piece} a piece that is not a lamp */
@@ -44,7 +44,7 @@ const plain = (text) => ({ text, colour: "", level: 0 });
  * @param {Piece[]} pieces
  * @param {number} width
  */
-function fitted(pieces, width) {
+function fitToWidth(pieces, width) {
   let left = width;
   const cut = pieces.map((piece) => {
     const text = [...piece.text].slice(0, left).join("");
@@ -59,7 +59,7 @@ function fitted(pieces, width) {
  * @param {ScreenSize} size
  */
 export function hasRoom({ rows, columns }) {
-  return rows >= LEAST_SIZE.rows && columns >= LEAST_SIZE.columns;
+  return rows >= MIN_SIZE.rows && columns >= MIN_SIZE.columns;
 }
 
 /**
@@ -75,13 +75,13 @@ export class Screen {
   /** @param {Panel} panel */
   constructor(panel) {
     this.panel = panel;
-    const { face, board } = panel.of;
+    const { face, board } = panel.subject;
     this.title = escaped(face.title);
-    this.name = escaped(panel.of.name);
+    this.name = escaped(panel.subject.name);
     this.test = face.test;
     this.lampRows = lampRowsOf(face, board.lamps.length);
     this.labels = panel.keys.map(labelOf);
-    this.cell = Math.max(LEAST_CELL, ...this.labels.map((label) => [...label].length + 2));
+    this.keyWidth = Math.max(MIN_KEY_WIDTH, ...this.labels.map((label) => [...label].length + 2));
   }
 
   /**
@@ -96,7 +96,7 @@ export class Screen {
     const last = say.keyLine(this.test ? testName(this.test) : say.TEST_PIN, hasMore);
     const front = this.frontRows(middleRows(size));
     const middle = upTo(middleRows(size)).map((at) => [
-      ...fitted([plain(this.ramText(at))], RAM_WIDTH), plain(" "), ...front[at], plain(" "), plain(this.listedText(at)),
+      ...fitToWidth([plain(this.ramText(at))], RAM_WIDTH), plain(" "), ...front[at], plain(" "), plain(this.listingText(at)),
     ]);
     return [
       { pieces: [plain(head)], isInverse: true },
@@ -104,14 +104,14 @@ export class Screen {
       ...middle.map((pieces) => ({ pieces, isInverse: false })),
       { pieces: [plain(escaped(panel.message))], isInverse: false },
       { pieces: [plain(last)], isInverse: true },
-    ].map((row) => ({ ...row, pieces: fitted(row.pieces, size.columns) }));
+    ].map((row) => ({ ...row, pieces: fitToWidth(row.pieces, size.columns) }));
   }
 
   // --- the top rows ---
 
   topRows() {
     const { panel, title, name } = this;
-    const state = panel.isPaused ? say.paused(panel.why) : say.RUNNING;
+    const state = panel.isPaused ? say.paused(panel.pauseReason) : say.RUNNING;
     return [say.headLine(title, name, panel.seen.commands, state), ...this.displayRows(), ...this.registerRows(), this.sourceText()];
   }
 
@@ -120,21 +120,21 @@ export class Screen {
     if (!seen.hasDisplay) return Array(LARGE_ROWS).fill("");
     const { display } = seen;
     const [number] = display.split(" ");
-    const [first, ...others] = largeRows(number.slice(0, MOST_LARGE));
+    const [first, ...others] = largeRows(number.slice(0, MAX_LARGE));
     return [`${first.padEnd(LARGE_WIDTH)} ${say.display(escaped(display))}`, ...others];
   }
 
   registerRows() {
-    const { seen, of: { source } } = this.panel;
+    const { seen, subject: { source } } = this.panel;
     if (!seen.registers) return ["", "", ""];
     const { accumulator, carry, counter, owed, bank, test, registers, returns } = seen.registers;
     const pairs = upTo(registers.length / 2).map((at) => `P${at} ${registers[2 * at]}${registers[2 * at + 1]}`).join("  ");
-    const back = parseInt(returns[0], 16);
-    const isNamed = source !== null && back > 0 && source.map.lineOf(back) > 0;
+    const returnAddress = parseInt(returns[0], 16);
+    const isNamed = source !== null && returnAddress > 0 && source.map.lineOf(returnAddress) > 0;
     return [
       say.lamps(seen.marks || "-"),
       `acc ${accumulator}  cy ${carry}  pc ${counter}  owed ${owed}  dcl ${bank}  test ${test}  ret ${returns.join(" ")}`,
-      `${pairs}  ${isNamed ? say.returnTo(this.placeOf(back)) : ""}`,
+      `${pairs}  ${isNamed ? say.returnTo(this.placeOf(returnAddress)) : ""}`,
     ];
   }
 
@@ -143,13 +143,13 @@ export class Screen {
    * @param {number} address
    */
   placeOf(address) {
-    const { source } = this.panel.of;
+    const { source } = this.panel.subject;
     return (source && source.map.nameOf(address)) || hex(address, 3);
   }
 
   /** Returns the source line at the counter. */
   sourceText() {
-    const { of: { source }, seen: { counter } } = this.panel;
+    const { subject: { source }, seen: { counter } } = this.panel;
     if (!source) return "";
     const line = source.map.lineOf(counter);
     if (line === 0) return notInSource(hex(counter, 3));
@@ -179,8 +179,8 @@ export class Screen {
    * Returns a row of the listing, with marks for the counter and a breakpoint. If a source line begins at the address, the row shows it.
    * @param {number} at
    */
-  listedText(at) {
-    const { seen, of: { source } } = this.panel;
+  listingText(at) {
+    const { seen, subject: { source } } = this.panel;
     const listed = seen.listing[at];
     if (!listed) return "";
     const { address, line } = listed;
@@ -201,19 +201,19 @@ export class Screen {
       return { text: escaped(textOfCell(cell, level)), colour: level > 0 ? cell.colour : "", level };
     }));
     const rows = [...keys, ...(keys.length > 0 ? [[]] : []), ...lamps];
-    const paper = this.paperRows(count - rows.length);
+    const printout = this.printoutRows(count - rows.length);
     const shown = upTo(count).map((at) => rows[at] || []);
-    shown.splice(count - paper.length, paper.length, ...paper.map((text) => [plain(text)]));
-    return shown.map((pieces) => fitted(pieces, FRONT_WIDTH));
+    shown.splice(count - printout.length, printout.length, ...printout.map((text) => [plain(text)]));
+    return shown.map((pieces) => fitToWidth(pieces, FRONT_WIDTH));
   }
 
   /** @returns {Piece[][]} */
   keyRows() {
-    const { panel: { of: { board }, keys, seen }, test } = this;
+    const { panel: { subject: { board }, keys, seen }, test } = this;
     const rows = upTo(board.rows).map((row) => [plain(upTo(board.columns).map((column) => {
       const at = row * board.columns + column;
       const label = this.labels[at];
-      return (seen.isDown(keys[at].key) ? `[${label || "_"}]` : ` ${label} `).padEnd(this.cell);
+      return (seen.isDown(keys[at].key) ? `[${label || "_"}]` : ` ${label} `).padEnd(this.keyWidth);
     }).join(""))]);
     if (!test) return rows;
     const label = escaped(say.testKey(testName(test)));
@@ -224,12 +224,12 @@ export class Screen {
    * Returns the last lines of the printout, at least LEAST_PAPER.
    * @param {number} room the free rows
    */
-  paperRows(room) {
-    const { printing, printed, of: { face } } = this.panel;
+  printoutRows(room) {
+    const { printing, printed, subject: { face } } = this.panel;
     if (!printing || !face.printer) return [];
     const lines = linesOf(printed, face.printer.words).map(escaped);
-    const count = Math.max(LEAST_PAPER, room);
-    const head = count > LEAST_PAPER ? [say.PAPER] : [];
+    const count = Math.max(MIN_PRINTOUT_ROWS, room);
+    const head = count > MIN_PRINTOUT_ROWS ? [say.PAPER] : [];
     const last = lines.slice(-(count - head.length));
     return [...head, ...last, ...Array(count - head.length - last.length).fill("")];
   }

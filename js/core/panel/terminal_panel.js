@@ -34,33 +34,33 @@ import * as say from "../../words/panel.js";
  * The subject of the panel: the name of the session, its board and front panel, its program (null if unknown), and the messages for
  * refusal numbers. `isPaused` is true if time is paused at first; `note` is the first message.
  * @typedef {{ name: string, board: Board, face: Face, source: PanelSource | null, wordsOfRefusal: (number: number) => string,
- *   isPaused: boolean, note: string }} PanelOf
+ *   isPaused: boolean, note: string }} PanelSubject
  */
 
 /** The maximum number of key changes in the queue. */
-const MOST_CHANGES = 128;
+const MAX_CHANGES = 128;
 /** The maximum number of cycles of an instruction. */
 const STEP_CYCLES = 2;
 
 export class Panel {
   /**
    * @param {Ask} ask
-   * @param {PanelOf} of
+   * @param {PanelSubject} subject
    * @param {number} now in milliseconds
    */
-  constructor(ask, of, now) {
+  constructor(ask, subject, now) {
     this.ask = ask;
-    this.of = of;
-    const { board, face } = of;
+    this.subject = subject;
+    const { board, face } = subject;
     this.keys = keysOf(board, { keys: face.keys, test: null });
     this.queue = new KeyQueue();
     /** @type {Key[]} the keys that this panel holds down */
-    this.own = [];
+    this.heldKeys = [];
     this.time = new RealTime(now, now);
-    this.isPaused = of.isPaused;
+    this.isPaused = subject.isPaused;
     /** The reason for the pause, in words; "" if the user paused time. */
-    this.why = "";
-    this.message = of.note;
+    this.pauseReason = "";
+    this.message = subject.note;
     /** The index of the first RAM chip that is shown. */
     this.firstChip = 0;
     this.isEnded = false;
@@ -83,7 +83,7 @@ export class Panel {
    * Sends a command and returns its answer. Shows a message if the bench rejects it.
    * @param {string} line
    */
-  async act(line) {
+  async sendCommand(line) {
     const [answer] = await this.ask(joinLines([line]));
     this.reportRefusal(line, answer);
     return answer;
@@ -95,21 +95,21 @@ export class Panel {
    */
   reportRefusal(line, answer) {
     const refusal = refusalOf(answer);
-    if (refusal) this.message = say.refused(line, answer, this.of.wordsOfRefusal(refusal.number));
+    if (refusal) this.message = say.refused(line, answer, this.subject.wordsOfRefusal(refusal.number));
   }
 
   // --- time ---
 
-  /** @param {string} why */
-  pause(why) {
+  /** @param {string} reason in words */
+  pause(reason) {
     this.isPaused = true;
-    this.why = why;
+    this.pauseReason = reason;
   }
 
   /** @param {number} now */
-  goOn(now) {
+  resume(now) {
     this.isPaused = false;
-    this.why = "";
+    this.pauseReason = "";
     this.time.restart(now, now);
   }
 
@@ -126,14 +126,14 @@ export class Panel {
    * @param {number} cycles
    */
   async advance(cycles) {
-    for (let left = cycles; left > 0 && !this.isPaused;) left -= await this.goOnFor(left);
+    for (let left = cycles; left > 0 && !this.isPaused;) left -= await this.runNextEvent(left);
   }
 
   /**
    * Does the next event of the key queue: a change of a key, or a run up to the next change. Returns the number of cycles run.
    * @param {number} cycles the maximum
    */
-  async goOnFor(cycles) {
+  async runNextEvent(cycles) {
     const [planned] = this.queue.plan(cycles);
     let done = 0;
     if (planned.change) await this.change(planned.change);
@@ -148,9 +148,9 @@ export class Panel {
    */
   async change(change) {
     const { word, key } = change;
-    await this.act(lineOfKey(word, key));
-    this.own = this.own.filter((each) => !isSameKey(each, key));
-    if (word === "press") this.own.push(key);
+    await this.sendCommand(lineOfKey(word, key));
+    this.heldKeys = this.heldKeys.filter((each) => !isSameKey(each, key));
+    if (word === "press") this.heldKeys.push(key);
   }
 
   /**
@@ -171,11 +171,11 @@ export class Panel {
   /** Runs one instruction. */
   async step() {
     this.isPaused = true;
-    this.why = "";
+    this.pauseReason = "";
     if (this.printing) this.printing.take([await this.ask(this.printing.queries(STEP_CYCLES))], this.cycles);
-    const run = readRun(await this.act("step"));
+    const run = readRun(await this.sendCommand("step"));
     this.cycles += run ? run.cycles : 0;
-    if (run && run.end !== "end") this.why = REASONS[run.end];
+    if (run && run.end !== "end") this.pauseReason = REASONS[run.end];
   }
 
   /** Returns the codes that the printer has received. */
@@ -193,9 +193,9 @@ export class Panel {
    */
   async type({ kind, text }, now) {
     this.message = "";
-    const act = kind === "character" ? ACTS[text] : undefined;
-    if (act) await act(this, now);
-    else if (kind === "arrow") this.moveRam(text === "right" ? 1 : -1);
+    const action = kind === "character" ? KEY_ACTIONS[text] : undefined;
+    if (action) await action(this, now);
+    else if (kind === "arrow") this.scrollRam(text === "right" ? 1 : -1);
     else if (kind === "character") await this.typeKey(text);
     else if (kind === "sequence") this.message = say.NOTHING_HERE;
   }
@@ -204,7 +204,7 @@ export class Panel {
    * Scrolls the RAM chips.
    * @param {number} by the number of chips
    */
-  moveRam(by) {
+  scrollRam(by) {
     const last = this.seen.chips.length - 1;
     this.firstChip = Math.max(0, Math.min(last, this.firstChip + by));
   }
@@ -217,7 +217,7 @@ export class Panel {
     const found = keyOfKeyboard(this.keys, typed);
     if (!found) this.message = /\p{C}/u.test(typed) ? say.NOTHING_HERE : say.noKey(typed);
     else if (this.isPaused) await this.toggle(found.key);
-    else if (this.queue.changes.length < MOST_CHANGES) {
+    else if (this.queue.changes.length < MAX_CHANGES) {
       this.queue.press(found.key);
       this.queue.release(found.key);
     }
@@ -235,13 +235,13 @@ export class Panel {
   /** Sets a breakpoint at the counter, or deletes it. */
   async toggleBreakpoint() {
     const { counter } = this.seen;
-    await this.act(`${this.seen.isAtBreakpoint ? "unbreak" : "break"} 0x${hex(counter, 3)}`);
+    await this.sendCommand(`${this.seen.isAtBreakpoint ? "unbreak" : "break"} 0x${hex(counter, 3)}`);
   }
 
   /** Ends the panel: completes the queued key presses while time runs, and releases the keys that the panel holds down. */
   async end() {
-    while (!this.isPaused && this.queue.changes.length > 0) await this.goOnFor(LONGEST_RUN);
-    for (const key of this.own) await this.act(lineOfKey("release", key));
+    while (!this.isPaused && this.queue.changes.length > 0) await this.runNextEvent(LONGEST_RUN);
+    for (const key of this.heldKeys) await this.sendCommand(lineOfKey("release", key));
     this.isEnded = true;
   }
 }
@@ -255,13 +255,13 @@ const end = (panel) => panel.end();
  * The actions of the keys that do not belong to the board: blank, Enter, Tab, Ctrl-T, Ctrl-R, Ctrl-C and Ctrl-D.
  * @type {Record<string, (panel: Panel, now: number) => Promise<unknown> | void>}
  */
-const ACTS = {
-  " ": (panel, now) => (panel.isPaused ? panel.goOn(now) : panel.pause("")),
+const KEY_ACTIONS = {
+  " ": (panel, now) => (panel.isPaused ? panel.resume(now) : panel.pause("")),
   "\r": step,
   "\n": step,
   "\t": (panel) => panel.toggleBreakpoint(),
-  "\u0014": (panel) => panel.act(`test ${panel.seen.test === "0" ? 1 : 0}`),
-  "\u0012": (panel) => panel.act("reset"),
+  "\u0014": (panel) => panel.sendCommand(`test ${panel.seen.test === "0" ? 1 : 0}`),
+  "\u0012": (panel) => panel.sendCommand("reset"),
   "\u0003": end,
   "\u0004": end,
 };

@@ -10,7 +10,7 @@ import * as say from "../../words/server.js";
  * @typedef {{ board: string, program: string, tests: string[], properties: string[], speed: string }} ProjectFolder
  *
  * Checks that a path names a file in the folder. Returns an error message, "" if it does.
- * @typedef {(path: string) => string} LookAtFile
+ * @typedef {(path: string) => string} CheckFile
  */
 
 /** The error of a folder that is not a valid project. Its message names the file, the line and the error. */
@@ -52,18 +52,18 @@ function pathsOf({ board, program, tests, properties, speed }) {
 /**
  * Returns the project in a project file; throws ProjectFault for its first error.
  * @param {Uint8Array} bytes
- * @param {LookAtFile} look
+ * @param {CheckFile} checkFile
  * @param {string} file the name of the project file in error messages
  * @returns {ProjectFolder}
  */
-export function readProject(bytes, look, file = PROJECT_FILE) {
+export function readProject(bytes, checkFile, file = PROJECT_FILE) {
   const words = faultOfBytes(bytes);
   if (words) throw new ProjectFault(file, words);
   const { names, faults } = readProjectToml(new TextDecoder().decode(bytes));
   if (!names) throw new ProjectFault(file, faults[0].words, faults[0].line);
   for (const { path, key, line } of filesNamed(names).sort((one, other) => one.line - other.line)) {
-    const lack = look(path);
-    if (lack) throw new ProjectFault(file, `${key}: ${lack}`, line);
+    const error = checkFile(path);
+    if (error) throw new ProjectFault(file, `${key}: ${error}`, line);
   }
   return pathsOf(names);
 }

@@ -29,8 +29,8 @@ const KEYS = new Map([
   ["properties", say.PROPERTIES_ARE],
   ["speed", say.speedIs(SPEED_NAMES.slice(0, -1).join(", "), SPEED_NAMES[SPEED_NAMES.length - 1])],
 ]);
-const LISTS = ["tests", "properties"];
-const NEEDED = ["board", "program"];
+const LIST_KEYS = ["tests", "properties"];
+const REQUIRED = ["board", "program"];
 
 /**
  * Returns an error at a range.
@@ -63,14 +63,14 @@ function faultOfPath(key, path) {
  * @returns {Fault[]}
  */
 function faultsOfKey({ name, line, from, to, value }) {
-  const wanted = KEYS.get(name);
-  if (!wanted) return [faultAt({ line, from, to }, say.noKey(name))];
+  const description = KEYS.get(name);
+  if (!description) return [faultAt({ line, from, to }, say.noKey(name))];
   const { inner } = value;
-  const values = LISTS.includes(name) && Array.isArray(inner) ? inner : [value];
-  if (LISTS.includes(name) !== Array.isArray(inner)) return [faultAt(value, wanted)];
+  const values = LIST_KEYS.includes(name) && Array.isArray(inner) ? inner : [value];
+  if (LIST_KEYS.includes(name) !== Array.isArray(inner)) return [faultAt(value, description)];
   return values.flatMap((each) => {
-    if (typeof each.inner !== "string") return [faultAt(each, wanted)];
-    if (name === "speed") return SPEEDS.some(({ id }) => id === each.inner) ? [] : [faultAt(each, wanted)];
+    if (typeof each.inner !== "string") return [faultAt(each, description)];
+    if (name === "speed") return SPEEDS.some(({ id }) => id === each.inner) ? [] : [faultAt(each, description)];
     const words = faultOfPath(name, each.inner);
     return words ? [faultAt(each, words)] : [];
   });
@@ -81,7 +81,7 @@ function faultsOfKey({ name, line, from, to, value }) {
  * @param {Key[]} keys
  * @returns {Fault[]}
  */
-function faultsOfTwice(keys) {
+function faultsOfDuplicates(keys) {
   /** @type {Map<string, number>} */
   const lines = new Map();
   return keys.flatMap((key) => {
@@ -117,14 +117,14 @@ export function readProjectToml(text) {
     ...faults.map((fault) => ({ ...fault, number: 0 })),
     ...entries.map((entry) => faultAt(entry, say.NO_TABLES)),
     ...[...others, ...lists].flatMap(faultsOfKey),
-    ...faultsOfTwice(keys),
+    ...faultsOfDuplicates(keys),
   ];
   if (found.length === 0) {
-    const missing = NEEDED.filter((name) => !keys.some((key) => key.name === name));
+    const missing = REQUIRED.filter((name) => !keys.some((key) => key.name === name));
     found.push(...missing.map((name) => faultAt({ line: 1, from: 0, to: 0 }, say.missing(name, KEYS.get(name)))));
   }
   if (found.length > 0) return { names: null, faults: found.sort((one, other) => one.line - other.line) };
-  const [[board], [program], tests, properties] = ["board", "program", ...LISTS].map((name) => filesOf(keys, name));
+  const [[board], [program], tests, properties] = ["board", "program", ...LIST_KEYS].map((name) => filesOf(keys, name));
   const speed = keys.find(({ name }) => name === "speed");
   return { names: { board, program, tests, properties, speed: speed ? String(speed.value.inner) : "" }, faults: [] };
 }

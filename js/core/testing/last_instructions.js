@@ -51,7 +51,7 @@ export function lastInstructions(session, { board, map }) {
   const lines = trace.secondCycle(file, elapsed);
   done.slice(begin).forEach(({ line, cycles }, at) => {
     const left = at === 0 ? cycles - from : cycles;
-    if (line === "run") lines.push(...trace.ofRun(file, left, elapsed));
+    if (line === "run") lines.push(...trace.runLines(file, left, elapsed));
     else lines.push(`          ${line}`);
     engine.serve(file, line === "run" ? runLines(left) : `${line}\n`, file);
     elapsed += left;

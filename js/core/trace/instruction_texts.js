@@ -16,7 +16,7 @@ import { wordsOf } from "../engine/rom_codes.js";
 
 /** The width of an instruction's text, without and with the source. */
 const WIDTH = 25;
-const WIDTH_OF_SOURCE = 42;
+const SOURCE_WIDTH = 42;
 const TAB = 8;
 /** A listing line with JUN, JMS, JCN or ISZ, whose target is last. */
 const JUMP = /^(?=.{10}(?:JUN|JMS|JCN|ISZ) )(.{7}[^ ].*)0x([0-9A-F]{3})$/;
@@ -59,7 +59,7 @@ const TWO_WORDS = {
  * @param {number} code the first byte
  * @param {number} second the second byte
  */
-function textRoundTheEnd(code, second) {
+function wrappedText(code, second) {
   const digits = hex(second, 2);
   const [name, operandsOf] = TWO_WORDS[code >> 4];
   return [hex(LAST_ADDRESS, 3), hex(code, 2), digits, name, operandsOf(code % 16, digits)].join(" ");
@@ -71,7 +71,7 @@ export class InstructionTexts {
     /** The first bytes of the instructions whose texts are read. */
     this.codes = new Uint8Array(ADDRESSES);
     this.names = names;
-    this.width = names && names.source ? WIDTH_OF_SOURCE : WIDTH;
+    this.width = names && names.source ? SOURCE_WIDTH : WIDTH;
     /** @type {Map<number, { label: string, text: string }>} the texts of instructions by their addresses */
     this.known = new Map();
   }
@@ -83,15 +83,15 @@ export class InstructionTexts {
    * @param {number[]} addresses
    */
   read(engine, state, addresses) {
-    const news = addresses.filter((address) => !this.known.has(address));
-    if (news.length === 0) return;
+    const unread = addresses.filter((address) => !this.known.has(address));
+    if (unread.length === 0) return;
     // An instruction at the last address can have its second byte at address 0.
-    const listed = news.includes(LAST_ADDRESS) ? [...news, 0] : news;
+    const listed = unread.includes(LAST_ADDRESS) ? [...unread, 0] : unread;
     const { answers } = engine.ask(state, joinLines(listed.map((address) => `list 0x${hex(address, 3)} 1`)));
     listed.forEach((address, at) => {
       this.codes[address] = parseInt(answers[at].slice(...CODE_IN_LINE), 16);
     });
-    news.forEach((address, at) => this.known.set(address, this.linesAt(address, answers[at])));
+    unread.forEach((address, at) => this.known.set(address, this.linesAt(address, answers[at])));
   }
 
   /**
@@ -101,8 +101,8 @@ export class InstructionTexts {
    */
   linesAt(address, listed) {
     const { codes, names } = this;
-    const isCut = address === LAST_ADDRESS && wordsOf(codes[address]) === 2;
-    const whole = isCut ? textRoundTheEnd(codes[address], codes[0]) : listed;
+    const isWrapped = address === LAST_ADDRESS && wordsOf(codes[address]) === 2;
+    const whole = isWrapped ? wrappedText(codes[address], codes[0]) : listed;
     if (!names) return { label: "", text: `${whole.padEnd(this.width)}  ` };
     const text = this.sourceText(this.withTarget(whole), address);
     const [label = ""] = names.map.labelsAt(address);
@@ -138,7 +138,7 @@ export class InstructionTexts {
    * @param {number} cycles before the instruction
    * @param {number} address
    */
-  at(cycles, address) {
+  instructionLine(cycles, address) {
     const { label, text } = /** @type {{ label: string, text: string }} */ (this.known.get(address));
     return `${label}${cyclesText(cycles)}${text}`;
   }

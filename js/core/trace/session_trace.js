@@ -31,10 +31,10 @@ const NO_STOP = "end";
 async function runOn(engine, state, cycles, yieldToMessages) {
   for (let done = 0; done < cycles;) {
     const [answer] = engine.serve(state, `run ${Math.min(LONGEST_RUN, cycles - done)}\n`, state).answers;
-    const ran = readRun(answer);
-    if (!ran) throw new Error(`the bench answered a run by: ${answer}`);
-    done += ran.cycles;
-    if (ran.end !== NO_STOP) return { cycles: done, end: ran.end };
+    const run = readRun(answer);
+    if (!run) throw new Error(`the bench answered a run by: ${answer}`);
+    done += run.cycles;
+    if (run.end !== NO_STOP) return { cycles: done, end: run.end };
     await yieldToMessages();
   }
   return { cycles, end: NO_STOP };
@@ -95,11 +95,11 @@ export class SessionTrace {
     let stop = { at: from, end };
     yield trace.secondCycle(state, from);
     for (let piece = FIRST_PIECE; stop.at < to && stop.end === end; piece = PIECE) {
-      const some = Math.min(piece, to - stop.at);
-      yield trace.ofRun(state, some, stop.at);
-      const ran = await runOn(engine, state, some, this.yieldToMessages);
-      const at = stop.at + ran.cycles;
-      stop = { at, end: at < to ? ran.end : end };
+      const count = Math.min(piece, to - stop.at);
+      yield trace.runLines(state, count, stop.at);
+      const run = await runOn(engine, state, count, this.yieldToMessages);
+      const at = stop.at + run.cycles;
+      stop = { at, end: at < to ? run.end : end };
     }
     if (stop.end !== NO_STOP) yield [`${trace.next(state, stop.at)}${say.stopsBefore(stop.end)}`];
   }

@@ -88,19 +88,19 @@ export class TraceLines {
    * @param {number} cycles of the run; the bench limits them
    * @param {number} elapsed the cycles before the run
    */
-  ofRun(state, cycles, elapsed) {
+  runLines(state, cycles, elapsed) {
     const { engine, texts, board } = this;
-    const begun = new Answers(engine.ask(state, `count ${cycles}\n`).answers).takeCounts().map(({ address }) => address);
-    texts.read(engine, state, begun);
-    const codes = new Set(begun.map((address) => texts.codes[address]));
+    const executed = new Answers(engine.ask(state, `count ${cycles}\n`).answers).takeCounts().map(({ address }) => address);
+    texts.read(engine, state, executed);
+    const codes = new Set(executed.map((address) => texts.codes[address]));
     const places = tracePlaces(board, SHOWN_REGISTERS, (code) => codes.has(code));
     const groups = upTo(Math.ceil(places.length / MOST_PLACES)).map((at) => places.slice(at * MOST_PLACES, (at + 1) * MOST_PLACES));
-    const asked = [...groups.map((group) => group.map(({ name }) => name)), MAIN_PLACES];
-    const questions = asked.map((names) => `trace ${cycles} ${names.join(" ")}\n`).join("");
+    const queries = [...groups.map((group) => group.map(({ name }) => name)), MAIN_PLACES];
+    const questions = queries.map((names) => `trace ${cycles} ${names.join(" ")}\n`).join("");
     const answers = new Answers(engine.ask(state, `regs\n${questions}`).answers);
     const isOwed = valueIn(answers.take(), "owed") === "1";
-    const followed = groups.map((group) => followedBy(group, answers.takeTrace()));
-    return this.linesOf(followed, answers.takeTrace(), { elapsed, due: Number(isOwed) });
+    const groupsWithRows = groups.map((group) => groupOf(group, answers.takeTrace()));
+    return this.linesOf(groupsWithRows, answers.takeTrace(), { elapsed, due: Number(isOwed) });
   }
 
   /**
@@ -113,24 +113,25 @@ export class TraceLines {
     /** @type {string[]} */
     const lines = [];
     let { row } = main;
-    let next = due;
-    const put = (/** @type {number} */ at, /** @type {number} */ address, /** @type {string} */ after) => {
+    let nextCycle = due;
+    const addLine = (/** @type {number} */ at, /** @type {number} */ address, /** @type {string} */ after) => {
       const registers = after === row ? "" : changedRegisters(after, row);
       const changes = groups.reduce((sum, group) => sum + changesIn(group, group.rows.get(at)), registers);
       row = after;
-      lines.push(`${this.texts.at(elapsed + at, address)}acc ${row[IN_ROW.acc]} cy ${row[IN_ROW.cy]}${changes && ` ${changes}`}`);
-      next = at + cyclesOf(this.texts.codes[address]);
+      const start = this.texts.instructionLine(elapsed + at, address);
+      lines.push(`${start}acc ${row[IN_ROW.acc]} cy ${row[IN_ROW.cy]}${changes && ` ${changes}`}`);
+      nextCycle = at + cyclesOf(this.texts.codes[address]);
     };
     // A jump to itself that changes nothing has no row: it repeats up to the next row.
-    const stand = (/** @type {number} */ to) => {
-      while (next < to) put(next, parseInt(row.slice(IN_ROW.pc, IN_ROW.acc - 1), 16), row);
+    const repeatJump = (/** @type {number} */ to) => {
+      while (nextCycle < to) addLine(nextCycle, parseInt(row.slice(IN_ROW.pc, IN_ROW.acc - 1), 16), row);
     };
     for (const line of main.lines) {
       const { cycles: at, address, row: after } = readTraced(line);
-      stand(at);
-      put(at, address, after);
+      repeatJump(at);
+      addLine(at, address, after);
     }
-    stand(main.cycles);
+    repeatJump(main.cycles);
     return lines;
   }
 
@@ -143,7 +144,7 @@ export class TraceLines {
     const { engine, texts } = this;
     const address = parseInt(valueIn(engine.ask(state, "regs\n").answers[0], "pc"), 16);
     texts.read(engine, state, [address]);
-    return texts.at(elapsed, address);
+    return texts.instructionLine(elapsed, address);
   }
 }
 
@@ -153,7 +154,7 @@ export class TraceLines {
  * @param {Trace} trace
  * @returns {Group}
  */
-function followedBy(places, { row, lines }) {
+function groupOf(places, { row, lines }) {
   const rows = new Map(lines.map(readTraced).map(({ cycles, row: after }) => [cycles, after]));
   return { places, values: valuesOf(row), rows };
 }

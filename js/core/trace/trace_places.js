@@ -10,7 +10,7 @@ import { WRR } from "../engine/rom_codes.js";
  * @typedef {{ name: string, textOf: (value: string) => string }} TracePlace
  *
  * Returns whether a run executes an instruction with this code.
- * @typedef {(code: number) => boolean} Begins
+ * @typedef {(code: number) => boolean} Executes
  */
 
 const WRM = 0xE0;
@@ -32,13 +32,13 @@ function place(name, textOf = (value) => ` ${name} ${value}`) {
  * Returns the places of a RAM chip that the executed instructions can write.
  * @param {number} bank
  * @param {number} chip
- * @param {Begins} begins
+ * @param {Executes} executes
  */
-function placesOfChip(bank, chip, begins) {
-  const characters = begins(WRM) ? upTo(64).map((at) => place(`ram.${bank}.0x${hex(chip * 64 + at, 2)}`)) : [];
-  const status = upTo(4).filter((kind) => begins(WR0 + kind))
+function placesOfChip(bank, chip, executes) {
+  const characters = executes(WRM) ? upTo(64).map((at) => place(`ram.${bank}.0x${hex(chip * 64 + at, 2)}`)) : [];
+  const status = upTo(4).filter((kind) => executes(WR0 + kind))
     .flatMap((kind) => upTo(4).map((at) => place(`st.${bank}.${chip * 4 + at}.${kind}`)));
-  const port = begins(WMP) ? [place(`ram${bank}.${chip}`, (value) => ` out ${bank}.${chip} ${value}`)] : [];
+  const port = executes(WMP) ? [place(`ram${bank}.${chip}`, (value) => ` out ${bank}.${chip} ${value}`)] : [];
   return [...characters, ...status, ...port];
 }
 
@@ -57,18 +57,18 @@ function placesOfRoms({ roms }) {
  * Returns the places that the executed instructions can change.
  * @param {Board} board
  * @param {number} register the first register that needs a place
- * @param {Begins} begins
+ * @param {Executes} executes
  * @returns {TracePlace[]}
  */
-export function tracePlaces(board, register, begins) {
+export function tracePlaces(board, register, executes) {
   return [
     ...upTo(16).slice(register).map((at) => place(`r${at}`)),
     place("dcl"),
     place("ret", (value) => ` ret ${value.replace(/,/g, " ")}`),
-    ...board.banks.flatMap(({ bank, chips }) => upTo(chips).flatMap((chip) => placesOfChip(bank, chip, begins))),
-    ...(begins(WRR) ? placesOfRoms(board) : []),
+    ...board.banks.flatMap(({ bank, chips }) => upTo(chips).flatMap((chip) => placesOfChip(bank, chip, executes))),
+    ...(executes(WRR) ? placesOfRoms(board) : []),
     // Any output port can clock a chain.
-    ...(begins(WMP) || begins(WRR) ? board.chains.map((_, at) => place(`chain${at}`)) : []),
+    ...(executes(WMP) || executes(WRR) ? board.chains.map((_, at) => place(`chain${at}`)) : []),
     place("lamps", (value) => ` lamps ${value.replace(/^-$/, "")}`),
   ];
 }

@@ -1,7 +1,7 @@
 // The help: the manual's tables, with a search.
 
 import { Cell, block, button, descendant, element, field, onClick } from "../ui/dom.js";
-import { piecesOf, searched } from "../../core/help/manual.js";
+import { piecesOf, searchManual } from "../../core/help/manual.js";
 import * as say from "../../words/help.js";
 
 /**
@@ -78,7 +78,7 @@ export class HelpView {
     const wanted = this.search.value.trim();
     if (wanted === this.drawn) return;
     this.drawn = wanted;
-    const found = searched(this.manual, wanted);
+    const found = searchManual(this.manual, wanted);
     this.sections.replaceChildren(...found.map(({ title, tables }) => (
       element("details", { open: wanted !== "" }, element("summary", {}, title), ...tables.map((table) => tableOf(table, title))))));
     const count = found.reduce((sum, { tables }) => sum + tables.reduce((rows, table) => rows + table.rows.length, 0), 0);
