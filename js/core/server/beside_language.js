@@ -1,4 +1,4 @@
-// An editor's requests about a text of tests or of properties, which belongs to a board and a program and uses their names.
+// The common part of the handlers for test files and property files. Both use the names of a board and a program.
 
 import { Face } from "../board/face.js";
 import { prepare } from "../testing/prepared.js";
@@ -18,21 +18,22 @@ import * as say from "../../words/server.js";
  * @typedef {import("./open_text.js").OpenText} OpenText
  * @typedef {import("./lsp_protocol.js").Position} Position
  *
- * A text with its address; the text is null if it cannot be read.
+ * A text with its URI; the text is null if it cannot be read.
  * @typedef {{ uri: string, text: string | null }} NamedText
  *
- * The context of a text: a board, a program, and the texts of tests up to it.
+ * The texts that a test file or a property file depends on: the board, the program, and the test files up to this one.
  * @typedef {{ board: NamedText, program: NamedText, tests: NamedText[] }} BesideTexts
  */
 
-/** Kinds of completions. */
+/** The protocol's kinds of completions. */
 const OF_KEYWORD = 14;
 const OF_VALUE = 12;
 
 /**
- * Returns an error as an editor shows it: at the word at a column, which the message then need not name, or in the whole line.
+ * Returns an error with its range: the word at its column, or the whole line if the column is unknown. Removes the column from the message
+ * if the range shows it.
  * @param {string[]} lines
- * @param {{ line: number, column: number, words: string }} fault its line from 1, its column from 0, -1 if none is known
+ * @param {{ line: number, column: number, words: string }} fault the line counts from 1, the column from 0; column -1 if unknown
  * @returns {ShownFault}
  */
 export function faultInLine(lines, { line, column, words: whole }) {
@@ -45,7 +46,10 @@ export function faultInLine(lines, { line, column, words: whole }) {
   return { number: 0, line, from: column, to: column + Math.max(1, word.length), words, isError: true };
 }
 
-/** @param {string} uri */
+/**
+ * Returns the file name in a URI, without its folder.
+ * @param {string} uri
+ */
 export function fileNameOf(uri) {
   const name = uri.replace(/^.*\//, "");
   try {
@@ -63,12 +67,12 @@ export class BesideLanguage {
   constructor(engine, besideOf) {
     this.engine = engine;
     this.besideOf = besideOf;
-    /** @type {{ texts: Texts, prepared: ReturnType<typeof prepare> } | null} what was prepared last */
+    /** @type {{ texts: Texts, prepared: ReturnType<typeof prepare> } | null} the last result of `prepare`, with its texts */
     this.last = null;
   }
 
   /**
-   * Returns board and program in a session, with their names, or their errors.
+   * Returns a session with board and program, and their names, or their errors. Repeats the last result if the texts are the same.
    * @param {Texts} texts
    */
   prepared(texts) {
@@ -78,7 +82,7 @@ export class BesideLanguage {
   }
 
   /**
-   * Why a text cannot be read with names of its board and program; null if it can.
+   * Returns the error of a missing or invalid board or program; null if both are valid.
    * @param {BesideTexts} beside
    * @returns {ShownFault | null}
    */
@@ -93,7 +97,7 @@ export class BesideLanguage {
   }
 
   /**
-   * The names of board and program; also while these have errors.
+   * Returns the names of keys, lamps and labels, even if board or program have errors.
    * @param {OpenText} open
    * @returns {TestNames}
    */
@@ -107,6 +111,7 @@ export class BesideLanguage {
   }
 
   /**
+   * Adds the protocol's kinds to the entries of a completion.
    * @param {import("../text/completion.js").Completion} completion
    */
   shown({ from, to, list }) {
@@ -114,7 +119,8 @@ export class BesideLanguage {
   }
 
   /**
-   * @param {string} words
+   * Returns a hover with help for the word at a position; null if there is no help.
+   * @param {string} words the help, "" for none
    * @param {string[]} lines
    * @param {Position} position
    */
@@ -127,7 +133,7 @@ export class BesideLanguage {
   }
 
   /**
-   * The definition of a label of the program.
+   * Returns the location of the program's label that a position names; null if there is none.
    * @param {OpenText} open
    * @param {Position} position
    */

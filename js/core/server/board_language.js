@@ -1,4 +1,4 @@
-// An editor's requests about a board's text, answered by the modules that the page's own editor has.
+// The handlers of an editor's requests about a board's text. They use the same modules as the page's editor.
 
 import { Face } from "../board/face.js";
 import { AllFaultsOfTexts, faultsOfFace } from "../text/all_faults.js";
@@ -21,7 +21,7 @@ import * as say from "../../words/server.js";
  * @typedef {import("./token_codes.js").ColouredWord} ColouredWord
  */
 
-/** Kinds of symbols and of completions. */
+/** The protocol's kinds of symbols and of completions. */
 const OBJECT = 19;
 const OF_PROPERTY = 10;
 
@@ -63,7 +63,7 @@ export class BoardLanguage {
   }
 
   /**
-   * Returns the chip of a line, or the named chain.
+   * Returns the range of the chip or chain that the value at a position names; null if there is none.
    * @param {OpenText} open
    * @param {Position} position
    */
@@ -75,7 +75,7 @@ export class BoardLanguage {
   }
 
   /**
-   * Returns all that depends on the chip or chain at the caret.
+   * Returns the ranges of all values that name the chip or chain at a position.
    * @param {OpenText} open
    * @param {Position} position
    * @param {boolean} withDefinition
@@ -100,7 +100,7 @@ export class BoardLanguage {
    * @param {string} trigger
    */
   completion({ lines }, { line, character }, trigger) {
-    // An editor that asks by itself after a blank is answered only at the beginning of a value.
+    // After a blank the editor asks automatically. The answer is empty unless a value begins there.
     const begun = lines[line].slice(Math.max(0, character - 9), character);
     if (trigger === " " && !/=[ \t]*$/.test(begun)) return { from: character, to: character, list: [] };
     const found = completeBoard(lines, line, character, this.tables);
@@ -108,7 +108,7 @@ export class BoardLanguage {
   }
 
   /**
-   * Returns the parts of the board, each up to the next one.
+   * Returns the parts of the board, each with the range of its table.
    * @param {OpenText} open
    */
   symbols({ lines, text }) {

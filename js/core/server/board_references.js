@@ -1,4 +1,4 @@
-// The parts of a board in its text, and the values that name them: a lamp's line leads to its chip.
+// The parts of a board in its text (chips and chains), and the values that name them, such as the line of a lamp.
 
 import { readBoardText } from "../text/board_reader.js";
 import * as say from "../../words/server.js";
@@ -6,15 +6,16 @@ import * as say from "../../words/server.js";
 /**
  * @typedef {import("../text/board_reader.js").Entry} Entry
  * @typedef {import("../text/board_reader.js").Value} Value
- * @typedef {Value & { key: string, entry: Entry }} KeyedValue a value that is no array, with its key and its table
+ * @typedef {Value & { key: string, entry: Entry }} KeyedValue a value that is not an array, with its key and its table
  */
 
+/** The name of a line or a chain bit, such as `rom0.2`, `ram0.1.3` or `chain0.5`. */
 const LINE = /^(rom|ram|chain)(\d+)\.(\d+)(?:\.(\d+))?$/;
-/** @type {Record<string, string>} the key by which parts are distinguished */
+/** @type {Record<string, string>} the key with the number of a chip, by the name of its table */
 const NUMBERS = { rom: "chip", ram: "bank" };
 
 /**
- * Returns the value that a table has under a key.
+ * Returns the value of a key in a table; undefined if the table lacks the key.
  * @param {Entry} entry
  * @param {string} name
  */
@@ -35,9 +36,9 @@ export class BoardReferences {
       const inner = Array.isArray(value.inner) ? value.inner : [value];
       return inner.map((each) => ({ ...each, key: name, entry }));
     }));
-    /** @type {Map<Entry, number>} how many tables of the same name are before each */
+    /** @type {Map<Entry, number>} the index of each table among those with the same name */
     this.numbers = new Map();
-    /** @type {Map<string, Entry>} the first table of each chip, by `rom 3`, `ram 0` */
+    /** @type {Map<string, Entry>} the first table of each chip, by a name such as `rom 3` or `ram 0` */
     this.chips = new Map();
     /** @type {Map<string, number>} */
     const counts = new Map();
@@ -53,9 +54,9 @@ export class BoardReferences {
   }
 
   /**
-   * Returns the value at a place; null if there is none.
+   * Returns the value at a position; null if there is none.
    * @param {number} line from 1
-   * @param {number} at
+   * @param {number} at the column, from 0
    */
   valueAt(line, at) {
     return this.values.find((value) => value.line === line && value.from <= at && at <= value.to) || null;
@@ -76,7 +77,7 @@ export class BoardReferences {
   }
 
   /**
-   * Returns the chip or chain in whose text a line is; null if there is none.
+   * Returns the chip or chain whose table contains a line; null if there is none.
    * @param {number} line from 1
    */
   partAt(line) {
@@ -85,7 +86,7 @@ export class BoardReferences {
   }
 
   /**
-   * Returns the name of a part, by its number.
+   * Returns the name of a part with its number, such as `rom 3` or `lamp 0`.
    * @param {Entry} entry
    */
   nameOf(entry) {
@@ -97,7 +98,7 @@ export class BoardReferences {
   }
 
   /**
-   * Returns the line that a value names, its lamp, and the place of its chip; "" if it names none.
+   * Returns the hover text of a value that names a line: the line, its lamp, and where its chip is; "" if the value does not name a line.
    * @param {KeyedValue} value
    * @param {import("../board/face.js").Face} face
    */

@@ -1,30 +1,35 @@
-// The abilities of the server, as it announces them, and those of its client.
+// The capabilities of the server, and those of its client that the server uses.
 
 import { fieldOf } from "./framing.js";
 import { MODIFIERS, TYPES } from "./token_codes.js";
 
 /**
- * The abilities of a client: whether it shows Markdown and asks for diagnostics itself, what it refreshes on request, and its commands for
- * clicks.
+ * The capabilities of a client:
+ * - `showsMarkdown`: true if a hover can be Markdown;
+ * - `pulls`: true if the client requests diagnostics itself;
+ * - `refreshesDiagnostics`: true if it requests them again on demand;
+ * - `commands`: its commands for code lenses;
+ * - `folders`: the URIs of its open folders.
  * @typedef {{ showsMarkdown: boolean, pulls: boolean, refreshesDiagnostics: boolean, commands: Set<string>, folders: string[] }} Client
  */
 
 const INCREMENTAL = 2;
-/** The command with which clients that have it show places. */
+/** The client's command that shows references. */
 export const SHOW_REFERENCES = "editor.action.showReferences";
-/** The command that the server runs. */
+/** The server's command that runs a test. */
 export const RUN_TEST = "mcs4.runTest";
 
 /**
- * Returns the value of a message at a path.
+ * Returns the value at a path in a message; undefined if there is none.
  * @param {any} value
- * @param {string[]} path
+ * @param {string[]} path the names of nested fields
  */
 function fieldAt(value, ...path) {
   return path.reduce((inner, name) => fieldOf(inner, name), value);
 }
 
 /**
+ * Returns a list, or an empty list for any other value.
  * @param {any} value
  * @returns {any[]}
  */
@@ -33,7 +38,7 @@ function listOf(value) {
 }
 
 /**
- * Returns the abilities of a client, from its request `initialize`.
+ * Reads the capabilities of a client from its request `initialize`.
  * @param {any} params
  * @returns {Client}
  */
@@ -50,6 +55,7 @@ export function clientOf(params) {
 }
 
 /**
+ * Returns the capabilities of the server for a client.
  * @param {Client} client
  * @returns {object}
  */

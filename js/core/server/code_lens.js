@@ -1,11 +1,11 @@
-// The commands above a line, as editors accept them: a click shows places if the client has a command for that, or runs a test by the
-// server.
+// Code lenses, the commands above a line. A click runs a test on the server, or shows references if the client has a command for that.
 
 import { RUN_TEST, SHOW_REFERENCES } from "./capabilities.js";
 
 /** @typedef {import("./language.js").Lens} Lens */
 
 /**
+ * Returns a code lens in the form of the protocol.
  * @param {Lens} lens
  * @param {string} uri
  * @param {Set<string>} commands of the client

@@ -1,4 +1,5 @@
-// Requests, answers and notifications over a stream, in the order of the protocol: first `initialize`, last `shutdown` and `exit`.
+// A connection in the language server protocol (LSP): requests, responses and notifications. `initialize` must be first, `shutdown` and
+// `exit` last.
 
 import { fieldOf } from "./framing.js";
 import { MessageStream } from "./message_stream.js";
@@ -11,15 +12,17 @@ import * as say from "../../words/server.js";
 /**
  * @typedef {number | string | null} Id
  *
- * A request that is not answered yet. A client that cancels it is answered at once; the work looks at `isCancelled` and ends.
+ * A request without a response yet. If the client cancels it, the response is sent at once; long work checks `isCancelled` and ends.
  * @typedef {{ isCancelled: boolean }} Asked
- * @typedef {(params: any, asked: Asked) => unknown} Act returns the result, or a promise of it
  *
- * The service: requests and notifications by their methods, and the action at the end.
+ * A handler: returns the result of a request, or a promise of it.
+ * @typedef {(params: any, asked: Asked) => unknown} Act
+ *
+ * The handlers of requests and of notifications, by their methods.
  * @typedef {{ requests: Record<string, Act>, notifications: Record<string, Act> }} Served
  */
 
-/** Kinds of messages that are shown. */
+/** The protocol's types of messages. */
 const ERROR = 1;
 const INFORMATION = 3;
 
@@ -28,13 +31,13 @@ function isId(id) {
   return typeof id === "string" || typeof id === "number" || id === null;
 }
 
-/** @type {Asked} for work that no request asks for */
+/** @type {Asked} for handlers of notifications, which cannot be cancelled */
 const NOBODY = { isCancelled: false };
 
 export class Connection extends MessageStream {
   /**
    * @param {(bytes: Uint8Array) => void} write
-   * @param {(status: number) => void} end the process
+   * @param {(status: number) => void} end ends the process
    */
   constructor(write, end) {
     super(write);
@@ -43,9 +46,9 @@ export class Connection extends MessageStream {
     this.served = { requests: {}, notifications: {} };
     /** @type {"new" | "open" | "shut"} */
     this.state = "new";
-    /** @type {Map<Id, Asked>} requests that are not answered yet */
+    /** @type {Map<Id, Asked>} the requests without a response yet */
     this.waiting = new Map();
-    /** The number of requests to the client. */
+    /** The number of requests that were sent to the client. */
     this.asked = 0;
   }
 
@@ -64,7 +67,7 @@ export class Connection extends MessageStream {
       return;
     }
     const [id, method] = [fieldOf(message, "id"), fieldOf(message, "method")];
-    // A response to a request of the server: nothing depends on it.
+    // The server ignores responses to its own requests.
     if (method === undefined && isId(id) && ("result" in message || "error" in message)) return;
     if (typeof method !== "string" || fieldOf(message, "jsonrpc") !== "2.0" || !(id === undefined || isId(id))) {
       const words = say.MESSAGE_FORM;
@@ -74,7 +77,7 @@ export class Connection extends MessageStream {
   }
 
   /**
-   * Returns why a request cannot be served now; null if it can.
+   * Returns the error of a request that is not allowed in the present state; null if it is allowed.
    * @param {string} method
    */
   faultOfOrder(method) {
@@ -111,7 +114,7 @@ export class Connection extends MessageStream {
   }
 
   /**
-   * Forgets a request that is about to be answered; returns whether it was not cancelled.
+   * Removes a request before its response is sent. Returns false if it was cancelled, so that it has its response already.
    * @param {Id} id
    * @param {Asked} asked
    */
@@ -135,7 +138,7 @@ export class Connection extends MessageStream {
    */
   async notified(method, params) {
     if (method === "exit") {
-      // The answer to a shutdown in the same chunk is written first.
+      // The response to a shutdown in the same chunk is written first.
       if (this.waiting.size > 0) await null;
       this.end(this.state === "shut" ? 0 : 1);
       return;
@@ -154,7 +157,7 @@ export class Connection extends MessageStream {
   }
 
   /**
-   * Reports an error that belongs to no request.
+   * Logs an error that is not the error of a request.
    * @param {string} words
    */
   logMessage(words) {
@@ -171,7 +174,7 @@ export class Connection extends MessageStream {
   }
 
   /**
-   * Sends the client a request; its answer says no more than that it was received.
+   * Sends a request without parameters to the client. Its response is ignored.
    * @param {string} method
    */
   ask(method) {
@@ -188,6 +191,7 @@ export class Connection extends MessageStream {
   }
 
   /**
+   * Sends the response of a request that failed.
    * @param {Id} id
    * @param {unknown} thrown
    */

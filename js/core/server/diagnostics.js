@@ -1,4 +1,4 @@
-// Errors of a text as editors accept them, and their fixes.
+// Diagnostics and quick fixes: the errors of a text in the form of the protocol.
 
 import { MAX_ERRORS } from "../bench/text_judgement.js";
 import { LONGEST_KEPT, TEXT_TOO_LONG } from "../text/text_fault.js";
@@ -9,7 +9,7 @@ import * as say from "../../words/server.js";
  * @typedef {import("../text/text_fault.js").Fault} Fault
  * @typedef {import("./lsp_protocol.js").Range} Range
  *
- * An error of any text; without a number it is a warning unless marked as an error.
+ * An error in any text. Without a number it is a warning, unless `isError` is true.
  * @typedef {Fault & { isError?: boolean }} ShownFault
  * @typedef {{ range: Range, severity: number, code?: number, source: string, message: string }} Diagnostic
  */
@@ -20,7 +20,7 @@ const INFORMATION = 3;
 const SOURCE = "mcs4";
 
 /**
- * An error without a number does not invalidate the board's text: it is about its front panel.
+ * Returns the diagnostic of an error. In a board's text an error without a number is about the front panel, and only a warning.
  * @param {ShownFault} fault
  * @returns {Diagnostic}
  */
@@ -30,8 +30,9 @@ export function diagnosticOf({ number, line, from, to, words, isError = number >
 }
 
 /**
+ * Returns the diagnostics of a text. If there are more errors than it can show, or not all are known, the last one says so.
  * @param {ShownFault[]} faults
- * @param {boolean} areAll
+ * @param {boolean} areAll false if the text can have more errors
  * @returns {Diagnostic[]}
  */
 export function diagnosticsOf(faults, areAll) {
@@ -43,7 +44,7 @@ export function diagnosticsOf(faults, areAll) {
 }
 
 /**
- * Returns that a text is too long to be checked; null if it is not.
+ * Returns the error of a text that is too long to be checked; null if it is not too long.
  * @param {import("./open_text.js").OpenText} open
  * @returns {Fault | null}
  */
@@ -68,7 +69,7 @@ function touches({ line, from, to }, { start, end }) {
 }
 
 /**
- * Returns the actions that fix the errors in a range: one for each text that can replace a wrong word.
+ * Returns the quick fixes for the errors in a range: one for each text that can replace a wrong word.
  * @param {string} uri
  * @param {Fault[]} faults
  * @param {Range} range

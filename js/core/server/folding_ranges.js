@@ -1,4 +1,4 @@
-// The stretches of lines that fold away below a line, as editors take them.
+// The folding ranges of a text, in the form of the protocol.
 
 import { lastFolded } from "../text/folding.js";
 

@@ -1,22 +1,28 @@
-// Messages as a stream carries them: a head that says how many bytes follow, and these bytes; and the contents of a message.
+// The framing of messages in a stream: a header with the length of the body in bytes, and the body in JSON.
 
 import * as say from "../../words/server.js";
 
-/** Longer messages are not read, and for still longer ones the rest is not awaited. */
+/** The maximum length of a message in bytes. A longer one is skipped. */
 export const LONGEST_MESSAGE = 16777216;
+/** The maximum length of a skipped message in bytes. A longer one ends the stream. */
 export const LONGEST_SKIPPED = 16 * LONGEST_MESSAGE;
+/** The maximum length of a header in bytes. */
 const LONGEST_HEAD = 4096;
+/** The header line with the length of the body. */
 const SIZE = /^content-length[ \t]*:[ \t]*(\d{1,12})[ \t]*$/i;
 
 /**
- * An item of a stream: a message, or the note that one was left out for its size.
+ * A received message, or the size of a message that was skipped because it was too long.
  * @typedef {{ text: string } | { tooLong: number }} Received
  */
 
-/** An error of the stream: the bytes are not of the protocol, and the start of the next message is unknown. */
+/** The error of a malformed stream: the start of the next message is unknown. */
 export class StreamLost extends Error {}
 
-/** @param {string} head */
+/**
+ * Returns the length of the body in bytes; throws StreamLost if the header does not have exactly one length.
+ * @param {string} head
+ */
 function sizeIn(head) {
   const sizes = head.split("\r\n").map((line) => SIZE.exec(line)).filter((each) => each !== null);
   if (sizes.length !== 1) throw new StreamLost(say.HEAD_FORM);
@@ -25,25 +31,26 @@ function sizeIn(head) {
   return size;
 }
 
+/** Splits a stream of bytes into messages. */
 export class MessageReader {
   constructor() {
     this.decoder = new TextDecoder();
     this.head = "";
-    /** The bytes of the message that are still missing; -1 in a head. */
+    /** The number of missing bytes of the body; -1 while a header is read. */
     this.lacking = -1;
-    /** @type {Uint8Array | null} receives the message; null if it is skipped */
+    /** @type {Uint8Array | null} receives the body; null if it is skipped */
     this.body = null;
     this.size = 0;
   }
 
-  /** Returns the missing part of a message that has begun, in words; "" between messages. */
+  /** Returns the error message of a message that is incomplete at the end of the stream; "" between messages. */
   get incomplete() {
     if (this.lacking > 0) return say.messageIncomplete(this.size - this.lacking, this.size);
     return this.head === "" ? "" : say.HEAD_INCOMPLETE;
   }
 
   /**
-   * Yields the complete messages: also those before bytes that violate the protocol.
+   * Reads bytes and yields the messages that they complete. Throws StreamLost at bytes that violate the protocol.
    * @param {Uint8Array} bytes
    * @returns {Generator<Received, void>}
    */
@@ -60,9 +67,9 @@ export class MessageReader {
   }
 
   /**
-   * Continues to read a head; returns the index after it.
+   * Reads the bytes of a header. Returns the index after the header, or after the last byte.
    * @param {Uint8Array} bytes
-   * @param {number} begun
+   * @param {number} begun the index of the first byte
    */
   takeHead(bytes, begun) {
     for (let at = begun; at < bytes.length; at++) {
@@ -79,7 +86,10 @@ export class MessageReader {
     return bytes.length;
   }
 
-  /** @returns {Received} */
+  /**
+   * Ends a message.
+   * @returns {Received}
+   */
   end() {
     const { body, size } = this;
     this.lacking = -1;
@@ -89,7 +99,7 @@ export class MessageReader {
 }
 
 /**
- * A message as bytes.
+ * Returns a message with its header as bytes.
  * @param {object} message
  */
 export function framed(message) {
@@ -103,7 +113,7 @@ export function framed(message) {
 }
 
 /**
- * Returns the value of a message's object under a name; undefined if it is not an object.
+ * Returns a field of an object in a message; undefined if the value is not an object.
  * @param {any} value
  * @param {string} name
  */

@@ -1,4 +1,4 @@
-// Hints among the words of a program: the address and the cycles of a line, at its end, and the values of names.
+// Inlay hints of a program: the address and the cycles at the end of a line, and the values after names.
 
 import { hex } from "../bench/numbers.js";
 import { partsOf } from "../text/assembly.js";
@@ -11,7 +11,7 @@ import * as say from "../../words/server.js";
  */
 
 /**
- * Returns the value of a name as a hint shows it; "" for another word.
+ * Returns the hint for a name of the program; "" for another word.
  * @param {SourceMap} map
  * @param {string} word
  */
@@ -26,7 +26,7 @@ function valueOf(map, word) {
  * @param {string} text
  * @param {number} line from 0
  * @param {SourceMap} map
- * @param {(mnemonic: string) => string} cyclesOf of an instruction, "" for another word
+ * @param {(mnemonic: string) => string} cyclesOf returns the cycles of an instruction, "" for another word
  * @returns {InlayHint[]}
  */
 function hintsOfLine(text, line, map, cyclesOf) {
@@ -43,10 +43,10 @@ function hintsOfLine(text, line, map, cyclesOf) {
 }
 
 /**
- * Returns the hints of the lines of a range.
+ * Returns the hints of the lines in a range.
  * @param {string[]} lines
  * @param {SourceMap} map
- * @param {(mnemonic: string) => string} cyclesOf of an instruction, "" for another word
+ * @param {(mnemonic: string) => string} cyclesOf returns the cycles of an instruction, "" for another word
  * @param {Range} range
  * @returns {InlayHint[]}
  */

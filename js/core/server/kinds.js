@@ -1,4 +1,4 @@
-// The kinds of texts: programs, boards and project files; and the board that a program is for.
+// Finds the kind of a text (program, board, tests, properties, project file), and the project, board and program that belong to it.
 
 import { LONGEST_PROJECT_FILE, PROJECT_FILE, filesNamed, readProjectToml } from "../project/project_toml.js";
 import { readBoardText } from "../text/board_reader.js";
@@ -9,37 +9,45 @@ import * as say from "../../words/server.js";
  * @typedef {import("./open_text.js").OpenText} OpenText
  * @typedef {import("../text/text_fault.js").Fault} Fault
  *
- * Returns the text of a file by its address; null if it cannot be read, or leads out of the folder of the project that names it ("" for
- * none).
+ * Returns the text of a file; null if it cannot be read, or is outside `folder`, the folder of the project that names it ("" for none).
  * @typedef {(uri: string, folder: string) => string | null} TextOf
  *
- * @typedef {{ folder: string, board: string, program: string, tests: string[], properties: string[] }} Project the addresses of the files
- * that a project names
+ * The URIs of a project's folder and files.
+ * @typedef {{ folder: string, board: string, program: string, tests: string[], properties: string[] }} Project
+ *
+ * The URIs of the files that a test file or a property file depends on; `folder` is that of its project, "" for none.
  * @typedef {Omit<Project, "properties">} Beside
- * @typedef {{ uri: string, folder: string }} NamedBoard a board's address, and the folder of the project that names it, "" for none
+ *
+ * The URI of a board, and the folder of the project that names it, "" for none.
+ * @typedef {{ uri: string, folder: string }} NamedBoard
  */
 
 const TESTS = /\.test$/i;
 const PROPERTIES = /\.props$/i;
+/** The names of files that are not programs. */
 const OTHERS = /\.(test|props|txt|mcsp|mcs|md|json|toml|[ch])$/i;
 const TOML = /\.toml$/i;
-/** Texts that are surely the board of none. */
+/** The names of files that cannot be boards. */
 export const NO_BOARD = /\.(asm|4004|test|props)$/i;
+/** The names of tables that only boards have. */
 const TABLES = ["rom", "ram", "chain", "lamp"];
 
-/** The most folders above a program that are searched for its project. */
+/** The maximum number of folders that are searched for a project, from the text's folder upwards. */
 const MOST_FOLDERS = 8;
 
 /**
- * The address of a file in a folder, whose own address ends with `/`.
- * @param {string} folder
- * @param {string} path
+ * Returns the URI of a file in a folder.
+ * @param {string} folder its URI, which ends with `/`
+ * @param {string} path relative to the folder
  */
 export function within(folder, path) {
   return folder + path.split("/").map(encodeURIComponent).join("/");
 }
 
-/** @param {string} uri */
+/**
+ * Returns the URI of a file's folder, which ends with `/`.
+ * @param {string} uri
+ */
 export function folderOf(uri) {
   return uri.replace(/[^/]*$/, "");
 }
@@ -50,7 +58,7 @@ export function isProjectFile(uri) {
 }
 
 /**
- * Reads a project file; one that is too long is skipped.
+ * Parses a project file. One that is too long has only this error.
  * @param {string} text
  * @returns {ReturnType<typeof readProjectToml>}
  */
@@ -61,7 +69,7 @@ export function readProject(text) {
 }
 
 /**
- * Returns the errors of a project file; the files that it names must exist.
+ * Returns the errors of a project file, also for files that do not exist.
  * @param {string} uri
  * @param {string} text
  * @param {TextOf} textOf
@@ -76,7 +84,7 @@ export function faultsOfProject(uri, text, textOf) {
 }
 
 /**
- * Finds the project of a text: by the project file in its folder, or in one above it; null if there is none, or it is wrong.
+ * Finds the project of a text: that of the nearest folder with a valid project file, from its own folder upwards; null if there is none.
  * @param {string} uri
  * @param {TextOf} textOf
  * @returns {Project | null}
@@ -92,8 +100,8 @@ export function projectFor(uri, textOf) {
 }
 
 /**
- * Returns the project of a folder; null if it has no project file, or a wrong one.
- * @param {string} folder its address, which ends with `/`
+ * Returns the project of a folder; null if the folder has no valid project file.
+ * @param {string} folder its URI, which ends with `/`
  * @param {TextOf} textOf
  * @returns {Project | null}
  */
@@ -118,8 +126,8 @@ export function boardFor(uri, textOf) {
 }
 
 /**
- * Finds the subject of a text of tests or properties: the board and the program of its project; otherwise `board.toml` in its folder, and
- * the program there with its name. The texts of tests are those of the project up to this one.
+ * Finds the files that a test file or a property file depends on: those of its project; otherwise `board.toml` in its folder, and the
+ * program in this folder with the same name. `tests` are the test files of the project up to this one.
  * @param {string} uri
  * @param {TextOf} textOf
  * @returns {Beside}
@@ -138,7 +146,7 @@ export function besideOf(uri, textOf) {
 }
 
 /**
- * A TOML text is a board if it has the name of one, or the tables of one: other tools have TOML texts, too.
+ * Returns whether a text is a board: a TOML text with the name `board.toml` or with a board's tables.
  * @param {OpenText} open
  */
 export function isBoard({ uri, language, text }) {
@@ -149,7 +157,7 @@ export function isBoard({ uri, language, text }) {
 }
 
 /**
- * A program is any text whose name fits nothing else here.
+ * Returns whether a text is a program: any text without the name of another kind.
  * @param {OpenText} open
  */
 export function isProgram({ uri, language }) {
@@ -157,7 +165,7 @@ export function isProgram({ uri, language }) {
 }
 
 /**
- * Returns whether a text is one of tests.
+ * Returns whether a text is a test file.
  * @param {OpenText} open
  */
 export function isTests({ uri, language }) {
@@ -165,7 +173,7 @@ export function isTests({ uri, language }) {
 }
 
 /**
- * Returns whether a text is one of properties.
+ * Returns whether a text is a property file.
  * @param {OpenText} open
  */
 export function isProperties({ uri, language }) {

@@ -1,5 +1,5 @@
-// The language server for programs and boards: the open texts, the requests about them, and their errors, which are reported after each
-// edit.
+// The language server for programs, boards, tests, properties and project files. Holds the open texts, serves requests about them, and
+// reports their errors after each edit.
 
 import { boardTables } from "../text/text_help.js";
 import { Words } from "../bench/words.js";
@@ -27,10 +27,11 @@ import * as say from "../../words/server.js";
  * @typedef {import("./diagnostics.js").ShownFault} ShownFault
  * @typedef {import("./language.js").Language} Language
  *
- * The host's calls: texts of files, and a turn for others.
+ * The calls of the host: `readFile` returns the text of a file, `pause` yields to other tasks.
  * @typedef {{ readFile: import("./kinds.js").TextOf, pause: () => Promise<void> }} Host
  *
- * A text with its errors, as found and as shown: the number of edits when they were found, and the check that is under way.
+ * An open text with its errors and diagnostics. `lookedAt` is the number of edits at the last finished check, -1 for none; `looking` is the
+ * last check.
  * @typedef {{ open: OpenText, faults: ShownFault[], diagnostics: Diagnostic[], lookedAt: number, looking: Promise<void> }} Looked
  */
 
@@ -57,7 +58,7 @@ export class LanguageServer {
     this.properties = new PropertyLanguage(engine, manual, beside, textOf);
     this.project = new ProjectLanguage(textOf);
     this.runs = new TestRuns(engine, wordsOf, beside, host.pause);
-    /** @type {Client} without abilities until it announces them */
+    /** @type {Client} without capabilities before `initialize` */
     this.client = clientOf({});
     connection.served = { requests: new Requests(this).table(), notifications: this.notifications() };
   }
@@ -75,6 +76,7 @@ export class LanguageServer {
   // --- the texts
 
   /**
+   * Returns the open text that a request names; throws ProtocolError if there is none.
    * @param {any} params
    * @returns {Looked}
    */
@@ -86,7 +88,7 @@ export class LanguageServer {
   }
 
   /**
-   * A text as it is in the editor, or else in its file.
+   * Returns a text as it is in the editor; if it is not open, as it is in its file; null if it cannot be read.
    * @param {string} uri
    * @param {string} folder of the project that names it, "" for none
    */
@@ -96,7 +98,7 @@ export class LanguageServer {
   }
 
   /**
-   * Returns the language of a text, or null if it is unknown or the text is too long.
+   * Returns the language of a text; null if the language is unknown or the text is too long.
    * @param {OpenText} open
    * @returns {Language | null}
    */
@@ -110,7 +112,7 @@ export class LanguageServer {
   }
 
   /**
-   * Returns the texts that a text of tests or properties belongs to.
+   * Returns the texts that a test file or a property file depends on.
    * @param {string} uri
    * @returns {import("./beside_language.js").BesideTexts}
    */
@@ -121,7 +123,7 @@ export class LanguageServer {
   }
 
   /**
-   * Returns the open texts, those that their projects name, and projects of the folders that the client has open.
+   * Returns the open texts, and the texts of their projects and of the projects in the client's open folders.
    * @returns {OpenText[]}
    */
   allTexts() {
@@ -156,7 +158,7 @@ export class LanguageServer {
     const text = this.textIn(params);
     const changes = fieldOf(params, "contentChanges");
     if (!Array.isArray(changes)) throw new ProtocolError(INVALID_PARAMS, say.CHANGES_ARE);
-    // All of them are checked before the first one is made.
+    // All changes are checked before the first one is made.
     const edits = changes.map((change) => {
       const range = fieldOf(change, "range");
       return { range: range ? needRange(range) : null, text: needText(fieldOf(change, "text"), say.TEXT_OF_CHANGE) };
@@ -179,7 +181,10 @@ export class LanguageServer {
     return boardFor(uri, (each, folder) => this.textOf(each, folder));
   }
 
-  /** @param {string} program its address */
+  /**
+   * Returns the text of a program's board; null if it cannot be read.
+   * @param {string} program its URI
+   */
   boardOf(program) {
     const { uri, folder } = this.boardFor(program);
     return this.textOf(uri, folder);
@@ -188,15 +193,16 @@ export class LanguageServer {
   // --- errors
 
   /**
-   * Returns whether the errors of a text depend on another text: of a program on its board, of tests on both.
+   * Returns whether the errors of a text depend on a changed text. Those of a program depend on its board; those of tests and properties on
+   * board, program and tests.
    * @param {string} uri of the changed text
-   * @param {string} other
+   * @param {string} other the URI of the other text
    */
   isBeside(uri, other) {
     if (isProjectFile(uri)) return true;
     const text = this.texts.get(other);
     if (!text || uri === other) return false;
-    // Files are searched only if the answer depends on them: a program changes nothing in another one.
+    // Projects are searched only if necessary: a program does not depend on another program.
     const isOfBoth = isTests(text.open) || isProperties(text.open);
     if (!isOfBoth) return !NO_BOARD.test(uri) && this.boardFor(other).uri === uri;
     const { board, program, tests } = besideOf(other, (each, folder) => this.textOf(each, folder));
@@ -204,7 +210,7 @@ export class LanguageServer {
   }
 
   /**
-   * A text is new or was edited: others may depend on it.
+   * Checks a text that is new or edited, and the texts that depend on it.
    * @param {Looked} text
    */
   touched(text) {
@@ -213,7 +219,10 @@ export class LanguageServer {
     this.lookAtOthers((other) => this.isBeside(uri, other));
   }
 
-  /** @param {(uri: string) => boolean} isMeant */
+  /**
+   * Checks open texts again that depend on another text.
+   * @param {(uri: string) => boolean} isMeant returns whether a text depends on it
+   */
   lookAtOthers(isMeant) {
     const meant = [...this.texts.values()].filter(({ open }) => !isBoard(open) && isMeant(open.uri));
     for (const text of meant) {
@@ -224,19 +233,22 @@ export class LanguageServer {
   }
 
   /**
-   * Waits until the current text is checked: an edit that arrives meanwhile is checked, too.
+   * Waits until a text is checked with all its edits, also those that arrive meanwhile.
    * @param {Looked} text
    */
   async untilLookedAt(text) {
     while (text.lookedAt !== text.open.edits && this.texts.get(text.open.uri) === text) await text.looking;
   }
 
-  /** @param {Looked} text */
+  /**
+   * Checks a text and publishes its diagnostics, unless it is edited or closed meanwhile.
+   * @param {Looked} text
+   */
   async look(text) {
     const { open } = text;
     const { edits, uri } = open;
     const isWanted = () => open.edits === edits && this.texts.get(uri) === text;
-    // Edits that arrive together are checked at once.
+    // After the pause, edits that arrived together need only one check.
     await this.host.pause();
     if (!isWanted()) return;
     try {
@@ -244,7 +256,7 @@ export class LanguageServer {
       if (!found || !isWanted()) return;
       Object.assign(text, { faults: found.faults, diagnostics: diagnosticsOf(found.faults, found.areAll), lookedAt: edits });
       this.publish(text);
-      // Then the data for a hover are ready.
+      // The program is assembled now so that the first hover is fast.
       if (found.faults.length === 0 && this.languageOf(open) === this.program) this.program.assembled(open);
     } catch (thrown) {
       Object.assign(text, { faults: [], diagnostics: [], lookedAt: edits });
@@ -253,7 +265,7 @@ export class LanguageServer {
   }
 
   /**
-   * Sends the diagnostics of a text, if the client does not ask for them itself.
+   * Sends the diagnostics of a text if the client does not request them itself.
    * @param {Looked} text
    */
   publish({ open: { uri, version }, diagnostics }) {
@@ -275,7 +287,7 @@ export class LanguageServer {
   // --- tests
 
   /**
-   * Runs a test and shows its result, also in its text.
+   * Runs a test and shows its result. A failure is also a diagnostic in the text until the next edit.
    * @param {string} uri
    * @param {string} name
    * @param {import("./connection.js").Asked} asked

@@ -1,10 +1,10 @@
-// Messages in the protocol of language servers: their form, and the numbers of their errors.
+// Types, error codes and parameter readers of the language server protocol.
 
 import { fieldOf } from "./framing.js";
 import * as say from "../../words/server.js";
 
 /**
- * @typedef {{ line: number, character: number }} Position from 0; characters are UTF-16 units, as JavaScript counts them
+ * @typedef {{ line: number, character: number }} Position both count from 0; `character` counts UTF-16 code units, as JavaScript does
  * @typedef {{ start: Position, end: Position }} Range
  * @typedef {{ range: Range, newText: string }} TextEdit
  * @typedef {{ uri: string, range: Range }} Location
@@ -20,7 +20,7 @@ export const REQUEST_FAILED = -32803;
 export const CONTENT_MODIFIED = -32801;
 export const CANCELLED = -32800;
 
-/** The error that answers a request in place of a result. */
+/** The error of a request. */
 export class ProtocolError extends Error {
   /**
    * @param {number} code
@@ -33,10 +33,10 @@ export class ProtocolError extends Error {
 }
 
 /**
- * A stretch of one line.
+ * Returns a range in one line.
  * @param {number} line from 1, as in errors and references
- * @param {number} from
- * @param {number} to
+ * @param {number} from the first column, from 0
+ * @param {number} to the column after the last one
  * @returns {Range}
  */
 export function rangeOf(line, from, to) {
@@ -44,8 +44,9 @@ export function rangeOf(line, from, to) {
 }
 
 /**
+ * Returns a value that must be a string; throws ProtocolError if it is not one.
  * @param {any} value
- * @param {string} what
+ * @param {string} what the name of the parameter
  * @returns {string}
  */
 export function needText(value, what) {

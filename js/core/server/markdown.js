@@ -1,7 +1,7 @@
-// Words as Markdown: nothing in a text of others becomes a link, a picture or a heading.
+// Converts text to Markdown. Marks in the text are escaped, so that it cannot contain links, images or headings.
 
 /**
- * Returns a text that Markdown shows as it is.
+ * Returns Markdown that shows a text unchanged.
  * @param {string} text
  */
 export function asMarkdown(text) {
@@ -9,7 +9,7 @@ export function asMarkdown(text) {
 }
 
 /**
- * Returns a text as code within a line.
+ * Returns Markdown that shows a text as inline code.
  * @param {string} text
  */
 export function asCode(text) {
@@ -17,7 +17,7 @@ export function asCode(text) {
 }
 
 /**
- * Returns lines as they are.
+ * Returns Markdown that shows lines in a code block.
  * @param {string[]} lines
  */
 export function asBlock(lines) {
@@ -25,9 +25,9 @@ export function asBlock(lines) {
 }
 
 /**
- * Returns a table.
+ * Returns a Markdown table.
  * @param {string[]} head
- * @param {string[][]} rows in Markdown
+ * @param {string[][]} rows whose cells are Markdown
  */
 export function asTable(head, rows) {
   return [head, head.map(() => "---"), ...rows].map((cells) => `| ${cells.join(" | ")} |`).join("\n");

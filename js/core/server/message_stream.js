@@ -1,5 +1,5 @@
-// The common part of the language server's and the debug adapter's streams: messages are read from the bytes, and the client receives the
-// error of a malformed stream. The meaning of a message is left to the subclass.
+// The common base class of the connections of language server and debug adapter. It splits the stream into messages and reports errors of
+// the stream to the client. Subclasses serve the messages.
 
 import { MessageReader, StreamLost, framed } from "./framing.js";
 import { messageTooLong } from "../../words/server.js";
@@ -12,7 +12,7 @@ export class MessageStream {
   }
 
   /**
-   * Takes bytes of the stream. Throws a StreamLost if no message can follow, after the client has received the error.
+   * Reads bytes of the stream. If the stream is malformed, reports it to the client and throws StreamLost.
    * @param {Uint8Array} bytes
    */
   take(bytes) {
@@ -28,7 +28,7 @@ export class MessageStream {
   }
 
   /**
-   * Reports that the rest of a message is missing; returns the words, "" if none has begun.
+   * Reports a message that is incomplete at the end of the stream. Returns the error message, "" if none is incomplete.
    * @returns {string}
    */
   refuseIncomplete() {
@@ -43,7 +43,7 @@ export class MessageStream {
   }
 
   /**
-   * Takes a whole message.
+   * Serves a message. Subclasses override it.
    * @param {string} text
    */
   takeText(text) {
@@ -51,7 +51,7 @@ export class MessageStream {
   }
 
   /**
-   * Sends an error that no request has.
+   * Sends an error that is not the error of a request. Subclasses override it.
    * @param {string} words
    */
   refuseStream(words) {

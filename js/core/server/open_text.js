@@ -1,4 +1,4 @@
-// A text that is open in an editor, with its edits.
+// A text that is open in an editor.
 
 /**
  * @typedef {import("./lsp_protocol.js").Position} Position
@@ -11,7 +11,7 @@ const LINE_END = /\r\n|\r|\n/;
 export class OpenText {
   /**
    * @param {string} uri
-   * @param {string} language as the editor names it
+   * @param {string} language the editor's id of the language
    * @param {string} text
    * @param {number | null} version
    */
@@ -20,25 +20,25 @@ export class OpenText {
     this.language = language;
     this.version = version;
     this.lines = text.split(LINE_END);
-    /** How often it was edited. */
+    /** The number of edits. */
     this.edits = 0;
-    /** @type {{ text: string, edits: number } | null} the whole text, after this many edits */
+    /** @type {{ text: string, edits: number } | null} a cache of `text`, with the number of edits at that time */
     this.joined = null;
   }
 
-  /** Returns how many characters it has. */
+  /** Returns the number of characters. */
   get length() {
     return this.lines.reduce((count, { length }) => count + length + 1, -1);
   }
 
-  /** The text, with a line feed after each line but the last. */
+  /** Returns the text, with line feeds between its lines. */
   get text() {
     if (!this.joined || this.joined.edits !== this.edits) this.joined = { text: this.lines.join("\n"), edits: this.edits };
     return this.joined.text;
   }
 
   /**
-   * Returns the place in the text that is nearest to a position.
+   * Returns the nearest position inside the text.
    * @param {Position} position
    * @returns {Position}
    */
@@ -49,8 +49,9 @@ export class OpenText {
   }
 
   /**
+   * Replaces a range.
    * @param {Range | null} range null for the whole text
-   * @param {string} text replaces it
+   * @param {string} text the new text
    */
   edit(range, text) {
     const added = text.split(LINE_END);

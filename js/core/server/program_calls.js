@@ -1,4 +1,4 @@
-// The routines of a program as editors show them: a call hierarchy, and above each label the number of its calls.
+// The call hierarchy of a program, and the code lenses above its labels with the numbers of calls.
 
 import { Routines } from "../text/routines.js";
 import { rangeOf } from "./lsp_protocol.js";
@@ -13,7 +13,7 @@ import * as say from "../../words/server.js";
  * @typedef {import("./lsp_protocol.js").Range} Range
  */
 
-/** @param {CallPlace} place */
+/** @type {(place: CallPlace) => Range} */
 const rangeOfPlace = ({ line, from, to }) => rangeOf(line + 1, from, to);
 
 export class ProgramCalls {
@@ -28,6 +28,7 @@ export class ProgramCalls {
   }
 
   /**
+   * Returns a routine in the form of the protocol.
    * @param {import("../text/routines.js").Routine} routine
    * @returns {Routine}
    */
@@ -38,6 +39,7 @@ export class ProgramCalls {
   }
 
   /**
+   * Returns calls in the form of the protocol.
    * @param {{ routine: import("../text/routines.js").Routine, places: CallPlace[] }[]} calls
    * @returns {Call[]}
    */
@@ -46,7 +48,7 @@ export class ProgramCalls {
   }
 
   /**
-   * Returns the routine that a name begins, otherwise the one that reaches a line; null if none does.
+   * Returns the routine with a name; otherwise the routine that contains a line; null if there is none.
    * @param {string} name "" for none
    * @param {number} line from 0
    */
@@ -64,6 +66,7 @@ export class ProgramCalls {
   }
 
   /**
+   * Returns the calls of a routine by others.
    * @param {string} name
    * @param {number} line
    */
@@ -73,6 +76,7 @@ export class ProgramCalls {
   }
 
   /**
+   * Returns the calls in a routine.
    * @param {string} name
    * @param {number} line
    */
@@ -82,8 +86,8 @@ export class ProgramCalls {
   }
 
   /**
-   * Returns how often each label is called and named.
-   * @param {(name: string) => Range[]} usesOf returns the places of a name other than its definition
+   * Returns a code lens for each label, with the number of its calls and other uses.
+   * @param {(name: string) => Range[]} usesOf returns the ranges of a name, except its definition
    * @returns {Lens[]}
    */
   lenses(usesOf) {

@@ -1,4 +1,4 @@
-// The completions of a word of a program, with the details that an editor shows.
+// Completion in a program.
 
 import { DIRECTIVES, namesOf, partsOf } from "../text/assembly.js";
 import { completeProgram } from "../text/completion.js";
@@ -9,11 +9,12 @@ import { wordsOfDirective, wordsOfInstruction, wordsOfRegister } from "../text/t
  * @typedef {import("../help/manual.js").Instruction} Instruction
  * @typedef {import("./language.js").CompletedWord} CompletedWord
  * @typedef {import("./lsp_protocol.js").Position} Position
- * @typedef {{ instructions: Map<string, Instruction>, conditions: Map<number, string>, meaningOf: (name: string) => string }} Known the
- * manual's instructions and conditions of JCN, and the meaning of names
+ *
+ * The manual's instructions and conditions of JCN, and the meaning of the program's names.
+ * @typedef {{ instructions: Map<string, Instruction>, conditions: Map<number, string>, meaningOf: (name: string) => string }} Known
  */
 
-/** Kinds of completions. */
+/** The protocol's kinds of completions. */
 const OF_FUNCTION = 3;
 const OF_VARIABLE = 6;
 const OF_KEYWORD = 14;
@@ -21,8 +22,8 @@ const OF_CONSTANT = 21;
 const OF_VALUE = 12;
 
 /**
- * Returns the numbers of the conditions that match the typed text; none if a condition cannot be here.
- * @param {string} before the caret, of the line
+ * Returns the condition numbers that match the typed text; none if the operand is not a condition.
+ * @param {string} before the line up to the caret
  * @param {Known} known
  * @returns {CompletedWord[]}
  */
@@ -36,9 +37,8 @@ function conditionsFor(before, { instructions, conditions }) {
 }
 
 /**
- * Returns whether an editor that asks by itself after a blank gets an answer: only at the beginning of an operand, so that indentation
- * proposes nothing.
- * @param {string} before the caret, of the line
+ * Returns whether the caret is in the operands of a statement. Only there a typed blank triggers completion, so indentation does not.
+ * @param {string} before the line up to the caret
  */
 function isInOperands(before) {
   const { head, comment } = partsOf(before);
@@ -46,9 +46,10 @@ function isInOperands(before) {
 }
 
 /**
+ * Returns the completion at a position of a program.
  * @param {string[]} lines
  * @param {Position} position
- * @param {string} trigger
+ * @param {string} trigger the typed character that triggered the request, "" for none
  * @param {Known} known
  */
 export function completionOfProgram(lines, { line, character }, trigger, known) {

@@ -1,5 +1,4 @@
-// Help for a word of a program: the manual's table for an instruction, the meaning of a name, with the comment above it, and the line's
-// address in ROM.
+// The hover of a program: the manual's table for an instruction, or the meaning of a name with its comment, and the address of the line.
 
 import { NUMBER, namesOf, partsOf, wordAt } from "../text/assembly.js";
 import { operandsOfForm } from "../text/program_words.js";
@@ -14,17 +13,17 @@ import * as say from "../../words/server.js";
  * @typedef {import("./language.js").Hover} Hover
  * @typedef {import("./lsp_protocol.js").Position} Position
  *
- * The knowledge of a program: the manual's instructions and conditions of JCN, the meaning of a name, its value, and the address of a line
- * ("" if unknown).
+ * The context of a hover: the manual's instructions and conditions of JCN, the meanings and values of names, and the address of a line in
+ * words, "" if unknown.
  * @typedef {{ instructions: Map<string, Instruction>, conditions: Map<number, string>, meaningOf: (name: string) => string,
  *   valueOf: (name: string) => number | undefined, wordsOfLine: (line: number) => string }} Known
  */
 
-/** As many lines of the comment above a name are shown. */
+/** The maximum number of lines of a name's comment. */
 const MOST_LINES = 12;
 
 /**
- * Returns the comment of a name: the lines above a label, and the text after the definition.
+ * Returns the comment of a name: the comment lines above a label, and the comment in the line of the definition.
  * @param {string[]} lines
  * @param {string} name
  * @returns {string[]}
@@ -40,7 +39,7 @@ export function commentOf(lines, name) {
 }
 
 /**
- * Returns the meaning of a JCN condition, if a word is one; "" if not.
+ * Returns the meaning of a word that is a condition of JCN; "" for another word.
  * @param {string} text of the line
  * @param {Word} word
  * @param {Known} known
@@ -55,13 +54,17 @@ function wordsOfCondition(text, word, { instructions, conditions, valueOf }) {
   return words && value !== undefined ? say.conditionIs(value, words) : "";
 }
 
-/** @param {Instruction} instruction */
+/**
+ * Returns a table with the manual's description of an instruction, in Markdown.
+ * @param {Instruction} instruction
+ */
 function rowOf(instruction) {
   const { form, code, words, cycles } = instruction;
   return asTable(say.HEAD_OF_INSTRUCTIONS, [[asCode(form), asCode(code), words, cycles, asMarkdown(doesOf(instruction))]]);
 }
 
 /**
+ * Returns the hover at a position of a program; null if there is none.
  * @param {string[]} lines
  * @param {Position} position
  * @param {Known} known

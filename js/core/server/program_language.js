@@ -1,4 +1,4 @@
-// An editor's requests about a program's text, answered by the modules of the page's own editor.
+// The handlers of an editor's requests about a program's text. They use the same modules as the page's editor.
 
 import { hex } from "../bench/numbers.js";
 import { conditionsOf, instructionsOf } from "../help/manual.js";
@@ -25,17 +25,17 @@ import * as say from "../../words/server.js";
  * @typedef {import("./lsp_protocol.js").Range} Range
  * @typedef {import("./text_bench.js").TextBench} TextBench
  * @typedef {import("./token_codes.js").ColouredWord} ColouredWord
- * @typedef {{ map: SourceMap, bytes: () => Int16Array }} Assembled the addresses of lines, and their bytes
+ * @typedef {{ map: SourceMap, bytes: () => Int16Array }} Assembled an assembled program: the addresses of its lines, and the bytes of ROM
  */
 
-/** Kinds of symbols. */
+/** The protocol's kinds of symbols. */
 const FUNCTION = 12;
 const CONSTANT = 14;
-/** @type {Record<string, string>} */
+/** @type {Record<string, string>} the protocol's token types by the kinds of words */
 const TYPES = { comment: "comment", instruction: "keyword", directive: "macro", register: "variable", number: "number" };
 
 /**
- * Returns the places where each name of a program is used.
+ * Returns the ranges of each name in the operands of a program.
  * @param {string[]} lines
  * @returns {Map<string, Range[]>}
  */
@@ -57,8 +57,8 @@ export class ProgramLanguage {
    * @param {TextBench} bench
    * @param {ManualSection[]} manual
    * @param {(number: number) => string} wordsOf returns the message of a refusal
-   * @param {(uri: string) => string | null} boardOf returns the text of the board that a program is for
-   * @param {() => Promise<void>} pause yields to others
+   * @param {(uri: string) => string | null} boardOf returns the text of a program's board
+   * @param {() => Promise<void>} pause yields to other tasks
    */
   constructor(bench, manual, wordsOf, boardOf, pause) {
     this.parts = PARTS.program;
@@ -68,7 +68,7 @@ export class ProgramLanguage {
     this.wordsOf = wordsOf;
     this.boardOf = boardOf;
     this.pause = pause;
-    /** @type {{ text: string, assembled: Assembled | null } | null} the last request */
+    /** @type {{ text: string, assembled: Assembled | null } | null} the last text that was assembled, with its result */
     this.last = null;
     this.isInstruction = (/** @type {string} */ word) => this.instructions.has(word);
     this.isHead = (/** @type {string} */ word) => this.instructions.has(word) || DIRECTIVES.includes(word);
@@ -97,7 +97,7 @@ export class ProgramLanguage {
   }
 
   /**
-   * Returns the bytes of a program, and the addresses of its lines; null if it has errors.
+   * Returns the assembled program; null if it has errors.
    * @param {OpenText} open
    */
   assembled({ text }) {
@@ -126,7 +126,7 @@ export class ProgramLanguage {
   }
 
   /**
-   * Returns the address, bytes and cycles of a line; "" if it puts no byte.
+   * Returns the address, bytes and cycles of a line in words; "" if it has no bytes.
    * @param {string} text
    * @param {number} line from 1
    * @param {Assembled} assembled
@@ -163,7 +163,7 @@ export class ProgramLanguage {
   }
 
   /**
-   * Returns the name at a place that can be renamed.
+   * Returns the name at a position that can be renamed, and its range; null if there is none.
    * @param {OpenText} open
    * @param {Position} position
    */
@@ -199,7 +199,7 @@ export class ProgramLanguage {
   }
 
   /**
-   * The names: a label reaches up to the next one.
+   * Returns the names as symbols. The range of a label ends before the next label.
    * @param {OpenText} open
    */
   symbols(open) {
@@ -267,7 +267,7 @@ export class ProgramLanguage {
   }
 
   /**
-   * The statement, with and without its label, and its operands.
+   * Returns the ranges of columns by which a selection grows: operands, statement, statement with label, comment.
    * @param {OpenText} open
    * @param {Position} position
    * @returns {[number, number][]}

@@ -1,4 +1,4 @@
-// An editor's requests about a project file: its errors, and links to the files that it names.
+// The handlers of an editor's requests about a project file: errors, and links to the files that it names.
 
 import { filesNamed } from "../project/project_toml.js";
 import { PARTS } from "../text/folding.js";
@@ -25,7 +25,10 @@ export class ProjectLanguage {
     return { faults: faultsOfProject(uri, text, this.textOf), areAll: true };
   }
 
-  /** @param {OpenText} open */
+  /**
+   * Returns the files that a project names; none if it has errors.
+   * @param {OpenText} open
+   */
   named({ text }) {
     const { names } = readProject(text);
     return names ? filesNamed(names) : [];
@@ -40,7 +43,7 @@ export class ProjectLanguage {
   }
 
   /**
-   * The files that are there; a device or a link out of the folder is none.
+   * Returns links to the files that can be read and are inside the folder.
    * @param {OpenText} open
    * @returns {DocumentLink[]}
    */

@@ -1,4 +1,4 @@
-// An editor's requests about a text of properties: read by the one reader of properties, with the names of the board and the program.
+// The handlers of an editor's requests about a property file. Its parser (explore/campaign.js) uses the names of the board and the program.
 
 import { readCampaign } from "../explore/campaign.js";
 import { subjectOf } from "../explore/subject.js";
@@ -16,10 +16,11 @@ import { colouredWords } from "./token_codes.js";
  * @typedef {import("./lsp_protocol.js").Position} Position
  */
 
+/** The protocol's kind of a symbol. */
 const PROPERTY = 7;
-/** Lines of properties. */
+/** A line with a property. */
 const MUST_HOLD = /^(never|always|at|after|every|reach|model|while|once|@\S+|.*\bonly after)\b/;
-/** `from STATE of FILE`. */
+/** A line `from STATE of FILE`. */
 const OF_FILE = /^([ \t]*from[ \t]+\S+[ \t]+of[ \t]+)(\S.*)$/;
 
 export class PropertyLanguage extends BesideLanguage {
@@ -47,7 +48,7 @@ export class PropertyLanguage extends BesideLanguage {
   }
 
   /**
-   * Board and program, as a search has them.
+   * Returns board and program as the search uses them. Repeats the last result if the texts are the same.
    * @param {string} boardText
    * @param {string} programText
    */
@@ -77,7 +78,7 @@ export class PropertyLanguage extends BesideLanguage {
   }
 
   /**
-   * A label of the program.
+   * Returns the location of the program's label that a position names; null if there is none.
    * @param {OpenText} open
    * @param {Position} position
    */
@@ -100,6 +101,7 @@ export class PropertyLanguage extends BesideLanguage {
   }
 
   /**
+   * Returns links to the files in lines `from STATE of FILE` that can be read and are inside the folder.
    * @param {OpenText} open
    * @returns {DocumentLink[]}
    */

@@ -1,5 +1,5 @@
-// The requests of editors, each by its method: their parameters are checked, the language of the text answers, and the answer is put into
-// the form of the protocol.
+// The handlers of all requests by their methods. They check the parameters, call the language of the text, and convert its answer to the
+// form of the protocol.
 
 import { capabilitiesFor, clientOf, RUN_TEST } from "./capabilities.js";
 import { codeLensOf } from "./code_lens.js";
@@ -26,8 +26,8 @@ const WHOLE = { start: { line: 0, character: 0 }, end: { line: Number.MAX_SAFE_I
 const LARGEST_TAB = 16;
 
 /**
- * Returns how gaps are filled, as an editor asks for it.
- * @param {any} options
+ * Reads the layout for formatting: the tab size, and whether gaps are filled with blanks.
+ * @param {any} options of the request
  */
 function layoutOf(options) {
   const tabSize = fieldOf(options, "tabSize");
@@ -36,9 +36,9 @@ function layoutOf(options) {
 }
 
 /**
- * Returns a list of a request.
+ * Returns a value that must be a list; throws ProtocolError if it is not one.
  * @param {any} value
- * @param {string} what
+ * @param {string} what the name of the parameter
  * @returns {any[]}
  */
 function needList(value, what) {
@@ -58,7 +58,7 @@ export class Requests {
     return { ...this.ofServer(), ...this.ofPlaces(), ...this.ofTexts(), ...this.ofCalls() };
   }
 
-  // --- of the server
+  // --- requests to the server
 
   /** @returns {Record<string, Act>} */
   ofServer() {
@@ -87,9 +87,10 @@ export class Requests {
     return this.server.runTest(needText(uri, "arguments[0]"), needText(test, "arguments[1]"), asked);
   }
 
-  // --- of a text
+  // --- requests about a text
 
   /**
+   * Asks the language of the text that a request names.
    * @template Result
    * @param {any} params
    * @param {(language: Language, open: OpenText) => Result} ask
@@ -123,6 +124,7 @@ export class Requests {
   }
 
   /**
+   * Serves a request for semantic tokens.
    * @param {any} params
    * @param {(open: OpenText, words: import("./token_codes.js").ColouredWord[]) => object} ask
    */
@@ -162,9 +164,10 @@ export class Requests {
     return { kind: "full", resultId, items: text.diagnostics };
   }
 
-  // --- of a place in a text
+  // --- requests about a position in a text
 
   /**
+   * Asks the language of a text about the position that a request names.
    * @template Result
    * @param {any} params
    * @param {(language: Language, open: OpenText, position: Position) => Result} ask
@@ -240,7 +243,7 @@ export class Requests {
     }));
   }
 
-  // --- of routines
+  // --- requests about routines
 
   /** @returns {Record<string, Act>} */
   ofCalls() {
@@ -259,6 +262,7 @@ export class Requests {
   }
 
   /**
+   * Returns an item of a call hierarchy.
    * @param {Routine} routine
    * @param {string} uri
    */
@@ -267,7 +271,7 @@ export class Requests {
   }
 
   /**
-   * Asks about the routine of an item of a call hierarchy.
+   * Asks the language of a text about an item of a call hierarchy.
    * @template Result
    * @param {any} params
    * @param {(language: Language, open: OpenText, position: Position) => Result} ask

@@ -1,4 +1,5 @@
-// The steps by which a selection grows: the word, larger stretches of its line, the line, the enclosing parts of the text, all of it.
+// Selection ranges, the steps by which a selection grows: the word, larger parts of its line, the line, the folding ranges around it, the
+// whole text.
 
 import { wordAt } from "../text/assembly.js";
 import { foldsOf } from "./folding_ranges.js";
@@ -11,7 +12,7 @@ import { foldsOf } from "./folding_ranges.js";
  */
 
 /**
- * Returns whether a range contains another one, and more.
+ * Returns whether a range contains another range and is larger.
  * @param {Range} outer
  * @param {Range} inner
  */
@@ -23,7 +24,7 @@ function isLarger(outer, inner) {
 }
 
 /**
- * Returns the parts of a text that have a line, the smallest first.
+ * Returns the parts of a text that contain a line, the smallest first.
  * @param {string[]} lines
  * @param {number} line from 0
  * @param {Parts} parts
@@ -37,10 +38,10 @@ function partsWith(lines, line, parts) {
 }
 
 /**
- * Returns the ranges round a position, each one in the next.
+ * Returns the ranges around a position. Each range is linked to the next larger one.
  * @param {string[]} lines
  * @param {Position} position
- * @param {[number, number][]} stretches of the line, which a language knows
+ * @param {[number, number][]} stretches the language's ranges of columns in the line
  * @param {Parts} parts
  * @returns {SelectionRange}
  */

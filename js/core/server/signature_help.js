@@ -1,4 +1,4 @@
-// The form of a statement while its operands are typed, and which one is next.
+// Signature help: the form of a statement while its operands are typed, and the current operand.
 
 import { partsOf } from "../text/assembly.js";
 import { operandsOfForm, wordsOfOperand } from "../text/program_words.js";
@@ -11,8 +11,8 @@ import { wordsOfDirective, wordsOfInstruction } from "../text/text_help.js";
  */
 
 /**
- * Returns a form with the places of its operands.
- * @param {string} label
+ * Returns a signature with the column ranges of its operands.
+ * @param {string} label the form of the statement
  * @param {string} documentation
  * @param {{ operand: string, words: string }[]} operands
  * @returns {Signature}
@@ -28,9 +28,9 @@ function signatureOf(label, documentation, operands) {
 }
 
 /**
- * Returns the signature of a directive, whose words begin with its form.
- * @param {string} words
- * @param {string} kind of its operands, as the manual's table has them
+ * Returns the signature of a directive.
+ * @param {string} words its description, which begins with its form and a colon
+ * @param {string} kind the manual's letter for the kind of its operands
  */
 function signatureOfDirective(words, kind) {
   const form = words.split(":")[0];
@@ -38,8 +38,8 @@ function signatureOfDirective(words, kind) {
 }
 
 /**
- * Returns the signature of a statement; null for one without operands, and for another word.
- * @param {string} head in upper case
+ * Returns the signature of a statement; null if it has no operands or is unknown.
+ * @param {string} head the mnemonic or directive in upper case
  * @param {Map<string, Instruction>} instructions
  */
 function signatureOfHead(head, instructions) {
@@ -52,9 +52,9 @@ function signatureOfHead(head, instructions) {
 }
 
 /**
- * Returns the signature of the statement in a line up to a place, and which operand is at the place.
+ * Returns the signature of the statement at a column, and the index of the operand there; null if there is none.
  * @param {string} line
- * @param {number} at
+ * @param {number} at the column
  * @param {Map<string, Instruction>} instructions
  * @returns {SignatureHelp | null}
  */

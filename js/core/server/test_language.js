@@ -1,4 +1,4 @@
-// An editor's requests about a text of tests: read by the one reader of tests, with the names of the board and the program.
+// The handlers of an editor's requests about a test file. Its parser (testing/test_text.js) uses the names of the board and the program.
 
 import { readSources } from "../testing/test_text.js";
 import { COLOURS } from "../text/test_colours.js";
@@ -13,15 +13,18 @@ import * as say from "../../words/server.js";
  * @typedef {import("./language.js").Lens} Lens
  * @typedef {import("./open_text.js").OpenText} OpenText
  * @typedef {import("./lsp_protocol.js").Position} Position
- * @typedef {{ kind: "test" | "steps", name: string, line: number, from: number, to: number }} Head of a test or of shared steps
+ *
+ * The first line of a test or of shared steps; `line` counts from 0, `from` and `to` are the columns of the name.
+ * @typedef {{ kind: "test" | "steps", name: string, line: number, from: number, to: number }} Head
  */
 
+/** The protocol's kinds of symbols. */
 const METHOD = 6;
 const FUNCTION = 12;
 const HEAD = /^([ \t]*)(test|steps)([ \t]+)(\S.*)$/;
 
 /**
- * Returns the symbols that the lines of a text define.
+ * Returns the first lines of all tests and shared steps.
  * @param {string[]} lines
  * @returns {Head[]}
  */
@@ -77,7 +80,7 @@ export class TestLanguage extends BesideLanguage {
   }
 
   /**
-   * The steps that a `do` names, or a label of the program.
+   * Returns the location of the steps that a `do` names, or of a label of the program; null if there is none.
    * @param {OpenText} open
    * @param {Position} position
    */
@@ -103,6 +106,7 @@ export class TestLanguage extends BesideLanguage {
   }
 
   /**
+   * Returns a code lens for each test that runs it.
    * @param {OpenText} open
    * @returns {Lens[]}
    */

@@ -1,4 +1,4 @@
-// Tests that an editor runs: one test, after those that save its starting states, on board and program as they are in the editor.
+// Runs a test from an editor, after the tests that save its starting states. Board and program are those in the editor.
 
 import { Cancelled } from "../bench/faults.js";
 import { runTests } from "../testing/test_suite.js";
@@ -12,12 +12,13 @@ import * as say from "../../words/server.js";
  * @typedef {import("./diagnostics.js").ShownFault} ShownFault
  * @typedef {import("./open_text.js").OpenText} OpenText
  *
- * The result of a test in words, whether it passed, and the line that failed with the address of its text, if one did.
+ * The result of a test: a message, whether the test passed, and the error in the failed line with the URI of its text; null for none.
  * @typedef {{ words: string, hasPassed: boolean, failure: { uri: string, fault: ShownFault } | null }} Ran
  */
 
 /**
- * @param {string} words say why
+ * Returns the result of a test that was not run.
+ * @param {string} words the reason
  * @returns {Ran}
  */
 const notRun = (words) => ({ words, hasPassed: false, failure: null });
@@ -27,21 +28,22 @@ export class TestRuns {
    * @param {import("../engine/engine_host.js").EngineHost} engine
    * @param {(number: number) => string} wordsOf returns the message of a refusal
    * @param {(uri: string) => BesideTexts} besideOf
-   * @param {() => Promise<void>} pause yields to others
+   * @param {() => Promise<void>} pause yields to other tasks
    */
   constructor(engine, wordsOf, besideOf, pause) {
     this.engine = engine;
     this.wordsOf = wordsOf;
     this.besideOf = besideOf;
     this.pause = pause;
-    /** The number of runs begun: a new one ends the one before it. */
+    /** The number of the present run; a new run cancels the one before it. */
     this.begun = 0;
   }
 
   /**
+   * Runs a test; throws ProtocolError if the run is cancelled.
    * @param {OpenText} open
    * @param {string} name of the test
-   * @param {import("./connection.js").Asked} asked cancels the run if it is cancelled
+   * @param {import("./connection.js").Asked} asked the request, which can be cancelled
    * @returns {Promise<Ran>}
    */
   async run({ uri, lines, text }, name, asked) {
@@ -67,7 +69,7 @@ export class TestRuns {
   }
 
   /**
-   * Runs one test; a run that a later one ends is a cancelled request.
+   * Runs one test; throws ProtocolError if the run is cancelled.
    * @param {import("../testing/test_suite.js").TestedTexts} texts
    * @param {() => Promise<boolean>} goesOn
    * @param {{ name: string, source: string }} only

@@ -1,4 +1,4 @@
-// The bench's answers about texts, for a server: on sessions in memory, none of which is kept.
+// Queries the bench about texts, on temporary sessions in memory.
 
 import { readBoard, refusalOf } from "../bench/answers.js";
 import { readErrors, readWiring } from "../bench/text_judgement.js";
@@ -10,7 +10,7 @@ import { ALL_ROMS, faultOfText, readProgram } from "../engine/program_check.js";
  * @typedef {import("../engine/engine_host.js").EngineHost} Engine
  * @typedef {import("../engine/program_check.js").Program} Program
  *
- * A session with a board, and the numbers of its ROMs.
+ * A session with a board: the board's text (null for none), the bytes of the session, and the numbers of its ROMs.
  * @typedef {{ text: string | null, file: Uint8Array, roms: Set<number> }} Wired
  */
 
@@ -20,12 +20,12 @@ export class TextBench {
     this.engine = engine;
     this.empty = engine.begin();
     this.wired = this.wire(null);
-    /** @type {Program | null} the one that was read last */
+    /** @type {Program | null} the last program that was read */
     this.program = null;
   }
 
   /**
-   * Returns a session with a board; if its text is rejected, or there is none, with all ROMs.
+   * Returns a session with a board. If the text is null or the bench rejects it, the board has all ROMs.
    * @param {string | null} text
    * @returns {Wired}
    */
@@ -38,7 +38,7 @@ export class TextBench {
   }
 
   /**
-   * Programs are tried on this board from now on.
+   * Sets the board for the following programs.
    * @param {string | null} text
    */
   setBoard(text) {
@@ -46,7 +46,8 @@ export class TextBench {
   }
 
   /**
-   * @param {Uint8Array} file
+   * Returns the bench's refusal of lines; null if it accepts them.
+   * @param {Uint8Array} file of the session
    * @param {string} lines
    */
   refusal(file, lines) {
@@ -55,27 +56,30 @@ export class TextBench {
 
   /**
    * Returns the error of a board; null if there is none.
-   * @param {string} text as it is sent
+   * @param {string} text from `sentText`
    */
   wiring(text) {
     return readWiring(this.engine.ask(this.empty, `wiring\n${text}.\n`).answers[0]);
   }
 
   /**
-   * Returns the errors of a program's lines.
-   * @param {string} text as it is sent
+   * Returns the errors in the lines of a program.
+   * @param {string} text from `sentText`
    */
   errors(text) {
     return readErrors(this.engine.ask(this.empty, `errors\n${text}.\n`).answers);
   }
 
-  /** @param {string} text of a program, as it is sent */
+  /**
+   * Returns the bench's refusal of a program on the present board; null if it accepts the program.
+   * @param {string} text from `sentText`
+   */
   refuseProgram(text) {
     return this.refusal(this.wired.file, `asm\n${text}.\n`);
   }
 
   /**
-   * Returns the calls that ask this bench about texts.
+   * Returns this bench's queries as callbacks for AllFaultsOfTexts.
    * @returns {import("../text/all_faults.js").Asked}
    */
   asked() {
@@ -89,8 +93,8 @@ export class TextBench {
   }
 
   /**
-   * Returns the answers to `map` of a program; null if it is rejected.
-   * @param {string} sent
+   * Returns the answers to `map` for a program; null if the bench rejects it.
+   * @param {string} sent the text from `sentText`
    */
   map(sent) {
     if (faultOfText(sent)) return null;
@@ -99,8 +103,8 @@ export class TextBench {
   }
 
   /**
-   * Returns the bench's map of a program.
-   * @param {string} sent
+   * Returns the addresses and bytes of a program. Repeats the last result if the text is the same.
+   * @param {string} sent the text from `sentText`
    * @returns {Program}
    */
   read(sent) {

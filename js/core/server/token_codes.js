@@ -1,22 +1,22 @@
-// The kinds of words of a text as editors colour them, in the numbers of the protocol.
+// Semantic tokens: the kinds of words that editors colour, and their encoding in the protocol.
 
 /**
- * A word with its kind: its line from 0, its characters, and whether it is defined there, and is constant.
+ * A word to colour: its line and columns, which count from 0, its token type, and true if it is a definition or a constant.
  * @typedef {{ line: number, from: number, to: number, type: string, isDeclaration?: boolean, isReadonly?: boolean }} ColouredWord
  */
 
 export const TYPES = ["comment", "function", "variable", "enumMember", "keyword", "macro", "number", "string", "property", "class"];
 export const MODIFIERS = ["declaration", "readonly"];
 
-/** @type {Record<string, string>} what editors call the styles of the page's editors */
+/** @type {Record<string, string>} the protocol's token types by the styles of the page's editor */
 const STYLES = {
   "keyword": "keyword", "number": "number", "comment": "comment", "string": "string", "def": "function", "variable-2": "variable",
 };
 
 /**
- * Returns the coloured words of lines, given the function that colours one line.
+ * Returns the words to colour in lines.
  * @param {string[]} lines
- * @param {(line: string) => { from: number, to: number, style: string }[]} colours
+ * @param {(line: string) => { from: number, to: number, style: string }[]} colours returns the styles in one line
  * @returns {ColouredWord[]}
  */
 export function colouredWords(lines, colours) {
@@ -25,7 +25,8 @@ export function colouredWords(lines, colours) {
 }
 
 /**
- * Five numbers for each word: the lines since the last one, the characters since the last one of its line, its length, type and modifiers.
+ * Encodes words as five numbers each: the lines since the previous word, the columns since the previous word in the line, length, type and
+ * modifiers.
  * @param {ColouredWord[]} words
  * @returns {number[]}
  */
@@ -42,7 +43,7 @@ export function tokenCodes(words) {
 }
 
 /**
- * Returns the edit between two encodings of a text: none, or one stretch in place of another.
+ * Returns the edits from one encoding to another: none, or one that replaces a range.
  * @param {number[]} before
  * @param {number[]} after
  * @returns {{ start: number, deleteCount: number, data: number[] }[]}

@@ -1,4 +1,4 @@
-// The coloured words of texts, as last reported, so that an editor can ask for the changes.
+// The semantic tokens that were sent last for each text, so that an editor can request only the changes.
 
 import { codeEdits, tokenCodes } from "./token_codes.js";
 
@@ -8,17 +8,18 @@ import { codeEdits, tokenCodes } from "./token_codes.js";
  * @typedef {import("./token_codes.js").ColouredWord} ColouredWord
  */
 
-/** As many texts are remembered. */
+/** The maximum number of texts whose tokens are kept. */
 const MOST_TEXTS = 32;
 
 export class TokenMemory {
   constructor() {
-    /** @type {Map<string, { resultId: string, data: number[] }>} the last report on each text, by its address */
+    /** @type {Map<string, { resultId: string, data: number[] }>} the last response for each text, by its URI */
     this.sent = new Map();
     this.count = 0;
   }
 
   /**
+   * Stores the tokens of a text. Returns their result id.
    * @param {string} uri
    * @param {number[]} data
    */
@@ -32,6 +33,7 @@ export class TokenMemory {
   }
 
   /**
+   * Returns all tokens of a text.
    * @param {OpenText} open
    * @param {ColouredWord[]} words
    */
@@ -41,10 +43,10 @@ export class TokenMemory {
   }
 
   /**
-   * Returns the changes since a result, or all words if that result is not the last one.
+   * Returns the changes since a result; if it is not the last result for the text, all tokens.
    * @param {OpenText} open
    * @param {ColouredWord[]} words
-   * @param {unknown} previous
+   * @param {unknown} previous the result id
    */
   since(open, words, previous) {
     const before = this.sent.get(open.uri);
@@ -54,6 +56,7 @@ export class TokenMemory {
   }
 
   /**
+   * Returns the tokens in the lines of a range.
    * @param {ColouredWord[]} words
    * @param {Range} range
    */

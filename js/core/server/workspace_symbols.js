@@ -1,4 +1,4 @@
-// The names of all open texts, and of those of their projects, found by a part of them.
+// Workspace symbols: the names in the open texts and in their projects that match a query.
 
 import { fileNameOf } from "./beside_language.js";
 
@@ -7,12 +7,12 @@ import { fileNameOf } from "./beside_language.js";
  * @typedef {import("./open_text.js").OpenText} OpenText
  */
 
-/** The most names in an answer. */
+/** The maximum number of names in a response. */
 const MOST_NAMES = 512;
 
 /**
- * Returns whether a name matches a query: it contains its letters in their order, whatever their case; a name of several words contains all
- * of it.
+ * Returns whether a name matches a query, in any case. One word must contain the letters of the query in their order; a name with several
+ * words must contain the whole query.
  * @param {string} name
  * @param {string} query
  */
@@ -28,6 +28,7 @@ export function matches(name, query) {
 }
 
 /**
+ * Returns the symbols that match a query.
  * @param {LanguageServer} server
  * @param {string} query
  */
