@@ -25,7 +25,7 @@ export async function errorsOfText(word, text, board, { manual, wordsOf }) {
   const textBench = await loadBench();
   const isBoard = word === "wire" || word === "wiring";
   if (!isBoard) textBench.setBoard(word === "asm" ? board : null);
-  const search = new AllFaultsOfTexts(textBench.asked(), { instructions: instructionsOf(manual), tables: boardTables(manual) }, wordsOf);
+  const search = new AllFaultsOfTexts(textBench.queries(), { instructions: instructionsOf(manual), tables: boardTables(manual) }, wordsOf);
   const found = await (isBoard ? search.ofBoard(text, () => true) : search.ofProgram(text, () => true));
   return found ? found.faults : [];
 }

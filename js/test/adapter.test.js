@@ -2,7 +2,7 @@
 import assert from "node:assert/strict";
 import { test } from "node:test";
 import { readFileSync } from "node:fs";
-import { LONGEST_MESSAGE, framed } from "../core/server/framing.js";
+import { MAX_MESSAGE, framed } from "../core/server/framing.js";
 import { EYE_CYCLES } from "../core/time/mcs4_time.js";
 import { FILES, FakeFile, LOCK, SOURCE, engine, served } from "./served_adapter.js";
 
@@ -17,13 +17,13 @@ test("messages are answered in their order, each by a number of its own; what is
   connection.take(framed({ seq: 70, type: "request" }));
   connection.take(framed([]));
   connection.take(new TextEncoder().encode("Content-Length: 3\r\n\r\n{x}"));
-  connection.take(new TextEncoder().encode(`Content-Length: ${LONGEST_MESSAGE + 1}\r\n\r\n`));
-  connection.take(new Uint8Array(LONGEST_MESSAGE + 1));
+  connection.take(new TextEncoder().encode(`Content-Length: ${MAX_MESSAGE + 1}\r\n\r\n`));
+  connection.take(new Uint8Array(MAX_MESSAGE + 1));
   await until(({ message }) => (message || "").includes("was not read"));
   const faults = messages.filter(({ success }) => success === false).slice(-4)
     .map(({ request_seq, message }) => `${request_seq} ${message}`);
   const form = "a message has a number seq, the type \"request\" and a command";
-  const tooLong = `0 a message of ${LONGEST_MESSAGE + 1} bytes was not read`;
+  const tooLong = `0 a message of ${MAX_MESSAGE + 1} bytes was not read`;
   assert.deepEqual(faults, [`70 ${form}`, `0 ${form}`, "0 a message is not JSON", tooLong]);
   assert.deepEqual(messages.map(({ seq }) => seq), messages.map((_, at) => at + 1));
 });

@@ -2,8 +2,8 @@
 import assert from "node:assert/strict";
 import { test } from "node:test";
 import { readFileSync } from "node:fs";
-import { cures, diagnosticsOf } from "../core/server/diagnostics.js";
-import { LONGEST_MESSAGE, MessageReader, StreamLost, framed } from "../core/server/framing.js";
+import { quickFixes, diagnosticsOf } from "../core/server/diagnostics.js";
+import { MAX_MESSAGE, MessageReader, StreamLost, framed } from "../core/server/framing.js";
 import { boardFor, isBoard, isProgram } from "../core/server/kinds.js";
 import { OpenText } from "../core/server/open_text.js";
 import { tokenCodes } from "../core/server/token_codes.js";
@@ -27,10 +27,10 @@ test("messages come out of a stream, wherever it is cut", () => {
 
 test("a message that is too long is left out, and the next one is read", () => {
   const reader = new MessageReader();
-  assert.deepEqual([...reader.take(bytesOf(`Content-Length: ${LONGEST_MESSAGE + 1}\r\n\r\n`))], []);
-  assert.deepEqual([...reader.take(new Uint8Array(LONGEST_MESSAGE))], []);
+  assert.deepEqual([...reader.take(bytesOf(`Content-Length: ${MAX_MESSAGE + 1}\r\n\r\n`))], []);
+  assert.deepEqual([...reader.take(new Uint8Array(MAX_MESSAGE))], []);
   const rest = [...reader.take(new Uint8Array([32, ...framed({ id: 1 })]))];
-  assert.deepEqual(rest.map((each) => each.tooLong || JSON.parse(each.text).id), [LONGEST_MESSAGE + 1, 1]);
+  assert.deepEqual(rest.map((each) => each.tooLong || JSON.parse(each.text).id), [MAX_MESSAGE + 1, 1]);
 });
 
 test("a size that no message has is an error at once, after the messages before it", () => {
@@ -129,8 +129,8 @@ test("faults with what cures them, and that there may be more", () => {
   assert.deepEqual(diagnosticsOf(faults, true).map(({ severity, code }) => [severity, code]), [[1, 30], [1, 32]]);
   assert.deepEqual(diagnosticsOf(faults, false).map(({ severity }) => severity), [1, 1, 3]);
   const at = (line, character) => ({ start: { line, character }, end: { line, character } });
-  assert.deepEqual(cures("u", faults, at(1, 11)).map(({ title }) => title), ["Write JUN"]);
-  assert.deepEqual(cures("u", faults, at(1, 12)), []);
+  assert.deepEqual(quickFixes("u", faults, at(1, 11)).map(({ title }) => title), ["Write JUN"]);
+  assert.deepEqual(quickFixes("u", faults, at(1, 12)), []);
 });
 
 test("the order of the protocol", async () => {

@@ -45,12 +45,12 @@ export class AdapterConnection extends MessageStream {
   }
 
   /** @param {string} words */
-  refuseStream(words) {
+  reportStreamError(words) {
     this.refuse(0, "", new AdapterError(words));
   }
 
   /** @param {string} text */
-  takeText(text) {
+  serveMessage(text) {
     /** @type {any} */
     let message;
     try {

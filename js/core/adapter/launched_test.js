@@ -3,7 +3,7 @@
 
 import { DebugSession } from "../debug/debug_session.js";
 import { LONGEST_RUN } from "../engine/key_queue.js";
-import { besideOf } from "../server/kinds.js";
+import { dependenciesOf } from "../server/kinds.js";
 import { failureLine } from "../testing/tap.js";
 import { runTests } from "../testing/test_suite.js";
 import { AdapterError } from "./dap_protocol.js";
@@ -31,7 +31,7 @@ export const nameOfUri = (uri) => decodeURIComponent(uri.slice("file://".length)
  * @returns {TestFiles}
  */
 export function testFiles(name, file, read) {
-  const { board, program, tests } = besideOf(uriOf(file), (uri) => read(nameOfUri(uri)));
+  const { board, program, tests } = dependenciesOf(uriOf(file), (uri) => read(nameOfUri(uri)));
   return { name, file, tests: tests.map(nameOfUri), board: nameOfUri(board), program: nameOfUri(program) };
 }
 

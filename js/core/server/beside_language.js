@@ -22,7 +22,7 @@ import * as say from "../../words/server.js";
  * @typedef {{ uri: string, text: string | null }} NamedText
  *
  * The texts that a test file or a property file depends on: the board, the program, and the test files up to this one.
- * @typedef {{ board: NamedText, program: NamedText, tests: NamedText[] }} BesideTexts
+ * @typedef {{ board: NamedText, program: NamedText, tests: NamedText[] }} DependencyTexts
  */
 
 /** The protocol's kinds of completions. */
@@ -59,14 +59,14 @@ export function fileNameOf(uri) {
   }
 }
 
-export class BesideLanguage {
+export class DependentLanguage {
   /**
    * @param {Engine} engine
-   * @param {(uri: string) => BesideTexts} besideOf
+   * @param {(uri: string) => DependencyTexts} dependenciesOf
    */
-  constructor(engine, besideOf) {
+  constructor(engine, dependenciesOf) {
     this.engine = engine;
-    this.besideOf = besideOf;
+    this.dependenciesOf = dependenciesOf;
     /** @type {{ texts: Texts, prepared: ReturnType<typeof prepare> } | null} the last result of `prepare`, with its texts */
     this.last = null;
   }
@@ -83,13 +83,13 @@ export class BesideLanguage {
 
   /**
    * Returns the error of a missing or invalid board or program; null if both are valid.
-   * @param {BesideTexts} beside
+   * @param {DependencyTexts} beside
    * @returns {ShownFault | null}
    */
-  hindrance({ board, program }) {
-    const lacking = [board, program].find(({ text }) => text === null);
+  dependencyError({ board, program }) {
+    const missing = [board, program].find(({ text }) => text === null);
     const note = (/** @type {string} */ words) => ({ number: 0, line: 1, from: 0, to: 0, words });
-    if (lacking) return note(say.nothingBeside(fileNameOf(lacking.uri)));
+    if (missing) return note(say.nothingBeside(fileNameOf(missing.uri)));
     const { faults } = this.prepared({ boardText: board.text || "", programText: program.text || "" });
     if (faults.length === 0) return null;
     const [{ text, line }] = faults;
@@ -102,7 +102,7 @@ export class BesideLanguage {
    * @returns {TestNames}
    */
   names({ uri }) {
-    const { board, program } = this.besideOf(uri);
+    const { board, program } = this.dependenciesOf(uri);
     const face = new Face(board.text || "");
     const keys = [...face.keys.values()].map(({ text }) => text).filter((name) => name !== "");
     const lines = (program.text || "").split("\n");
@@ -114,7 +114,7 @@ export class BesideLanguage {
    * Adds the protocol's kinds to the entries of a completion.
    * @param {import("../text/completion.js").Completion} completion
    */
-  shown({ from, to, list }) {
+  withKinds({ from, to, list }) {
     return { from, to, list: list.map((each) => ({ ...each, kind: each.what ? OF_KEYWORD : OF_VALUE })) };
   }
 
@@ -140,7 +140,7 @@ export class BesideLanguage {
   labelAt({ uri, lines }, { line, character }) {
     const words = wordsUpTo(lines[line], character);
     const name = (words[words.length - 1] || "").replace(/^[(!]*@?|[,)]+$/g, "");
-    const { program } = this.besideOf(uri);
+    const { program } = this.dependenciesOf(uri);
     const found = definitionOf((program.text || "").split("\n"), name);
     return found ? { uri: program.uri, range: rangeOf(found.line, found.from, found.to) } : null;
   }

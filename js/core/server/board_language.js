@@ -34,7 +34,7 @@ export class BoardLanguage {
   constructor(bench, tables, wordsOf) {
     this.parts = PARTS.board;
     this.tables = tables;
-    this.all = new AllFaultsOfTexts(bench.asked(), { instructions: new Map(), tables }, wordsOf);
+    this.all = new AllFaultsOfTexts(bench.queries(), { instructions: new Map(), tables }, wordsOf);
   }
 
   /**
@@ -137,8 +137,8 @@ export class BoardLanguage {
       const before = words[at - 1] ? words[at - 1].text : "";
       const isHeader = headers.has(line) && before === "[" && /^\s*\[/.test(lines[line - 1]);
       const isKey = words[at + 1] && words[at + 1].text === "=" && words[at + 1].kind === "mark";
-      const typeOfValue = kind === "string" ? "string" : /^[+-]?\d/.test(word) ? "number" : "";
-      const type = isHeader ? "class" : isKey ? "property" : typeOfValue;
+      const valueType = kind === "string" ? "string" : /^[+-]?\d/.test(word) ? "number" : "";
+      const type = isHeader ? "class" : isKey ? "property" : valueType;
       return type ? [{ line: line - 1, from, to, type }] : [];
     })];
   }

@@ -10,7 +10,7 @@ import * as say from "../../words/server.js";
  */
 
 /** The name of a line or a chain bit, such as `rom0.2`, `ram0.1.3` or `chain0.5`. */
-const LINE = /^(rom|ram|chain)(\d+)\.(\d+)(?:\.(\d+))?$/;
+const LINE_NAME = /^(rom|ram|chain)(\d+)\.(\d+)(?:\.(\d+))?$/;
 /** @type {Record<string, string>} the key with the number of a chip, by the name of its table */
 const NUMBERS = { rom: "chip", ram: "bank" };
 
@@ -69,7 +69,7 @@ export class BoardReferences {
    */
   partOf({ inner, key, entry }) {
     if (entry.table === "[keys]" && key === "chain") return this.chains[Number(inner)] || null;
-    const found = LINE.exec(String(inner));
+    const found = LINE_NAME.exec(String(inner));
     if (!found || key === "port") return null;
     const [, kind, number] = found;
     if (kind === "chain") return this.chains[Number(number)] || null;
@@ -81,8 +81,8 @@ export class BoardReferences {
    * @param {number} line from 1
    */
   partAt(line) {
-    const stands = (/** @type {Entry} */ entry) => line >= entry.line && entry.keys.some((key) => line <= key.line);
-    return this.entries.filter((entry) => ["rom", "ram", "chain"].includes(entry.table) && stands(entry)).pop() || null;
+    const contains = (/** @type {Entry} */ entry) => line >= entry.line && entry.keys.some((key) => line <= key.line);
+    return this.entries.filter((entry) => ["rom", "ram", "chain"].includes(entry.table) && contains(entry)).pop() || null;
   }
 
   /**
@@ -103,16 +103,16 @@ export class BoardReferences {
    * @param {import("../board/face.js").Face} face
    */
   wordsOf(value, face) {
-    const found = LINE.exec(String(value.inner));
+    const found = LINE_NAME.exec(String(value.inner));
     if (!found || value.key === "port") return "";
     const [name, kind, first, second, third] = found;
-    const what = kind === "rom" ? say.lineOfRom(second, first)
+    const lineText = kind === "rom" ? say.lineOfRom(second, first)
       : kind === "chain" ? say.bitOfChain(second, first)
         : say.lineOfRam(third, second, first);
     const lamp = this.lamps.indexOf(value.entry);
     const faceText = face.lamps.get(lamp);
-    const ofLamp = lamp < 0 ? "" : `, lamp ${lamp}${faceText ? ` (${faceText.text})` : ""}`;
+    const lampText = lamp < 0 ? "" : `, lamp ${lamp}${faceText ? ` (${faceText.text})` : ""}`;
     const part = this.partOf(value);
-    return `${name}: ${what}${ofLamp}${part ? say.standsIn(kind === "chain", part.line) : ""}.`;
+    return `${name}: ${lineText}${lampText}${part ? say.standsIn(kind === "chain", part.line) : ""}.`;
   }
 }

@@ -43,13 +43,13 @@ function listOf(value) {
  * @returns {Client}
  */
 export function clientOf(params) {
-  const given = fieldOf(params, "capabilities");
+  const capabilities = fieldOf(params, "capabilities");
   const folders = listOf(fieldOf(params, "workspaceFolders")).map((each) => fieldOf(each, "uri"));
   return {
-    showsMarkdown: listOf(fieldAt(given, "textDocument", "hover", "contentFormat")).includes("markdown"),
-    pulls: fieldAt(given, "textDocument", "diagnostic") !== undefined,
-    refreshesDiagnostics: fieldAt(given, "workspace", "diagnostics", "refreshSupport") === true,
-    commands: new Set(listOf(fieldAt(given, "experimental", "commands", "commands"))),
+    showsMarkdown: listOf(fieldAt(capabilities, "textDocument", "hover", "contentFormat")).includes("markdown"),
+    pulls: fieldAt(capabilities, "textDocument", "diagnostic") !== undefined,
+    refreshesDiagnostics: fieldAt(capabilities, "workspace", "diagnostics", "refreshSupport") === true,
+    commands: new Set(listOf(fieldAt(capabilities, "experimental", "commands", "commands"))),
     folders: [...folders, fieldOf(params, "rootUri")].filter((each) => typeof each === "string"),
   };
 }

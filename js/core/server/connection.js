@@ -13,13 +13,13 @@ import * as say from "../../words/server.js";
  * @typedef {number | string | null} Id
  *
  * A request without a response yet. If the client cancels it, the response is sent at once; long work checks `isCancelled` and ends.
- * @typedef {{ isCancelled: boolean }} Asked
+ * @typedef {{ isCancelled: boolean }} PendingRequest
  *
  * A handler: returns the result of a request, or a promise of it.
- * @typedef {(params: any, asked: Asked) => unknown} Act
+ * @typedef {(params: any, pending: PendingRequest) => unknown} RequestHandler
  *
  * The handlers of requests and of notifications, by their methods.
- * @typedef {{ requests: Record<string, Act>, notifications: Record<string, Act> }} Served
+ * @typedef {{ requests: Record<string, RequestHandler>, notifications: Record<string, RequestHandler> }} Handlers
  */
 
 /** The protocol's types of messages. */
@@ -31,8 +31,8 @@ function isId(id) {
   return typeof id === "string" || typeof id === "number" || id === null;
 }
 
-/** @type {Asked} for handlers of notifications, which cannot be cancelled */
-const NOBODY = { isCancelled: false };
+/** @type {PendingRequest} for handlers of notifications, which cannot be cancelled */
+const NOT_CANCELLABLE = { isCancelled: false };
 
 export class Connection extends MessageStream {
   /**
@@ -42,23 +42,23 @@ export class Connection extends MessageStream {
   constructor(write, end) {
     super(write);
     this.end = end;
-    /** @type {Served} */
+    /** @type {Handlers} */
     this.served = { requests: {}, notifications: {} };
     /** @type {"new" | "open" | "shut"} */
     this.state = "new";
-    /** @type {Map<Id, Asked>} the requests without a response yet */
-    this.waiting = new Map();
+    /** @type {Map<Id, PendingRequest>} the requests without a response yet */
+    this.unanswered = new Map();
     /** The number of requests that were sent to the client. */
-    this.asked = 0;
+    this.sentRequests = 0;
   }
 
   /** @param {string} words */
-  refuseStream(words) {
+  reportStreamError(words) {
     this.refuse(null, new ProtocolError(INVALID_REQUEST, words));
   }
 
   /** @param {string} text */
-  takeText(text) {
+  serveMessage(text) {
     let message;
     try {
       message = JSON.parse(text);
@@ -72,15 +72,15 @@ export class Connection extends MessageStream {
     if (typeof method !== "string" || fieldOf(message, "jsonrpc") !== "2.0" || !(id === undefined || isId(id))) {
       const words = say.MESSAGE_FORM;
       this.refuse(isId(id) ? id : null, new ProtocolError(INVALID_REQUEST, words));
-    } else if (id === undefined) this.notified(method, message.params);
-    else this.request(id, method, message.params);
+    } else if (id === undefined) this.serveNotification(method, message.params);
+    else this.serveRequest(id, method, message.params);
   }
 
   /**
    * Returns the error of a request that is not allowed in the present state; null if it is allowed.
    * @param {string} method
    */
-  faultOfOrder(method) {
+  orderError(method) {
     if (this.state === "shut") return new ProtocolError(INVALID_REQUEST, say.EXIT_AFTER_SHUTDOWN);
     if (this.state === "new" && method !== "initialize") return new ProtocolError(NOT_INITIALIZED, say.INITIALIZE_FIRST);
     if (this.state === "open" && method === "initialize") return new ProtocolError(INVALID_REQUEST, say.INITIALIZE_ONCE);
@@ -92,43 +92,44 @@ export class Connection extends MessageStream {
    * @param {string} method
    * @param {any} params
    */
-  async request(id, method, params) {
-    const fault = this.faultOfOrder(method);
-    const act = Object.prototype.hasOwnProperty.call(this.served.requests, method) && this.served.requests[method];
-    if (fault || !act || this.waiting.has(id)) {
-      const other = act ? new ProtocolError(INVALID_REQUEST, say.idWaits(id)) : new ProtocolError(METHOD_NOT_FOUND, say.noMethod(method));
-      this.refuse(id, fault || other);
+  async serveRequest(id, method, params) {
+    const fault = this.orderError(method);
+    const handler = Object.prototype.hasOwnProperty.call(this.served.requests, method) && this.served.requests[method];
+    if (fault || !handler || this.unanswered.has(id)) {
+      const notServed = handler ? new ProtocolError(INVALID_REQUEST, say.idWaits(id))
+        : new ProtocolError(METHOD_NOT_FOUND, say.noMethod(method));
+      this.refuse(id, fault || notServed);
       return;
     }
-    const asked = { isCancelled: false };
-    this.waiting.set(id, asked);
+    const pending = { isCancelled: false };
+    this.unanswered.set(id, pending);
     // Messages in the same chunk are served in order, so the state changes before anything is awaited.
     if (method === "initialize") this.state = "open";
     if (method === "shutdown") this.state = "shut";
     try {
-      const result = await act(params, asked);
-      if (this.isDone(id, asked)) this.send({ id, result: result === undefined ? null : result });
+      const result = await handler(params, pending);
+      if (this.takeUnanswered(id, pending)) this.send({ id, result: result === undefined ? null : result });
     } catch (thrown) {
-      if (this.isDone(id, asked)) this.refuse(id, thrown);
+      if (this.takeUnanswered(id, pending)) this.refuse(id, thrown);
     }
   }
 
   /**
    * Removes a request before its response is sent. Returns false if it was cancelled, so that it has its response already.
    * @param {Id} id
-   * @param {Asked} asked
+   * @param {PendingRequest} pending
    */
-  isDone(id, asked) {
-    if (asked.isCancelled) return false;
-    return this.waiting.delete(id);
+  takeUnanswered(id, pending) {
+    if (pending.isCancelled) return false;
+    return this.unanswered.delete(id);
   }
 
   /** @param {Id} id of the request that the client no longer wants */
   cancel(id) {
-    const asked = this.waiting.get(id);
-    if (!asked) return;
-    asked.isCancelled = true;
-    this.waiting.delete(id);
+    const pending = this.unanswered.get(id);
+    if (!pending) return;
+    pending.isCancelled = true;
+    this.unanswered.delete(id);
     this.refuse(id, new ProtocolError(CANCELLED, IT_WAS_CANCELLED));
   }
 
@@ -136,10 +137,10 @@ export class Connection extends MessageStream {
    * @param {string} method
    * @param {any} params
    */
-  async notified(method, params) {
+  async serveNotification(method, params) {
     if (method === "exit") {
       // The response to a shutdown in the same chunk is written first.
-      if (this.waiting.size > 0) await null;
+      if (this.unanswered.size > 0) await null;
       this.end(this.state === "shut" ? 0 : 1);
       return;
     }
@@ -147,10 +148,10 @@ export class Connection extends MessageStream {
       this.cancel(fieldOf(params, "id"));
       return;
     }
-    const act = Object.prototype.hasOwnProperty.call(this.served.notifications, method) && this.served.notifications[method];
-    if (this.state !== "open" || !act) return;
+    const handler = Object.prototype.hasOwnProperty.call(this.served.notifications, method) && this.served.notifications[method];
+    if (this.state !== "open" || !handler) return;
     try {
-      await act(params, NOBODY);
+      await handler(params, NOT_CANCELLABLE);
     } catch (thrown) {
       this.logMessage(`${method}: ${thrown instanceof Error ? thrown.message : String(thrown)}`);
     }
@@ -178,8 +179,8 @@ export class Connection extends MessageStream {
    * @param {string} method
    */
   ask(method) {
-    this.asked += 1;
-    this.send({ id: `mcs4 ${this.asked}`, method });
+    this.sentRequests += 1;
+    this.send({ id: `mcs4 ${this.sentRequests}`, method });
   }
 
   /**

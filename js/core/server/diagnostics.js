@@ -74,7 +74,7 @@ function touches({ line, from, to }, { start, end }) {
  * @param {Fault[]} faults
  * @param {Range} range
  */
-export function cures(uri, faults, range) {
+export function quickFixes(uri, faults, range) {
   return faults.filter((fault) => touches(fault, range)).flatMap((fault) => {
     const texts = fault.cures || [];
     return texts.map((newText) => ({

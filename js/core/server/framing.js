@@ -3,13 +3,13 @@
 import * as say from "../../words/server.js";
 
 /** The maximum length of a message in bytes. A longer one is skipped. */
-export const LONGEST_MESSAGE = 16777216;
+export const MAX_MESSAGE = 16777216;
 /** The maximum length of a skipped message in bytes. A longer one ends the stream. */
-export const LONGEST_SKIPPED = 16 * LONGEST_MESSAGE;
+export const MAX_SKIPPED = 16 * MAX_MESSAGE;
 /** The maximum length of a header in bytes. */
-const LONGEST_HEAD = 4096;
+const MAX_HEADER = 4096;
 /** The header line with the length of the body. */
-const SIZE = /^content-length[ \t]*:[ \t]*(\d{1,12})[ \t]*$/i;
+const CONTENT_LENGTH = /^content-length[ \t]*:[ \t]*(\d{1,12})[ \t]*$/i;
 
 /**
  * A received message, or the size of a message that was skipped because it was too long.
@@ -21,13 +21,13 @@ export class StreamLost extends Error {}
 
 /**
  * Returns the length of the body in bytes; throws StreamLost if the header does not have exactly one length.
- * @param {string} head
+ * @param {string} header
  */
-function sizeIn(head) {
-  const sizes = head.split("\r\n").map((line) => SIZE.exec(line)).filter((each) => each !== null);
+function contentLength(header) {
+  const sizes = header.split("\r\n").map((line) => CONTENT_LENGTH.exec(line)).filter((each) => each !== null);
   if (sizes.length !== 1) throw new StreamLost(say.HEAD_FORM);
   const size = Number(/** @type {RegExpExecArray} */ (sizes[0])[1]);
-  if (size > LONGEST_SKIPPED) throw new StreamLost(say.sizeTooLarge(size, LONGEST_SKIPPED));
+  if (size > MAX_SKIPPED) throw new StreamLost(say.sizeTooLarge(size, MAX_SKIPPED));
   return size;
 }
 
@@ -35,9 +35,9 @@ function sizeIn(head) {
 export class MessageReader {
   constructor() {
     this.decoder = new TextDecoder();
-    this.head = "";
+    this.header = "";
     /** The number of missing bytes of the body; -1 while a header is read. */
-    this.lacking = -1;
+    this.missing = -1;
     /** @type {Uint8Array | null} receives the body; null if it is skipped */
     this.body = null;
     this.size = 0;
@@ -45,8 +45,8 @@ export class MessageReader {
 
   /** Returns the error message of a message that is incomplete at the end of the stream; "" between messages. */
   get incomplete() {
-    if (this.lacking > 0) return say.messageIncomplete(this.size - this.lacking, this.size);
-    return this.head === "" ? "" : say.HEAD_INCOMPLETE;
+    if (this.missing > 0) return say.messageIncomplete(this.size - this.missing, this.size);
+    return this.header === "" ? "" : say.HEAD_INCOMPLETE;
   }
 
   /**
@@ -56,32 +56,32 @@ export class MessageReader {
    */
   * take(bytes) {
     for (let at = 0; at < bytes.length;) {
-      if (this.lacking < 0) at = this.takeHead(bytes, at);
-      const count = Math.min(Math.max(this.lacking, 0), bytes.length - at);
-      if (this.body && count > 0) this.body.set(bytes.subarray(at, at + count), this.size - this.lacking);
+      if (this.missing < 0) at = this.readHeader(bytes, at);
+      const count = Math.min(Math.max(this.missing, 0), bytes.length - at);
+      if (this.body && count > 0) this.body.set(bytes.subarray(at, at + count), this.size - this.missing);
       at += count;
-      if (this.lacking < 0) break;
-      this.lacking -= count;
-      if (this.lacking === 0) yield this.end();
+      if (this.missing < 0) break;
+      this.missing -= count;
+      if (this.missing === 0) yield this.end();
     }
   }
 
   /**
    * Reads the bytes of a header. Returns the index after the header, or after the last byte.
    * @param {Uint8Array} bytes
-   * @param {number} begun the index of the first byte
+   * @param {number} start the index of the first byte
    */
-  takeHead(bytes, begun) {
-    for (let at = begun; at < bytes.length; at++) {
-      this.head += String.fromCharCode(bytes[at]);
-      if (this.head.endsWith("\r\n\r\n")) {
-        this.size = sizeIn(this.head);
-        this.lacking = this.size;
-        this.body = this.size <= LONGEST_MESSAGE ? new Uint8Array(this.size) : null;
-        this.head = "";
+  readHeader(bytes, start) {
+    for (let at = start; at < bytes.length; at++) {
+      this.header += String.fromCharCode(bytes[at]);
+      if (this.header.endsWith("\r\n\r\n")) {
+        this.size = contentLength(this.header);
+        this.missing = this.size;
+        this.body = this.size <= MAX_MESSAGE ? new Uint8Array(this.size) : null;
+        this.header = "";
         return at + 1;
       }
-      if (this.head.length > LONGEST_HEAD) throw new StreamLost(say.headTooLong(LONGEST_HEAD));
+      if (this.header.length > MAX_HEADER) throw new StreamLost(say.headTooLong(MAX_HEADER));
     }
     return bytes.length;
   }
@@ -92,7 +92,7 @@ export class MessageReader {
    */
   end() {
     const { body, size } = this;
-    this.lacking = -1;
+    this.missing = -1;
     this.body = null;
     return body ? { text: this.decoder.decode(body) } : { tooLong: size };
   }
@@ -105,10 +105,10 @@ export class MessageReader {
 export function framed(message) {
   const encoder = new TextEncoder();
   const body = encoder.encode(JSON.stringify(message));
-  const head = encoder.encode(`Content-Length: ${body.length}\r\n\r\n`);
-  const bytes = new Uint8Array(head.length + body.length);
-  bytes.set(head);
-  bytes.set(body, head.length);
+  const header = encoder.encode(`Content-Length: ${body.length}\r\n\r\n`);
+  const bytes = new Uint8Array(header.length + body.length);
+  bytes.set(header);
+  bytes.set(body, header.length);
   return bytes;
 }
 

@@ -16,7 +16,7 @@ import * as say from "../../words/server.js";
  * @typedef {{ folder: string, board: string, program: string, tests: string[], properties: string[] }} Project
  *
  * The URIs of the files that a test file or a property file depends on; `folder` is that of its project, "" for none.
- * @typedef {Omit<Project, "properties">} Beside
+ * @typedef {Omit<Project, "properties">} Dependencies
  *
  * The URI of a board, and the folder of the project that names it, "" for none.
  * @typedef {{ uri: string, folder: string }} NamedBoard
@@ -25,22 +25,22 @@ import * as say from "../../words/server.js";
 const TESTS = /\.test$/i;
 const PROPERTIES = /\.props$/i;
 /** The names of files that are not programs. */
-const OTHERS = /\.(test|props|txt|mcsp|mcs|md|json|toml|[ch])$/i;
+const NOT_PROGRAMS = /\.(test|props|txt|mcsp|mcs|md|json|toml|[ch])$/i;
 const TOML = /\.toml$/i;
 /** The names of files that cannot be boards. */
-export const NO_BOARD = /\.(asm|4004|test|props)$/i;
+export const NOT_BOARDS = /\.(asm|4004|test|props)$/i;
 /** The names of tables that only boards have. */
-const TABLES = ["rom", "ram", "chain", "lamp"];
+const BOARD_TABLES = ["rom", "ram", "chain", "lamp"];
 
 /** The maximum number of folders that are searched for a project, from the text's folder upwards. */
-const MOST_FOLDERS = 8;
+const MAX_FOLDERS = 8;
 
 /**
  * Returns the URI of a file in a folder.
  * @param {string} folder its URI, which ends with `/`
  * @param {string} path relative to the folder
  */
-export function within(folder, path) {
+export function uriIn(folder, path) {
   return folder + path.split("/").map(encodeURIComponent).join("/");
 }
 
@@ -79,7 +79,7 @@ export function faultsOfProject(uri, text, textOf) {
   const { names, faults } = readProject(text);
   if (!names) return faults;
   const folder = folderOf(uri);
-  return filesNamed(names).filter(({ path }) => textOf(within(folder, path), folder) === null).map(({ path, key, line, from, to }) => (
+  return filesNamed(names).filter(({ path }) => textOf(uriIn(folder, path), folder) === null).map(({ path, key, line, from, to }) => (
     { number: 0, line, from, to, words: say.noFile(key, path) }));
 }
 
@@ -91,7 +91,7 @@ export function faultsOfProject(uri, text, textOf) {
  */
 export function projectFor(uri, textOf) {
   let folder = folderOf(uri);
-  for (let left = MOST_FOLDERS; left > 0 && folder.split("/").length > 4; left--) {
+  for (let foldersLeft = MAX_FOLDERS; foldersLeft > 0 && folder.split("/").length > 4; foldersLeft--) {
     const project = projectIn(folder, textOf);
     if (project) return project;
     folder = folderOf(folder.slice(0, -1));
@@ -109,7 +109,7 @@ export function projectIn(folder, textOf) {
   const text = textOf(folder + PROJECT_FILE, "");
   const { names } = text === null ? { names: null } : readProject(text);
   if (!names) return null;
-  const uriOf = (/** @type {{ path: string }} */ { path }) => within(folder, path);
+  const uriOf = (/** @type {{ path: string }} */ { path }) => uriIn(folder, path);
   const [tests, properties] = [names.tests.map(uriOf), names.properties.map(uriOf)];
   return { folder, board: uriOf(names.board), program: uriOf(names.program), tests, properties };
 }
@@ -122,7 +122,7 @@ export function projectIn(folder, textOf) {
  */
 export function boardFor(uri, textOf) {
   const project = projectFor(uri, textOf);
-  return project ? { uri: project.board, folder: project.folder } : { uri: within(folderOf(uri), "board.toml"), folder: "" };
+  return project ? { uri: project.board, folder: project.folder } : { uri: uriIn(folderOf(uri), "board.toml"), folder: "" };
 }
 
 /**
@@ -130,19 +130,19 @@ export function boardFor(uri, textOf) {
  * program in this folder with the same name. `tests` are the test files of the project up to this one.
  * @param {string} uri
  * @param {TextOf} textOf
- * @returns {Beside}
+ * @returns {Dependencies}
  */
-export function besideOf(uri, textOf) {
+export function dependenciesOf(uri, textOf) {
   const project = projectFor(uri, textOf);
   if (!project) {
     const folder = folderOf(uri);
     const [program, other] = [".asm", ".4004"].map((ending) => uri.replace(/\.[^./]*$/, ending));
     const isOther = textOf(program, "") === null && textOf(other, "") !== null;
-    return { folder: "", board: within(folder, "board.toml"), program: isOther ? other : program, tests: [uri] };
+    return { folder: "", board: uriIn(folder, "board.toml"), program: isOther ? other : program, tests: [uri] };
   }
   const { folder, board, program, tests } = project;
-  const place = tests.indexOf(uri);
-  return { folder, board, program, tests: place < 0 ? [uri] : tests.slice(0, place + 1) };
+  const index = tests.indexOf(uri);
+  return { folder, board, program, tests: index < 0 ? [uri] : tests.slice(0, index + 1) };
 }
 
 /**
@@ -153,7 +153,7 @@ export function isBoard({ uri, language, text }) {
   if ((!TOML.test(uri) && language !== "toml") || isProjectFile(uri)) return false;
   if (uri.endsWith("/board.toml")) return true;
   if (text.length > LONGEST_KEPT) return false;
-  return readBoardText(text).entries.some(({ table }) => TABLES.includes(table));
+  return readBoardText(text).entries.some(({ table }) => BOARD_TABLES.includes(table));
 }
 
 /**
@@ -161,7 +161,7 @@ export function isBoard({ uri, language, text }) {
  * @param {OpenText} open
  */
 export function isProgram({ uri, language }) {
-  return language !== "toml" && !OTHERS.test(uri);
+  return language !== "toml" && !NOT_PROGRAMS.test(uri);
 }
 
 /**

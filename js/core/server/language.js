@@ -37,7 +37,7 @@
  * @property {(open: OpenText, position: Position) => Hover | null} [hover]
  * @property {(open: OpenText, position: Position) => Range | Location | null} [definition] a range is in the same text
  * @property {(open: OpenText, position: Position, withDefinition: boolean) => Range[]} [references]
- * @property {(open: OpenText, position: Position) => { range: Range, placeholder: string } | null} [renamed]
+ * @property {(open: OpenText, position: Position) => { range: Range, placeholder: string } | null} [renameTarget]
  * @property {(open: OpenText, position: Position, wanted: string) => TextEdit[]} [rename]
  * @property {(open: OpenText, position: Position, trigger: string) => Omit<Completion, "list"> & { list: CompletedWord[] }} [completion]
  *   `trigger` is the typed character that triggered the request, "" for none
@@ -46,12 +46,12 @@
  * @property {(open: OpenText, range: Range, layout: Layout) => TextEdit[]} [format] the changes in a range
  * @property {(open: OpenText, range: Range) => InlayHint[]} [hints]
  * @property {(open: OpenText, position: Position) => SignatureHelp | null} [signature]
- * @property {(open: OpenText, position: Position) => [number, number][]} [stretches] ranges of columns in the line for growing selections
+ * @property {(open: OpenText, position: Position) => [number, number][]} [selectionColumns] ranges of columns for selections
  * @property {(open: OpenText) => DocumentLink[]} [links]
  * @property {(open: OpenText) => Lens[]} [lenses]
  * @property {(open: OpenText, position: Position) => Routine | null} [routine]
  * @property {(open: OpenText, position: Position) => Call[]} [callers]
- * @property {(open: OpenText, position: Position) => Call[]} [called]
+ * @property {(open: OpenText, position: Position) => Call[]} [callees]
  */
 
 export {};

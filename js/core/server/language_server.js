@@ -7,7 +7,9 @@ import { BoardLanguage } from "./board_language.js";
 import { clientOf } from "./capabilities.js";
 import { diagnosticsOf, faultOfLength } from "./diagnostics.js";
 import { fieldOf } from "./framing.js";
-import { NO_BOARD, besideOf, boardFor, isBoard, isProgram, isProjectFile, isProperties, isTests, projectFor, projectIn } from "./kinds.js";
+import {
+  NOT_BOARDS, boardFor, dependenciesOf, isBoard, isProgram, isProjectFile, isProperties, isTests, projectFor, projectIn,
+} from "./kinds.js";
 import { OpenText } from "./open_text.js";
 import { ProgramLanguage } from "./program_language.js";
 import { ProjectLanguage } from "./project_language.js";
@@ -21,7 +23,7 @@ import * as say from "../../words/server.js";
 
 /**
  * @typedef {import("./capabilities.js").Client} Client
- * @typedef {import("./connection.js").Act} Act
+ * @typedef {import("./connection.js").RequestHandler} RequestHandler
  * @typedef {import("./connection.js").Connection} Connection
  * @typedef {import("./diagnostics.js").Diagnostic} Diagnostic
  * @typedef {import("./diagnostics.js").ShownFault} ShownFault
@@ -30,9 +32,9 @@ import * as say from "../../words/server.js";
  * The calls of the host: `readFile` returns the text of a file, `pause` yields to other tasks.
  * @typedef {{ readFile: import("./kinds.js").TextOf, pause: () => Promise<void> }} Host
  *
- * An open text with its errors and diagnostics. `lookedAt` is the number of edits at the last finished check, -1 for none; `looking` is the
- * last check.
- * @typedef {{ open: OpenText, faults: ShownFault[], diagnostics: Diagnostic[], lookedAt: number, looking: Promise<void> }} Looked
+ * An open text with its errors and diagnostics. `checkedEdits` is the number of edits at the last finished check, -1 for none; `check` is
+ * the last check.
+ * @typedef {{ open: OpenText, faults: ShownFault[], diagnostics: Diagnostic[], checkedEdits: number, check: Promise<void> }} CheckedText
  */
 
 export class LanguageServer {
@@ -45,31 +47,31 @@ export class LanguageServer {
   constructor(connection, engine, { refusals, manual }, host) {
     this.connection = connection;
     this.host = host;
-    /** @type {Map<string, Looked>} */
+    /** @type {Map<string, CheckedText>} */
     this.texts = new Map();
     const words = new Words(refusals);
     const wordsOf = (/** @type {number} */ number) => words.ofRefusal(number);
     const bench = new TextBench(engine);
     const textOf = (/** @type {string} */ uri, /** @type {string} */ folder) => this.textOf(uri, folder);
-    const beside = (/** @type {string} */ uri) => this.besideOf(uri);
+    const dependencies = (/** @type {string} */ uri) => this.dependenciesOf(uri);
     this.program = new ProgramLanguage(bench, manual, wordsOf, (uri) => this.boardOf(uri), host.pause);
     this.board = new BoardLanguage(bench, boardTables(manual), wordsOf);
-    this.tests = new TestLanguage(engine, manual, beside);
-    this.properties = new PropertyLanguage(engine, manual, beside, textOf);
+    this.tests = new TestLanguage(engine, manual, dependencies);
+    this.properties = new PropertyLanguage(engine, manual, dependencies, textOf);
     this.project = new ProjectLanguage(textOf);
-    this.runs = new TestRuns(engine, wordsOf, beside, host.pause);
+    this.runs = new TestRuns(engine, wordsOf, dependencies, host.pause);
     /** @type {Client} without capabilities before `initialize` */
     this.client = clientOf({});
     connection.served = { requests: new Requests(this).table(), notifications: this.notifications() };
   }
 
-  /** @returns {Record<string, Act>} */
+  /** @returns {Record<string, RequestHandler>} */
   notifications() {
     return {
-      "textDocument/didOpen": (params) => this.opened(fieldOf(params, "textDocument")),
-      "textDocument/didChange": (params) => this.changed(params),
-      "textDocument/didClose": (params) => this.closed(params),
-      "workspace/didChangeWatchedFiles": () => this.lookAtOthers(() => true),
+      "textDocument/didOpen": (params) => this.didOpen(fieldOf(params, "textDocument")),
+      "textDocument/didChange": (params) => this.didChange(params),
+      "textDocument/didClose": (params) => this.didClose(params),
+      "workspace/didChangeWatchedFiles": () => this.checkDependents(() => true),
     };
   }
 
@@ -78,7 +80,7 @@ export class LanguageServer {
   /**
    * Returns the open text that a request names; throws ProtocolError if there is none.
    * @param {any} params
-   * @returns {Looked}
+   * @returns {CheckedText}
    */
   textIn(params) {
     const uri = needText(fieldOf(fieldOf(params, "textDocument"), "uri"), "textDocument.uri");
@@ -114,10 +116,10 @@ export class LanguageServer {
   /**
    * Returns the texts that a test file or a property file depends on.
    * @param {string} uri
-   * @returns {import("./beside_language.js").BesideTexts}
+   * @returns {import("./beside_language.js").DependencyTexts}
    */
-  besideOf(uri) {
-    const { folder, board, program, tests } = besideOf(uri, (each, inside) => this.textOf(each, inside));
+  dependenciesOf(uri) {
+    const { folder, board, program, tests } = dependenciesOf(uri, (each, inside) => this.textOf(each, inside));
     const named = (/** @type {string} */ each) => ({ uri: each, text: this.textOf(each, folder) });
     return { board: named(board), program: named(program), tests: tests.map(named) };
   }
@@ -144,17 +146,17 @@ export class LanguageServer {
   }
 
   /** @param {any} given */
-  opened(given) {
+  didOpen(given) {
     const uri = needText(fieldOf(given, "uri"), "textDocument.uri");
     const text = needText(fieldOf(given, "text"), "textDocument.text");
     const open = new OpenText(uri, String(fieldOf(given, "languageId")), text, fieldOf(given, "version"));
-    const looked = { open, faults: [], diagnostics: [], lookedAt: -1, looking: Promise.resolve() };
-    this.texts.set(uri, looked);
-    this.touched(looked);
+    const checked = { open, faults: [], diagnostics: [], checkedEdits: -1, check: Promise.resolve() };
+    this.texts.set(uri, checked);
+    this.checkWithDependents(checked);
   }
 
   /** @param {any} params */
-  changed(params) {
+  didChange(params) {
     const text = this.textIn(params);
     const changes = fieldOf(params, "contentChanges");
     if (!Array.isArray(changes)) throw new ProtocolError(INVALID_PARAMS, say.CHANGES_ARE);
@@ -165,15 +167,15 @@ export class LanguageServer {
     });
     for (const edit of edits) text.open.edit(edit.range, edit.text);
     text.open.version = fieldOf(fieldOf(params, "textDocument"), "version");
-    this.touched(text);
+    this.checkWithDependents(text);
   }
 
   /** @param {any} params */
-  closed(params) {
+  didClose(params) {
     const { open } = this.textIn(params);
     this.texts.delete(open.uri);
     if (!this.client.pulls) this.connection.notify("textDocument/publishDiagnostics", { uri: open.uri, diagnostics: [] });
-    this.lookAtOthers((uri) => this.isBeside(open.uri, uri));
+    this.checkDependents((uri) => this.isAffectedBy(open.uri, uri));
   }
 
   /** @param {string} uri of a program */
@@ -198,53 +200,53 @@ export class LanguageServer {
    * @param {string} uri of the changed text
    * @param {string} other the URI of the other text
    */
-  isBeside(uri, other) {
+  isAffectedBy(uri, other) {
     if (isProjectFile(uri)) return true;
     const text = this.texts.get(other);
     if (!text || uri === other) return false;
     // Projects are searched only if necessary: a program does not depend on another program.
     const isOfBoth = isTests(text.open) || isProperties(text.open);
-    if (!isOfBoth) return !NO_BOARD.test(uri) && this.boardFor(other).uri === uri;
-    const { board, program, tests } = besideOf(other, (each, folder) => this.textOf(each, folder));
+    if (!isOfBoth) return !NOT_BOARDS.test(uri) && this.boardFor(other).uri === uri;
+    const { board, program, tests } = dependenciesOf(other, (each, folder) => this.textOf(each, folder));
     return [board, program, ...tests].includes(uri);
   }
 
   /**
    * Checks a text that is new or edited, and the texts that depend on it.
-   * @param {Looked} text
+   * @param {CheckedText} text
    */
-  touched(text) {
-    text.looking = this.look(text);
+  checkWithDependents(text) {
+    text.check = this.checkText(text);
     const { uri } = text.open;
-    this.lookAtOthers((other) => this.isBeside(uri, other));
+    this.checkDependents((other) => this.isAffectedBy(uri, other));
   }
 
   /**
    * Checks open texts again that depend on another text.
-   * @param {(uri: string) => boolean} isMeant returns whether a text depends on it
+   * @param {(uri: string) => boolean} isDependent returns whether a text depends on it
    */
-  lookAtOthers(isMeant) {
-    const meant = [...this.texts.values()].filter(({ open }) => !isBoard(open) && isMeant(open.uri));
-    for (const text of meant) {
+  checkDependents(isDependent) {
+    const dependents = [...this.texts.values()].filter(({ open }) => !isBoard(open) && isDependent(open.uri));
+    for (const text of dependents) {
       text.open.edits += 1;
-      text.looking = this.look(text);
+      text.check = this.checkText(text);
     }
-    if (meant.length > 0 && this.client.refreshesDiagnostics) this.connection.ask("workspace/diagnostic/refresh");
+    if (dependents.length > 0 && this.client.refreshesDiagnostics) this.connection.ask("workspace/diagnostic/refresh");
   }
 
   /**
    * Waits until a text is checked with all its edits, also those that arrive meanwhile.
-   * @param {Looked} text
+   * @param {CheckedText} text
    */
-  async untilLookedAt(text) {
-    while (text.lookedAt !== text.open.edits && this.texts.get(text.open.uri) === text) await text.looking;
+  async untilChecked(text) {
+    while (text.checkedEdits !== text.open.edits && this.texts.get(text.open.uri) === text) await text.check;
   }
 
   /**
    * Checks a text and publishes its diagnostics, unless it is edited or closed meanwhile.
-   * @param {Looked} text
+   * @param {CheckedText} text
    */
-  async look(text) {
+  async checkText(text) {
     const { open } = text;
     const { edits, uri } = open;
     const isWanted = () => open.edits === edits && this.texts.get(uri) === text;
@@ -254,19 +256,19 @@ export class LanguageServer {
     try {
       const found = await this.faultsOf(open, isWanted);
       if (!found || !isWanted()) return;
-      Object.assign(text, { faults: found.faults, diagnostics: diagnosticsOf(found.faults, found.areAll), lookedAt: edits });
+      Object.assign(text, { faults: found.faults, diagnostics: diagnosticsOf(found.faults, found.areAll), checkedEdits: edits });
       this.publish(text);
       // The program is assembled now so that the first hover is fast.
       if (found.faults.length === 0 && this.languageOf(open) === this.program) this.program.assembled(open);
     } catch (thrown) {
-      Object.assign(text, { faults: [], diagnostics: [], lookedAt: edits });
+      Object.assign(text, { faults: [], diagnostics: [], checkedEdits: edits });
       this.connection.logMessage(say.faultsOf(uri, thrown instanceof Error ? thrown.message : String(thrown)));
     }
   }
 
   /**
    * Sends the diagnostics of a text if the client does not request them itself.
-   * @param {Looked} text
+   * @param {CheckedText} text
    */
   publish({ open: { uri, version }, diagnostics }) {
     if (!this.client.pulls) this.connection.notify("textDocument/publishDiagnostics", { uri, version, diagnostics });
@@ -290,12 +292,12 @@ export class LanguageServer {
    * Runs a test and shows its result. A failure is also a diagnostic in the text until the next edit.
    * @param {string} uri
    * @param {string} name
-   * @param {import("./connection.js").Asked} asked
+   * @param {import("./connection.js").PendingRequest} pending
    */
-  async runTest(uri, name, asked) {
+  async runTest(uri, name, pending) {
     const text = this.textIn({ textDocument: { uri } });
     const { edits } = text.open;
-    const { words, hasPassed, failure } = await this.runs.run(text.open, name, asked);
+    const { words, hasPassed, failure } = await this.runs.run(text.open, name, pending);
     this.connection.show(words, !hasPassed);
     if (failure && text.open.edits === edits && failure.uri === uri) {
       text.diagnostics = [...text.diagnostics, ...diagnosticsOf([failure.fault], true)];

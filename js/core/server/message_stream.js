@@ -18,11 +18,11 @@ export class MessageStream {
   take(bytes) {
     try {
       for (const received of this.reader.take(bytes)) {
-        if ("text" in received) this.takeText(received.text);
-        else this.refuseStream(messageTooLong(received.tooLong));
+        if ("text" in received) this.serveMessage(received.text);
+        else this.reportStreamError(messageTooLong(received.tooLong));
       }
     } catch (thrown) {
-      if (thrown instanceof StreamLost) this.refuseStream(thrown.message);
+      if (thrown instanceof StreamLost) this.reportStreamError(thrown.message);
       throw thrown;
     }
   }
@@ -33,7 +33,7 @@ export class MessageStream {
    */
   refuseIncomplete() {
     const { incomplete } = this.reader;
-    if (incomplete !== "") this.refuseStream(incomplete);
+    if (incomplete !== "") this.reportStreamError(incomplete);
     return incomplete;
   }
 
@@ -46,7 +46,7 @@ export class MessageStream {
    * Serves a message. Subclasses override it.
    * @param {string} text
    */
-  takeText(text) {
+  serveMessage(text) {
     throw new Error(text);
   }
 
@@ -54,7 +54,7 @@ export class MessageStream {
    * Sends an error that is not the error of a request. Subclasses override it.
    * @param {string} words
    */
-  refuseStream(words) {
+  reportStreamError(words) {
     throw new Error(words);
   }
 }

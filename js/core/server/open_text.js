@@ -23,7 +23,7 @@ export class OpenText {
     /** The number of edits. */
     this.edits = 0;
     /** @type {{ text: string, edits: number } | null} a cache of `text`, with the number of edits at that time */
-    this.joined = null;
+    this.cachedText = null;
   }
 
   /** Returns the number of characters. */
@@ -33,8 +33,8 @@ export class OpenText {
 
   /** Returns the text, with line feeds between its lines. */
   get text() {
-    if (!this.joined || this.joined.edits !== this.edits) this.joined = { text: this.lines.join("\n"), edits: this.edits };
-    return this.joined.text;
+    if (!this.cachedText || this.cachedText.edits !== this.edits) this.cachedText = { text: this.lines.join("\n"), edits: this.edits };
+    return this.cachedText.text;
   }
 
   /**
@@ -61,8 +61,8 @@ export class OpenText {
       return;
     }
     const [start, end] = [this.inside(range.start), this.inside(range.end)];
-    const isTurned = end.line < start.line || (end.line === start.line && end.character < start.character);
-    const [first, last] = isTurned ? [end, start] : [start, end];
+    const isReversed = end.line < start.line || (end.line === start.line && end.character < start.character);
+    const [first, last] = isReversed ? [end, start] : [start, end];
     added[0] = this.lines[first.line].slice(0, first.character) + added[0];
     added[added.length - 1] += this.lines[last.line].slice(last.character);
     this.lines = [...this.lines.slice(0, first.line), ...added, ...this.lines.slice(last.line + 1)];

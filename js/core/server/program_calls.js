@@ -32,7 +32,7 @@ export class ProgramCalls {
    * @param {import("../text/routines.js").Routine} routine
    * @returns {Routine}
    */
-  shown({ name, line, from, to, last }) {
+  itemOf({ name, line, from, to, last }) {
     const selectionRange = rangeOf(line + 1, from, to);
     const range = { start: { line, character: 0 }, end: { line: last, character: this.lines[last].length } };
     return { name: name || say.PROGRAM_BEGIN, detail: name && this.map ? this.map.meaningOf(name) : "", range, selectionRange };
@@ -43,8 +43,8 @@ export class ProgramCalls {
    * @param {{ routine: import("../text/routines.js").Routine, places: CallPlace[] }[]} calls
    * @returns {Call[]}
    */
-  shownCalls(calls) {
-    return calls.map(({ routine, places }) => ({ routine: this.shown(routine), ranges: places.map(rangeOfPlace) }));
+  callsOf(calls) {
+    return calls.map(({ routine, places }) => ({ routine: this.itemOf(routine), ranges: places.map(rangeOfPlace) }));
   }
 
   /**
@@ -62,7 +62,7 @@ export class ProgramCalls {
    */
   routine(name, line) {
     const found = this.find(name, line);
-    return found && this.shown(found);
+    return found && this.itemOf(found);
   }
 
   /**
@@ -72,7 +72,7 @@ export class ProgramCalls {
    */
   callers(name, line) {
     const found = this.find(name, line);
-    return found ? this.shownCalls(this.routines.callers(found)) : [];
+    return found ? this.callsOf(this.routines.callers(found)) : [];
   }
 
   /**
@@ -80,9 +80,9 @@ export class ProgramCalls {
    * @param {string} name
    * @param {number} line
    */
-  called(name, line) {
+  callees(name, line) {
     const found = this.find(name, line);
-    return found ? this.shownCalls(this.routines.called(found)) : [];
+    return found ? this.callsOf(this.routines.called(found)) : [];
   }
 
   /**

@@ -11,7 +11,8 @@ import { wordsOfDirective, wordsOfInstruction, wordsOfRegister } from "../text/t
  * @typedef {import("./lsp_protocol.js").Position} Position
  *
  * The manual's instructions and conditions of JCN, and the meaning of the program's names.
- * @typedef {{ instructions: Map<string, Instruction>, conditions: Map<number, string>, meaningOf: (name: string) => string }} Known
+ * @typedef {{ instructions: Map<string, Instruction>, conditions: Map<number, string>,
+ *   meaningOf: (name: string) => string }} CompletionContext
  */
 
 /** The protocol's kinds of completions. */
@@ -24,7 +25,7 @@ const OF_VALUE = 12;
 /**
  * Returns the condition numbers that match the typed text; none if the operand is not a condition.
  * @param {string} before the line up to the caret
- * @param {Known} known
+ * @param {CompletionContext} known
  * @returns {CompletedWord[]}
  */
 function conditionsFor(before, { instructions, conditions }) {
@@ -50,7 +51,7 @@ function isInOperands(before) {
  * @param {string[]} lines
  * @param {Position} position
  * @param {string} trigger the typed character that triggered the request, "" for none
- * @param {Known} known
+ * @param {CompletionContext} known
  */
 export function completionOfProgram(lines, { line, character }, trigger, known) {
   const before = lines[line].slice(0, character);

@@ -16,11 +16,11 @@ import * as say from "../../words/server.js";
  * The context of a hover: the manual's instructions and conditions of JCN, the meanings and values of names, and the address of a line in
  * words, "" if unknown.
  * @typedef {{ instructions: Map<string, Instruction>, conditions: Map<number, string>, meaningOf: (name: string) => string,
- *   valueOf: (name: string) => number | undefined, wordsOfLine: (line: number) => string }} Known
+ *   valueOf: (name: string) => number | undefined, wordsOfLine: (line: number) => string }} HoverContext
  */
 
 /** The maximum number of lines of a name's comment. */
-const MOST_LINES = 12;
+const MAX_LINES = 12;
 
 /**
  * Returns the comment of a name: the comment lines above a label, and the comment in the line of the definition.
@@ -33,7 +33,7 @@ export function commentOf(lines, name) {
   if (line === undefined) return [];
   const { comment, defines } = partsOf(lines[line - 1]);
   let begin = line - 1;
-  while (!defines && begin > 0 && line - begin <= MOST_LINES && lines[begin - 1].trimStart().startsWith(";")) begin -= 1;
+  while (!defines && begin > 0 && line - begin <= MAX_LINES && lines[begin - 1].trimStart().startsWith(";")) begin -= 1;
   const all = [...lines.slice(begin, line - 1), lines[line - 1].slice(comment)].map((each) => each.trim().replace(/^;+ ?/, ""));
   return all[all.length - 1] === "" ? all.slice(0, -1) : all;
 }
@@ -42,7 +42,7 @@ export function commentOf(lines, name) {
  * Returns the meaning of a word that is a condition of JCN; "" for another word.
  * @param {string} text of the line
  * @param {Word} word
- * @param {Known} known
+ * @param {HoverContext} known
  */
 function wordsOfCondition(text, word, { instructions, conditions, valueOf }) {
   const { head, operands } = partsOf(text);
@@ -67,7 +67,7 @@ function rowOf(instruction) {
  * Returns the hover at a position of a program; null if there is none.
  * @param {string[]} lines
  * @param {Position} position
- * @param {Known} known
+ * @param {HoverContext} known
  * @returns {Hover | null}
  */
 export function hoverOfProgram(lines, { line, character }, known) {

@@ -89,9 +89,9 @@ export class ProgramLanguage {
     const all = new AllFaultsOfTexts({
       wiring: async () => null,
       errors: (sent) => inTurn(() => this.bench.errors(sent)),
-      refuse: (sent) => inTurn(() => this.bench.refuseProgram(sent)),
+      refuse: (sent) => inTurn(() => this.bench.programRefusal(sent)),
       map: (sent) => inTurn(() => this.bench.read(sent).map),
-      roms: () => inTurn(() => this.bench.wired.roms),
+      roms: () => inTurn(() => this.bench.boardSession.roms),
     }, { instructions: this.instructions, tables: new Map() }, this.wordsOf);
     return all.ofProgram(text, isWanted);
   }
@@ -167,7 +167,7 @@ export class ProgramLanguage {
    * @param {OpenText} open
    * @param {Position} position
    */
-  renamed({ lines }, { line, character }) {
+  renameTarget({ lines }, { line, character }) {
     const name = nameAt(lines, line, character);
     const word = wordAt(lines[line], character);
     return name === "" || !word ? null : { range: rangeOf(line + 1, word.from, word.to), placeholder: name };
@@ -272,7 +272,7 @@ export class ProgramLanguage {
    * @param {Position} position
    * @returns {[number, number][]}
    */
-  stretches({ lines }, { line }) {
+  selectionColumns({ lines }, { line }) {
     const text = lines[line];
     const { label, head, operands, comment } = partsOf(text);
     const end = text.slice(0, comment).trimEnd().length;
@@ -306,8 +306,8 @@ export class ProgramLanguage {
    * @param {OpenText} open
    * @param {Position} position
    */
-  called(open, { line, character }) {
-    return this.calls(open).called(nameAt(open.lines, line, character), line);
+  callees(open, { line, character }) {
+    return this.calls(open).callees(nameAt(open.lines, line, character), line);
   }
 
   /** @param {OpenText} open */

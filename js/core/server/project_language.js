@@ -2,7 +2,7 @@
 
 import { filesNamed } from "../project/project_toml.js";
 import { PARTS } from "../text/folding.js";
-import { faultsOfProject, folderOf, readProject, within } from "./kinds.js";
+import { faultsOfProject, folderOf, readProject, uriIn } from "./kinds.js";
 import { rangeOf } from "./lsp_protocol.js";
 
 /**
@@ -49,7 +49,7 @@ export class ProjectLanguage {
    */
   links(open) {
     const folder = folderOf(open.uri);
-    return this.named(open).filter(({ path }) => this.textOf(within(folder, path), folder) !== null).map(({ path, line, from, to }) => (
-      { range: rangeOf(line, from, to), target: within(folder, path), tooltip: path }));
+    return this.named(open).filter(({ path }) => this.textOf(uriIn(folder, path), folder) !== null).map(({ path, line, from, to }) => (
+      { range: rangeOf(line, from, to), target: uriIn(folder, path), tooltip: path }));
   }
 }

@@ -5,8 +5,8 @@ import { subjectOf } from "../explore/subject.js";
 import { COLOURS } from "../text/test_colours.js";
 import { PARTS } from "../text/folding.js";
 import { completeProperty, helpForProperty, propertyForms } from "../text/property_words.js";
-import { BesideLanguage, faultInLine } from "./beside_language.js";
-import { folderOf, within } from "./kinds.js";
+import { DependentLanguage, faultInLine } from "./beside_language.js";
+import { folderOf, uriIn } from "./kinds.js";
 import { rangeOf } from "./lsp_protocol.js";
 import { colouredWords } from "./token_codes.js";
 
@@ -19,19 +19,19 @@ import { colouredWords } from "./token_codes.js";
 /** The protocol's kind of a symbol. */
 const PROPERTY = 7;
 /** A line with a property. */
-const MUST_HOLD = /^(never|always|at|after|every|reach|model|while|once|@\S+|.*\bonly after)\b/;
+const PROPERTY_LINE = /^(never|always|at|after|every|reach|model|while|once|@\S+|.*\bonly after)\b/;
 /** A line `from STATE of FILE`. */
-const OF_FILE = /^([ \t]*from[ \t]+\S+[ \t]+of[ \t]+)(\S.*)$/;
+const STATE_OF_FILE = /^([ \t]*from[ \t]+\S+[ \t]+of[ \t]+)(\S.*)$/;
 
-export class PropertyLanguage extends BesideLanguage {
+export class PropertyLanguage extends DependentLanguage {
   /**
    * @param {import("../engine/engine_host.js").EngineHost} engine
    * @param {import("../help/manual.js").ManualSection[]} manual
-   * @param {(uri: string) => import("./beside_language.js").BesideTexts} besideOf
+   * @param {(uri: string) => import("./beside_language.js").DependencyTexts} dependenciesOf
    * @param {(uri: string, folder: string) => string | null} textOf
    */
-  constructor(engine, manual, besideOf, textOf) {
-    super(engine, besideOf);
+  constructor(engine, manual, dependenciesOf, textOf) {
+    super(engine, dependenciesOf);
     this.parts = { ...PARTS.tests, head: /(?!)/ };
     this.forms = propertyForms(manual);
     this.textOf = textOf;
@@ -39,11 +39,11 @@ export class PropertyLanguage extends BesideLanguage {
 
   /** @param {OpenText} open */
   async faults({ uri, lines, text }) {
-    const beside = this.besideOf(uri);
-    const hindrance = this.hindrance(beside);
-    if (hindrance) return { faults: [hindrance], areAll: true };
+    const dependencies = this.dependenciesOf(uri);
+    const dependencyError = this.dependencyError(dependencies);
+    if (dependencyError) return { faults: [dependencyError], areAll: true };
     if (text.trim() === "") return { faults: [], areAll: true };
-    const { faults } = readCampaign(text, this.subject(beside.board.text || "", beside.program.text || ""));
+    const { faults } = readCampaign(text, this.subject(dependencies.board.text || "", dependencies.program.text || ""));
     return { faults: faults.map((fault) => faultInLine(lines, fault)), areAll: true };
   }
 
@@ -74,7 +74,7 @@ export class PropertyLanguage extends BesideLanguage {
    */
   completion(open, { line, character }, trigger) {
     if (trigger !== "" && open.lines[line].slice(0, character).trim() === "") return { from: character, to: character, list: [] };
-    return this.shown(completeProperty(open.lines, line, character, this.names(open), this.forms));
+    return this.withKinds(completeProperty(open.lines, line, character, this.names(open), this.forms));
   }
 
   /**
@@ -89,7 +89,7 @@ export class PropertyLanguage extends BesideLanguage {
   /** @param {OpenText} open */
   symbols({ lines }) {
     return lines.flatMap((text, line) => {
-      if (!MUST_HOLD.test(text.trim())) return [];
+      if (!PROPERTY_LINE.test(text.trim())) return [];
       const range = rangeOf(line + 1, text.length - text.trimStart().length, text.trimEnd().length);
       return [{ name: text.trim(), kind: PROPERTY, detail: "", range, selectionRange: range }];
     });
@@ -108,9 +108,9 @@ export class PropertyLanguage extends BesideLanguage {
   links({ uri, lines }) {
     const folder = folderOf(uri);
     return lines.flatMap((text, line) => {
-      const [, before, path] = OF_FILE.exec(text.trimEnd()) || [];
+      const [, before, path] = STATE_OF_FILE.exec(text.trimEnd()) || [];
       const isInside = path !== undefined && !path.startsWith("/") && !path.split("/").includes("..");
-      const target = isInside ? within(folder, path) : "";
+      const target = isInside ? uriIn(folder, path) : "";
       if (target === "" || this.textOf(target, folder) === null) return [];
       return [{ range: rangeOf(line + 1, before.length, before.length + path.length), target, tooltip: path }];
     });

@@ -3,7 +3,7 @@
 
 import { capabilitiesFor, clientOf, RUN_TEST } from "./capabilities.js";
 import { codeLensOf } from "./code_lens.js";
-import { cures } from "./diagnostics.js";
+import { quickFixes } from "./diagnostics.js";
 import { foldsOf } from "./folding_ranges.js";
 import { fieldOf } from "./framing.js";
 import { INVALID_PARAMS, ProtocolError, needPosition, needRange, needText } from "./lsp_protocol.js";
@@ -13,7 +13,7 @@ import { workspaceSymbols } from "./workspace_symbols.js";
 import * as say from "../../words/server.js";
 
 /**
- * @typedef {import("./connection.js").Act} Act
+ * @typedef {import("./connection.js").RequestHandler} RequestHandler
  * @typedef {import("./language.js").Language} Language
  * @typedef {import("./language.js").Routine} Routine
  * @typedef {import("./language_server.js").LanguageServer} LanguageServer
@@ -23,7 +23,7 @@ import * as say from "../../words/server.js";
 
 const FUNCTION = 12;
 const WHOLE = { start: { line: 0, character: 0 }, end: { line: Number.MAX_SAFE_INTEGER, character: 0 } };
-const LARGEST_TAB = 16;
+const MAX_TAB_SIZE = 16;
 
 /**
  * Reads the layout for formatting: the tab size, and whether gaps are filled with blanks.
@@ -31,7 +31,7 @@ const LARGEST_TAB = 16;
  */
 function layoutOf(options) {
   const tabSize = fieldOf(options, "tabSize");
-  const isSize = Number.isInteger(tabSize) && tabSize >= 1 && tabSize <= LARGEST_TAB;
+  const isSize = Number.isInteger(tabSize) && tabSize >= 1 && tabSize <= MAX_TAB_SIZE;
   return { tabSize: isSize ? tabSize : 8, insertSpaces: fieldOf(options, "insertSpaces") !== false };
 }
 
@@ -53,20 +53,20 @@ export class Requests {
     this.tokens = new TokenMemory();
   }
 
-  /** @returns {Record<string, Act>} */
+  /** @returns {Record<string, RequestHandler>} */
   table() {
-    return { ...this.ofServer(), ...this.ofPlaces(), ...this.ofTexts(), ...this.ofCalls() };
+    return { ...this.serverRequests(), ...this.positionRequests(), ...this.textRequests(), ...this.callRequests() };
   }
 
   // --- requests to the server
 
-  /** @returns {Record<string, Act>} */
-  ofServer() {
+  /** @returns {Record<string, RequestHandler>} */
+  serverRequests() {
     return {
       "initialize": (params) => this.initialize(params),
       "shutdown": () => null,
       "workspace/symbol": (params) => workspaceSymbols(this.server, needText(fieldOf(params, "query"), "query")),
-      "workspace/executeCommand": (params, asked) => this.execute(params, asked),
+      "workspace/executeCommand": (params, pending) => this.execute(params, pending),
     };
   }
 
@@ -78,13 +78,13 @@ export class Requests {
 
   /**
    * @param {any} params
-   * @param {import("./connection.js").Asked} asked
+   * @param {import("./connection.js").PendingRequest} pending
    */
-  execute(params, asked) {
+  execute(params, pending) {
     const command = needText(fieldOf(params, "command"), "command");
     if (command !== RUN_TEST) throw new ProtocolError(INVALID_PARAMS, say.noCommand(command));
     const [uri, test] = needList(fieldOf(params, "arguments"), "arguments");
-    return this.server.runTest(needText(uri, "arguments[0]"), needText(test, "arguments[1]"), asked);
+    return this.server.runTest(needText(uri, "arguments[0]"), needText(test, "arguments[1]"), pending);
   }
 
   // --- requests about a text
@@ -96,29 +96,30 @@ export class Requests {
    * @param {(language: Language, open: OpenText) => Result} ask
    * @returns {Result | null} null for a text in another language
    */
-  of(params, ask) {
+  askLanguage(params, ask) {
     const { open } = this.server.textIn(params);
     const language = this.server.languageOf(open);
     return language && ask(language, open);
   }
 
-  /** @returns {Record<string, Act>} */
-  ofTexts() {
+  /** @returns {Record<string, RequestHandler>} */
+  textRequests() {
     return {
-      "textDocument/documentSymbol": (params) => this.of(params, (language, open) => (language.symbols ? language.symbols(open) : [])),
+      "textDocument/documentSymbol": (params) => this.askLanguage(params, (language, open) => (
+        language.symbols ? language.symbols(open) : [])),
       "textDocument/codeAction": (params) => this.codeAction(params),
-      "textDocument/codeLens": (params) => this.of(params, (language, open) => (
+      "textDocument/codeLens": (params) => this.askLanguage(params, (language, open) => (
         (language.lenses ? language.lenses(open) : []).map((lens) => codeLensOf(lens, open.uri, this.server.client.commands)))),
       "textDocument/formatting": (params) => this.format(params, WHOLE),
       "textDocument/rangeFormatting": (params) => this.format(params, needRange(fieldOf(params, "range"))),
-      "textDocument/documentLink": (params) => this.of(params, (language, open) => (language.links ? language.links(open) : [])),
-      "textDocument/foldingRange": (params) => this.of(params, (language, open) => foldsOf(open.lines, language.parts)),
+      "textDocument/documentLink": (params) => this.askLanguage(params, (language, open) => (language.links ? language.links(open) : [])),
+      "textDocument/foldingRange": (params) => this.askLanguage(params, (language, open) => foldsOf(open.lines, language.parts)),
       "textDocument/inlayHint": (params) => this.hints(params),
-      "textDocument/semanticTokens/full": (params) => this.colours(params, (open, words) => this.tokens.all(open, words)),
+      "textDocument/semanticTokens/full": (params) => this.colours(params, (open, words) => this.tokens.allTokens(open, words)),
       "textDocument/semanticTokens/full/delta": (params) => this.colours(params, (open, words) => (
-        this.tokens.since(open, words, fieldOf(params, "previousResultId")))),
+        this.tokens.changedTokens(open, words, fieldOf(params, "previousResultId")))),
       "textDocument/semanticTokens/range": (params) => this.colours(params, (open, words) => (
-        this.tokens.within(words, needRange(fieldOf(params, "range"))))),
+        this.tokens.tokensIn(words, needRange(fieldOf(params, "range"))))),
       "textDocument/diagnostic": (params) => this.diagnostic(params),
     };
   }
@@ -129,7 +130,7 @@ export class Requests {
    * @param {(open: OpenText, words: import("./token_codes.js").ColouredWord[]) => object} ask
    */
   colours(params, ask) {
-    return this.of(params, (language, open) => ask(open, language.colours ? language.colours(open) : []));
+    return this.askLanguage(params, (language, open) => ask(open, language.colours ? language.colours(open) : []));
   }
 
   /**
@@ -138,27 +139,27 @@ export class Requests {
    */
   format(params, range) {
     const layout = layoutOf(fieldOf(params, "options"));
-    return this.of(params, (language, open) => (language.format ? language.format(open, range, layout) : null));
+    return this.askLanguage(params, (language, open) => (language.format ? language.format(open, range, layout) : null));
   }
 
   /** @param {any} params */
   hints(params) {
     const range = needRange(fieldOf(params, "range"));
-    return this.of(params, (language, open) => (language.hints ? language.hints(open, range) : []));
+    return this.askLanguage(params, (language, open) => (language.hints ? language.hints(open, range) : []));
   }
 
   /** @param {any} params */
   async codeAction(params) {
     const text = this.server.textIn(params);
     const range = needRange(fieldOf(params, "range"));
-    await this.server.untilLookedAt(text);
-    return cures(text.open.uri, text.faults, range);
+    await this.server.untilChecked(text);
+    return quickFixes(text.open.uri, text.faults, range);
   }
 
   /** @param {any} params */
   async diagnostic(params) {
     const text = this.server.textIn(params);
-    await this.server.untilLookedAt(text);
+    await this.server.untilChecked(text);
     const resultId = JSON.stringify(text.diagnostics);
     if (fieldOf(params, "previousResultId") === resultId) return { kind: "unchanged", resultId };
     return { kind: "full", resultId, items: text.diagnostics };
@@ -172,27 +173,27 @@ export class Requests {
    * @param {any} params
    * @param {(language: Language, open: OpenText, position: Position) => Result} ask
    */
-  at(params, ask) {
+  askAt(params, ask) {
     const position = needPosition(fieldOf(params, "position"));
-    return this.of(params, (language, open) => ask(language, open, open.inside(position)));
+    return this.askLanguage(params, (language, open) => ask(language, open, open.inside(position)));
   }
 
-  /** @returns {Record<string, Act>} */
-  ofPlaces() {
+  /** @returns {Record<string, RequestHandler>} */
+  positionRequests() {
     return {
       "textDocument/hover": (params) => this.hover(params),
-      "textDocument/definition": (params) => this.at(params, (language, open, position) => {
+      "textDocument/definition": (params) => this.askAt(params, (language, open, position) => {
         const found = language.definition ? language.definition(open, position) : null;
         return found && ("uri" in found ? found : { uri: open.uri, range: found });
       }),
       "textDocument/references": (params) => this.references(params),
-      "textDocument/documentHighlight": (params) => this.at(params, (language, open, position) => (
+      "textDocument/documentHighlight": (params) => this.askAt(params, (language, open, position) => (
         (language.references ? language.references(open, position, true) : []).map((range) => ({ range })))),
-      "textDocument/prepareRename": (params) => this.at(params, (language, open, position) => (
-        language.renamed ? language.renamed(open, position) : null)),
+      "textDocument/prepareRename": (params) => this.askAt(params, (language, open, position) => (
+        language.renameTarget ? language.renameTarget(open, position) : null)),
       "textDocument/rename": (params) => this.rename(params),
       "textDocument/completion": (params) => this.completion(params),
-      "textDocument/signatureHelp": (params) => this.at(params, (language, open, position) => (
+      "textDocument/signatureHelp": (params) => this.askAt(params, (language, open, position) => (
         language.signature ? language.signature(open, position) : null)),
       "textDocument/selectionRange": (params) => this.selections(params),
     };
@@ -200,7 +201,7 @@ export class Requests {
 
   /** @param {any} params */
   hover(params) {
-    const found = this.at(params, (language, open, position) => (language.hover ? language.hover(open, position) : null));
+    const found = this.askAt(params, (language, open, position) => (language.hover ? language.hover(open, position) : null));
     if (!found) return null;
     const { words, markdown, ...rest } = found;
     const contents = this.server.client.showsMarkdown ? { kind: "markdown", value: markdown } : { kind: "plaintext", value: words };
@@ -210,21 +211,21 @@ export class Requests {
   /** @param {any} params */
   references(params) {
     const withDefinition = fieldOf(fieldOf(params, "context"), "includeDeclaration") !== false;
-    return this.at(params, (language, open, position) => (
+    return this.askAt(params, (language, open, position) => (
       (language.references ? language.references(open, position, withDefinition) : []).map((range) => ({ uri: open.uri, range }))));
   }
 
   /** @param {any} params */
   rename(params) {
     const wanted = needText(fieldOf(params, "newName"), "newName");
-    return this.at(params, (language, open, position) => (
+    return this.askAt(params, (language, open, position) => (
       language.rename ? { changes: { [open.uri]: language.rename(open, position, wanted) } } : null));
   }
 
   /** @param {any} params */
   completion(params) {
     const trigger = String(fieldOf(fieldOf(params, "context"), "triggerCharacter") || "");
-    return this.at(params, (language, open, position) => {
+    return this.askAt(params, (language, open, position) => {
       if (!language.completion) return [];
       const { from, to, list } = language.completion(open, position, trigger);
       const range = { start: { ...position, character: from }, end: { ...position, character: to } };
@@ -237,26 +238,26 @@ export class Requests {
   /** @param {any} params */
   selections(params) {
     const positions = needList(fieldOf(params, "positions"), "positions").map(needPosition);
-    return this.of(params, (language, open) => positions.map((position) => {
+    return this.askLanguage(params, (language, open) => positions.map((position) => {
       const inside = open.inside(position);
-      return selectionAt(open.lines, inside, language.stretches ? language.stretches(open, inside) : [], language.parts);
+      return selectionAt(open.lines, inside, language.selectionColumns ? language.selectionColumns(open, inside) : [], language.parts);
     }));
   }
 
   // --- requests about routines
 
-  /** @returns {Record<string, Act>} */
-  ofCalls() {
+  /** @returns {Record<string, RequestHandler>} */
+  callRequests() {
     return {
-      "textDocument/prepareCallHierarchy": (params) => this.at(params, (language, open, position) => {
+      "textDocument/prepareCallHierarchy": (params) => this.askAt(params, (language, open, position) => {
         const routine = language.routine ? language.routine(open, position) : null;
         return routine && [this.item(routine, open.uri)];
       }),
-      "callHierarchy/incomingCalls": (params) => this.atItem(params, (language, open, position) => (
+      "callHierarchy/incomingCalls": (params) => this.askAtItem(params, (language, open, position) => (
         (language.callers ? language.callers(open, position) : []).map(({ routine, ranges }) => (
           { from: this.item(routine, open.uri), fromRanges: ranges })))),
-      "callHierarchy/outgoingCalls": (params) => this.atItem(params, (language, open, position) => (
-        (language.called ? language.called(open, position) : []).map(({ routine, ranges }) => (
+      "callHierarchy/outgoingCalls": (params) => this.askAtItem(params, (language, open, position) => (
+        (language.callees ? language.callees(open, position) : []).map(({ routine, ranges }) => (
           { to: this.item(routine, open.uri), fromRanges: ranges })))),
     };
   }
@@ -276,9 +277,9 @@ export class Requests {
    * @param {any} params
    * @param {(language: Language, open: OpenText, position: Position) => Result} ask
    */
-  atItem(params, ask) {
+  askAtItem(params, ask) {
     const item = fieldOf(params, "item");
     const { start } = needRange(fieldOf(item, "selectionRange"));
-    return this.at({ textDocument: { uri: fieldOf(item, "uri") }, position: start }, ask);
+    return this.askAt({ textDocument: { uri: fieldOf(item, "uri") }, position: start }, ask);
   }
 }

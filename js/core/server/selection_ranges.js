@@ -54,11 +54,11 @@ export function selectionAt(lines, { line, character }, stretches, parts) {
     .sort((one, other) => one[1] - one[0] - other[1] + other[0])
     .map(([from, to]) => ({ start: { line, character: from }, end: { line, character: to } }));
   /** @type {Range[]} */
-  const rising = [];
+  const nested = [];
   for (const range of [...inside, ...partsWith(lines, line, parts)]) {
-    if (rising.length === 0 || isLarger(range, rising[rising.length - 1])) rising.push(range);
+    if (nested.length === 0 || isLarger(range, nested[nested.length - 1])) nested.push(range);
   }
-  const [outermost, ...inner] = rising.reverse();
+  const [outermost, ...inner] = nested.reverse();
   /** @type {SelectionRange} */
   let selection = { range: outermost };
   for (const range of inner) selection = { range, parent: selection };

@@ -18,11 +18,11 @@ import { wordsOfDirective, wordsOfInstruction } from "../text/text_help.js";
  * @returns {Signature}
  */
 function signatureOf(label, documentation, operands) {
-  let at = label.indexOf(" ");
+  let column = label.indexOf(" ");
   const parameters = operands.map(({ operand, words }) => {
-    const from = label.indexOf(operand, at + 1);
-    at = from + operand.length;
-    return { label: /** @type {[number, number]} */ ([from, at]), documentation: words };
+    const from = label.indexOf(operand, column + 1);
+    column = from + operand.length;
+    return { label: /** @type {[number, number]} */ ([from, column]), documentation: words };
   });
   return { label, documentation, parameters };
 }
@@ -54,14 +54,14 @@ function signatureOfHead(head, instructions) {
 /**
  * Returns the signature of the statement at a column, and the index of the operand there; null if there is none.
  * @param {string} line
- * @param {number} at the column
+ * @param {number} column the column
  * @param {Map<string, Instruction>} instructions
  * @returns {SignatureHelp | null}
  */
-export function signatureAt(line, at, instructions) {
-  const before = line.slice(0, at);
+export function signatureAt(line, column, instructions) {
+  const before = line.slice(0, column);
   const { head, comment } = partsOf(before);
-  if (!head || head.to === at || comment < before.length) return null;
+  if (!head || head.to === column || comment < before.length) return null;
   const signature = signatureOfHead(head.text.toUpperCase(), instructions);
   if (!signature) return null;
   const commas = before.slice(head.to).split(",").length - 1;

@@ -4,7 +4,7 @@ import { readSources } from "../testing/test_text.js";
 import { COLOURS } from "../text/test_colours.js";
 import { PARTS } from "../text/folding.js";
 import { completeTest, helpForTest, testForms } from "../text/test_words.js";
-import { BesideLanguage, faultInLine } from "./beside_language.js";
+import { DependentLanguage, faultInLine } from "./beside_language.js";
 import { rangeOf } from "./lsp_protocol.js";
 import { colouredWords } from "./token_codes.js";
 import * as say from "../../words/server.js";
@@ -37,26 +37,26 @@ function headsOf(lines) {
   });
 }
 
-export class TestLanguage extends BesideLanguage {
+export class TestLanguage extends DependentLanguage {
   /**
    * @param {import("../engine/engine_host.js").EngineHost} engine
    * @param {import("../help/manual.js").ManualSection[]} manual
-   * @param {(uri: string) => import("./beside_language.js").BesideTexts} besideOf
+   * @param {(uri: string) => import("./beside_language.js").DependencyTexts} dependenciesOf
    */
-  constructor(engine, manual, besideOf) {
-    super(engine, besideOf);
+  constructor(engine, manual, dependenciesOf) {
+    super(engine, dependenciesOf);
     this.parts = PARTS.tests;
     this.forms = testForms(manual);
   }
 
   /** @param {OpenText} open */
   async faults({ uri, lines, text }) {
-    const beside = this.besideOf(uri);
-    const hindrance = this.hindrance(beside);
-    if (hindrance) return { faults: [hindrance], areAll: true };
-    const { prepared } = this.prepared({ boardText: beside.board.text || "", programText: beside.program.text || "" });
+    const dependencies = this.dependenciesOf(uri);
+    const dependencyError = this.dependencyError(dependencies);
+    if (dependencyError) return { faults: [dependencyError], areAll: true };
+    const { prepared } = this.prepared({ boardText: dependencies.board.text || "", programText: dependencies.program.text || "" });
     if (!prepared || text.trim() === "") return { faults: [], areAll: true };
-    const sources = beside.tests.map((each) => ({ name: each.uri, text: each.uri === uri ? text : each.text || "" }));
+    const sources = dependencies.tests.map((each) => ({ name: each.uri, text: each.uri === uri ? text : each.text || "" }));
     const { faults } = readSources(sources, prepared.names);
     return { faults: faults.filter(({ file }) => file === uri).map((fault) => faultInLine(lines, fault)), areAll: true };
   }
@@ -76,7 +76,7 @@ export class TestLanguage extends BesideLanguage {
    */
   completion(open, { line, character }, trigger) {
     if (trigger !== "" && open.lines[line].slice(0, character).trim() === "") return { from: character, to: character, list: [] };
-    return this.shown(completeTest(open.lines, line, character, this.names(open), this.forms));
+    return this.withKinds(completeTest(open.lines, line, character, this.names(open), this.forms));
   }
 
   /**

@@ -8,18 +8,18 @@ import { IT_WAS_CANCELLED } from "../../words/bench.js";
 import * as say from "../../words/server.js";
 
 /**
- * @typedef {import("./beside_language.js").BesideTexts} BesideTexts
+ * @typedef {import("./beside_language.js").DependencyTexts} DependencyTexts
  * @typedef {import("./diagnostics.js").ShownFault} ShownFault
  * @typedef {import("./open_text.js").OpenText} OpenText
  *
  * The result of a test: a message, whether the test passed, and the error in the failed line with the URI of its text; null for none.
- * @typedef {{ words: string, hasPassed: boolean, failure: { uri: string, fault: ShownFault } | null }} Ran
+ * @typedef {{ words: string, hasPassed: boolean, failure: { uri: string, fault: ShownFault } | null }} TestResult
  */
 
 /**
  * Returns the result of a test that was not run.
  * @param {string} words the reason
- * @returns {Ran}
+ * @returns {TestResult}
  */
 const notRun = (words) => ({ words, hasPassed: false, failure: null });
 
@@ -27,13 +27,13 @@ export class TestRuns {
   /**
    * @param {import("../engine/engine_host.js").EngineHost} engine
    * @param {(number: number) => string} wordsOf returns the message of a refusal
-   * @param {(uri: string) => BesideTexts} besideOf
+   * @param {(uri: string) => DependencyTexts} dependenciesOf
    * @param {() => Promise<void>} pause yields to other tasks
    */
-  constructor(engine, wordsOf, besideOf, pause) {
+  constructor(engine, wordsOf, dependenciesOf, pause) {
     this.engine = engine;
     this.wordsOf = wordsOf;
-    this.besideOf = besideOf;
+    this.dependenciesOf = dependenciesOf;
     this.pause = pause;
     /** The number of the present run; a new run cancels the one before it. */
     this.begun = 0;
@@ -43,22 +43,22 @@ export class TestRuns {
    * Runs a test; throws ProtocolError if the run is cancelled.
    * @param {OpenText} open
    * @param {string} name of the test
-   * @param {import("./connection.js").Asked} asked the request, which can be cancelled
-   * @returns {Promise<Ran>}
+   * @param {import("./connection.js").PendingRequest} pending the request, which can be cancelled
+   * @returns {Promise<TestResult>}
    */
-  async run({ uri, lines, text }, name, asked) {
+  async run({ uri, lines, text }, name, pending) {
     this.begun += 1;
     const { begun } = this;
-    const { board, program, tests } = this.besideOf(uri);
-    const lacking = [board, program].find((each) => each.text === null);
-    if (lacking) return notRun(say.noFileBeside(fileNameOf(lacking.uri)));
+    const { board, program, tests } = this.dependenciesOf(uri);
+    const missing = [board, program].find((each) => each.text === null);
+    if (missing) return notRun(say.noFileBeside(fileNameOf(missing.uri)));
     const sources = tests.map((each) => ({ name: each.uri, text: each.uri === uri ? text : each.text || "" }));
-    const goesOn = async () => {
+    const mayContinue = async () => {
       await this.pause();
-      return begun === this.begun && !asked.isCancelled;
+      return begun === this.begun && !pending.isCancelled;
     };
     const texts = { boardText: board.text || "", programText: program.text || "", sources };
-    const { faults, outcomes } = await this.outcomesOf(texts, goesOn, { name, source: uri });
+    const { faults, outcomes } = await this.outcomesOf(texts, mayContinue, { name, source: uri });
     if (faults.length > 0) return notRun(this.wordsOfFault(faults[0], { board, program, tests }));
     const failed = outcomes.find(({ failure }) => failure !== null);
     if (outcomes.length === 0) return notRun(say.noTest(name));
@@ -71,12 +71,12 @@ export class TestRuns {
   /**
    * Runs one test; throws ProtocolError if the run is cancelled.
    * @param {import("../testing/test_suite.js").TestedTexts} texts
-   * @param {() => Promise<boolean>} goesOn
+   * @param {() => Promise<boolean>} mayContinue
    * @param {{ name: string, source: string }} only
    */
-  async outcomesOf(texts, goesOn, only) {
+  async outcomesOf(texts, mayContinue, only) {
     try {
-      return await runTests(this.engine, texts, goesOn, { only });
+      return await runTests(this.engine, texts, mayContinue, { only });
     } catch (thrown) {
       throw thrown instanceof Cancelled ? new ProtocolError(CANCELLED, IT_WAS_CANCELLED) : thrown;
     }
@@ -84,7 +84,7 @@ export class TestRuns {
 
   /**
    * @param {import("../testing/prepared.js").TextFault} fault
-   * @param {BesideTexts} beside
+   * @param {DependencyTexts} beside
    */
   wordsOfFault({ text, file = "", line, number, words }, { board, program }) {
     const name = text === "board" ? board.uri : text === "program" ? program.uri : file;

@@ -11,7 +11,7 @@ import { ALL_ROMS, faultOfText, readProgram } from "../engine/program_check.js";
  * @typedef {import("../engine/program_check.js").Program} Program
  *
  * A session with a board: the board's text (null for none), the bytes of the session, and the numbers of its ROMs.
- * @typedef {{ text: string | null, file: Uint8Array, roms: Set<number> }} Wired
+ * @typedef {{ text: string | null, file: Uint8Array, roms: Set<number> }} BoardSession
  */
 
 export class TextBench {
@@ -19,7 +19,7 @@ export class TextBench {
   constructor(engine) {
     this.engine = engine;
     this.empty = engine.begin();
-    this.wired = this.wire(null);
+    this.boardSession = this.beginSession(null);
     /** @type {Program | null} the last program that was read */
     this.program = null;
   }
@@ -27,9 +27,9 @@ export class TextBench {
   /**
    * Returns a session with a board. If the text is null or the bench rejects it, the board has all ROMs.
    * @param {string | null} text
-   * @returns {Wired}
+   * @returns {BoardSession}
    */
-  wire(text) {
+  beginSession(text) {
     const file = this.engine.begin();
     const isRefused = text === null || this.engine.serve(file, `wire\n${sentText(text, "#")}.\n`, file).answers.some(refusalOf);
     if (isRefused) this.engine.serve(file, ALL_ROMS, file);
@@ -42,7 +42,7 @@ export class TextBench {
    * @param {string | null} text
    */
   setBoard(text) {
-    if (this.wired.text !== text) this.wired = this.wire(text);
+    if (this.boardSession.text !== text) this.boardSession = this.beginSession(text);
   }
 
   /**
@@ -74,21 +74,21 @@ export class TextBench {
    * Returns the bench's refusal of a program on the present board; null if it accepts the program.
    * @param {string} text from `sentText`
    */
-  refuseProgram(text) {
-    return this.refusal(this.wired.file, `asm\n${text}.\n`);
+  programRefusal(text) {
+    return this.refusal(this.boardSession.file, `asm\n${text}.\n`);
   }
 
   /**
    * Returns this bench's queries as callbacks for AllFaultsOfTexts.
    * @returns {import("../text/all_faults.js").Asked}
    */
-  asked() {
+  queries() {
     return {
       wiring: async (sent) => this.wiring(sent),
       errors: async (sent) => this.errors(sent),
-      refuse: async (sent) => this.refuseProgram(sent),
+      refuse: async (sent) => this.programRefusal(sent),
       map: async (sent) => this.read(sent).map,
-      roms: async () => this.wired.roms,
+      roms: async () => this.boardSession.roms,
     };
   }
 

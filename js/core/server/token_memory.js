@@ -9,7 +9,7 @@ import { codeEdits, tokenCodes } from "./token_codes.js";
  */
 
 /** The maximum number of texts whose tokens are kept. */
-const MOST_TEXTS = 32;
+const MAX_TEXTS = 32;
 
 export class TokenMemory {
   constructor() {
@@ -23,12 +23,12 @@ export class TokenMemory {
    * @param {string} uri
    * @param {number[]} data
    */
-  keep(uri, data) {
+  store(uri, data) {
     this.count += 1;
     const resultId = String(this.count);
     this.sent.delete(uri);
     this.sent.set(uri, { resultId, data });
-    if (this.sent.size > MOST_TEXTS) this.sent.delete([...this.sent.keys()][0]);
+    if (this.sent.size > MAX_TEXTS) this.sent.delete([...this.sent.keys()][0]);
     return resultId;
   }
 
@@ -37,9 +37,9 @@ export class TokenMemory {
    * @param {OpenText} open
    * @param {ColouredWord[]} words
    */
-  all({ uri }, words) {
+  allTokens({ uri }, words) {
     const data = tokenCodes(words);
-    return { resultId: this.keep(uri, data), data };
+    return { resultId: this.store(uri, data), data };
   }
 
   /**
@@ -48,11 +48,11 @@ export class TokenMemory {
    * @param {ColouredWord[]} words
    * @param {unknown} previous the result id
    */
-  since(open, words, previous) {
+  changedTokens(open, words, previous) {
     const before = this.sent.get(open.uri);
-    if (!before || before.resultId !== previous) return this.all(open, words);
+    if (!before || before.resultId !== previous) return this.allTokens(open, words);
     const data = tokenCodes(words);
-    return { resultId: this.keep(open.uri, data), edits: codeEdits(before.data, data) };
+    return { resultId: this.store(open.uri, data), edits: codeEdits(before.data, data) };
   }
 
   /**
@@ -60,7 +60,7 @@ export class TokenMemory {
    * @param {ColouredWord[]} words
    * @param {Range} range
    */
-  within(words, { start, end }) {
+  tokensIn(words, { start, end }) {
     return { data: tokenCodes(words.filter(({ line }) => start.line <= line && line <= end.line)) };
   }
 }

@@ -8,7 +8,7 @@ import { fileNameOf } from "./beside_language.js";
  */
 
 /** The maximum number of names in a response. */
-const MOST_NAMES = 512;
+const MAX_NAMES = 512;
 
 /**
  * Returns whether a name matches a query, in any case. One word must contain the letters of the query in their order; a name with several
@@ -17,11 +17,11 @@ const MOST_NAMES = 512;
  * @param {string} query
  */
 export function matches(name, query) {
-  const low = name.toLowerCase();
-  if (low.includes(" ")) return low.includes(query.toLowerCase());
+  const lowerCase = name.toLowerCase();
+  if (lowerCase.includes(" ")) return lowerCase.includes(query.toLowerCase());
   let at = 0;
   for (const letter of query.toLowerCase()) {
-    at = low.indexOf(letter, at) + 1;
+    at = lowerCase.indexOf(letter, at) + 1;
     if (at === 0) return false;
   }
   return true;
@@ -39,5 +39,5 @@ export function workspaceSymbols(server, query) {
     const containerName = fileNameOf(open.uri);
     return symbols.filter(({ name }) => matches(name, query)).map(({ name, kind, selectionRange }) => (
       { name, kind, containerName, location: { uri: open.uri, range: selectionRange } }));
-  }).slice(0, MOST_NAMES);
+  }).slice(0, MAX_NAMES);
 }
