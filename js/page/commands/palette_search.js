@@ -25,7 +25,7 @@ export function rankOf({ words, hint, keys, isFound }, wanted) {
   const labelWords = label.split(/[^a-z0-9]+/);
   if (wanted.every((word) => labelWords.some((labelWord) => labelWord.startsWith(word)))) return 1;
   if (wanted.every((word) => label.includes(word))) return 2;
-  return wanted.every((word) => all.includes(word)) ? 3 : -1;
+  return wanted.every((word) => searchable.includes(word)) ? 3 : -1;
 }
 
 /**
