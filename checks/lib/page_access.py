@@ -40,8 +40,10 @@ def check_answers_announced(browser):
 PLACE = """
 const at = document.activeElement;
 const place = at.closest("#session-bar, #clock, #tools, #front, #texts, #dock, #side > section, #statusbar, #notice, .splitter");
-return place ? place.id : ''"""
+return place ? place.id : at.id"""
 IN_EDITOR = "return document.activeElement.closest('.cm-editor') !== null"
+# In Firefox, a column that scrolls is a stop of its own, since the arrow keys scroll it.
+SCROLLED = "side"
 SIDE = ["processor", "calls", "watched", "breakpoints", "memory", "ports"]
 ORDER = ["session-bar", "clock", "tools", "front", "front-splitter", "texts", "dock-splitter", "dock", "side-splitter",
          *[place for name in SIDE for place in (name, f"{name}-splitter")], "history", "statusbar"]
@@ -53,9 +55,8 @@ def check_tab_key(browser):
     browser.script("document.getElementById('name').focus()")
     seen = []
     stops = 0
-    while stops < 110 and browser.script(PLACE) in ORDER:
-        place = browser.script(PLACE)
-        if place not in seen[-1:]:
+    while stops < 110 and (place := browser.script(PLACE)) in (*ORDER, SCROLLED):
+        if place != SCROLLED and place not in seen[-1:]:
             seen.append(place)
         if place == "statusbar":
             break

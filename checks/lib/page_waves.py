@@ -317,7 +317,7 @@ def check_search(browser):
 # The middle of the first row, at a distance in pixels from its left end.
 PLACE = """
 const { left, top } = document.getElementById("wave-canvas").getBoundingClientRect();
-return [Math.round(left + arguments[0]), Math.round(top + 26 * (1.5 + arguments[1]))]"""
+return [Math.round(left + arguments[0]), Math.round(top + 26 * (1.35 + arguments[1]))]"""
 MEASURED = "const shown = document.getElementById('wave-measure'); return shown.hidden ? '' : shown.textContent"
 
 
