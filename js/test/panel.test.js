@@ -100,7 +100,7 @@ test("a calculator: what is typed has its time, and the display is large", async
   assert.match(text(), /^ Desk calculator: s\.mcs {3}\d+ commands {3}running\n {7}###.* display 42\n# {3}# {5}#/);
   assert.match(text(), / 7 {5}8 {5}9 /);
   await panel.end();
-  assert.deepEqual([panel.isEnded, panel.seen.down.count], [true, 0]);
+  assert.deepEqual([panel.isEnded, panel.seen.keysDown.count], [true, 0]);
 });
 
 test("what was typed last is done before the panel ends", async () => {

@@ -34,7 +34,7 @@ export class AdapterConnection extends MessageStream {
     super(write);
     /** @type {Record<string, RequestHandler>} */
     this.requests = {};
-    this.sent = 0;
+    this.lastSeq = 0;
     this.isOpen = false;
     /** The end of the last queued request: each request waits for the one before it. */
     this.turn = Promise.resolve();
@@ -160,7 +160,7 @@ export class AdapterConnection extends MessageStream {
 
   /** @param {object} message */
   send(message) {
-    this.sent += 1;
-    this.writeMessage({ seq: this.sent, ...message });
+    this.lastSeq += 1;
+    this.writeMessage({ seq: this.lastSeq, ...message });
   }
 }

@@ -33,18 +33,18 @@ const UNFINISHED_KEY = /(?:^\s*(?:press|release|keys)\s(?:.*\s)?|\bkey\s+)(\S*)$
 /** The maximum number of instructions to scan for calls. */
 const MAX_SCANNED = 256;
 
-export class Answering {
+export class QueryHandlers {
   /**
    * @param {Launched} launched
    * @param {Scopes} scopes
-   * @param {ExpressionContext} known
+   * @param {ExpressionContext} expressionContext
    * @param {{ firstLine: number, firstColumn: number }} counting the client's numbers of the first line and column: 0 or 1
    */
-  constructor(launched, scopes, known, { firstLine, firstColumn }) {
+  constructor(launched, scopes, expressionContext, { firstLine, firstColumn }) {
     this.launched = launched;
     this.session = launched.session;
     this.scopes = scopes;
-    this.known = known;
+    this.expressionContext = expressionContext;
     this.firstLine = firstLine;
     this.firstColumn = firstColumn;
   }
@@ -79,17 +79,17 @@ export class Answering {
 
   /** @param {any} args */
   stackTrace(args) {
-    const all = framesOf(this.session);
+    const stack = framesOf(this.session);
     const from = Math.max(0, needNumber(args, "startFrame", 0));
     const levels = needNumber(args, "levels", 0);
     const [isHex, withLine] = [formatFlag(args, "hex"), formatFlag(args, "line") === true];
-    const frames = all.map(({ address, line, name, call }, at) => ({
+    const frames = stack.map(({ address, line, name, call }, at) => ({
       id: at + 1, name: nameInFormat(name, isHex) + (withLine && line > 0 ? `, ${wordsOfLine(line)}` : ""),
       instructionPointerReference: referenceOf(address), canRestart: call >= 0,
       ...(line > 0 ? { line: line - 1 + this.firstLine, column: this.firstColumn, source: this.source }
         : { line: 0, column: 0, presentationHint: "subtle" }),
     }));
-    return { stackFrames: frames.slice(from, levels > 0 ? from + levels : undefined), totalFrames: all.length };
+    return { stackFrames: frames.slice(from, levels > 0 ? from + levels : undefined), totalFrames: stack.length };
   }
 
   /** @param {any} args */
@@ -131,15 +131,15 @@ export class Answering {
 
   /** @param {any} args */
   variables(args) {
-    const all = this.scopes.variables(needNumber(args, "variablesReference"), baseOf(args)) || fail(say.NO_REFERENCE);
+    const variables = this.scopes.variables(needNumber(args, "variablesReference"), baseOf(args)) || fail(say.NO_REFERENCE);
     const from = Math.max(0, needNumber(args, "start", 0));
     const count = needNumber(args, "count", 0);
-    const some = all.slice(from, count > 0 ? from + count : undefined);
+    const sent = variables.slice(from, count > 0 ? from + count : undefined);
     return {
-      variables: some.map(({ name, value, evaluateName, place, inside, count: within, memory }) => ({
-        name, value, variablesReference: inside, ...(evaluateName ? { evaluateName } : {}), ...(within ? { namedVariables: within } : {}),
+      variables: sent.map(({ name, value, evaluateName, place, variablesReference, count: namedVariables, memory }) => ({
+        name, value, variablesReference, ...(evaluateName ? { evaluateName } : {}), ...(namedVariables ? { namedVariables } : {}),
         ...(memory ? { memoryReference: memory } : {}),
-        ...(place === "" && inside === 0 ? { presentationHint: { attributes: ["readOnly"] } } : {}),
+        ...(place === "" && variablesReference === 0 ? { presentationHint: { attributes: ["readOnly"] } } : {}),
       })),
     };
   }
@@ -163,11 +163,11 @@ export class Answering {
 
   /** @param {any} args */
   async setExpression(args) {
-    const place = placeToSet(needText(args, "expression"), this.known.face);
+    const place = placeToSet(needText(args, "expression"), this.expressionContext.face);
     const value = needText(args, "value");
     const base = baseOf(args);
     await setPlace(this.session, place, value);
-    return { value: place.startsWith("key ") ? value.trim().toLowerCase() : valueOfExpression(place, this.known, base) };
+    return { value: place.startsWith("key ") ? value.trim().toLowerCase() : valueOfExpression(place, this.expressionContext, base) };
   }
 
   /**
@@ -176,7 +176,8 @@ export class Answering {
    * @param {import("./number_format.js").Base} base
    */
   evaluate(expression, context, base) {
-    const result = context === "hover" ? hoverOf(expression, this.known) : valueOfExpression(expression, this.known, base);
+    const { expressionContext } = this;
+    const result = context === "hover" ? hoverOf(expression, expressionContext) : valueOfExpression(expression, expressionContext, base);
     const memory = numberOfPlace(expression);
     return { result, variablesReference: 0, ...(memory >= 0 ? { memoryReference: referenceOf(memory) } : {}) };
   }
@@ -202,7 +203,7 @@ export class Answering {
    * @returns {{ words: string[], word: string }}
    */
   wordsAt(before) {
-    const { session: { map }, known: { face } } = this;
+    const { session: { map }, expressionContext: { face } } = this;
     const begun = UNFINISHED_KEY.exec(before);
     if (begun) return { words: [...keysOf(face).keys()], word: begun[1] };
     const word = (/[A-Za-z_@][\w.]*$/.exec(before) || [""])[0];

@@ -33,7 +33,7 @@ import { stopsEachTime } from "../../words/machine.js";
  */
 
 /** @type {Omit<Wanted, "id">} */
-const PLAIN = { line: 0, address: -1, condition: "", from: 1, note: "", words: "" };
+const DEFAULT_BREAKPOINT = { line: 0, address: -1, condition: "", from: 1, note: "", words: "" };
 const HIT_CONDITION = /^(?:>=|=|==|>)?\s*(\d{1,9})$/;
 const MAX_WATCHES = 8;
 
@@ -105,10 +105,10 @@ export class ClientBreakpoints {
     return this.moveWithProgram();
   }
 
-  /** @param {Partial<Wanted>} some */
-  make(some) {
+  /** @param {Partial<Wanted>} fields */
+  newBreakpoint(fields) {
     this.lastId += 1;
-    return { ...PLAIN, ...some, id: this.lastId };
+    return { ...DEFAULT_BREAKPOINT, ...fields, id: this.lastId };
   }
 
   // --- requests of the client ---
@@ -119,21 +119,22 @@ export class ClientBreakpoints {
    */
   setLines(args, lineOf) {
     const { map } = this.session;
-    return this.set("lines", listOf(args, "breakpoints").map((given) => {
+    return this.setWanted("lines", listOf(args, "breakpoints").map((given) => {
       const { line, address, words } = instructionOfLine(lineOf(needNumber(given, "line")), map);
-      return this.make({ ...commonFieldsOf(given), line, address, ...(address < 0 ? { words } : {}) });
+      return this.newBreakpoint({ ...commonFieldsOf(given), line, address, ...(address < 0 ? { words } : {}) });
     }));
   }
 
   /** @param {any} args */
   setLabels(args) {
     const { map } = this.session;
-    return this.set("labels", listOf(args, "breakpoints").map((given) => {
+    return this.setWanted("labels", listOf(args, "breakpoints").map((given) => {
       const name = needText(given, "name").trim();
       const found = map.names.get(name);
       const words = found && found.isLabel ? "" : noLabel(name);
       const address = found && found.isLabel ? found.value : -1;
-      return this.make({ ...commonFieldsOf(given), line: address < 0 ? 0 : map.lineOf(address), address, ...(words ? { words } : {}) });
+      const line = address < 0 ? 0 : map.lineOf(address);
+      return this.newBreakpoint({ ...commonFieldsOf(given), line, address, ...(words ? { words } : {}) });
     }));
   }
 
@@ -143,10 +144,10 @@ export class ClientBreakpoints {
    */
   setAddresses(args, addressOf) {
     const { map } = this.session;
-    return this.set("addresses", listOf(args, "breakpoints").map((given) => {
+    return this.setWanted("addresses", listOf(args, "breakpoints").map((given) => {
       const { wanted, words } = wantedAddress(needText(given, "instructionReference"), needNumber(given, "offset", 0), addressOf);
       const { line, address } = words === "" ? instructionOfAddress(wanted, map) : { line: 0, address: -1 };
-      return this.make({ ...commonFieldsOf(given), line, address, ...(words === "" ? {} : { words }) });
+      return this.newBreakpoint({ ...commonFieldsOf(given), line, address, ...(words === "" ? {} : { words }) });
     }));
   }
 
@@ -154,9 +155,9 @@ export class ClientBreakpoints {
    * @param {Kind} kind
    * @param {Wanted[]} wanted
    */
-  async set(kind, wanted) {
+  async setWanted(kind, wanted) {
     this.wanted[kind] = wanted;
-    const faults = await this.apply();
+    const faults = await this.applyBreakpoints();
     return wanted.map((each) => this.answerTo(each, faults.get(each) || ""));
   }
 
@@ -173,29 +174,29 @@ export class ClientBreakpoints {
   // --- the debugger's list ---
 
   /** Returns all breakpoints, one per address: the client's takes precedence over one that the session had. */
-  all() {
+  merged() {
     /** @type {Map<number, Wanted>} */
-    const all = new Map();
+    const merged = new Map();
     const { lines, labels, addresses } = this.wanted;
     for (const each of [...lines, ...labels, ...addresses]) {
-      if (each.words === "" && each.address >= 0 && !all.has(each.address)) all.set(each.address, each);
+      if (each.words === "" && each.address >= 0 && !merged.has(each.address)) merged.set(each.address, each);
     }
-    for (const address of this.otherAddresses) if (!all.has(address)) all.set(address, { ...PLAIN, id: 0, address });
-    return all;
+    for (const address of this.otherAddresses) if (!merged.has(address)) merged.set(address, { ...DEFAULT_BREAKPOINT, id: 0, address });
+    return merged;
   }
 
   /** Sets the debugger's breakpoints. Returns an error message for each one that cannot be set or always stops. */
-  async apply() {
+  async applyBreakpoints() {
     const { session } = this;
     /** @type {Map<Wanted, string>} */
     const faults = new Map();
-    const all = [...this.all().values()];
+    const merged = [...this.merged().values()];
     const isTooMany = (/** @type {number} */ at) => at >= MOST_ON;
-    all.forEach((each, at) => isTooMany(at) && faults.set(each, say.mostOn(MOST_ON)));
+    merged.forEach((each, at) => isTooMany(at) && faults.set(each, say.mostOn(MOST_ON)));
     const hits = new Map([...this.byId].map(([id, { address }]) => [address, (session.breakpoints.get(id) || { hits: 0 }).hits]));
     session.breakpoints = new BreakpointList();
     this.byId.clear();
-    for (const each of all.slice(0, Math.min(MOST_ON, MOST_BREAKPOINTS))) {
+    for (const each of merged.slice(0, Math.min(MOST_ON, MOST_BREAKPOINTS))) {
       const { address, condition, from, note } = each;
       const added = session.breakpoints.add({ address, condition, from, note });
       added.hits = hits.get(address) || 0;
@@ -210,7 +211,7 @@ export class ClientBreakpoints {
    * Returns the client's id of the breakpoint that stopped, and the protocol's reason. The id is 0 if the client did not set it.
    * @param {number} id in the debugger's list
    */
-  ofStop(id) {
+  stoppedBreakpoint(id) {
     const found = this.byId.get(id);
     if (!found || found.id === 0) return { id: 0, reason: "breakpoint" };
     const { labels, addresses } = this.wanted;
@@ -223,11 +224,11 @@ export class ClientBreakpoints {
     const { map } = this.session;
     const moved = this.wanted.lines.filter((each) => {
       const { line, address, words } = instructionOfLine(Math.max(1, each.line), map);
-      const isOther = line !== each.line || address !== each.address;
+      const hasMoved = line !== each.line || address !== each.address;
       Object.assign(each, { line, address, words: address < 0 ? words : each.words });
-      return isOther;
+      return hasMoved;
     });
-    await this.apply();
+    await this.applyBreakpoints();
     return moved.map((each) => this.answerTo(each, ""));
   }
 
@@ -242,8 +243,8 @@ export class ClientBreakpoints {
       const place = watchablePlace(name, board);
       const access = textOrNone(given, "accessType") || "write";
       this.lastId += 1;
-      const wrong = !place ? say.notWatched(name) : access !== "write" ? say.ONLY_CHANGES : words;
-      return { id: this.lastId, name: place ? place.name : name, condition: textOrNone(given, "condition"), from, words: wrong };
+      const error = !place ? say.notWatched(name) : access !== "write" ? say.ONLY_CHANGES : words;
+      return { id: this.lastId, name: place ? place.name : name, condition: textOrNone(given, "condition"), from, words: error };
     });
     const faults = await this.applyData();
     return this.data.map(({ id, words }) => {
@@ -314,7 +315,7 @@ export class ClientBreakpoints {
   async leave() {
     this.wanted = { lines: [], labels: [], addresses: [] };
     try {
-      await this.apply();
+      await this.applyBreakpoints();
       await this.setData({});
     } catch (thrown) {
       return wordsOf(thrown);

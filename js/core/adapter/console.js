@@ -44,20 +44,20 @@ const answerWith = (words) => ({ words, changes: false, move: null });
 export class Console {
   /**
    * @param {Machine} machine
-   * @param {ExpressionContext} known
+   * @param {ExpressionContext} context
    * @param {Words} words the messages for refusal numbers
    * @param {{ breaksChanged: () => void, romChanged: () => void }} calls
    */
-  constructor(machine, known, words, calls) {
+  constructor(machine, context, words, calls) {
     this.calls = calls;
     this.machine = machine;
-    this.known = known;
+    this.context = context;
     this.words = words;
-    this.keys = keysOf(known.face);
+    this.keys = keysOf(context.face);
   }
 
   get session() {
-    return this.known.session;
+    return this.context.session;
   }
 
   /**
@@ -87,7 +87,7 @@ export class Console {
    */
   valueOf(line, base) {
     try {
-      return answerWith(valueOfExpression(line, this.known, base));
+      return answerWith(valueOfExpression(line, this.context, base));
     } catch (thrown) {
       return fail(say.seeHelp(wordsOf(thrown)));
     }
@@ -143,11 +143,11 @@ export class Console {
     const target = rest.join(" ");
     /** @type {(act: () => void) => LineResult} */
     const move = (act) => ({ words: "", changes: false, move: act });
-    if (word === "forward") return move(() => this.machine.forward());
-    if (word === "back" && target === "") return move(() => this.machine.back({ kind: "instruction" }));
+    if (word === "forward") return move(() => this.machine.goForward());
+    if (word === "back" && target === "") return move(() => this.machine.goBack({ kind: "instruction" }));
     if (word === "back") {
       const goal = this.goalOf(target);
-      return move(() => this.machine.back(goal));
+      return move(() => this.machine.goBack(goal));
     }
     if (target === "") fail(say.placeForm(word === "until" ? say.UNTIL_FORM : say.CHANGE_FORM));
     if (word === "change") return move(() => this.machine.go({ kind: "change", place: target }));
@@ -155,7 +155,7 @@ export class Console {
       const goal = this.goalOf(target);
       return move(() => this.machine.go(goal));
     }
-    const address = addressOf(target, this.known);
+    const address = addressOf(target, this.context);
     return move(() => this.machine.go({ kind: "here", address }));
   }
 
@@ -211,7 +211,7 @@ export class Console {
 /**
  * Returns the address that a text names; fails if it names none.
  * @param {string} text a label, with or without `@`, or a number
- * @param {ExpressionContext} known
+ * @param {ExpressionContext} context
  * @returns {number}
  */
 export function addressOf(text, { session }) {

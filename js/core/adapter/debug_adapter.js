@@ -12,7 +12,7 @@ import { instructionsOf } from "../help/manual.js";
 import { fieldOf } from "../server/framing.js";
 import { Words } from "../bench/words.js";
 import { WithFollowUp } from "./adapter_connection.js";
-import { Answering } from "./answering.js";
+import { QueryHandlers } from "./answering.js";
 import { ClientBreakpoints, dataOf } from "./client_breakpoints.js";
 import { Console, addressOf } from "./console.js";
 import { attach, differenceWords, launch } from "./launching.js";
@@ -31,10 +31,11 @@ import * as say from "../../words/adapter.js";
  * @typedef {import("./adapter_connection.js").AdapterConnection} AdapterConnection
  * @typedef {import("./launching.js").Host} Host
  * @typedef {import("./launching.js").Launched} Launched
- * @typedef {import("./debugged_machine.js").Ended} Ended
+ * @typedef {import("./debugged_machine.js").MoveEnd} MoveEnd
  *
  * The open debug session: exists from launch or attach to the end.
- * @typedef {{ launched: Launched, machine: Machine, breakpoints: ClientBreakpoints, console: Console, answering: Answering }} OpenSession
+ * @typedef {{ launched: Launched, machine: Machine, breakpoints: ClientBreakpoints, console: Console,
+ *   answering: QueryHandlers }} OpenSession
  */
 
 const CAPABILITIES = {
@@ -97,11 +98,11 @@ export class DebugAdapter {
     this.isConfigured = false;
     /** @type {Promise<string> | null} the result of `leaveOnce`; null before the first call */
     this.leaving = null;
-    /** @type {Ended | null} the last stop */
-    this.ended = null;
+    /** @type {MoveEnd | null} the last stop */
+    this.lastStop = null;
     /** @type {ShownBoard | null} null until the client asks for the board */
     this.shownBoard = null;
-    connection.requests = { ...this.lifecycleRequests(), ...this.breakpointRequests(), ...this.moves.table(), ...this.queryRequests() };
+    connection.requests = { ...this.lifecycleRequests(), ...this.breakpointRequests(), ...this.moves.handlers(), ...this.queryRequests() };
     connection.stopWork = (id) => this.progress.stop(id);
   }
 
@@ -165,28 +166,28 @@ export class DebugAdapter {
     const { session } = launched;
     /** @type {Machine} */
     const machine = new Machine(session, launched.writer, {
-      stopped: (ended) => this.stopped(ended),
+      stopped: (moveEnd) => this.stopped(moveEnd),
       output: (words, category) => this.output(words, category),
       pause: this.host.pause,
-      looked: () => this.sendBoard(),
+      stateChanged: () => this.sendBoard(),
       work: (title) => this.progress.begin(title, () => machine.pause()),
     }, launched.isRealTime);
     const breakpoints = new ClientBreakpoints(session);
-    await breakpoints.apply();
+    await breakpoints.applyBreakpoints();
     const face = new Face(session.boardText);
-    const known = { session, face, instructions: this.instructions, shown: () => machine.shown.now() };
-    const lines = new Console(machine, known, this.words, {
+    const expressionContext = { session, face, instructions: this.instructions, shown: () => machine.shown.now() };
+    const debugConsole = new Console(machine, expressionContext, this.words, {
       breaksChanged: () => breakpoints.noteOwnBreakpoints(), romChanged: () => this.reportRom(launched),
     });
-    const answering = new Answering(launched, new Scopes(session, face), known, this);
-    this.open = { launched, machine, breakpoints, console: lines, answering };
+    const answering = new QueryHandlers(launched, new Scopes(session, face), expressionContext, this);
+    this.open = { launched, machine, breakpoints, console: debugConsole, answering };
     if (this.shownBoard) this.shownBoard = new ShownBoard(machine);
     this.sendBoard();
     if (launched.note) this.output(`${launched.note}\n`, "console");
   }
 
   /**
-   * Tells the user if ROM no longer has the bytes of the source.
+   * Reports to the user if ROM no longer has the bytes of the source.
    * @param {Launched} launched
    */
   reportRom({ session }) {
@@ -255,7 +256,7 @@ export class DebugAdapter {
       setFunctionBreakpoints: (args) => this.set((breakpoints) => breakpoints.setLabels(args)),
       setInstructionBreakpoints: (args) => (
         this.set((breakpoints) => breakpoints.setAddresses(args, (reference) => this.addressIn(reference)))),
-      dataBreakpointInfo: (args) => this.dataInfo(args),
+      dataBreakpointInfo: (args) => this.dataBreakpointInfo(args),
       setDataBreakpoints: (args) => {
         const { machine, breakpoints } = this.current;
         return machine.whenFree(async () => ({ breakpoints: await breakpoints.setData(args) }));
@@ -264,7 +265,7 @@ export class DebugAdapter {
         const { machine, breakpoints } = this.current;
         return machine.whenFree(() => ({ breakpoints: breakpoints.setFilters(args) }));
       },
-      breakpointLocations: (args) => this.locations(args),
+      breakpointLocations: (args) => this.breakpointLocations(args),
     };
   }
 
@@ -299,7 +300,7 @@ export class DebugAdapter {
   }
 
   /** @param {any} args */
-  dataInfo(args) {
+  dataBreakpointInfo(args) {
     const { answering, launched } = this.current;
     const name = needText(args, "name");
     const reference = needNumber(args, "variablesReference", 0);
@@ -310,15 +311,17 @@ export class DebugAdapter {
   }
 
   /** @param {any} args */
-  locations(args) {
+  breakpointLocations(args) {
     const { session } = this.current.launched;
     if (!this.current.answering.isProgram(fieldOf(args, "source"))) return { breakpoints: [] };
     const from = needNumber(args, "line");
     const to = Math.min(needNumber(args, "endLine", from), from + 65536);
     const lines = [];
     for (let line = from; line <= to; line++) {
-      const own = line + 1 - this.firstLine;
-      if (instructionOfLine(own, session.map).line === own && session.map.addressOf(own) !== undefined) lines.push({ line });
+      const programLine = line + 1 - this.firstLine;
+      if (instructionOfLine(programLine, session.map).line === programLine && session.map.addressOf(programLine) !== undefined) {
+        lines.push({ line });
+      }
     }
     return { breakpoints: lines };
   }
@@ -327,26 +330,26 @@ export class DebugAdapter {
 
   /** @returns {Record<string, RequestHandler>} */
   queryRequests() {
-    const pauseEnd = (/** @type {(answering: Answering, args: any) => unknown} */ act) => (/** @type {any} */ args) => {
+    const whilePaused = (/** @type {(answering: QueryHandlers, args: any) => unknown} */ act) => (/** @type {any} */ args) => {
       const { machine, answering } = this.current;
       if (machine.isMoving) fail(NOT_STOPPED);
       return act(answering, args);
     };
     return {
       threads: () => ({ threads: [{ id: THREAD, name: "4004" }] }),
-      stackTrace: pauseEnd((answering, args) => answering.stackTrace(args)),
-      scopes: pauseEnd((answering, args) => answering.scopesOfFrame(args)),
-      variables: pauseEnd((answering, args) => answering.variables(args)),
-      setVariable: pauseEnd(async (answering, args) => this.changed(await answering.setVariable(args))),
-      setExpression: pauseEnd(async (answering, args) => this.changed(await answering.setExpression(args))),
-      disassemble: pauseEnd((answering, args) => answering.disassemble(args, (reference) => this.addressIn(reference))),
-      readMemory: pauseEnd((answering, args) => answering.readMemory(args, (reference) => this.addressIn(reference))),
-      writeMemory: pauseEnd((answering, args) => this.writeMemory(answering, args)),
+      stackTrace: whilePaused((answering, args) => answering.stackTrace(args)),
+      scopes: whilePaused((answering, args) => answering.scopesOfFrame(args)),
+      variables: whilePaused((answering, args) => answering.variables(args)),
+      setVariable: whilePaused(async (answering, args) => this.saveChange(await answering.setVariable(args))),
+      setExpression: whilePaused(async (answering, args) => this.saveChange(await answering.setExpression(args))),
+      disassemble: whilePaused((answering, args) => answering.disassemble(args, (reference) => this.addressIn(reference))),
+      readMemory: whilePaused((answering, args) => answering.readMemory(args, (reference) => this.addressIn(reference))),
+      writeMemory: whilePaused((answering, args) => this.writeMemory(answering, args)),
       completions: (args) => this.current.answering.completions(args),
       loadedSources: () => ({ sources: [this.current.answering.source] }),
       source: (args) => this.current.answering.sourceText(args),
       exceptionInfo: () => {
-        const { reason, words } = this.ended || { reason: "", words: "" };
+        const { reason, words } = this.lastStop || { reason: "", words: "" };
         return { exceptionId: reason || "none", description: words, breakMode: "always" };
       },
       evaluate: (args, pending) => this.evaluate(args, pending),
@@ -363,8 +366,8 @@ export class DebugAdapter {
 
   /** @param {string} reference */
   addressIn(reference) {
-    const { console: lines } = this.current;
-    return addressOf(reference, lines.known);
+    const { console: debugConsole } = this.current;
+    return addressOf(reference, debugConsole.context);
   }
 
   /**
@@ -372,18 +375,18 @@ export class DebugAdapter {
    * @template Result
    * @param {Result} result
    */
-  async changed(result) {
+  async saveChange(result) {
     const { machine } = this.current;
     await machine.saveAndReport();
     return result;
   }
 
   /**
-   * @param {Answering} answering
+   * @param {QueryHandlers} answering
    * @param {any} args
    */
   async writeMemory(answering, args) {
-    const written = await this.changed(await answering.writeMemory(args, (reference) => this.addressIn(reference)));
+    const written = await this.saveChange(await answering.writeMemory(args, (reference) => this.addressIn(reference)));
     const { offset, bytesWritten: count } = written;
     if (!this.acceptsMemory || count === 0) return written;
     const memory = { memoryReference: needText(args, "memoryReference"), offset: needNumber(args, "offset", 0) + offset, count };
@@ -395,30 +398,31 @@ export class DebugAdapter {
    * @param {import("./adapter_connection.js").PendingRequest} pending
    */
   async evaluate(args, pending) {
-    const { machine, console: lines, answering } = this.current;
+    const { machine, console: debugConsole, answering } = this.current;
     const [expression, context, base] = [needText(args, "expression"), textOrNone(args, "context"), baseOf(args)];
     if (context !== "repl") return machine.whenFree(() => answering.evaluate(expression, context, base));
     const work = this.progress.begin(say.RUNNING_LINES, () => { pending.isCancelled = true; });
     const mayContinue = async (/** @type {number} */ done) => {
-      work.passed(() => say.charactersOf(done, expression.length));
+      work.reportIfDue(() => say.charactersOf(done, expression.length));
       await this.host.pause();
       return !pending.isCancelled;
     };
-    const { words, changes, move } = await machine.whenFree(() => lines.serveLine(expression, mayContinue, base)).finally(() => work.end());
+    const served = machine.whenFree(() => debugConsole.serveLine(expression, mayContinue, base));
+    const { words, changes, move } = await served.finally(() => work.end());
     if (move) this.moves.needStopped();
-    const isStanding = !machine.isMoving && this.isConfigured;
+    const wasPaused = !machine.isMoving && this.isConfigured;
     if (changes && !machine.isMoving) await machine.saveAndReport();
     return new WithFollowUp({ result: words, variablesReference: 0 }, () => {
       if (move) move();
-      else if (changes && isStanding) this.sendInvalidated();
+      else if (changes && wasPaused) this.sendInvalidated();
     });
   }
 
   /** Makes the client read the state again after a line has changed the machine. */
   sendInvalidated() {
-    this.ended = this.pauseEnd("step");
+    this.lastStop = this.pauseEnd("step");
     if (this.acceptsInvalidated) this.connection.sendEvent("invalidated", { areas: ["all"] });
-    else this.stopped(this.ended);
+    else this.stopped(this.lastStop);
   }
 
   /**
@@ -427,18 +431,18 @@ export class DebugAdapter {
    * @param {any} args
    */
   async moveKey(word, args) {
-    const { machine, console: lines } = this.current;
+    const { machine, console: debugConsole } = this.current;
     const key = needText(args, "key");
-    const { words } = await machine.whenFree(() => lines.moveKeys(word, [key]));
+    const { words } = await machine.whenFree(() => debugConsole.moveKeys(word, [key]));
     if (!machine.isMoving) await machine.saveAndReport();
     return { words };
   }
 
   /** @param {any} args `place`, the key's row and column, and `isDown` */
   async changeKey(args) {
-    const { machine, console: lines } = this.current;
+    const { machine, console: debugConsole } = this.current;
     const key = needText(args, "place");
-    await machine.whenFree(() => changeKey(machine, lines, key, fieldOf(args, "isDown") === true));
+    await machine.whenFree(() => changeKey(machine, debugConsole, key, fieldOf(args, "isDown") === true));
     if (!machine.isMoving) await machine.saveAndReport();
     return {};
   }
@@ -455,22 +459,23 @@ export class DebugAdapter {
   /**
    * Returns the end of a move for a pause that is not a stop.
    * @param {string} reason in the protocol's words
-   * @returns {Ended}
+   * @returns {MoveEnd}
    */
   pauseEnd(reason) {
     return { reason, words: stoppedAt(this.current.launched.session.counterWords), id: 0 };
   }
 
-  /** @param {Ended} ended */
-  stopped(ended) {
+  /** @param {MoveEnd} moveEnd */
+  stopped(moveEnd) {
     const { open } = this;
     if (!open) return;
-    this.ended = ended;
+    this.lastStop = moveEnd;
     this.sendBoard();
-    const isOwn = ended.reason === "data breakpoint";
-    const found = ended.reason === "breakpoint" ? open.breakpoints.ofStop(ended.id) : { id: isOwn ? ended.id : 0, reason: ended.reason };
+    const isDataBreakpoint = moveEnd.reason === "data breakpoint";
+    const found = moveEnd.reason === "breakpoint" ? open.breakpoints.stoppedBreakpoint(moveEnd.id)
+      : { id: isDataBreakpoint ? moveEnd.id : 0, reason: moveEnd.reason };
     this.connection.sendEvent("stopped", {
-      reason: found.reason, description: ended.words, threadId: THREAD, allThreadsStopped: true,
+      reason: found.reason, description: moveEnd.words, threadId: THREAD, allThreadsStopped: true,
       ...(found.id > 0 ? { hitBreakpointIds: [found.id] } : {}),
     });
   }

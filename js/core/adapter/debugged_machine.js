@@ -18,17 +18,17 @@ import { stoppedAt } from "../../words/stops.js";
  * @typedef {ReturnType<import("./progress.js").Progress["begin"]>} Work
  *
  * The end of a move: the protocol's reason, the message, and the id of the breakpoint that stopped it, 0 for none.
- * @typedef {{ reason: string, words: string, id: number }} Ended
+ * @typedef {{ reason: string, words: string, id: number }} MoveEnd
  */
 
 /**
  * The callbacks of a machine.
  * @typedef {object} MachineCalls
- * @property {(ended: Ended) => void} stopped Reports the end of a move, once for each move.
+ * @property {(moveEnd: MoveEnd) => void} stopped Reports the end of a move, once for each move.
  * @property {(words: string, category: "console" | "stdout" | "stderr") => void} output Prints a text that ends with a line feed, in a
  *   category of the protocol.
  * @property {() => Promise<void>} pause Resolves after other tasks had their turn. Called between the pieces of a move.
- * @property {() => void} looked Reports that the state has changed, so views can update.
+ * @property {() => void} stateChanged Reports that the state has changed, so views can update.
  * @property {(title: string) => Work} [work] Begins to report the progress of a move to the client.
  */
 
@@ -55,7 +55,7 @@ export class Machine {
     this.isRealTime = isRealTime;
     if (isRealTime) session.largestPiece = FRAME_CYCLES;
     /** The time at which the move began, in milliseconds. */
-    this.begun = 0;
+    this.startTime = 0;
     this.session = session;
     this.writer = writer;
     this.calls = calls;
@@ -63,13 +63,13 @@ export class Machine {
     this.isMoving = false;
     this.mustPause = false;
     /** Returns true if other work can use the session between two pieces of the present move. */
-    this.isOpen = () => false;
+    this.acceptsWork = () => false;
     /** @type {(() => Promise<void>)[]} the work that waits for the end of a piece */
-    this.waiting = [];
+    this.waitingWork = [];
     /** The number of log messages of the present move that are reported. */
-    this.noted = 0;
+    this.reportedNotes = 0;
     /** The time of the last update of lamps and displays, in milliseconds. */
-    this.looked = 0;
+    this.reportedAt = 0;
     /** @type {Promise<void>} the end of the present move, or of the last one */
     this.move = Promise.resolve();
     /** @type {Work | null} the progress of the present move; null in real time, in which the user sees the lamps change */
@@ -80,13 +80,13 @@ export class Machine {
 
   /** @param {Goal | null} goal null: run to a stop */
   go(goal) {
-    const isOpen = () => goal === null || this.session.debugger.isMoving;
-    const act = () => this.session.go(goal, (done, tally) => this.between(tally, done));
-    this.begin(act, isOpen);
+    const acceptsWork = () => goal === null || this.session.debugger.isMoving;
+    const act = () => this.session.go(goal, (done, tally) => this.betweenPieces(tally, done));
+    this.beginMove(act, acceptsWork);
   }
 
   stepInto() {
-    this.begin(() => this.session.into(), () => false);
+    this.beginMove(() => this.session.into(), () => false);
   }
 
   /**
@@ -95,31 +95,31 @@ export class Machine {
    */
   stepIntoCall(address) {
     const { session } = this;
-    this.begin(async () => {
+    this.beginMove(async () => {
       if (session.address === address) return session.into();
-      const stop = await session.go({ kind: "here", address }, (done, tally) => this.between(tally, done));
+      const stop = await session.go({ kind: "here", address }, (done, tally) => this.betweenPieces(tally, done));
       if (stop.why !== "goal") return stop;
-      this.reportTally(stop.tally, stop.tally.noted - this.noted);
+      this.reportTally(stop.tally, stop.tally.noted - this.reportedNotes);
       return session.into();
     }, () => session.debugger.isMoving);
   }
 
   /** @param {BackGoal} goal */
-  back(goal) {
-    let looked = 0;
-    const between = (/** @type {number} */ more) => this.between(undefined, looked += more);
+  goBack(goal) {
+    let searched = 0;
+    const between = (/** @type {number} */ more) => this.betweenPieces(undefined, searched += more);
     const act = async () => this.endOfBack(await this.session.back(goal, between), REASONS_BY_GOAL[goal.kind] || "goal");
-    this.begin(act, () => false, say.SEARCHING_BACK);
+    this.beginMove(act, () => false, say.SEARCHING_BACK);
   }
 
-  forward() {
-    this.begin(async () => this.endOfBack(this.session.forward(), "goal"), () => false);
+  goForward() {
+    this.beginMove(async () => this.endOfBack(this.session.forward(), "goal"), () => false);
   }
 
   /**
    * Returns a move through the past as the end of a run.
    * @param {{ isDone: boolean, words: string, end: string, id: number }} went
-   * @param {string} why the reason for the stop, unless MET has one
+   * @param {string} why the reason for the stop, unless REASONS_BY_END has one
    */
   endOfBack({ isDone, words, end, id }, why) {
     if (!isDone) this.calls.output(`${words}\n`, "console");
@@ -128,43 +128,43 @@ export class Machine {
 
   /**
    * @param {() => Promise<Pick<Stopped, "why" | "words" | "id"> & { tally: Tally | null }>} act
-   * @param {() => boolean} isOpen
+   * @param {() => boolean} acceptsWork
    * @param {string} [title] for people
    */
-  begin(act, isOpen, title = say.RUNNING) {
+  beginMove(act, acceptsWork, title = say.RUNNING) {
     if (this.isMoving) fail(say.TIME_RUNS_ALREADY);
     this.isMoving = true;
     this.mustPause = false;
-    this.isOpen = isOpen;
-    this.noted = 0;
-    this.begun = performance.now();
+    this.acceptsWork = acceptsWork;
+    this.reportedNotes = 0;
+    this.startTime = performance.now();
     this.work = this.isRealTime || !this.calls.work ? null : this.calls.work(title);
-    this.move = this.run(act);
+    this.move = this.runMove(act);
   }
 
-  /** @param {Parameters<Machine["begin"]>[0]} act */
-  async run(act) {
-    /** @type {Ended} */
-    let ended;
+  /** @param {Parameters<Machine["beginMove"]>[0]} act */
+  async runMove(act) {
+    /** @type {MoveEnd} */
+    let moveEnd;
     try {
       const { why, words, id, tally } = await act();
-      if (tally) this.reportTally(tally, tally.noted - this.noted);
-      ended = { reason: REASONS[why] || "exception", words, id };
+      if (tally) this.reportTally(tally, tally.noted - this.reportedNotes);
+      moveEnd = { reason: REASONS[why] || "exception", words, id };
     } catch (thrown) {
       const isPause = thrown instanceof Cancelled;
       if (!isPause) this.calls.output(`${wordsOf(thrown)}\n`, "stderr");
       const words = isPause ? stoppedAt(this.session.counterWords) : wordsOf(thrown);
-      ended = { reason: isPause ? "pause" : "exception", words, id: 0 };
+      moveEnd = { reason: isPause ? "pause" : "exception", words, id: 0 };
     }
-    this.isOpen = () => false;
+    this.acceptsWork = () => false;
     // Work can arrive while the session is saved. It must be done now because no later step would do it.
     do {
-      await this.doWaiting();
+      await this.runWaitingWork();
       await this.saveAndReport();
-    } while (this.waiting.length > 0);
+    } while (this.waitingWork.length > 0);
     if (this.work) this.work.end();
     this.isMoving = false;
-    this.calls.stopped(ended);
+    this.calls.stopped(moveEnd);
   }
 
   /** Reports what lamps and displays show, and saves the session. */
@@ -190,13 +190,13 @@ export class Machine {
    * @param {Tally} [tally] of the last piece
    * @param {number} [done] the cycles of the move that are run or searched
    */
-  async between(tally, done = 0) {
+  async betweenPieces(tally, done = 0) {
     if (tally) this.reportTally(tally, tally.noted);
-    if (this.work) this.work.passed(() => wordsOfCycles(done));
-    if (performance.now() - this.looked >= REPORT_INTERVAL && this.isOpen()) this.reportShown();
+    if (this.work) this.work.reportIfDue(() => wordsOfCycles(done));
+    if (performance.now() - this.reportedAt >= REPORT_INTERVAL && this.acceptsWork()) this.reportShown();
     if (this.isRealTime && tally) await this.waitFor(done);
     await this.calls.pause();
-    if (this.isOpen()) await this.doWaiting();
+    if (this.acceptsWork()) await this.runWaitingWork();
     return !this.mustPause;
   }
 
@@ -205,8 +205,8 @@ export class Machine {
    * @param {number} cycles since the begin of the move
    */
   async waitFor(cycles) {
-    this.calls.looked();
-    const left = cycles * CYCLE_MS - (performance.now() - this.begun);
+    this.calls.stateChanged();
+    const left = cycles * CYCLE_MS - (performance.now() - this.startTime);
     if (left > 0) await new Promise((settle) => { setTimeout(settle, left); });
   }
 
@@ -216,8 +216,8 @@ export class Machine {
 
   // --- work between pieces ---
 
-  async doWaiting() {
-    for (const act of this.waiting.splice(0)) await act();
+  async runWaitingWork() {
+    for (const act of this.waitingWork.splice(0)) await act();
   }
 
   /**
@@ -229,7 +229,7 @@ export class Machine {
   async whenFree(act) {
     if (!this.isMoving) return act();
     return new Promise((resolve, reject) => {
-      this.waiting.push(async () => {
+      this.waitingWork.push(async () => {
         try {
           resolve(await act());
         } catch (thrown) {
@@ -242,10 +242,10 @@ export class Machine {
   // --- reports ---
 
   reportShown() {
-    this.looked = performance.now();
+    this.reportedAt = performance.now();
     const words = this.shown.take();
     if (words) this.calls.output(`${words}\n`, "stdout");
-    this.calls.looked();
+    this.calls.stateChanged();
   }
 
   /**
@@ -254,7 +254,7 @@ export class Machine {
    * @param {number} count the number of log messages that are not reported yet
    */
   reportTally({ notes, usual }, count) {
-    this.noted += count;
+    this.reportedNotes += count;
     if (count > notes.length) this.calls.output(`${say.notesBefore(count - notes.length)}\n`, "console");
     for (const { words } of notes.slice(notes.length - Math.min(count, notes.length))) this.calls.output(`${words}\n`, "console");
     for (const { words } of usual) this.calls.output(`${words}\n`, "console");

@@ -24,13 +24,13 @@ const endOf = ({ address, line }) => address + (line.slice(7, 9).trim() === "" ?
  */
 function instructionsIn(session, from, to) {
   /** @type {Listed[]} */
-  const all = [];
+  const instructions = [];
   for (let address = from; address < to;) {
-    const some = readListing(session.debugger.session.ask(`list ${address} ${MAX_LISTED}\n`));
-    all.push(...some.filter((each) => each.address < to));
-    address = endOf(some[some.length - 1]);
+    const batch = readListing(session.debugger.session.ask(`list ${address} ${MAX_LISTED}\n`));
+    instructions.push(...batch.filter((each) => each.address < to));
+    address = endOf(batch[batch.length - 1]);
   }
-  return all;
+  return instructions;
 }
 
 /**
@@ -46,15 +46,15 @@ export function rowsAt(session, address, offset, count) {
   // An instruction has at most two bytes. The listing begins at an instruction of the program so that it does not begin at a second byte.
   const begin = Math.max(0, address + 2 * Math.min(0, offset) - 1);
   const inStep = upTo(4).map((more) => begin + more).find((each) => each <= address && session.map.beginsInstruction(each)) ?? begin;
-  const whole = (/** @type {number} */ from, /** @type {number} */ to) => (
+  const wholeInstructions = (/** @type {number} */ from, /** @type {number} */ to) => (
     instructionsIn(session, from, to).filter((each) => endOf(each) <= to));
-  const before = [...whole(begin, inStep), ...whole(inStep, address)];
+  const before = [...wholeInstructions(begin, inStep), ...wholeInstructions(inStep, address)];
   const after = instructionsIn(session, address, Math.min(LAST_ADDRESS + 1, address + 2 * Math.max(0, offset + count)));
-  const all = [...before, ...after];
+  const instructions = [...before, ...after];
   return upTo(count).map((at) => {
     const index = before.length + offset + at;
-    const found = all[index];
-    return found ? rowOf(found, session) : nothingAt(index < 0 ? index : LAST_ADDRESS + 1 + index - all.length);
+    const found = instructions[index];
+    return found ? rowOf(found, session) : nothingAt(index < 0 ? index : LAST_ADDRESS + 1 + index - instructions.length);
   });
 }
 
@@ -64,8 +64,8 @@ export function rowsAt(session, address, offset, count) {
  * @returns {Row}
  */
 function rowOf({ address, line }, { map }) {
-  const own = map.lineOf(address);
-  return { address, bytes: line.slice(4, 9).trim(), words: line.slice(10).trim(), line: own, name: map.labelsAt(address)[0] || "" };
+  const sourceLine = map.lineOf(address);
+  return { address, bytes: line.slice(4, 9).trim(), words: line.slice(10).trim(), line: sourceLine, name: map.labelsAt(address)[0] || "" };
 }
 
 /**

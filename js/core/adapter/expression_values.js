@@ -27,7 +27,7 @@ const MARK_PLACES = /^(chain\d|lamps)$/;
 /**
  * Returns the value of a place; "" if the text is not a place, or the board lacks it.
  * @param {string} text
- * @param {ExpressionContext} known
+ * @param {ExpressionContext} context
  * @param {Base} base
  */
 function placeValue(text, { session, face }, base) {
@@ -79,15 +79,15 @@ function nameValue(text, { map }) {
 /**
  * Returns the current value of an expression as text; throws AdapterError if it cannot be parsed.
  * @param {string} text
- * @param {ExpressionContext} known
+ * @param {ExpressionContext} context
  * @param {Base} [base] of numbers
  */
-export function valueOfExpression(text, known, base = "usual") {
-  const { session } = known;
+export function valueOfExpression(text, context, base = "usual") {
+  const { session } = context;
   const trimmed = text.trim();
   if (trimmed === "") throw new AdapterError(say.NOTHING_TO_EVALUATE);
-  if (trimmed === "display" || trimmed === "lamps") return known.shown();
-  const value = registerValue(trimmed, session, base) || inBase(nameValue(trimmed, session), base) || placeValue(trimmed, known, base);
+  if (trimmed === "display" || trimmed === "lamps") return context.shown();
+  const value = registerValue(trimmed, session, base) || inBase(nameValue(trimmed, session), base) || placeValue(trimmed, context, base);
   if (value) return value;
   const { expression, fault, column } = expressionOf(trimmed, session.names);
   if (!expression) throw new AdapterError(inColumn(fault, column));
@@ -98,10 +98,10 @@ export function valueOfExpression(text, known, base = "usual") {
 /**
  * Returns the text of a hover: the current value of the word, the effect of an instruction, or the value of an expression.
  * @param {string} text
- * @param {ExpressionContext} known
+ * @param {ExpressionContext} context
  */
-export function hoverOf(text, known) {
-  const { session, instructions } = known;
+export function hoverOf(text, context) {
+  const { session, instructions } = context;
   const trimmed = text.trim();
   /** @type {(name: string) => import("../debug/value_words.js").Named | undefined} */
   const nameOf = (name) => {
@@ -110,5 +110,5 @@ export function hoverOf(text, known) {
   };
   const doesOf = (/** @type {string} */ word) => (instructions.get(word) || { does: "" }).does;
   const pieces = valuesAt(trimmed, 0, new Standing(session.debugger.session.takeSnapshot()), { nameOf, doesOf });
-  return pieces.length > 0 ? textOf(pieces) : doesOf(trimmed.toUpperCase()) || valueOfExpression(trimmed, known);
+  return pieces.length > 0 ? textOf(pieces) : doesOf(trimmed.toUpperCase()) || valueOfExpression(trimmed, context);
 }

@@ -92,9 +92,9 @@ function filesOf(name, host) {
   const { names, faults: [fault] } = readProjectToml(text);
   if (!names) throw new AdapterError(`${file}, line ${fault.line}: ${fault.words}`, true);
   const [board, program] = [names.board, names.program].map(({ path, key, line }) => {
-    const whole = host.beside(path, file);
-    if (!host.isInside(whole, host.beside(".", file))) throw new AdapterError(`${file}, line ${line}: ${key}: ${leadsOut(path)}`, true);
-    return whole;
+    const fullName = host.beside(path, file);
+    if (!host.isInside(fullName, host.beside(".", file))) throw new AdapterError(`${file}, line ${line}: ${key}: ${leadsOut(path)}`, true);
+    return fullName;
   });
   return { board, program };
 }
@@ -120,10 +120,10 @@ function boardOf(program, host) {
 function textIn(name, mark, host) {
   const text = host.read(name);
   if (text === null) throw new AdapterError(host.whyUnread(name), true);
-  const whole = text.replace(/^\uFEFF/, "").replace(/\r\n?/g, "\n");
-  const [fault] = faultsOfLines(whole, mark);
+  const normalized = text.replace(/^\uFEFF/, "").replace(/\r\n?/g, "\n");
+  const [fault] = faultsOfLines(normalized, mark);
   if (fault) throw new AdapterError(`${lastPart(name)}, line ${fault.line}: ${fault.words}`, true);
-  return whole;
+  return normalized;
 }
 
 /**
@@ -133,9 +133,9 @@ function textIn(name, mark, host) {
  * @param {Words} words
  */
 function refusalError(name, { number, line }, words) {
-  const where = line > 0 ? `, line ${line}` : "";
-  const why = number > 0 ? `${words.ofRefusal(number)} (no ${number})` : say.DOT_ALONE;
-  return new AdapterError(`${lastPart(name)}${where}: ${why}`, true);
+  const place = line > 0 ? `, line ${line}` : "";
+  const reason = number > 0 ? `${words.ofRefusal(number)} (no ${number})` : say.DOT_ALONE;
+  return new AdapterError(`${lastPart(name)}${place}: ${reason}`, true);
 }
 
 /**
@@ -272,10 +272,10 @@ function checkRom(session, engine, { program, session: file }, words) {
  */
 export async function launch(engine, args, host, words) {
   const wanted = readWantedFiles(args, host);
-  const begun = wanted.test ? await sessionFromTest(engine, wanted.test, host)
+  const opened = wanted.test ? await sessionFromTest(engine, wanted.test, host)
     : wanted.session === "" ? { session: sessionFromTexts(engine, wanted, host, words), writer: null, note: "" }
       : await sessionFromFile(engine, wanted, host, words);
-  return launchedOf(begun, wanted, args, host);
+  return launchedOf(opened, wanted, args, host);
 }
 
 /**
@@ -291,13 +291,13 @@ export async function attach(engine, args, host, words) {
   const isWritten = flagOf(args, "write", false);
   const wanted = readWantedFiles(args, host);
   if (!host.isThere(wanted.session)) throw new AdapterError(say.noSession(wanted.session), true);
-  const begun = isWritten ? await sessionFromFile(engine, wanted, host, words) : await sessionFromCopy(engine, wanted, host, words);
-  return { ...launchedOf(begun, wanted, args, host), isAttached: true };
+  const opened = isWritten ? await sessionFromFile(engine, wanted, host, words) : await sessionFromCopy(engine, wanted, host, words);
+  return { ...launchedOf(opened, wanted, args, host), isAttached: true };
 }
 
 /**
  * Adds the options in the arguments to a session.
- * @param {{ session: DebugSession, writer: SessionWriter | null, note: string }} begun
+ * @param {{ session: DebugSession, writer: SessionWriter | null, note: string }} opened
  * @param {WantedFiles} wanted
  * @param {any} args
  * @param {Host} host

@@ -18,7 +18,7 @@ import * as say from "../../words/adapter.js";
  * @typedef {{ begin: number, bytes: Uint8Array, place: (at: number) => string }} MemoryRange
  *
  * The place that a request names: a range, and an index in it, which can be outside the range.
- * @typedef {{ area: MemoryRange, from: number }} RangePlace
+ * @typedef {{ range: MemoryRange, from: number }} RangePlace
  */
 
 const [CHARACTERS_AT, STATUS_AT, BANK_SIZE] = [0x10000, 0x20000, 0x100];
@@ -44,8 +44,8 @@ export function numberOfPlace(name) {
   const place = placeOf(name);
   const [, bank, byte] = /^ram\.(\d)\.(0x..)$/.exec(place ? place.name : "") || [];
   if (bank) return CHARACTERS_AT + BANK_SIZE * Number(bank) + Number(byte);
-  const [, ofStatus, register, at] = /^st\.(\d)\.(\d+)\.(\d)$/.exec(place ? place.name : "") || [];
-  return ofStatus ? STATUS_AT + BANK_SIZE * Number(ofStatus) + STATUS * Number(register) + Number(at) : -1;
+  const [, statusBank, register, at] = /^st\.(\d)\.(\d+)\.(\d)$/.exec(place ? place.name : "") || [];
+  return statusBank ? STATUS_AT + BANK_SIZE * Number(statusBank) + STATUS * Number(register) + Number(at) : -1;
 }
 
 /**
@@ -56,9 +56,9 @@ export function numberOfPlace(name) {
 function numberOfReference(reference, addressOf) {
   const [, bank] = /^ram\.([0-7])$/.exec(reference) || [];
   if (bank) return CHARACTERS_AT + BANK_SIZE * Number(bank);
-  const [own, number] = [numberOf(reference), numberOfPlace(reference)];
+  const [address, number] = [numberOf(reference), numberOfPlace(reference)];
   if (number >= 0) return number;
-  return own >= CHARACTERS_AT ? own : addressOf(reference);
+  return address >= CHARACTERS_AT ? address : addressOf(reference);
 }
 
 /**
@@ -92,8 +92,8 @@ function rangeAt(session, number) {
 function requestedPlace(args, session, addressOf) {
   const reference = needText(args, "memoryReference").trim();
   const number = numberOfReference(reference, addressOf);
-  const area = rangeAt(session, number) || fail(say.boardHasNo(reference));
-  return { area, from: number - area.begin + needNumber(args, "offset", 0) };
+  const range = rangeAt(session, number) || fail(say.boardHasNo(reference));
+  return { range, from: number - range.begin + needNumber(args, "offset", 0) };
 }
 
 /**
@@ -103,7 +103,7 @@ function requestedPlace(args, session, addressOf) {
  * @param {(reference: string) => number} addressOf
  */
 export function readMemory(args, session, addressOf) {
-  const { area: { begin, bytes }, from } = requestedPlace(args, session, addressOf);
+  const { range: { begin, bytes }, from } = requestedPlace(args, session, addressOf);
   const count = needNumber(args, "count");
   if (count < 0) fail(say.COUNT_IS);
   const address = referenceOf(begin + from);
@@ -121,7 +121,7 @@ export function readMemory(args, session, addressOf) {
  * @returns {Promise<{ offset: number, bytesWritten: number }>}
  */
 export async function writeMemory(args, session, addressOf) {
-  const { area: { bytes, place }, from } = requestedPlace(args, session, addressOf);
+  const { range: { bytes, place }, from } = requestedPlace(args, session, addressOf);
   const data = bytesOfBase64(needText(args, "data"));
   const [first, end] = [Math.max(0, from), Math.min(bytes.length, from + data.length)];
   const isWhole = first === from && end === from + data.length;
@@ -130,9 +130,9 @@ export async function writeMemory(args, session, addressOf) {
   const lines = [...given].map((byte, at) => `poke ${place(first + at)} ${byte}\n`).join("");
   const bench = session.debugger.session;
   // The lines are tried on a copy before the first byte is written.
-  const tried = lines === "" ? [] : bench.ask(lines);
-  const refused = tried.findIndex((answer) => refusalOf(answer));
-  if (refused >= 0) fail(say.benchAnswered(lines.split("\n")[refused], tried[refused]));
+  const answers = lines === "" ? [] : bench.ask(lines);
+  const refused = answers.findIndex((answer) => refusalOf(answer));
+  if (refused >= 0) fail(say.benchAnswered(lines.split("\n")[refused], answers[refused]));
   if (lines !== "") await bench.serve(lines, async () => true);
   return { offset: first - from, bytesWritten: given.length };
 }

@@ -26,7 +26,7 @@ export class Moves {
   }
 
   /** @returns {Record<string, RequestHandler>} */
-  table() {
+  handlers() {
     const move = (/** @type {(machine: Machine) => void} */ act) => (/** @type {any} */ args) => this.moveResponse(args, act);
     return {
       continue: (args) => new WithFollowUp({ allThreadsContinued: true }, this.moveResponse(args, (machine) => machine.go(null)).followUp),
@@ -37,8 +37,8 @@ export class Moves {
         return this.adapter.current.answering.stepInTargets(args);
       },
       stepOut: (args) => this.stepOut(args),
-      stepBack: move((machine) => machine.back({ kind: "instruction" })),
-      reverseContinue: move((machine) => machine.back({ kind: "arrival", place: "" })),
+      stepBack: move((machine) => machine.goBack({ kind: "instruction" })),
+      reverseContinue: move((machine) => machine.goBack({ kind: "arrival", place: "" })),
       restartFrame: (args) => this.restartFrame(args),
       pause: () => {
         const { machine } = this.adapter.current;
@@ -83,7 +83,7 @@ export class Moves {
     const { machine, answering } = this.adapter.current;
     const { call, returns } = answering.frameOf(args);
     if (call < 0) throw new AdapterError(say.NOT_CALLED, true);
-    return new WithFollowUp(undefined, () => machine.back({ kind: "call", call, returns }));
+    return new WithFollowUp(undefined, () => machine.goBack({ kind: "call", call, returns }));
   }
 
   needStopped() {

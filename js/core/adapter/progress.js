@@ -26,7 +26,7 @@ class Work {
    * Reports progress if it is due.
    * @param {() => string} message the progress in words
    */
-  passed(message) {
+  reportIfDue(message) {
     const now = performance.now();
     if (!this.progress.isOn || now < this.due) return;
     this.due = now + REPORTED_EVERY;
@@ -47,7 +47,7 @@ export class Progress {
     /** True if the client shows progress. */
     this.isOn = false;
     this.after = REPORTED_AFTER;
-    this.made = 0;
+    this.lastId = 0;
     /** @type {Map<string, Work>} the work that is reported, by its progress id */
     this.works = new Map();
   }
@@ -67,8 +67,8 @@ export class Progress {
    * @param {string} message
    */
   start(work, message) {
-    this.made += 1;
-    const progressId = `mcs4 ${this.made}`;
+    this.lastId += 1;
+    const progressId = `mcs4 ${this.lastId}`;
     this.works.set(progressId, work);
     this.sendEvent("progressStart", { progressId, title: work.title, cancellable: true, message });
     return progressId;

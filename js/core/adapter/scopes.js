@@ -18,11 +18,11 @@ import { sourceOfBank } from "../../words/debug.js";
  * A variable:
  * - `evaluateName`: an expression with the same value;
  * - `place`: its place for set_place.js, "" if it cannot be set;
- * - `inside`: the reference of the variables in it, 0 for none, and `count`, their number;
+ * - `variablesReference`: the reference of the variables in it, 0 for none, and `count`, their number;
  * - `memory`: its memory reference;
  * - `isDecimal`: true if its value is a decimal number;
  * - `watched`: the place to watch for its changes, if it is not `place`.
- * @typedef {{ name: string, value: string, evaluateName?: string, place: string, inside: number, count?: number,
+ * @typedef {{ name: string, value: string, evaluateName?: string, place: string, variablesReference: number, count?: number,
  *   memory?: string, isDecimal?: boolean, watched?: string }} Variable
  * @typedef {import("./number_format.js").Base} Base
  *
@@ -46,7 +46,7 @@ const inHex = (digit) => `0x${digit}`;
  * @returns {Variable}
  */
 function variable(name, value, place = "") {
-  return { name, value, place, inside: 0, ...(place ? { evaluateName: place } : {}) };
+  return { name, value, place, variablesReference: 0, ...(place ? { evaluateName: place } : {}) };
 }
 
 /**
@@ -67,31 +67,31 @@ const decimal = (name, value, place) => ({ ...variable(name, value, place), isDe
  */
 const shown = (name, value, place) => ({ ...variable(name, value), evaluateName: place, watched: place });
 
-/** @param {ShownState} seen */
-function registers({ standing: { registers: all } }) {
-  const { accumulator, carry, counter, bank, test, owed } = all;
+/** @param {ShownState} state */
+function registers({ standing: { registers: cpu } }) {
+  const { accumulator, carry, counter, bank, test, owed } = cpu;
   return [
     variable("acc", inHex(accumulator), "acc"), decimal("cy", carry, "cy"),
     { ...variable("pc", inHex(counter), "pc"), memory: inHex(counter) },
     variable("dcl", inHex(bank), "dcl"), decimal("test", test, "test"), decimal("owed", owed),
-    ...all.registers.map((value, at) => variable(`R${at}`, inHex(value), `r${at}`)),
+    ...cpu.registers.map((value, at) => variable(`R${at}`, inHex(value), `r${at}`)),
   ];
 }
 
-/** @param {ShownState} seen */
+/** @param {ShownState} state */
 function pairs({ standing }) {
   return upTo(8).map((at) => variable(`P${at}`, inHex(standing.pair(at)), `p${at}`));
 }
 
-/** @param {ShownState} seen */
+/** @param {ShownState} state */
 function banks({ standing }) {
-  return [...standing.ram].map(([bank, { registers: all }]) => (
-    { ...variable(`bank ${bank}`, say.chipsOf(all.size / 4, bank === standing.bank)),
-      inside: BANK + bank, count: all.size, memory: referenceOfBank(bank) }));
+  return [...standing.ram].map(([bank, { registers: bankRegisters }]) => (
+    { ...variable(`bank ${bank}`, say.chipsOf(bankRegisters.size / 4, bank === standing.bank)),
+      variablesReference: BANK + bank, count: bankRegisters.size, memory: referenceOfBank(bank) }));
 }
 
 /**
- * @param {ShownState} seen
+ * @param {ShownState} state
  * @param {number} bank
  */
 function registersOfBank({ standing }, bank) {
@@ -100,7 +100,7 @@ function registersOfBank({ standing }, bank) {
     const [, chip, register] = name.split(".").map(Number);
     const at = 4 * chip + register;
     return { ...variable(say.chipRegister(chip, register), `${digits} ${status}`),
-      inside: REGISTER + 16 * bank + at, count: 20, memory: memoryOf(`ram.${bank}.${16 * at}`) };
+      variablesReference: REGISTER + 16 * bank + at, count: 20, memory: memoryOf(`ram.${bank}.${16 * at}`) };
   });
 }
 
@@ -109,7 +109,7 @@ const memoryOf = (place) => referenceOf(numberOfPlace(place));
 
 /**
  * Returns the characters and status characters of a RAM register. A character's name includes the constants of the program with its number.
- * @param {ShownState} seen
+ * @param {ShownState} state
  * @param {number} bank
  * @param {number} register
  */
@@ -132,7 +132,7 @@ function characters({ standing, session }, bank, register) {
   ];
 }
 
-/** @param {ShownState} seen */
+/** @param {ShownState} state */
 function ports({ standing, face }) {
   /** @type {(port: string) => string} */
   const named = (port) => (face.ports.has(port) ? `${port} ${(face.ports.get(port) || { text: "" }).text}` : port);
@@ -153,7 +153,7 @@ function sourceOf(source) {
   return variable(sourceOfBank(bank), `${inHex(byte)}: ${wordsOfCharacter(parseInt(byte, 16))}`);
 }
 
-/** @param {ShownState} seen */
+/** @param {ShownState} state */
 function lamps({ session, face, board }) {
   const marks = readMarks(session.debugger.session.ask("lamps\n")[0]).join("");
   return board.lamps.map((line, at) => {
@@ -162,7 +162,7 @@ function lamps({ session, face, board }) {
   });
 }
 
-/** @param {ShownState} seen */
+/** @param {ShownState} state */
 function keys({ standing, face, board }) {
   const down = new KeysDown(standing.ports.keys);
   return keysOf(board, face).filter(({ legend }) => legend !== "").map(({ key, legend }) => {
@@ -171,14 +171,14 @@ function keys({ standing, face, board }) {
   });
 }
 
-/** @param {ShownState} seen */
+/** @param {ShownState} state */
 function names({ session: { map } }) {
   return [...map.names.values()].map(({ name, value, isLabel }) => (
     { ...variable(name, isLabel ? `0x${hex(value, 3)}, line ${map.lineOf(value)}` : `0x${hex(value, 2)}, ${value}`), evaluateName: name,
       ...(isLabel ? { memory: `0x${hex(value, 3)}` } : {}) }));
 }
 
-/** @type {Record<number, { title: string, of: (seen: ShownState) => Variable[], hint?: string }>} */
+/** @type {Record<number, { title: string, of: (state: ShownState) => Variable[], hint?: string }>} */
 const SCOPES = {
   [REGISTERS]: { title: say.REGISTERS, of: registers, hint: "registers" },
   [PAIRS]: { title: say.PAIRS, of: pairs, hint: "registers" },
@@ -200,7 +200,7 @@ export class Scopes {
   }
 
   /** @returns {ShownState} */
-  get seen() {
+  get state() {
     const { session, face } = this;
     const bench = session.debugger.session;
     return { standing: new Standing(bench.takeSnapshot()), face, session, board: readBoard(bench.statusQueries.board) };
@@ -208,9 +208,9 @@ export class Scopes {
 
   /** Returns the scopes that are not empty. */
   all() {
-    const { seen } = this;
+    const { state } = this;
     return Object.entries(SCOPES).map(([reference, { title, of, hint }]) => (
-      { name: title, variablesReference: Number(reference), namedVariables: of(seen).length, expensive: false,
+      { name: title, variablesReference: Number(reference), namedVariables: of(state).length, expensive: false,
         ...(hint ? { presentationHint: hint } : {}) })).filter(({ namedVariables }) => namedVariables > 0);
   }
 
@@ -221,8 +221,8 @@ export class Scopes {
    * @returns {Variable[] | null}
    */
   variables(reference, base = "usual") {
-    const all = this.inside(reference);
-    return all && all.map((each) => (
+    const variables = this.variablesIn(reference);
+    return variables && variables.map((each) => (
       { ...each, value: each.isDecimal ? numberInBase(Number(each.value), base) : inBase(each.value, base) }));
   }
 
@@ -230,12 +230,12 @@ export class Scopes {
    * Returns the variables of a reference in the default format; null if the reference is unknown.
    * @param {number} reference
    */
-  inside(reference) {
-    const { seen } = this;
-    if (Object.prototype.hasOwnProperty.call(SCOPES, reference)) return SCOPES[reference].of(seen);
-    if (reference >= BANK && reference < BANK + 8) return registersOfBank(seen, reference - BANK);
+  variablesIn(reference) {
+    const { state } = this;
+    if (Object.prototype.hasOwnProperty.call(SCOPES, reference)) return SCOPES[reference].of(state);
+    if (reference >= BANK && reference < BANK + 8) return registersOfBank(state, reference - BANK);
     const at = reference - REGISTER;
-    return at >= 0 && at < 128 ? characters(seen, at >> 4, at & 15) : null;
+    return at >= 0 && at < 128 ? characters(state, at >> 4, at & 15) : null;
   }
 
   /**

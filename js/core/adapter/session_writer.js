@@ -35,7 +35,7 @@ export class SessionWriter {
    * Returns the lines that the file lacks; null if they do not continue its history.
    * @param {WorkerSession} session
    */
-  missing({ timeline, unrecorded }) {
+  missingLines({ timeline, unrecorded }) {
     const from = this.segment ? timeline.segments.indexOf(this.segment) : -1;
     if (from < 0 || timeline.segments.slice(from + 1).some(({ follows }) => !follows)) return null;
     const all = [...timeline.segments.slice(from).flatMap(({ entries }) => entries), ...unrecorded];
@@ -48,7 +48,7 @@ export class SessionWriter {
    */
   async write(session) {
     const { last } = session.timeline;
-    const missing = this.missing(session);
+    const missingLines = this.missingLines(session);
     const state = session.ask("state\n")[0];
     const all = [...last.entries, ...session.unrecorded].map(({ line }) => line);
     this.segment = null;
@@ -59,7 +59,7 @@ export class SessionWriter {
       const isSame = answers[answers.length - 1] === state;
       if (!isSame) throw new AdapterError(say.OTHER_STATE);
     };
-    if (missing) check(await this.file.ask(`${joinLines(missing)}state\n`, missing.length + 1));
+    if (missingLines) check(await this.file.ask(`${joinLines(missingLines)}state\n`, missingLines.length + 1));
     else await this.file.replace(last.file, `${joinLines(all)}state\n`, all.length + 1, check);
     this.segment = last;
     this.count = all.length;

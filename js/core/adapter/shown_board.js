@@ -90,13 +90,13 @@ export class ShownBoard {
 /**
  * Presses or releases a key: at once while time is paused, otherwise through the key queue.
  * @param {Machine} machine
- * @param {Console} lines
+ * @param {Console} debugConsole
  * @param {string} text the key's place: `0 2`, or `test 0`
  * @param {boolean} isDown
  */
-export async function changeKey(machine, lines, text, isDown) {
+export async function changeKey(machine, debugConsole, text, isDown) {
   const key = keyOfText(text) || fail(say.KEY_PLACE);
   const word = isDown ? "press" : "release";
   if (machine.isMoving) machine.session.debugger.session.queue[word](key);
-  else await lines.runBenchLines(`${lineOfKey(word, key)}\n`);
+  else await debugConsole.runBenchLines(`${lineOfKey(word, key)}\n`);
 }

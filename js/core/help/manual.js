@@ -18,7 +18,7 @@ import * as say from "../../words/help.js";
 export const INSTRUCTIONS = say.INSTRUCTIONS;
 export const CELLS = say.CELLS;
 /** The titles of the sections whose rows begin with a bench line. */
-const LINES = say.SECTIONS_OF_LINES;
+const BENCH_LINE_SECTIONS = say.SECTIONS_OF_LINES;
 
 /**
  * Splits a cell into pieces of plain text and code.
@@ -95,7 +95,7 @@ export function conditionsOf(manual) {
  * @returns {{ form: string, does: string }[]}
  */
 export function linesOfBench(manual) {
-  return LINES.flatMap((title) => rowsOf(manual, title)).flatMap(([forms, does]) => (
+  return BENCH_LINE_SECTIONS.flatMap((title) => rowsOf(manual, title)).flatMap(([forms, does]) => (
     [...forms.matchAll(/`([^`]+)`/g)].map(([, form]) => ({ form, does: plain(does) }))));
 }
 

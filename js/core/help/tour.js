@@ -8,7 +8,7 @@ import * as say from "../../words/help.js";
  * - `patterns`: the number of different patterns of lamps in this step;
  * - `keysDown`: the number of keys that are down;
  * - `end`: the reason for the last stop in this step, such as `break` or `watch`; "" for none.
- * @typedef {{ lamps: string, patterns: number, keysDown: number, end: string }} Seen
+ * @typedef {{ lamps: string, patterns: number, keysDown: number, end: string }} TourState
  *
  * A piece of a paragraph: text, or in a story a link with an action.
  * @typedef {string | { words: string, act: import("./story.js").Act }} Part
@@ -18,7 +18,8 @@ import * as say from "../../words/help.js";
  *
  * A step: its title, its paragraphs, the program to type ("" to leave the program as it is), the control that it highlights, and the
  * function that returns whether it is done.
- * @typedef {{ title: string, words: (string | Part[])[], program: string, target?: Target, isDone: (seen: Seen) => boolean }} TourStep
+ * @typedef {{ title: string, words: (string | Part[])[], program: string, target?: Target,
+ *   isDone: (state: TourState) => boolean }} TourStep
  */
 
 /**
@@ -78,8 +79,8 @@ export class TourWatch {
   constructor(steps = TOUR) {
     this.steps = steps;
     this.at = 0;
-    /** @type {Seen} */
-    this.seen = { lamps: "", patterns: 0, keysDown: 0, end: "" };
+    /** @type {TourState} */
+    this.state = { lamps: "", patterns: 0, keysDown: 0, end: "" };
     /** @type {Set<string>} the different patterns of lamps in this step */
     this.patterns = new Set();
     this.isDone = false;
@@ -91,7 +92,7 @@ export class TourWatch {
    */
   begin(at) {
     this.at = at;
-    this.seen = { lamps: "", patterns: 0, keysDown: 0, end: "" };
+    this.state = { lamps: "", patterns: 0, keysDown: 0, end: "" };
     this.patterns.clear();
     this.isDone = false;
   }
@@ -106,25 +107,25 @@ export class TourWatch {
    */
   seeLamps(lamps) {
     this.patterns.add(lamps);
-    this.see({ lamps, patterns: this.patterns.size });
+    this.update({ lamps, patterns: this.patterns.size });
   }
 
   /** @param {number} keysDown */
   seeKeys(keysDown) {
-    this.see({ keysDown });
+    this.update({ keysDown });
   }
 
   /** @param {string} end the reason for a stop */
   noteEnd(end) {
-    this.see({ end });
+    this.update({ end });
   }
 
   /**
    * Updates the values, and whether the step is done.
-   * @param {Partial<Seen>} news
+   * @param {Partial<TourState>} changes
    */
-  see(news) {
-    Object.assign(this.seen, news);
-    this.isDone = this.isDone || this.step.isDone(this.seen);
+  update(changes) {
+    Object.assign(this.state, changes);
+    this.isDone = this.isDone || this.step.isDone(this.state);
   }
 }

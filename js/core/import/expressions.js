@@ -1,5 +1,5 @@
-// Evaluates expressions in the syntax of Intel's assembler and of AS. They consist of names, numbers, + - * / & and brackets, < and > for
-// the low and high byte, and $ or * for the address of the line.
+// Evaluates expressions in the syntax of Intel's assembler and of AS: names, numbers, brackets and the operators + - * / and &. The
+// prefixes < and > select the low and the high byte. $ and * are the address of the line.
 
 import { capitals } from "./source_lines.js";
 import * as say from "../../words/import.js";
@@ -21,25 +21,25 @@ const NAME = /[A-Za-z_.?@][A-Za-z0-9_.?@$]*/y;
 const BYTE_OF = /(LOW|HIGH|LO|HI|low|high|lo|hi)[ \t]*\(/y;
 const CHARACTER = /'[^']'|"[^"]"/y;
 /** The patterns of numbers in the order in which they are tried, and their bases. */
-const NUMBERS = [
-  { form: /0[xX]([0-9A-Fa-f]+)/y, base: 16 },
-  { form: /[$]([0-9A-Fa-f]+)/y, base: 16 },
-  { form: /([0-9][0-9A-Fa-f]*)[hH]/y, base: 16 },
-  { form: /%([01]+)/y, base: 2 },
-  { form: /([0-7]+)[oOqQ]/y, base: 8 },
-  { form: /([01]+)[bB]/y, base: 2 },
-  { form: /([0-9]+)[dD]?/y, base: 10 },
+const NUMBER_PATTERNS = [
+  { pattern: /0[xX]([0-9A-Fa-f]+)/y, base: 16 },
+  { pattern: /[$]([0-9A-Fa-f]+)/y, base: 16 },
+  { pattern: /([0-9][0-9A-Fa-f]*)[hH]/y, base: 16 },
+  { pattern: /%([01]+)/y, base: 2 },
+  { pattern: /([0-7]+)[oOqQ]/y, base: 8 },
+  { pattern: /([01]+)[bB]/y, base: 2 },
+  { pattern: /([0-9]+)[dD]?/y, base: 10 },
 ];
 
 /**
  * Returns the bitwise AND of two numbers.
- * @param {number} one
- * @param {number} other
+ * @param {number} left
+ * @param {number} right
  */
-function bitwiseAnd(one, other) {
+function bitwiseAnd(left, right) {
   const has = (/** @type {number} */ number, /** @type {number} */ bit) => Math.trunc(number / bit) % 2 !== 0;
   let bits = 0;
-  for (let bit = 1; bit <= HIGHEST_BIT; bit *= 2) if (has(one, bit) && has(other, bit)) bits += bit;
+  for (let bit = 1; bit <= HIGHEST_BIT; bit *= 2) if (has(left, bit) && has(right, bit)) bits += bit;
   return bits;
 }
 
@@ -58,12 +58,12 @@ function numberOfDigits(digits, base) {
 class Evaluation {
   /**
    * @param {string} text
-   * @param {number} here the address of the line
+   * @param {number} address the address of the line
    * @param {NameValues} names
    */
-  constructor(text, here, names) {
+  constructor(text, address, names) {
     this.text = text;
-    this.here = here;
+    this.address = address;
     this.names = names;
     this.at = 0;
     this.depth = 0;
@@ -92,19 +92,19 @@ class Evaluation {
 
   /**
    * Matches a sticky pattern at the current index; returns null if it does not match.
-   * @param {RegExp} form
+   * @param {RegExp} pattern
    */
-  match(form) {
-    form.lastIndex = this.at;
-    return form.exec(this.text);
+  match(pattern) {
+    pattern.lastIndex = this.at;
+    return pattern.exec(this.text);
   }
 
   sum() {
     let value = this.product();
     for (let sign = this.peek(); sign === "+" || sign === "-"; sign = this.peek()) {
       this.at += 1;
-      const other = this.product();
-      value = sign === "+" ? value + other : value - other;
+      const right = this.product();
+      value = sign === "+" ? value + right : value - right;
     }
     return value;
   }
@@ -113,10 +113,10 @@ class Evaluation {
     let value = this.factor();
     for (let sign = this.peek(); sign === "*" || sign === "/" || sign === "&"; sign = this.peek()) {
       this.at += 1;
-      const other = this.factor();
-      if (sign === "*") value *= other;
-      else if (sign === "&") value = bitwiseAnd(value, other);
-      else if (other !== 0) value = Math.trunc(value / other);
+      const right = this.factor();
+      if (sign === "*") value *= right;
+      else if (sign === "&") value = bitwiseAnd(value, right);
+      else if (right !== 0) value = Math.trunc(value / right);
       else if (this.isKnown) this.fail(say.DIVISION_BY_0);
     }
     return value;
@@ -148,13 +148,13 @@ class Evaluation {
     }
     const character = this.match(CHARACTER);
     if (character) return this.character(character[0]);
-    for (const { form, base } of NUMBERS) {
-      const found = this.match(form);
+    for (const { pattern, base } of NUMBER_PATTERNS) {
+      const found = this.match(pattern);
       if (found) return this.number(found, base);
     }
     if (letter === "$" || letter === "*") {
       this.at += 1;
-      return this.here;
+      return this.address;
     }
     const name = this.match(NAME);
     if (name) return this.nameValue(name[0]);
@@ -219,12 +219,12 @@ export function isAscii(text) {
 /**
  * Evaluates an expression.
  * @param {string} text
- * @param {number} here the address of the line
+ * @param {number} address the address of the line
  * @param {NameValues} names
  * @returns {Evaluated}
  */
-export function evaluate(text, here, names) {
-  const evaluation = new Evaluation(text, here, names);
+export function evaluate(text, address, names) {
+  const evaluation = new Evaluation(text, address, names);
   const value = evaluation.sum();
   evaluation.skipBlanks();
   if (evaluation.at < text.length) evaluation.fail(say.notUnderstood(text.slice(evaluation.at)));

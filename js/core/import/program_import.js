@@ -5,7 +5,7 @@ import { LAST_ADDRESS, hex } from "../bench/numbers.js";
 import { MAX_NAME_LENGTH } from "../text/assembly.js";
 import { evaluate, isAscii } from "./expressions.js";
 import {
-  BYTE_WORDS, LONGEST_SOURCE_LINE, OF_4040, OPERANDS, PROGRAM_RAM, REMARKS, RESERVE_WORDS, UNSUPPORTED, capitals, partsOfList,
+  BYTE_WORDS, LONGEST_SOURCE_LINE, ONLY_4040, OPERANDS, PROGRAM_RAM, REMARKS, RESERVE_WORDS, UNSUPPORTED, capitals, partsOfList,
   quotedCharacters, readSource, trimmed,
 } from "./source_lines.js";
 import * as say from "../../words/import.js";
@@ -38,7 +38,7 @@ const CONDITIONS = new Map(Object.entries({ TZ: 1, T0: 1, TN: 9, T1: 9, CN: 2, C
 /** The bit that inverts a condition. */
 const INVERTED = 8;
 /** @type {Record<string, number>} the bits of a condition by its letters */
-const LETTERS = { Z: 4, C: 2, T: 1 };
+const CONDITION_BITS = { Z: 4, C: 2, T: 1 };
 
 /** The error of a line that cannot be converted. */
 class LineFault extends Error {}
@@ -224,7 +224,7 @@ class ProgramImport {
       if (word !== "") this.originals = [trimmed(`${word} ${operand}`)];
       return "";
     }
-    if (OF_4040.has(word)) throw new LineFault(say.of4040(word));
+    if (ONLY_4040.has(word)) throw new LineFault(say.of4040(word));
     if (word === PROGRAM_RAM) throw new LineFault(say.NO_PROGRAM_RAM);
     if (UNSUPPORTED.has(word)) throw new LineFault(say.notSupported(word));
     if (word === "ORG") return `ORG ${this.operandText(operand, { to: LAST_ADDRESS, isNumber: true })}`;
@@ -339,7 +339,7 @@ class ProgramImport {
     if (word === "NC" && !this.isForAs) throw new LineFault(say.NC_OF_WHOM);
     if (!/^N?[ZCT]+$/.test(word)) return this.operandText(text, { to: NIBBLE - 1 });
     const letters = new Set(word.replace(/^N/, ""));
-    return String([...letters].reduce((sum, letter) => sum + LETTERS[letter], word.startsWith("N") ? INVERTED : 0));
+    return String([...letters].reduce((sum, letter) => sum + CONDITION_BITS[letter], word.startsWith("N") ? INVERTED : 0));
   }
 }
 

@@ -12,7 +12,7 @@
 export const LONGEST_SOURCE_LINE = 1024;
 
 /** @type {[string[], OperandKind[]][]} mnemonics and the kinds of their operands */
-const FORMS = [
+const INSTRUCTION_FORMS = [
   [["NOP", "CLB", "CLC", "IAC", "CMC", "CMA", "RAL", "RAR", "TCC", "DAC", "TCS", "STC", "DAA", "KBP", "DCL", "WRM", "WMP", "WRR",
     "WR0", "WR1", "WR2", "WR3", "SBM", "RDM", "RDR", "ADM", "RD0", "RD1", "RD2", "RD3"], []],
   [["INC", "ADD", "SUB", "LD", "XCH"], ["register"]],
@@ -24,9 +24,9 @@ const FORMS = [
   [["JCN"], ["condition", "target"]],
 ];
 /** The kinds of operands by mnemonic. */
-export const OPERANDS = new Map(FORMS.flatMap(([names, kinds]) => names.map((name) => /** @type {const} */ ([name, kinds]))));
+export const OPERANDS = new Map(INSTRUCTION_FORMS.flatMap(([names, kinds]) => names.map((name) => /** @type {const} */ ([name, kinds]))));
 /** The instructions that only the 4040 has. */
-export const OF_4040 = new Set(["HLT", "BBS", "LCR", "OR4", "OR5", "AN6", "AN7", "DB0", "DB1", "SB0", "SB1", "EIN", "DIN", "RPM"]);
+export const ONLY_4040 = new Set(["HLT", "BBS", "LCR", "OR4", "OR5", "AN6", "AN7", "DB0", "DB1", "SB0", "SB1", "EIN", "DIN", "RPM"]);
 /** The directives that become comments. */
 export const REMARKS = new Set(["CPU", "TITLE", "PAGE", "LISTING", "NEWPAGE", "PRTINIT", "PRTEXIT", "SUBTITLE", "EJECT", "NOLIST", "LIST",
   "NAME", "SPACE", "RELAXED", "RADIX", "INTSYNTAX"]);
@@ -40,7 +40,7 @@ export const UNSUPPORTED = new Set(["MACRO", "ENDM", "IF", "ELSE", "ENDIF", "IFD
 /** The instruction that writes program RAM, which the bench does not have. */
 export const PROGRAM_RAM = "WPM";
 /** The words that cannot be labels. */
-const KNOWN_WORDS = [OPERANDS, OF_4040, REMARKS, DIRECTIVES, UNSUPPORTED, new Set([PROGRAM_RAM])];
+const KNOWN_WORDS = [OPERANDS, ONLY_4040, REMARKS, DIRECTIVES, UNSUPPORTED, new Set([PROGRAM_RAM])];
 
 const NAME = "[A-Za-z_.?@][A-Za-z0-9_.?@$]*";
 const MARKED_LABEL = new RegExp(`^[ \\t]*(${NAME})[ \\t]*[:,]`);

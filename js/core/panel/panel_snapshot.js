@@ -26,7 +26,7 @@ export const CHIP_ROWS = 5;
 /** A new listing begins this number of bytes before the counter. */
 const BYTES_BEFORE = 6;
 /** The listing is replaced when the counter leaves it, or reaches this number of lines at its end. */
-const LINES_AFTER = 2;
+const LINES_LEFT = 2;
 
 export class PanelSnapshot {
   /** @param {Panel} panel */
@@ -41,7 +41,7 @@ export class PanelSnapshot {
     this.commands = "0";
     /** @type {Registers | null} */
     this.registers = null;
-    this.down = new KeysDown();
+    this.keysDown = new KeysDown();
     /** A mark for each lamp: `*` if it is on at this instant. */
     this.marks = "";
     /** @type {Brightness | null} the perceived brightness of the lamps; null while time is paused */
@@ -68,7 +68,7 @@ export class PanelSnapshot {
 
   /** @param {import("../board/key_place.js").Key} key */
   isDown(key) {
-    return this.down.has(key, this.test);
+    return this.keysDown.has(key, this.test);
   }
 
   /**
@@ -101,7 +101,7 @@ export class PanelSnapshot {
     const { registers, keys, lamps, breaks } = partsOfState(answer);
     this.commands = valueIn(answer, "seq");
     this.registers = registersOf(registers);
-    this.down = new KeysDown(itemsOf(keys));
+    this.keysDown = new KeysDown(itemsOf(keys));
     this.marks = itemsOf(lamps).join("");
     this.breakpoints = itemsOf(breaks);
   }
@@ -121,7 +121,7 @@ export class PanelSnapshot {
    */
   async takeListing(rows) {
     const { counter } = this;
-    if (this.listing.slice(0, -LINES_AFTER).some(({ address }) => address === counter)) return;
+    if (this.listing.slice(0, -LINES_LEFT).some(({ address }) => address === counter)) return;
     const from = Math.max(0, counter - BYTES_BEFORE);
     this.listing = stretchOf(await this.reader.read({ from, anchor: counter }, rows), from, rows);
   }

@@ -202,11 +202,11 @@ export class Panel {
 
   /**
    * Scrolls the RAM chips.
-   * @param {number} by the number of chips
+   * @param {number} count the number of chips
    */
-  scrollRam(by) {
+  scrollRam(count) {
     const last = this.seen.chips.length - 1;
-    this.firstChip = Math.max(0, Math.min(last, this.firstChip + by));
+    this.firstChip = Math.max(0, Math.min(last, this.firstChip + count));
   }
 
   /**

@@ -113,17 +113,17 @@ export function readProjectToml(text) {
   const { entries, others, keys, faults } = readBoardText(text.replace(/^\uFEFF/, ""));
   // The board reader does not list the key of an empty list in `others`.
   const lists = keys.filter(({ value: { inner } }) => Array.isArray(inner) && inner.length === 0);
-  const found = [
+  const errors = [
     ...faults.map((fault) => ({ ...fault, number: 0 })),
     ...entries.map((entry) => faultAt(entry, say.NO_TABLES)),
     ...[...others, ...lists].flatMap(faultsOfKey),
     ...faultsOfDuplicates(keys),
   ];
-  if (found.length === 0) {
+  if (errors.length === 0) {
     const missing = REQUIRED.filter((name) => !keys.some((key) => key.name === name));
-    found.push(...missing.map((name) => faultAt({ line: 1, from: 0, to: 0 }, say.missing(name, KEYS.get(name)))));
+    errors.push(...missing.map((name) => faultAt({ line: 1, from: 0, to: 0 }, say.missing(name, KEYS.get(name)))));
   }
-  if (found.length > 0) return { names: null, faults: found.sort((one, other) => one.line - other.line) };
+  if (errors.length > 0) return { names: null, faults: errors.sort((one, other) => one.line - other.line) };
   const [[board], [program], tests, properties] = ["board", "program", ...LIST_KEYS].map((name) => filesOf(keys, name));
   const speed = keys.find(({ name }) => name === "speed");
   return { names: { board, program, tests, properties, speed: speed ? String(speed.value.inner) : "" }, faults: [] };

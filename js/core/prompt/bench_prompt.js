@@ -45,7 +45,7 @@ import * as say from "../../words/session_prompt.js";
  */
 
 const COMMENT_MARKS = /** @type {const} */ ({ wire: "#", asm: ";", map: ";", wiring: "#", errors: ";" });
-const LONGEST_SHOWN = 120;
+const MAX_SHOWN = 120;
 /** The numbers of refusals that this prompt explains in its own words. */
 const NO_KEY = 41;
 const NO_ROM = 42;
@@ -63,13 +63,13 @@ export class SessionPrompt {
     this.calls = calls;
     this.isEnded = false;
     /** @type {OpenedText | null} */
-    this.opened = null;
+    this.openText = null;
     this.sources = new Sources(this, calls);
   }
 
   /** Returns the prompt before a line. */
   get label() {
-    return `${this.opened ? this.opened.word : "mcs4"}> `;
+    return `${this.openText ? this.openText.word : "mcs4"}> `;
   }
 
   /** Returns false: no line runs long enough to be interrupted. */
@@ -79,14 +79,14 @@ export class SessionPrompt {
 
   /** Discards the unfinished text. Returns a message about it, "" if there is none. */
   drop() {
-    const { opened } = this;
-    this.opened = null;
-    return opened ? say.textDropped(opened.word) : "";
+    const { openText } = this;
+    this.openText = null;
+    return openText ? say.textDropped(openText.word) : "";
   }
 
   /** Returns the unfinished text, which the session receives at the end of input; "" if there is none. */
   get rest() {
-    return this.opened ? [this.opened.word, ...this.opened.lines].map((line) => `${line}\n`).join("") : "";
+    return this.openText ? [this.openText.word, ...this.openText.lines].map((line) => `${line}\n`).join("") : "";
   }
 
   /**
@@ -96,7 +96,7 @@ export class SessionPrompt {
   async take(whole) {
     const line = withoutReturn(whole);
     try {
-      return await (this.opened ? this.takeText(line, this.opened) : this.takeLine(line));
+      return await (this.openText ? this.takeText(line, this.openText) : this.takeLine(line));
     } catch (thrown) {
       if (!(thrown instanceof RejectedLine)) throw thrown;
       this.sources.complain(thrown.message);
@@ -105,17 +105,17 @@ export class SessionPrompt {
   }
 
   /**
-   * Adds a line to the opened text, or serves the text at its dot.
+   * Adds a line to the open text, or serves the text at its dot.
    * @param {string} line
-   * @param {OpenedText} opened
+   * @param {OpenedText} openText
    */
-  async takeText(line, opened) {
+  async takeText(line, openText) {
     if (line !== ".") {
-      opened.lines.push(line);
+      openText.lines.push(line);
       return true;
     }
-    this.opened = null;
-    const { word, lines, at } = opened;
+    this.openText = null;
+    const { word, lines, at } = openText;
     const text = lines.map((each) => `${each}\n`).join("");
     const { file } = this.sources;
     const place = file ? { name: file.name, before: at } : { name: "", before: 0 };
@@ -138,7 +138,7 @@ export class SessionPrompt {
     if (word === "source") return this.source(rest);
     if (opensText(line)) {
       const { file } = this.sources;
-      this.opened = { word: /** @type {TextWord} */ (word), lines: [], at: file ? file.at : 0 };
+      this.openText = { word: /** @type {TextWord} */ (word), lines: [], at: file ? file.at : 0 };
       return true;
     }
     if (FILE_WORDS.includes(word)) return this.takeFile(/** @type {TextWord} */ (word), rest);
@@ -207,7 +207,7 @@ export class SessionPrompt {
   complainOfText(errors, text, { name, before }) {
     const lines = text.split("\n");
     this.calls.complain(errors.flatMap(({ line, words }) => {
-      const shown = line > 0 ? [`    ${(lines[line - 1] || "").slice(0, LONGEST_SHOWN)}`] : [];
+      const shown = line > 0 ? [`    ${(lines[line - 1] || "").slice(0, MAX_SHOWN)}`] : [];
       return [say.inText(name, line > 0 ? line + before : 0, words), ...shown];
     }).join("\n"));
     return false;
@@ -293,7 +293,7 @@ export class SessionPrompt {
    */
   async complete(line) {
     // In a text the tab key inserts a tab.
-    return this.opened ? [["\t"], ""] : completeLine(line, this.calls);
+    return this.openText ? [["\t"], ""] : completeLine(line, this.calls);
   }
 }
 

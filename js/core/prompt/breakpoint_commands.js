@@ -10,11 +10,11 @@ import * as say from "../../words/prompt.js";
  * @typedef {import("./debugger_prompt.js").Prompt} Prompt
  */
 
-const BREAK = /^(.*?)(?:\s*\bfrom\s+(\d{1,9}))?(?:\s*\bif\s+(.+?))?(?:\s*\blog\s+"([^"]*)")?$/;
+const BREAKPOINT_ARGUMENTS = /^(.*?)(?:\s*\bfrom\s+(\d{1,9}))?(?:\s*\bif\s+(.+?))?(?:\s*\blog\s+"([^"]*)")?$/;
 /** The word for the breakpoint that was set last, as in gdb. */
-export const LAST = "$bpnum";
+export const LAST_BREAKPOINT = "$bpnum";
 /** A RAM character, which the bench itself watches. */
-const CHARACTER = /^ram\.[0-7]\.\w+$/i;
+const RAM_CHARACTER = /^ram\.[0-7]\.\w+$/i;
 
 export class BreakpointCommands {
   /** @param {Prompt} prompt */
@@ -23,7 +23,7 @@ export class BreakpointCommands {
     /** The place that `continue` watches, "" for none. RAM characters are not here: the bench watches them. */
     this.watched = "";
     /** The number of the breakpoint that was set last, 0 for none. */
-    this.last = 0;
+    this.lastNumber = 0;
   }
 
   get list() {
@@ -36,7 +36,7 @@ export class BreakpointCommands {
     const setOn = (isOn) => async (rest) => {
       if (rest === "") refuse(say.WHICH_ONE);
       for (const id of this.numbersOf(rest)) this.list.change(id, { isOn });
-      await this.apply();
+      await this.applyBreakpoints();
     };
     return {
       break: async (rest) => {
@@ -65,45 +65,45 @@ export class BreakpointCommands {
    */
   async add(rest) {
     const { session, machine, calls } = this.prompt;
-    const [, place, from = "1", condition = "", note = ""] = /** @type {RegExpExecArray} */ (BREAK.exec(rest));
+    const [, place, from = "1", condition = "", note = ""] = /** @type {RegExpExecArray} */ (BREAKPOINT_ARGUMENTS.exec(rest));
     const { line, address } = instructionIn(place, session);
     const before = this.list.atAddress(address);
     if (before) this.list.remove(before.id);
-    const made = this.list.add({ line, address, from: Math.max(1, Number(from)), condition, note });
+    const added = this.list.add({ line, address, from: Math.max(1, Number(from)), condition, note });
     const { faults } = await session.applyBreakpoints();
-    const fault = faults.find(([id]) => id === made.id);
+    const fault = faults.find(([id]) => id === added.id);
     if (fault) {
-      this.list.remove(made.id);
+      this.list.remove(added.id);
       if (before) this.list.add(before);
-      await this.apply();
+      await this.applyBreakpoints();
       refuse(fault[1]);
     }
     await machine.saveAndReport();
-    const { address: placed } = this.list.get(made.id) || made;
-    calls.print(say.breakpointAt(made.id, addressText(session, placed)));
-    this.last = made.id;
-    return made.id;
+    const { address: placed } = this.list.get(added.id) || added;
+    calls.print(say.breakpointAt(added.id, addressText(session, placed)));
+    this.lastNumber = added.id;
+    return added.id;
   }
 
   /**
    * Changes a breakpoint. Restores it and fails if its condition or note has an error.
    * @param {number} id
-   * @param {Partial<import("../debug/breakpoints.js").KeptBreakpoint>} some
+   * @param {Partial<import("../debug/breakpoints.js").KeptBreakpoint>} changes
    */
-  async change(id, some) {
+  async change(id, changes) {
     const { session, machine } = this.prompt;
     const before = this.list.get(id);
-    this.list.change(id, some);
+    this.list.change(id, changes);
     const fault = (await session.applyBreakpoints()).faults.find(([other]) => other === id);
     if (fault && before) {
       this.list.change(id, before);
-      await this.apply();
+      await this.applyBreakpoints();
       refuse(fault[1]);
     }
     await machine.saveAndReport();
   }
 
-  async apply() {
+  async applyBreakpoints() {
     await this.prompt.session.applyBreakpoints();
     await this.prompt.machine.saveAndReport();
   }
@@ -114,24 +114,24 @@ export class BreakpointCommands {
    */
   numbersOf(rest) {
     return rest.split(/\s+/).filter(Boolean).map((word) => {
-      const id = word === LAST ? this.last : /^\d+$/.test(word) ? Number(word) : 0;
+      const id = word === LAST_BREAKPOINT ? this.lastNumber : /^\d+$/.test(word) ? Number(word) : 0;
       return this.list.get(id) ? id : refuse(say.noBreakpoint(word));
     });
   }
 
   /** @param {string} rest */
   async remove(rest) {
-    if (/[a-z]/i.test(rest.replace(LAST, ""))) return this.unwatch(rest);
+    if (/[a-z]/i.test(rest.replace(LAST_BREAKPOINT, ""))) return this.unwatch(rest);
     const ids = rest === "" ? this.list.all.map(({ id }) => id) : this.numbersOf(rest);
     for (const id of ids) this.list.remove(id);
-    return this.apply();
+    return this.applyBreakpoints();
   }
 
   /** @param {string} rest */
   async watch(rest) {
     const { prompt, watched } = this;
     const place = prompt.placeOfWords(rest, "watch");
-    if (CHARACTER.test(place)) {
+    if (RAM_CHARACTER.test(place)) {
       await prompt.serve(`watch ${place.slice("ram.".length).replace(".", " ")}`);
       prompt.calls.print(say.isWatched(place));
       return;
@@ -146,7 +146,7 @@ export class BreakpointCommands {
   /** @param {string} rest */
   async unwatch(rest) {
     const place = this.prompt.placeOfWords(rest, "delete");
-    if (CHARACTER.test(place)) await this.prompt.serve(`unwatch ${place.slice("ram.".length).replace(".", " ")}`);
+    if (RAM_CHARACTER.test(place)) await this.prompt.serve(`unwatch ${place.slice("ram.".length).replace(".", " ")}`);
     else if (this.watched === place) this.watched = "";
     else refuse(say.notWatched(place));
   }

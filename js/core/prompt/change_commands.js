@@ -28,7 +28,7 @@ export class ChangeCommands {
         prompt.showStop("");
       },
       bench: async (rest) => {
-        const { words, changes } = await prompt.lines.serveBenchLines(rest || refuse(say.BENCH_FORM));
+        const { words, changes } = await prompt.console.serveBenchLines(rest || refuse(say.BENCH_FORM));
         prompt.calls.print(words);
         if (changes) await prompt.machine.saveAndReport();
       },
@@ -48,19 +48,19 @@ export class ChangeCommands {
   async set(rest) {
     const { session, machine } = this.prompt;
     const lines = linesOfSet(rest, session);
-    await this.prompt.lines.runBenchLines(lines);
+    await this.prompt.console.runBenchLines(lines);
     await machine.saveAndReport();
     if (lines.startsWith("poke pc ")) this.prompt.showStop("");
   }
 
   async load() {
-    const { calls, session, lines, machine } = this.prompt;
+    const { calls, session, console: debugConsole, machine } = this.prompt;
     const text = calls.source();
     if (text === null) return refuse(say.NO_FILE);
     const refusal = await session.setProgram(text.replace(/^\uFEFF/, "").replace(/\r\n?/g, "\n"));
     if (refusal) {
-      const where = refusal.line ? `, line ${refusal.line}` : "";
-      refuse(`no ${refusal.number}${where}: ${lines.words.ofRefusal(refusal.number)}`);
+      const lineText = refusal.line ? `, line ${refusal.line}` : "";
+      refuse(`no ${refusal.number}${lineText}: ${debugConsole.words.ofRefusal(refusal.number)}`);
     }
     await machine.saveAndReport();
     return this.prompt.showStop(say.SOURCE_IN_ROM);

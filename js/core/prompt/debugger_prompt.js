@@ -79,24 +79,26 @@ export class Prompt {
     this.calls = calls;
     this.isEnded = false;
     /** The line that an empty line repeats. */
-    this.last = "";
+    this.repeatedLine = "";
     /** The cycle count at the beginning of the last line. */
-    this.begun = 0;
+    this.startCycles = 0;
     /** True if the user has interrupted the last line. */
     this.isInterrupted = false;
     /** @type {{ commands: string[], isSilent: boolean, words: string, hasMoved: boolean }} the commands of the last stop */
     this.atStop = NO_COMMANDS;
-    /** @type {import("../adapter/debugged_machine.js").Ended} the last stop */
-    this.ended = { reason: "", words: "", id: 0 };
+    /** @type {import("../adapter/debugged_machine.js").MoveEnd} the last stop */
+    this.lastStop = { reason: "", words: "", id: 0 };
     this.machine = this.makeMachine();
     this.face = new Face(this.session.boardText);
-    this.known = { session: this.session, face: this.face, instructions: instructionsOf(manual), shown: () => this.machine.shown.now() };
+    this.expressionContext = {
+      session: this.session, face: this.face, instructions: instructionsOf(manual), shown: () => this.machine.shown.now(),
+    };
     this.breakpoints = new BreakpointCommands(this);
     this.looks = new LookCommands(this);
     this.stops = new StopCommands(this);
     this.sources = new Sources(this, calls);
     const consoleCalls = { breaksChanged: () => this.breakpoints.syncWithBench(), romChanged: () => {} };
-    this.lines = new Console(this.machine, this.known, new Words(refusals), consoleCalls);
+    this.console = new Console(this.machine, this.expressionContext, new Words(refusals), consoleCalls);
     this.keys = new KeysOfPrompt(this.session, this.face);
     /** @type {Record<string, CommandHandler>} */
     this.handlers = {
@@ -110,12 +112,12 @@ export class Prompt {
 
   makeMachine() {
     return new Machine(this.session, this.launched.writer, {
-      stopped: (ended) => {
-        this.ended = ended;
+      stopped: (lastStop) => {
+        this.lastStop = lastStop;
       },
       output: (words, category) => this.output(words, category),
       pause: () => this.yieldTurn(),
-      looked: () => {},
+      stateChanged: () => {},
     });
   }
 
@@ -135,7 +137,7 @@ export class Prompt {
   async yieldTurn() {
     await this.calls.pause();
     const { count } = this.session.debugger.session;
-    if (!this.calls.isByHand && count.total - this.begun >= MAX_CYCLES) this.machine.pause();
+    if (!this.calls.isByHand && count.total - this.startCycles >= MAX_CYCLES) this.machine.pause();
   }
 
   /**
@@ -155,13 +157,13 @@ export class Prompt {
    * @param {string} text
    */
   async take(text) {
-    const line = text.trim() || (this.calls.isByHand && !this.stops.opened ? this.last : "");
-    this.begun = this.session.debugger.session.count.total;
+    const line = text.trim() || (this.calls.isByHand && !this.stops.unfinished ? this.repeatedLine : "");
+    this.startCycles = this.session.debugger.session.count.total;
     this.isInterrupted = false;
     const name = this.nameOf(line);
     const isDone = await this.executeLine(line);
     // A repeated `list` has no argument, so it lists the next lines.
-    this.last = isDone && REPEATED.test(name) ? (name === "list" ? name : line) : "";
+    this.repeatedLine = isDone && REPEATED.test(name) ? (name === "list" ? name : line) : "";
     return isDone && this.runCommands();
   }
 
@@ -172,7 +174,7 @@ export class Prompt {
   async executeLine(line) {
     this.atStop = NO_COMMANDS;
     try {
-      if (this.stops.opened) this.stops.take(line);
+      if (this.stops.unfinished) this.stops.addLine(line);
       else if (line !== "" && !line.startsWith("#")) await this.runCommand(line);
       return true;
     } catch (thrown) {
@@ -187,7 +189,7 @@ export class Prompt {
    */
   nameOf(line) {
     const { command } = commandOf((COMMAND.exec(line) || ["", ""])[1]);
-    return command && !this.stops.opened ? command.name : "";
+    return command && !this.stops.unfinished ? command.name : "";
   }
 
   /** @param {string} line */
@@ -223,9 +225,9 @@ export class Prompt {
   async makeMove(begin) {
     begin();
     await this.machine.move;
-    const words = this.ended.words.replace(say.PAGE_REMEMBERS, say.SESSION_REMEMBERS);
+    const words = this.lastStop.words.replace(say.PAGE_REMEMBERS, say.SESSION_REMEMBERS);
     if (words.startsWith(say.NOTHING_DONE)) refuse(words);
-    const reached = await this.stops.reached();
+    const reached = await this.stops.commandsAtStop();
     this.atStop = { ...reached, hasMoved: true };
     return reached.words ? `${words} ${reached.words}` : words;
   }
@@ -235,7 +237,7 @@ export class Prompt {
    * @param {string} line
    */
   async serve(line) {
-    await this.lines.runBenchLines(`${line}\n`);
+    await this.console.runBenchLines(`${line}\n`);
     await this.machine.saveAndReport();
   }
 
@@ -266,7 +268,7 @@ export class Prompt {
 
   /** Returns the prompt before a line. */
   get label() {
-    return this.stops.opened ? "> " : "(mcs4) ";
+    return this.stops.unfinished ? "> " : "(mcs4) ";
   }
 
   /** Interrupts the present move. Returns false if there is none. */
@@ -297,8 +299,8 @@ export class Prompt {
     const file = FILE_ARGUMENTS[name] ? FILE_ARGUMENTS[name].exec(line) : null;
     if (file) return [this.calls.files(file[1]), file[1]];
     const [word] = /** @type {string[]} */ (/[\w@.+~*/-]*$/.exec(line));
-    const all = this.wordsFor(name);
-    return [all.filter((each) => each.toLowerCase().startsWith(word.toLowerCase())), word];
+    const candidates = this.wordsFor(name);
+    return [candidates.filter((each) => each.toLowerCase().startsWith(word.toLowerCase())), word];
   }
 
   /**

@@ -41,13 +41,13 @@ function numberOfText(text, session) {
 /**
  * Returns the current value of an expression as text.
  * @param {string} text the expression, perhaps with a format before it: `/x r4`
- * @param {ExpressionContext} known
+ * @param {ExpressionContext} context
  */
-export function formattedValue(text, known) {
-  const [, format, what = ""] = /^\/(\w*)\s*(.*)$/.exec(text) || [];
-  if (format === undefined) return valueOfExpression(text, known);
+export function formattedValue(text, context) {
+  const [, format, expression = ""] = /^\/(\w*)\s*(.*)$/.exec(text) || [];
+  if (format === undefined) return valueOfExpression(text, context);
   const shown = Object.keys(FORMATS).includes(format) ? FORMATS[format] : refuse(say.noFormat(format, Object.keys(FORMATS).join(", ")));
-  if (what === "") refuse(say.PRINT_FORM);
-  if (/^(display|lamps)$/.test(what.trim())) refuse(say.noNumberOf(what));
-  return shown(numberOfText(what, known.session), known.session);
+  if (expression === "") refuse(say.PRINT_FORM);
+  if (/^(display|lamps)$/.test(expression.trim())) refuse(say.noNumberOf(expression));
+  return shown(numberOfText(expression, context.session), context.session);
 }

@@ -35,7 +35,7 @@ export class KeysOfPrompt {
   }
 
   /** Returns the text of `info keys`. */
-  text() {
+  infoText() {
     const down = keysDown(this.session);
     const { names } = this;
     if (names.length === 0) return say.NO_KEYS;

@@ -78,7 +78,7 @@ export class LookCommands {
    * @param {string} expression the expression, perhaps with a format before it: `/x r4`
    */
   value(expression) {
-    return formattedValue(expression, this.prompt.known);
+    return formattedValue(expression, this.prompt.expressionContext);
   }
 
   /**
@@ -152,13 +152,13 @@ export class LookCommands {
   }
 
   /** @returns {Record<string, (rest: string) => string>} functions that return the text of `info`, by the word after it */
-  get infos() {
-    const { session, keys, launched, breakpoints, ended } = this.prompt;
+  get infoTexts() {
+    const { session, keys, launched, breakpoints, lastStop } = this.prompt;
     return {
       registers: () => looks.registerLines(session),
       ram: () => looks.ramLines(session),
       ports: () => looks.portLines(session),
-      keys: () => keys.text(),
+      keys: () => keys.infoText(),
       breakpoints: () => breakpoints.lines,
       watches: () => breakpoints.watches,
       display: () => this.displays.map((expression, at) => `${at + 1}: ${expression}`).join("\n") || say.NOTHING_DISPLAYED,
@@ -172,7 +172,7 @@ export class LookCommands {
       },
       frame: () => this.frame,
       stack: () => looks.frameLines(session),
-      program: () => ended.words || stoppedAt(session.counterWords),
+      program: () => lastStop.words || stoppedAt(session.counterWords),
       locals: () => say.NO_LOCALS,
     };
   }
@@ -183,6 +183,6 @@ export class LookCommands {
     const found = INFO_WORDS.filter((kind) => word !== "" && kind.startsWith(word));
     const kind = INFO_ABBREVIATIONS.get(word) || (found.length === 1 ? found[0] : refuse(say.infoShows(INFO_WORDS.join(", "))));
     if (more !== "" && !/^(line|symbol)$/.test(kind)) refuse(say.infoTakesNoArgument(kind));
-    return this.infos[kind](more);
+    return this.infoTexts[kind](more);
   }
 }

@@ -203,6 +203,6 @@ export function characterLines(session, text, count) {
   const values = upTo(Math.min(count, 256 - first)).map((offset) => standing.character(Number(bank), first + offset));
   const missing = values.findIndex((value) => value === "");
   if (missing === 0) refuse(say.noRamAt(text));
-  const known = missing < 0 ? values : values.slice(0, missing);
-  return `ram.${bank}.0x${hex(first, 2)}  ${known.join("")}`;
+  const present = missing < 0 ? values : values.slice(0, missing);
+  return `ram.${bank}.0x${hex(first, 2)}  ${present.join("")}`;
 }

@@ -26,7 +26,7 @@ export class MoveCommands {
   get handlers() {
     const { machine } = this.prompt;
     /** @type {(goal: BackGoal) => CommandHandler} */
-    const back = (goal) => (rest) => this.repeat(rest, () => machine.back(goal));
+    const back = (goal) => (rest) => this.repeat(rest, () => machine.goBack(goal));
     return {
       "next": (rest) => this.repeat(rest, () => machine.go({ kind: "over" })),
       "step": (rest) => {
@@ -44,21 +44,22 @@ export class MoveCommands {
       "continue": (rest) => this.continueRun(rest),
       "run": (rest) => {
         const cycles = cyclesIn(rest);
-        return this.move(() => machine.begin(() => this.prompt.session.pass(cycles, (_, tally) => machine.between(tally)), () => true));
+        const pass = () => this.prompt.session.pass(cycles, (_, tally) => machine.betweenPieces(tally));
+        return this.move(() => machine.beginMove(pass, () => true));
       },
       "reverse-step": back({ kind: "instruction" }),
-      "reverse-next": (rest) => this.repeat(rest, () => machine.begin(async () => (
-        machine.endOfBack(await backOver(this.prompt.session, () => machine.between()), "goal")), () => false)),
+      "reverse-next": (rest) => this.repeat(rest, () => machine.beginMove(async () => (
+        machine.endOfBack(await backOver(this.prompt.session, () => machine.betweenPieces()), "goal")), () => false)),
       "reverse-continue": (rest) => {
         if (rest !== "") refuse(say.REVERSE_FORM);
-        return this.move(() => machine.back({ kind: "arrival", place: this.prompt.watched }));
+        return this.move(() => machine.goBack({ kind: "arrival", place: this.prompt.watched }));
       },
       "back": (rest) => {
-        if (rest === "") return this.move(() => machine.back({ kind: "stop" }));
+        if (rest === "") return this.move(() => machine.goBack({ kind: "stop" }));
         const { goal, fault } = goalOfText(rest, this.prompt.session.names);
-        return goal ? this.move(() => machine.back(goal)) : refuse(fault);
+        return goal ? this.move(() => machine.goBack(goal)) : refuse(fault);
       },
-      "forward": () => this.move(() => machine.forward()),
+      "forward": () => this.move(() => machine.goForward()),
       "press": (rest) => this.press(rest),
     };
   }
@@ -81,7 +82,7 @@ export class MoveCommands {
     let words = "";
     for (let left = countIn(rest, MAX_STEPS); left > 0; left--) {
       words = await prompt.makeMove(act);
-      if (prompt.ended.reason !== "step" || prompt.machine.mustPause) break;
+      if (prompt.lastStop.reason !== "step" || prompt.machine.mustPause) break;
     }
     prompt.showStop(words);
   }
@@ -112,8 +113,8 @@ export class MoveCommands {
     const keys = prompt.keys.read(rest, "press");
     for (const [at, { key }] of keys.entries()) {
       let why = "";
-      const words = await prompt.makeMove(() => machine.begin(async () => {
-        const stop = await pressKey(session, key, (_, tally) => machine.between(tally));
+      const words = await prompt.makeMove(() => machine.beginMove(async () => {
+        const stop = await pressKey(session, key, (_, tally) => machine.betweenPieces(tally));
         ({ why } = stop);
         return stop;
       }, () => true));

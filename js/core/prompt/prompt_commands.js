@@ -20,12 +20,12 @@ export const COMMANDS = COMMAND_WORDS.map(({ words, use, does, more }) => {
  * @returns {{ command: CommandText | null, words: string }}
  */
 export function commandOf(word) {
-  const own = COMMANDS.find(({ name, short }) => name === word || short.includes(word));
-  if (own) return { command: own, words: "" };
-  const alike = COMMANDS.filter(({ name }) => name.startsWith(word));
-  if (alike.length === 1) return { command: alike[0], words: "" };
-  if (alike.length === 0) return { command: null, words: say.noCommand(word) };
-  return { command: null, words: say.notClear(word, alike.map(({ name }) => name).join(", ")) };
+  const exact = COMMANDS.find(({ name, short }) => name === word || short.includes(word));
+  if (exact) return { command: exact, words: "" };
+  const matching = COMMANDS.filter(({ name }) => name.startsWith(word));
+  if (matching.length === 1) return { command: matching[0], words: "" };
+  if (matching.length === 0) return { command: null, words: say.noCommand(word) };
+  return { command: null, words: say.notClear(word, matching.map(({ name }) => name).join(", ")) };
 }
 
 /**

@@ -2,7 +2,7 @@
 // command saves the list.
 
 import { hex } from "../bench/numbers.js";
-import { LAST } from "./breakpoint_commands.js";
+import { LAST_BREAKPOINT } from "./breakpoint_commands.js";
 import { refuse } from "./words_of_line.js";
 import * as say from "../../words/prompt.js";
 
@@ -12,27 +12,27 @@ import * as say from "../../words/prompt.js";
  * @typedef {import("../debug/breakpoints.js").Breakpoint} Breakpoint
  *
  * The actions at a stop: deleting the breakpoint, and running commands.
- * @typedef {{ isTemporary: boolean, commands: string[] }} AtStop
+ * @typedef {{ isTemporary: boolean, commands: string[] }} StopActions
  */
 
-/** @type {AtStop} */
-const NOTHING = { isTemporary: false, commands: [] };
+/** @type {StopActions} */
+const NO_ACTIONS = { isTemporary: false, commands: [] };
 const MAX_IGNORED = 999999999;
 const MAX_COMMANDS = 100;
 export const END = "end";
 const SILENT = "silent";
 
 /** @type {(command: string) => string} a command applied to the breakpoint that was set last */
-const forLast = (command) => `${command} ${LAST}`;
+const forLast = (command) => `${command} ${LAST_BREAKPOINT}`;
 
 export class StopCommands {
   /** @param {Prompt} prompt */
   constructor(prompt) {
     this.prompt = prompt;
-    /** @type {Map<number, AtStop>} the actions of breakpoints by their ids */
-    this.atStop = new Map();
+    /** @type {Map<number, StopActions>} the actions of breakpoints by their ids */
+    this.actions = new Map();
     /** @type {{ id: number, lines: string[] } | null} the commands that are being typed, and their breakpoint; null for none */
-    this.opened = null;
+    this.unfinished = null;
   }
 
   get list() {
@@ -48,7 +48,7 @@ export class StopCommands {
       },
       condition: (rest) => this.condition(rest),
       ignore: (rest) => this.ignore(rest),
-      commands: (rest) => this.open(rest),
+      commands: (rest) => this.beginCommands(rest),
       save: (rest) => this.save(rest),
     };
   }
@@ -57,16 +57,16 @@ export class StopCommands {
    * Returns the actions of a breakpoint.
    * @param {number} id
    */
-  of(id) {
-    return this.atStop.get(id) || NOTHING;
+  actionsOf(id) {
+    return this.actions.get(id) || NO_ACTIONS;
   }
 
   /**
    * @param {number} id
-   * @param {Partial<AtStop>} some
+   * @param {Partial<StopActions>} changes
    */
-  change(id, some) {
-    this.atStop.set(id, { ...this.of(id), ...some });
+  change(id, changes) {
+    this.actions.set(id, { ...this.actionsOf(id), ...changes });
   }
 
   /**
@@ -75,7 +75,7 @@ export class StopCommands {
    * @param {string} form of the command, for messages
    * @returns {{ breakpoint: Breakpoint, more: string }}
    */
-  named(rest, form) {
+  breakpointNamed(rest, form) {
     const [, word = "", more = ""] = /^(\S*)\s*(.*)$/.exec(rest) || [];
     const [id] = this.prompt.breakpoints.numbersOf(word || refuse(form));
     return { breakpoint: /** @type {Breakpoint} */ (this.list.get(id)), more };
@@ -83,14 +83,14 @@ export class StopCommands {
 
   /** @param {string} rest */
   async condition(rest) {
-    const { breakpoint: { id }, more } = this.named(rest, say.CONDITION_FORM);
+    const { breakpoint: { id }, more } = this.breakpointNamed(rest, say.CONDITION_FORM);
     await this.prompt.breakpoints.change(id, { condition: more.replace(/^if\s+/, "") });
     if (more === "") this.prompt.calls.print(say.stopsAlways(id));
   }
 
   /** @param {string} rest */
   async ignore(rest) {
-    const { breakpoint: { id, hits }, more } = this.named(rest, say.IGNORE_FORM);
+    const { breakpoint: { id, hits }, more } = this.breakpointNamed(rest, say.IGNORE_FORM);
     const count = /^\d{1,9}$/.test(more) ? Number(more) : -1;
     if (count < 0) refuse(say.ignoredIs(MAX_IGNORED.toLocaleString("en"), more || say.NOTHING));
     await this.prompt.breakpoints.change(id, { from: count === 0 ? 1 : hits + count + 1 });
@@ -100,42 +100,42 @@ export class StopCommands {
   // --- commands at a stop ---
 
   /** @param {string} rest */
-  open(rest) {
-    const { breakpoint: { id }, more } = this.named(rest || LAST, say.COMMANDS_FORM);
+  beginCommands(rest) {
+    const { breakpoint: { id }, more } = this.breakpointNamed(rest || LAST_BREAKPOINT, say.COMMANDS_FORM);
     if (more !== "") refuse(say.COMMANDS_FORM);
-    this.opened = { id, lines: [] };
+    this.unfinished = { id, lines: [] };
   }
 
   /**
    * Adds a line to the commands that are being typed, or ends them; fails if there are too many.
    * @param {string} line
    */
-  take(line) {
-    const { id, lines } = /** @type {NonNullable<StopCommands["opened"]>} */ (this.opened);
+  addLine(line) {
+    const { id, lines } = /** @type {NonNullable<StopCommands["unfinished"]>} */ (this.unfinished);
     if (line.trim() === END) {
       this.change(id, { commands: lines });
-      this.opened = null;
+      this.unfinished = null;
     } else if (lines.length === MAX_COMMANDS) {
-      this.opened = null;
+      this.unfinished = null;
       refuse(say.tooManyCommands(MAX_COMMANDS));
     } else if (line.trim() !== "") lines.push(line.trim());
   }
 
   /** Discards the commands that are being typed. Returns a message about them, "" if there are none. */
   drop() {
-    const { opened } = this;
-    this.opened = null;
-    return opened ? say.commandsDropped(opened.id) : "";
+    const { unfinished } = this;
+    this.unfinished = null;
+    return unfinished ? say.commandsDropped(unfinished.id) : "";
   }
 
   /**
    * Returns the commands of the breakpoint that ended the last move. Deletes the breakpoint if it is temporary.
    * @returns {Promise<{ commands: string[], isSilent: boolean, words: string }>}
    */
-  async reached() {
+  async commandsAtStop() {
     const { ended: { reason, id }, session, breakpoints } = this.prompt;
     const here = reason === "breakpoint" ? this.list.get(id) || this.list.atAddress(session.address) : undefined;
-    const { isTemporary, commands } = here ? this.of(here.id) : NOTHING;
+    const { isTemporary, commands } = here ? this.actionsOf(here.id) : NO_ACTIONS;
     if (here && isTemporary) await breakpoints.remove(String(here.id));
     const isSilent = commands[0] === SILENT;
     return { commands: isSilent ? commands.slice(1) : commands, isSilent, words: here && isTemporary ? say.temporaryDeleted(here.id) : "" };
@@ -148,7 +148,7 @@ export class StopCommands {
    * @param {number} id
    */
   textOf(id) {
-    const { isTemporary, commands } = this.of(id);
+    const { isTemporary, commands } = this.actionsOf(id);
     return `${isTemporary ? say.TEMPORARY : ""}${commands.map((line) => `\n       ${line}`).join("")}`;
   }
 
@@ -167,7 +167,7 @@ export class StopCommands {
    * @param {Breakpoint} breakpoint
    */
   linesOf({ id, line, address, isOn, from, hits, condition, note }) {
-    const { isTemporary, commands } = this.of(id);
+    const { isTemporary, commands } = this.actionsOf(id);
     const left = from - hits;
     const place = line > 0 ? String(line) : `0x${hex(address, 3)}`;
     const words = [isTemporary ? "tbreak" : "break", place, ...(left > 1 ? [`from ${left}`] : [])];

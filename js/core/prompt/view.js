@@ -156,7 +156,7 @@ export class View {
     const { machine, session, looks } = this.prompt;
     const keys = keysDown(session).join(" ");
     const shown = machine.shown.now();
-    const displays = looks.displays.slice(0, MAX_DISPLAYS).map((what) => `${what} = ${looks.valueOrFault(what)}`);
+    const displays = looks.displays.slice(0, MAX_DISPLAYS).map((expression) => `${expression} = ${looks.valueOrFault(expression)}`);
     return [shown, keys && say.down(keys), ...displays].filter(Boolean).map((line) => cut(line, columns));
   }
 }

@@ -26,8 +26,8 @@ import * as say from "../../words/server.js";
  */
 
 /** The protocol's kinds of completions. */
-const OF_KEYWORD = 14;
-const OF_VALUE = 12;
+const KEYWORD_COMPLETION = 14;
+const VALUE_COMPLETION = 12;
 
 /**
  * Returns an error with its range: the word at its column, or the whole line if the column is unknown. Removes the column from the message
@@ -75,7 +75,7 @@ export class DependentLanguage {
    * Returns a session with board and program, and their names, or their errors. Repeats the last result if the texts are the same.
    * @param {Texts} texts
    */
-  prepared(texts) {
+  prepareTexts(texts) {
     const isKnown = this.last && this.last.texts.boardText === texts.boardText && this.last.texts.programText === texts.programText;
     if (!this.last || !isKnown) this.last = { texts, prepared: prepare(this.engine, texts) };
     return this.last.prepared;
@@ -83,14 +83,14 @@ export class DependentLanguage {
 
   /**
    * Returns the error of a missing or invalid board or program; null if both are valid.
-   * @param {DependencyTexts} beside
+   * @param {DependencyTexts} dependencies
    * @returns {ShownFault | null}
    */
   dependencyError({ board, program }) {
     const missing = [board, program].find(({ text }) => text === null);
     const note = (/** @type {string} */ words) => ({ number: 0, line: 1, from: 0, to: 0, words });
     if (missing) return note(say.nothingBeside(fileNameOf(missing.uri)));
-    const { faults } = this.prepared({ boardText: board.text || "", programText: program.text || "" });
+    const { faults } = this.prepareTexts({ boardText: board.text || "", programText: program.text || "" });
     if (faults.length === 0) return null;
     const [{ text, line }] = faults;
     return note(say.besideIsWrong(fileNameOf(text === "board" ? board.uri : program.uri), line));
@@ -115,7 +115,7 @@ export class DependentLanguage {
    * @param {import("../text/completion.js").Completion} completion
    */
   withKinds({ from, to, list }) {
-    return { from, to, list: list.map((each) => ({ ...each, kind: each.what ? OF_KEYWORD : OF_VALUE })) };
+    return { from, to, list: list.map((each) => ({ ...each, kind: each.what ? KEYWORD_COMPLETION : VALUE_COMPLETION })) };
   }
 
   /**

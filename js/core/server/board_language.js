@@ -23,7 +23,7 @@ import * as say from "../../words/server.js";
 
 /** The protocol's kinds of symbols and of completions. */
 const OBJECT = 19;
-const OF_PROPERTY = 10;
+const PROPERTY_COMPLETION = 10;
 
 export class BoardLanguage {
   /**
@@ -34,7 +34,7 @@ export class BoardLanguage {
   constructor(bench, tables, wordsOf) {
     this.parts = PARTS.board;
     this.tables = tables;
-    this.all = new AllFaultsOfTexts(bench.queries(), { instructions: new Map(), tables }, wordsOf);
+    this.allFaults = new AllFaultsOfTexts(bench.queries(), { instructions: new Map(), tables }, wordsOf);
   }
 
   /**
@@ -42,7 +42,7 @@ export class BoardLanguage {
    * @param {() => boolean} isWanted
    */
   async faults({ text }, isWanted) {
-    const found = await this.all.ofBoard(text, isWanted);
+    const found = await this.allFaults.ofBoard(text, isWanted);
     return found && { ...found, faults: [...found.faults, ...faultsOfFace(text)] };
   }
 
@@ -101,10 +101,10 @@ export class BoardLanguage {
    */
   completion({ lines }, { line, character }, trigger) {
     // After a blank the editor asks automatically. The answer is empty unless a value begins there.
-    const begun = lines[line].slice(Math.max(0, character - 9), character);
-    if (trigger === " " && !/=[ \t]*$/.test(begun)) return { from: character, to: character, list: [] };
+    const lineStart = lines[line].slice(Math.max(0, character - 9), character);
+    if (trigger === " " && !/=[ \t]*$/.test(lineStart)) return { from: character, to: character, list: [] };
     const found = completeBoard(lines, line, character, this.tables);
-    return { ...found, list: found.list.map((each) => ({ ...each, kind: OF_PROPERTY })) };
+    return { ...found, list: found.list.map((each) => ({ ...each, kind: PROPERTY_COMPLETION })) };
   }
 
   /**

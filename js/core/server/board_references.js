@@ -12,7 +12,7 @@ import * as say from "../../words/server.js";
 /** The name of a line or a chain bit, such as `rom0.2`, `ram0.1.3` or `chain0.5`. */
 const LINE_NAME = /^(rom|ram|chain)(\d+)\.(\d+)(?:\.(\d+))?$/;
 /** @type {Record<string, string>} the key with the number of a chip, by the name of its table */
-const NUMBERS = { rom: "chip", ram: "bank" };
+const NUMBER_KEYS = { rom: "chip", ram: "bank" };
 
 /**
  * Returns the value of a key in a table; undefined if the table lacks the key.
@@ -45,7 +45,7 @@ export class BoardReferences {
     for (const entry of entries) {
       const { table } = entry;
       const before = counts.get(table) || 0;
-      const chip = `${table} ${valueOf(entry, NUMBERS[table])}`;
+      const chip = `${table} ${valueOf(entry, NUMBER_KEYS[table])}`;
       this.numbers.set(entry, before);
       counts.set(table, before + 1);
       if (!this.chips.has(chip)) this.chips.set(chip, entry);
@@ -91,7 +91,7 @@ export class BoardReferences {
    */
   nameOf(entry) {
     const kind = entry.table.replace(/[[\]]/g, "");
-    const number = NUMBERS[kind] && valueOf(entry, NUMBERS[kind]);
+    const number = NUMBER_KEYS[kind] && valueOf(entry, NUMBER_KEYS[kind]);
     if (number !== undefined) return `${kind} ${kind === "ram" ? "bank " : ""}${number}`;
     if (entry.table === "[keys]") return "keys";
     return `${kind} ${this.numbers.get(entry)}`;

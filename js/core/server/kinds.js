@@ -136,9 +136,9 @@ export function dependenciesOf(uri, textOf) {
   const project = projectFor(uri, textOf);
   if (!project) {
     const folder = folderOf(uri);
-    const [program, other] = [".asm", ".4004"].map((ending) => uri.replace(/\.[^./]*$/, ending));
-    const isOther = textOf(program, "") === null && textOf(other, "") !== null;
-    return { folder: "", board: uriIn(folder, "board.toml"), program: isOther ? other : program, tests: [uri] };
+    const [program, alternative] = [".asm", ".4004"].map((ending) => uri.replace(/\.[^./]*$/, ending));
+    const isAlternative = textOf(program, "") === null && textOf(alternative, "") !== null;
+    return { folder: "", board: uriIn(folder, "board.toml"), program: isAlternative ? alternative : program, tests: [uri] };
   }
   const { folder, board, program, tests } = project;
   const index = tests.indexOf(uri);

@@ -16,25 +16,25 @@ import { wordsOfDirective, wordsOfInstruction, wordsOfRegister } from "../text/t
  */
 
 /** The protocol's kinds of completions. */
-const OF_FUNCTION = 3;
-const OF_VARIABLE = 6;
-const OF_KEYWORD = 14;
-const OF_CONSTANT = 21;
-const OF_VALUE = 12;
+const FUNCTION_COMPLETION = 3;
+const VARIABLE_COMPLETION = 6;
+const KEYWORD_COMPLETION = 14;
+const CONSTANT_COMPLETION = 21;
+const VALUE_COMPLETION = 12;
 
 /**
  * Returns the condition numbers that match the typed text; none if the operand is not a condition.
  * @param {string} before the line up to the caret
- * @param {CompletionContext} known
+ * @param {CompletionContext} context
  * @returns {CompletedWord[]}
  */
 function conditionsFor(before, { instructions, conditions }) {
   const { head } = partsOf(before);
   const instruction = head && head.to < before.length && instructions.get(head.text.toUpperCase());
   if (!instruction || operandsOfForm(instruction.form)[0] !== "c" || before.slice(head.to).includes(",")) return [];
-  const begun = before.slice(head.to).trimStart();
-  const all = [...conditions].map(([number, what]) => ({ text: String(number), what, kind: OF_VALUE }));
-  return all.filter(({ text }) => text.startsWith(begun));
+  const typed = before.slice(head.to).trimStart();
+  const all = [...conditions].map(([number, what]) => ({ text: String(number), what, kind: VALUE_COMPLETION }));
+  return all.filter(({ text }) => text.startsWith(typed));
 }
 
 /**
@@ -51,22 +51,22 @@ function isInOperands(before) {
  * @param {string[]} lines
  * @param {Position} position
  * @param {string} trigger the typed character that triggered the request, "" for none
- * @param {CompletionContext} known
+ * @param {CompletionContext} context
  */
-export function completionOfProgram(lines, { line, character }, trigger, known) {
+export function completionOfProgram(lines, { line, character }, trigger, context) {
   const before = lines[line].slice(0, character);
   if (trigger !== "" && !isInOperands(before)) return { from: character, to: character, list: [] };
-  const found = completeProgram(lines, line, character, known.instructions);
+  const found = completeProgram(lines, line, character, context.instructions);
   const names = namesOf(lines);
   /** @type {(text: string) => CompletedWord} */
-  const described = (text) => {
-    const instruction = known.instructions.get(text);
-    if (instruction) return { text, what: "", kind: OF_KEYWORD, documentation: wordsOfInstruction(instruction) };
-    if (DIRECTIVES.includes(text)) return { text, what: "", kind: OF_KEYWORD, documentation: wordsOfDirective(text) };
-    if (/^[PR]\d+$/.test(text)) return { text, what: wordsOfRegister(text), kind: OF_VARIABLE };
+  const completedWord = (text) => {
+    const instruction = context.instructions.get(text);
+    if (instruction) return { text, what: "", kind: KEYWORD_COMPLETION, documentation: wordsOfInstruction(instruction) };
+    if (DIRECTIVES.includes(text)) return { text, what: "", kind: KEYWORD_COMPLETION, documentation: wordsOfDirective(text) };
+    if (/^[PR]\d+$/.test(text)) return { text, what: wordsOfRegister(text), kind: VARIABLE_COMPLETION };
     const isLabel = !partsOf(lines[(names.get(text) || 1) - 1]).defines;
-    return { text, what: known.meaningOf(text), kind: isLabel ? OF_FUNCTION : OF_CONSTANT };
+    return { text, what: context.meaningOf(text), kind: isLabel ? FUNCTION_COMPLETION : CONSTANT_COMPLETION };
   };
-  const list = found.list.map((each) => ({ ...described(each.text), ...(each.what ? { what: each.what } : {}) }));
-  return { ...found, list: [...conditionsFor(before, known), ...list] };
+  const list = found.list.map((each) => ({ ...completedWord(each.text), ...(each.what ? { what: each.what } : {}) }));
+  return { ...found, list: [...conditionsFor(before, context), ...list] };
 }

@@ -34,15 +34,15 @@ export function commentOf(lines, name) {
   const { comment, defines } = partsOf(lines[line - 1]);
   let begin = line - 1;
   while (!defines && begin > 0 && line - begin <= MAX_LINES && lines[begin - 1].trimStart().startsWith(";")) begin -= 1;
-  const all = [...lines.slice(begin, line - 1), lines[line - 1].slice(comment)].map((each) => each.trim().replace(/^;+ ?/, ""));
-  return all[all.length - 1] === "" ? all.slice(0, -1) : all;
+  const commentLines = [...lines.slice(begin, line - 1), lines[line - 1].slice(comment)].map((each) => each.trim().replace(/^;+ ?/, ""));
+  return commentLines[commentLines.length - 1] === "" ? commentLines.slice(0, -1) : commentLines;
 }
 
 /**
  * Returns the meaning of a word that is a condition of JCN; "" for another word.
  * @param {string} text of the line
  * @param {Word} word
- * @param {HoverContext} known
+ * @param {HoverContext} context
  */
 function wordsOfCondition(text, word, { instructions, conditions, valueOf }) {
   const { head, operands } = partsOf(text);
@@ -58,7 +58,7 @@ function wordsOfCondition(text, word, { instructions, conditions, valueOf }) {
  * Returns a table with the manual's description of an instruction, in Markdown.
  * @param {Instruction} instruction
  */
-function rowOf(instruction) {
+function tableOf(instruction) {
   const { form, code, words, cycles } = instruction;
   return asTable(say.HEAD_OF_INSTRUCTIONS, [[asCode(form), asCode(code), words, cycles, asMarkdown(doesOf(instruction))]]);
 }
@@ -67,20 +67,20 @@ function rowOf(instruction) {
  * Returns the hover at a position of a program; null if there is none.
  * @param {string[]} lines
  * @param {Position} position
- * @param {HoverContext} known
+ * @param {HoverContext} context
  * @returns {Hover | null}
  */
-export function hoverOfProgram(lines, { line, character }, known) {
+export function hoverOfProgram(lines, { line, character }, context) {
   const text = lines[line];
   if (character > partsOf(text).comment) return null;
-  const words = helpForProgram(lines, line, character, known.instructions, known.meaningOf);
+  const words = helpForProgram(lines, line, character, context.instructions, context.meaningOf);
   const word = wordAt(text, character);
-  const condition = word ? wordsOfCondition(text, word, known) : "";
-  const place = known.wordsOfLine(line + 1);
-  const instruction = word && known.instructions.get(word.text.toUpperCase());
+  const condition = word ? wordsOfCondition(text, word, context) : "";
+  const place = context.wordsOfLine(line + 1);
+  const instruction = word && context.instructions.get(word.text.toUpperCase());
   const comment = word && !instruction ? commentOf(lines, word.text) : [];
   const markdown = [
-    instruction ? rowOf(instruction) : asMarkdown(words), asMarkdown(condition), comment.length > 0 ? asBlock(comment) : "",
+    instruction ? tableOf(instruction) : asMarkdown(words), asMarkdown(condition), comment.length > 0 ? asBlock(comment) : "",
     asMarkdown(place),
   ].filter((each) => each !== "").join("\n\n");
   const range = word && (words !== "" || condition !== "") ? { range: rangeOf(line + 1, word.from, word.to) } : {};

@@ -32,14 +32,14 @@ import * as say from "../../words/server.js";
 const FUNCTION = 12;
 const CONSTANT = 14;
 /** @type {Record<string, string>} the protocol's token types by the kinds of words */
-const TYPES = { comment: "comment", instruction: "keyword", directive: "macro", register: "variable", number: "number" };
+const TOKEN_TYPES = { comment: "comment", instruction: "keyword", directive: "macro", register: "variable", number: "number" };
 
 /**
  * Returns the ranges of each name in the operands of a program.
  * @param {string[]} lines
  * @returns {Map<string, Range[]>}
  */
-function usesIn(lines) {
+function operandRanges(lines) {
   /** @type {Map<string, Range[]>} */
   const places = new Map();
   lines.forEach((text, line) => {
@@ -86,14 +86,14 @@ export class ProgramLanguage {
       this.bench.setBoard(board);
       return ask();
     };
-    const all = new AllFaultsOfTexts({
+    const allFaults = new AllFaultsOfTexts({
       wiring: async () => null,
       errors: (sent) => inTurn(() => this.bench.errors(sent)),
       refuse: (sent) => inTurn(() => this.bench.programRefusal(sent)),
       map: (sent) => inTurn(() => this.bench.read(sent).map),
       roms: () => inTurn(() => this.bench.boardSession.roms),
     }, { instructions: this.instructions, tables: new Map() }, this.wordsOf);
-    return all.ofProgram(text, isWanted);
+    return allFaults.ofProgram(text, isWanted);
   }
 
   /**
@@ -230,7 +230,7 @@ export class ProgramLanguage {
     const isNumber = (/** @type {string} */ name) => partsOf(lines[(names.get(name) || 1) - 1]).defines;
     return lines.flatMap((text, line) => tokensOf(text, this.isInstruction).flatMap(({ kind, text: word, from, to }) => {
       const isName = (kind === "label" || kind === "name") && names.has(word);
-      const type = isName ? (isNumber(word) ? "enumMember" : "function") : TYPES[kind];
+      const type = isName ? (isNumber(word) ? "enumMember" : "function") : TOKEN_TYPES[kind];
       return type ? [{ line, from, to, type, isDeclaration: kind === "label", isReadonly: type === "enumMember" }] : [];
     }));
   }
@@ -312,7 +312,7 @@ export class ProgramLanguage {
 
   /** @param {OpenText} open */
   lenses(open) {
-    const places = usesIn(open.lines);
+    const places = operandRanges(open.lines);
     return this.calls(open).lenses((name) => places.get(name) || []);
   }
 }

@@ -29,14 +29,14 @@ export class ProjectLanguage {
    * Returns the files that a project names; none if it has errors.
    * @param {OpenText} open
    */
-  named({ text }) {
+  namedFiles({ text }) {
     const { names } = readProject(text);
     return names ? filesNamed(names) : [];
   }
 
   /** @param {OpenText} open */
   symbols(open) {
-    return this.named(open).map(({ path, key, line, from, to }) => {
+    return this.namedFiles(open).map(({ path, key, line, from, to }) => {
       const range = rangeOf(line, from, to);
       return { name: path, kind: FILE, detail: key, range, selectionRange: range };
     });
@@ -49,7 +49,7 @@ export class ProjectLanguage {
    */
   links(open) {
     const folder = folderOf(open.uri);
-    return this.named(open).filter(({ path }) => this.textOf(uriIn(folder, path), folder) !== null).map(({ path, line, from, to }) => (
+    return this.namedFiles(open).filter(({ path }) => this.textOf(uriIn(folder, path), folder) !== null).map(({ path, line, from, to }) => (
       { range: rangeOf(line, from, to), target: uriIn(folder, path), tooltip: path }));
   }
 }

@@ -53,10 +53,10 @@ export class PropertyLanguage extends DependentLanguage {
    * @param {string} programText
    */
   subject(boardText, programText) {
-    if (!this.known || this.known.boardText !== boardText || this.known.programText !== programText) {
-      this.known = { boardText, programText, subject: subjectOf(this.engine, boardText, programText) };
+    if (!this.lastSubject || this.lastSubject.boardText !== boardText || this.lastSubject.programText !== programText) {
+      this.lastSubject = { boardText, programText, subject: subjectOf(this.engine, boardText, programText) };
     }
-    return this.known.subject;
+    return this.lastSubject.subject;
   }
 
   /**

@@ -22,7 +22,7 @@ import * as say from "../../words/server.js";
  */
 
 const FUNCTION = 12;
-const WHOLE = { start: { line: 0, character: 0 }, end: { line: Number.MAX_SAFE_INTEGER, character: 0 } };
+const WHOLE_TEXT = { start: { line: 0, character: 0 }, end: { line: Number.MAX_SAFE_INTEGER, character: 0 } };
 const MAX_TAB_SIZE = 16;
 
 /**
@@ -110,7 +110,7 @@ export class Requests {
       "textDocument/codeAction": (params) => this.codeAction(params),
       "textDocument/codeLens": (params) => this.askLanguage(params, (language, open) => (
         (language.lenses ? language.lenses(open) : []).map((lens) => codeLensOf(lens, open.uri, this.server.client.commands)))),
-      "textDocument/formatting": (params) => this.format(params, WHOLE),
+      "textDocument/formatting": (params) => this.format(params, WHOLE_TEXT),
       "textDocument/rangeFormatting": (params) => this.format(params, needRange(fieldOf(params, "range"))),
       "textDocument/documentLink": (params) => this.askLanguage(params, (language, open) => (language.links ? language.links(open) : [])),
       "textDocument/foldingRange": (params) => this.askLanguage(params, (language, open) => foldsOf(open.lines, language.parts)),

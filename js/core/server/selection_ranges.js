@@ -32,8 +32,8 @@ function isLarger(outer, inner) {
  */
 function partsWith(lines, line, parts) {
   const folds = foldsOf(lines, parts).filter(({ startLine, endLine }) => startLine <= line && line <= endLine);
-  const all = [...folds, { startLine: 0, endLine: lines.length - 1 }];
-  return all.sort((one, other) => one.endLine - one.startLine - other.endLine + other.startLine).map(({ startLine, endLine }) => (
+  const ranges = [...folds, { startLine: 0, endLine: lines.length - 1 }];
+  return ranges.sort((one, other) => one.endLine - one.startLine - other.endLine + other.startLine).map(({ startLine, endLine }) => (
     { start: { line: startLine, character: 0 }, end: { line: endLine, character: lines[endLine].length } }));
 }
 
@@ -41,21 +41,21 @@ function partsWith(lines, line, parts) {
  * Returns the ranges around a position. Each range is linked to the next larger one.
  * @param {string[]} lines
  * @param {Position} position
- * @param {[number, number][]} stretches the language's ranges of columns in the line
+ * @param {[number, number][]} columnRanges the language's ranges of columns in the line
  * @param {Parts} parts
  * @returns {SelectionRange}
  */
-export function selectionAt(lines, { line, character }, stretches, parts) {
+export function selectionAt(lines, { line, character }, columnRanges, parts) {
   const text = lines[line];
   const word = wordAt(text, character);
-  const inLine = [...(word ? [[word.from, word.to]] : []), ...stretches, [text.length - text.trimStart().length, text.trimEnd().length],
+  const inLine = [...(word ? [[word.from, word.to]] : []), ...columnRanges, [text.length - text.trimStart().length, text.trimEnd().length],
     [0, text.length]];
-  const inside = inLine.filter(([from, to]) => from < to && from <= character && character <= to)
+  const around = inLine.filter(([from, to]) => from < to && from <= character && character <= to)
     .sort((one, other) => one[1] - one[0] - other[1] + other[0])
     .map(([from, to]) => ({ start: { line, character: from }, end: { line, character: to } }));
   /** @type {Range[]} */
   const nested = [];
-  for (const range of [...inside, ...partsWith(lines, line, parts)]) {
+  for (const range of [...around, ...partsWith(lines, line, parts)]) {
     if (nested.length === 0 || isLarger(range, nested[nested.length - 1])) nested.push(range);
   }
   const [outermost, ...inner] = nested.reverse();

@@ -21,7 +21,7 @@ import * as say from "../../words/server.js";
 /** The protocol's kinds of symbols. */
 const METHOD = 6;
 const FUNCTION = 12;
-const HEAD = /^([ \t]*)(test|steps)([ \t]+)(\S.*)$/;
+const FIRST_LINE = /^([ \t]*)(test|steps)([ \t]+)(\S.*)$/;
 
 /**
  * Returns the first lines of all tests and shared steps.
@@ -30,7 +30,7 @@ const HEAD = /^([ \t]*)(test|steps)([ \t]+)(\S.*)$/;
  */
 function headsOf(lines) {
   return lines.flatMap((text, line) => {
-    const [, indent, kind, gap, name] = HEAD.exec(text.trimEnd()) || [];
+    const [, indent, kind, gap, name] = FIRST_LINE.exec(text.trimEnd()) || [];
     if (name === undefined) return [];
     const from = indent.length + kind.length + gap.length;
     return [{ kind: /** @type {"test" | "steps"} */ (kind), name, line, from, to: from + name.length }];
@@ -54,7 +54,7 @@ export class TestLanguage extends DependentLanguage {
     const dependencies = this.dependenciesOf(uri);
     const dependencyError = this.dependencyError(dependencies);
     if (dependencyError) return { faults: [dependencyError], areAll: true };
-    const { prepared } = this.prepared({ boardText: dependencies.board.text || "", programText: dependencies.program.text || "" });
+    const { prepared } = this.prepareTexts({ boardText: dependencies.board.text || "", programText: dependencies.program.text || "" });
     if (!prepared || text.trim() === "") return { faults: [], areAll: true };
     const sources = dependencies.tests.map((each) => ({ name: each.uri, text: each.uri === uri ? text : each.text || "" }));
     const { faults } = readSources(sources, prepared.names);

@@ -36,7 +36,7 @@ export class TestRuns {
     this.dependenciesOf = dependenciesOf;
     this.pause = pause;
     /** The number of the present run; a new run cancels the one before it. */
-    this.begun = 0;
+    this.runNumber = 0;
   }
 
   /**
@@ -47,15 +47,15 @@ export class TestRuns {
    * @returns {Promise<TestResult>}
    */
   async run({ uri, lines, text }, name, pending) {
-    this.begun += 1;
-    const { begun } = this;
+    this.runNumber += 1;
+    const { runNumber } = this;
     const { board, program, tests } = this.dependenciesOf(uri);
     const missing = [board, program].find((each) => each.text === null);
     if (missing) return notRun(say.noFileBeside(fileNameOf(missing.uri)));
     const sources = tests.map((each) => ({ name: each.uri, text: each.uri === uri ? text : each.text || "" }));
     const mayContinue = async () => {
       await this.pause();
-      return begun === this.begun && !pending.isCancelled;
+      return runNumber === this.runNumber && !pending.isCancelled;
     };
     const texts = { boardText: board.text || "", programText: program.text || "", sources };
     const { faults, outcomes } = await this.outcomesOf(texts, mayContinue, { name, source: uri });
@@ -84,7 +84,7 @@ export class TestRuns {
 
   /**
    * @param {import("../testing/prepared.js").TextFault} fault
-   * @param {DependencyTexts} beside
+   * @param {DependencyTexts} dependencies
    */
   wordsOfFault({ text, file = "", line, number, words }, { board, program }) {
     const name = text === "board" ? board.uri : text === "program" ? program.uri : file;

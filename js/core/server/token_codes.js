@@ -9,7 +9,7 @@ export const TYPES = ["comment", "function", "variable", "enumMember", "keyword"
 export const MODIFIERS = ["declaration", "readonly"];
 
 /** @type {Record<string, string>} the protocol's token types by the styles of the page's editor */
-const STYLES = {
+const TYPES_BY_STYLE = {
   "keyword": "keyword", "number": "number", "comment": "comment", "string": "string", "def": "function", "variable-2": "variable",
 };
 
@@ -20,8 +20,8 @@ const STYLES = {
  * @returns {ColouredWord[]}
  */
 export function colouredWords(lines, colours) {
-  return lines.flatMap((text, line) => colours(text).filter(({ style }) => STYLES[style]).map(({ from, to, style }) => (
-    { line, from, to, type: STYLES[style] })));
+  return lines.flatMap((text, line) => colours(text).filter(({ style }) => TYPES_BY_STYLE[style]).map(({ from, to, style }) => (
+    { line, from, to, type: TYPES_BY_STYLE[style] })));
 }
 
 /**
@@ -34,9 +34,9 @@ export function tokenCodes(words) {
   const inOrder = [...words].sort((one, other) => one.line - other.line || one.from - other.from);
   let [line, from] = [0, 0];
   return inOrder.filter((word) => word.to > word.from).flatMap((word) => {
-    const since = word.line === line ? word.from - from : word.from;
+    const columns = word.line === line ? word.from - from : word.from;
     const modifiers = (word.isDeclaration ? 1 : 0) + (word.isReadonly ? 2 : 0);
-    const code = [word.line - line, since, word.to - word.from, TYPES.indexOf(word.type), modifiers];
+    const code = [word.line - line, columns, word.to - word.from, TYPES.indexOf(word.type), modifiers];
     [line, from] = [word.line, word.from];
     return code;
   });
@@ -49,10 +49,10 @@ export function tokenCodes(words) {
  * @returns {{ start: number, deleteCount: number, data: number[] }[]}
  */
 export function codeEdits(before, after) {
-  const least = Math.min(before.length, after.length);
+  const minLength = Math.min(before.length, after.length);
   let [start, suffix] = [0, 0];
-  while (start < least && before[start] === after[start]) start += 1;
-  while (suffix < least - start && before[before.length - 1 - suffix] === after[after.length - 1 - suffix]) suffix += 1;
+  while (start < minLength && before[start] === after[start]) start += 1;
+  while (suffix < minLength - start && before[before.length - 1 - suffix] === after[after.length - 1 - suffix]) suffix += 1;
   if (start === before.length && start === after.length) return [];
   return [{ start, deleteCount: before.length - start - suffix, data: after.slice(start, after.length - suffix) }];
 }

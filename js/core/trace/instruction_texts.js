@@ -46,7 +46,7 @@ function codeOfLine(line) {
  * The mnemonics of instructions of two bytes by their first digit, and functions that format their operands.
  * @type {Record<number, [string, (operand: number, digits: string) => string]>}
  */
-const TWO_WORDS = {
+const TWO_BYTE_INSTRUCTIONS = {
   0x1: ["JCN", (operand, digits) => `${operand}, 0x0${digits}`],
   0x2: ["FIM", (operand, digits) => `P${operand >> 1}, 0x${digits}`],
   0x4: ["JUN", (operand, digits) => `0x${hex(operand, 1)}${digits}`],
@@ -61,7 +61,7 @@ const TWO_WORDS = {
  */
 function wrappedText(code, second) {
   const digits = hex(second, 2);
-  const [name, operandsOf] = TWO_WORDS[code >> 4];
+  const [name, operandsOf] = TWO_BYTE_INSTRUCTIONS[code >> 4];
   return [hex(LAST_ADDRESS, 3), hex(code, 2), digits, name, operandsOf(code % 16, digits)].join(" ");
 }
 
@@ -73,7 +73,7 @@ export class InstructionTexts {
     this.names = names;
     this.width = names && names.source ? SOURCE_WIDTH : WIDTH;
     /** @type {Map<number, { label: string, text: string }>} the texts of instructions by their addresses */
-    this.known = new Map();
+    this.texts = new Map();
   }
 
   /**
@@ -83,7 +83,7 @@ export class InstructionTexts {
    * @param {number[]} addresses
    */
   read(engine, state, addresses) {
-    const unread = addresses.filter((address) => !this.known.has(address));
+    const unread = addresses.filter((address) => !this.texts.has(address));
     if (unread.length === 0) return;
     // An instruction at the last address can have its second byte at address 0.
     const listed = unread.includes(LAST_ADDRESS) ? [...unread, 0] : unread;
@@ -91,7 +91,7 @@ export class InstructionTexts {
     listed.forEach((address, at) => {
       this.codes[address] = parseInt(answers[at].slice(...CODE_IN_LINE), 16);
     });
-    unread.forEach((address, at) => this.known.set(address, this.linesAt(address, answers[at])));
+    unread.forEach((address, at) => this.texts.set(address, this.linesAt(address, answers[at])));
   }
 
   /**
@@ -139,7 +139,7 @@ export class InstructionTexts {
    * @param {number} address
    */
   instructionLine(cycles, address) {
-    const { label, text } = /** @type {{ label: string, text: string }} */ (this.known.get(address));
+    const { label, text } = /** @type {{ label: string, text: string }} */ (this.texts.get(address));
     return `${label}${cyclesText(cycles)}${text}`;
   }
 

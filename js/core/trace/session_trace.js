@@ -28,7 +28,7 @@ const NO_STOP = "end";
  * @param {number} cycles the maximum
  * @param {YieldToMessages} yieldToMessages
  */
-async function runOn(engine, state, cycles, yieldToMessages) {
+async function runState(engine, state, cycles, yieldToMessages) {
   for (let done = 0; done < cycles;) {
     const [answer] = engine.serve(state, `run ${Math.min(LONGEST_RUN, cycles - done)}\n`, state).answers;
     const run = readRun(answer);
@@ -48,7 +48,7 @@ export class SessionTrace {
    */
   constructor(engine, state, yieldToMessages) {
     this.engine = engine;
-    this.begun = state;
+    this.startState = state;
     this.yieldToMessages = yieldToMessages;
     this.board = readBoard(engine.ask(state, "board\n").answers);
   }
@@ -59,7 +59,7 @@ export class SessionTrace {
    * @param {TraceNames | null} names
    */
   async* next(cycles, names) {
-    const state = withoutStops(this.engine, this.begun);
+    const state = withoutStops(this.engine, this.startState);
     yield* this.lines(state, { from: 0, to: cycles, end: NO_STOP }, names);
   }
 
@@ -71,11 +71,11 @@ export class SessionTrace {
    */
   async* last(count, cycles, names) {
     const { engine, yieldToMessages } = this;
-    const stop = await runOn(engine, this.begun.slice(), cycles, yieldToMessages);
+    const stop = await runState(engine, this.startState.slice(), cycles, yieldToMessages);
     // An instruction takes at most two cycles, and the session can begin between the two.
     const from = Math.max(0, stop.cycles - 2 * count - 2);
-    const state = withoutStops(engine, this.begun);
-    await runOn(engine, state, from, yieldToMessages);
+    const state = withoutStops(engine, this.startState);
+    await runState(engine, state, from, yieldToMessages);
     /** @type {string[]} */
     const lines = [];
     for await (const piece of this.lines(state, { from, to: stop.cycles, end: stop.end }, names)) lines.push(...piece);
@@ -97,7 +97,7 @@ export class SessionTrace {
     for (let piece = FIRST_PIECE; stop.at < to && stop.end === end; piece = PIECE) {
       const count = Math.min(piece, to - stop.at);
       yield trace.runLines(state, count, stop.at);
-      const run = await runOn(engine, state, count, this.yieldToMessages);
+      const run = await runState(engine, state, count, this.yieldToMessages);
       const at = stop.at + run.cycles;
       stop = { at, end: at < to ? run.end : end };
     }

@@ -25,7 +25,7 @@ import * as say from "../../words/trace.js";
 const SHOWN_REGISTERS = 13;
 const MAIN_PLACES = ["pc", "acc", "cy", ...upTo(SHOWN_REGISTERS).map((at) => `r${at}`)];
 /** The indices in a row of MAIN_PLACES, which is ` PPP A C R R ..`. */
-const IN_ROW = { pc: 1, acc: 5, cy: 7, registers: 9 };
+const ROW_INDICES = { pc: 1, acc: 5, cy: 7, registers: 9 };
 
 /**
  * Returns the changes of registers between two rows as text.
@@ -35,8 +35,8 @@ const IN_ROW = { pc: 1, acc: 5, cy: 7, registers: 9 };
 function changedRegisters(row, before) {
   let changes = "";
   for (let at = 0; at < SHOWN_REGISTERS; at++) {
-    const digit = row[IN_ROW.registers + 2 * at];
-    if (digit !== before[IN_ROW.registers + 2 * at]) changes += ` r${at} ${digit}`;
+    const digit = row[ROW_INDICES.registers + 2 * at];
+    if (digit !== before[ROW_INDICES.registers + 2 * at]) changes += ` r${at} ${digit}`;
   }
   return changes;
 }
@@ -119,12 +119,12 @@ export class TraceLines {
       const changes = groups.reduce((sum, group) => sum + changesIn(group, group.rows.get(at)), registers);
       row = after;
       const start = this.texts.instructionLine(elapsed + at, address);
-      lines.push(`${start}acc ${row[IN_ROW.acc]} cy ${row[IN_ROW.cy]}${changes && ` ${changes}`}`);
+      lines.push(`${start}acc ${row[ROW_INDICES.acc]} cy ${row[ROW_INDICES.cy]}${changes && ` ${changes}`}`);
       nextCycle = at + cyclesOf(this.texts.codes[address]);
     };
     // A jump to itself that changes nothing has no row: it repeats up to the next row.
     const repeatJump = (/** @type {number} */ to) => {
-      while (nextCycle < to) addLine(nextCycle, parseInt(row.slice(IN_ROW.pc, IN_ROW.acc - 1), 16), row);
+      while (nextCycle < to) addLine(nextCycle, parseInt(row.slice(ROW_INDICES.pc, ROW_INDICES.acc - 1), 16), row);
     };
     for (const line of main.lines) {
       const { cycles: at, address, row: after } = readTraced(line);
