@@ -51,7 +51,7 @@ export function keysOf(board, face) {
       keys.push({ key, legend, words, isNamed: Boolean(named && legend), isSwitch: false, letter });
     }
   }
-  return face.test ? [...keys, keyOfTest(face.test, take)] : keys;
+  return face.test ? [...keys, testKey(face.test, take)] : keys;
 }
 
 /**
@@ -59,7 +59,7 @@ export function keysOf(board, face) {
  * @param {import("./face.js").TestPin} test
  * @param {(legend: string, name: string) => string} take
  */
-function keyOfTest({ kind, name, level }, take) {
+function testKey({ kind, name, level }, take) {
   const legend = name.replace(/_/g, " ");
   const words = say.keyAtTest(kind, legend);
   return { key: pinKey(level), legend, words, isNamed: true, isSwitch: kind === "switch", letter: take(legend, name) };
@@ -69,7 +69,7 @@ function keyOfTest({ kind, name, level }, take) {
  * The legends that special keys of the keyboard press.
  * @type {Record<string, string>}
  */
-const NAMED_KEYS = { Enter: "=", Escape: "C", Backspace: "CE", Delete: "CE", ",": "." };
+const SPECIAL_KEYS = { Enter: "=", Escape: "C", Backspace: "CE", Delete: "CE", ",": "." };
 
 /**
  * Returns the board's key that a key of the keyboard presses; undefined if it presses none. A letter also presses a key of the other case.
@@ -82,7 +82,7 @@ export function keyOfKeyboard(keys, typed) {
   const letter = typed.length === 1 ? typed : "";
   const own = keys.find((key) => letter !== "" && key.letter === letter);
   if (own) return own;
-  const name = NAMED_KEYS[typed];
+  const name = SPECIAL_KEYS[typed];
   const named = name && keys.find((key) => key.legend === name);
   if (named) return named;
   return keys.find((key) => letter !== "" && key.letter.toLowerCase() === letter.toLowerCase());

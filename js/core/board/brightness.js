@@ -15,14 +15,14 @@ import { EYE_MS } from "../time/mcs4_time.js";
 /** The duty cycle from which a flickering lamp counts as on. */
 export const SEEN_PART = 0.5;
 /** The minimum milliseconds without a change before a lamp or a display can count as steady. */
-const LEAST_REST = 2;
+const MIN_REST = 2;
 /** The exponent from duty cycle to perceived brightness: the eye distinguishes dark lamps better than bright ones. */
 const GAMMA = 2.2;
 /** The minimum duty cycle of each level of brightness: dim, half, full. */
 const LEVELS = [0.01, 0.15, 0.6];
 export const FULL_LEVEL = LEVELS.length;
 /** The minimum duty cycle that is kept; a smaller one becomes 0. */
-const LEAST_PART = 0.0001;
+const MIN_DUTY = 0.0001;
 const SEGMENTS = 8;
 
 /**
@@ -74,7 +74,7 @@ class Stillness {
   }
 
   get isStill() {
-    return this.rest >= EYE_MS || (this.rest >= LEAST_REST && this.rest > 2 * this.longest);
+    return this.rest >= EYE_MS || (this.rest >= MIN_REST && this.rest > 2 * this.longest);
   }
 }
 
@@ -105,7 +105,7 @@ export class SeenDigit {
   fade(kept) {
     this.whole = NOT_LIT;
     for (const [pattern, part] of this.parts) {
-      if (part * kept < LEAST_PART) this.parts.delete(pattern);
+      if (part * kept < MIN_DUTY) this.parts.delete(pattern);
       else this.parts.set(pattern, part * kept);
     }
   }
@@ -220,7 +220,7 @@ export class Brightness {
   fade(parts, lit, cycles, kept) {
     for (let at = 0; at < parts.length; at++) {
       const part = parts[at] * kept + (lit[at] / cycles) * (1 - kept);
-      parts[at] = part < LEAST_PART ? 0 : part;
+      parts[at] = part < MIN_DUTY ? 0 : part;
     }
   }
 

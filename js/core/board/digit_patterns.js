@@ -71,7 +71,7 @@ function valueAt(marks, at) {
  * @returns {number[]}
  */
 export function patternsAt(display, marks) {
-  return display.by < 0 ? patternsOfAll(display, marks) : patternsOfScanned(display, marks);
+  return display.by < 0 ? directPatterns(display, marks) : multiplexedPatterns(display, marks);
 }
 
 /**
@@ -79,7 +79,7 @@ export function patternsAt(display, marks) {
  * @param {Group} display
  * @param {string} marks
  */
-function patternsOfScanned({ first, rows, columns, by }, marks) {
+function multiplexedPatterns({ first, rows, columns, by }, marks) {
   const value = valueAt(marks, first);
   const segments = columns >= 7 ? segmentsAt(marks, first) : value < 10 ? DIGITS[value] : NO_DIGIT;
   const point = hasPoints(columns) && isLit(marks, first + columns - 1) ? POINT : 0;
@@ -91,7 +91,7 @@ function patternsOfScanned({ first, rows, columns, by }, marks) {
  * @param {Group} display
  * @param {string} marks
  */
-function patternsOfAll({ first, rows, columns }, marks) {
+function directPatterns({ first, rows, columns }, marks) {
   const patterns = [];
   let isLeading = true;
   for (let digit = 0; digit < rows; digit++) {

@@ -29,7 +29,7 @@ import * as say from "../../words/board.js";
  */
 
 /** The maximum number of words in all lists of names, colours and positions together: several times the need of a board. */
-const MOST_WORDS = limit("words");
+const MAX_WORDS = limit("words");
 
 /** The front panel in a board's text. */
 export class Face {
@@ -101,13 +101,13 @@ export class Face {
    * @param {number} line
    */
   read(text, line) {
-    const found = this.wordCount <= MOST_WORDS ? headOf(text) : null;
+    const found = this.wordCount <= MAX_WORDS ? headOf(text) : null;
     if (!found) return;
     const { name, kind, first, last, words } = found;
     this.comments += `${text}\n`;
     this.isRefused = kind.isRefused;
     if (kind.counts) this.wordCount += wordsOf(words).filter((word) => word !== "_").length;
-    if (this.wordCount > MOST_WORDS) this.fault(line, said("too many words"));
+    if (this.wordCount > MAX_WORDS) this.fault(line, said("too many words"));
     else if (!fitsHead(kind, first, last)) this.fault(line, kind.form);
     else if (kind.size === "-" && !fitsWords(kind, wordsOf(words))) this.fault(line, kind.other);
     else if (name === "colour" && last !== undefined) this.readRange(Number(first), Number(last), words, line, kind);

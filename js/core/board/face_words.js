@@ -38,8 +38,8 @@ export const SEGMENTS = new Map(rowsOf("digit").map(([marks, sign]) => [marks, s
 const LIMITS = new Map(rowsOf("limit").map(([name, number]) => [name, Number(number)]));
 const HEADS = new Map(rowsOf("head").map(([name, expression]) => [name, new RegExp(expression)]));
 /** The word that each synonym means. */
-const OTHERS = new Map(rowsOf("other").map(([word, meant]) => [word, meant]));
-const SAID = new Map(rowsOf("say").map(([name, words]) => [name, words]));
+const SYNONYMS = new Map(rowsOf("other").map(([word, meant]) => [word, meant]));
+const MESSAGES = new Map(rowsOf("say").map(([name, words]) => [name, words]));
 /** A line of a front panel: the word, the number or place, the number after `to`, and the text after the colon. */
 const LINE = /^[ \t]*#[ \t]*([A-Za-z]+)(?:[ \t]+([^ \t:]+)(?:[ \t]+to[ \t]+([^ \t:]+))?)?[ \t]*:(.*)$/i;
 
@@ -52,7 +52,8 @@ export const limit = (name) => LIMITS.get(name) || 0;
  * @param {...(string | number)} about values for `{1}`, `{2}` ..
  */
 export function said(name, ...about) {
-  return about.reduce((/** @type {string} */ words, each, at) => words.replace(`{${at + 1}}`, () => String(each)), SAID.get(name) || name);
+  const message = MESSAGES.get(name) || name;
+  return about.reduce((/** @type {string} */ words, value, at) => words.replace(`{${at + 1}}`, () => String(value)), message);
 }
 
 /** @param {string} text is split at blanks and tabs */
@@ -118,7 +119,7 @@ export function headOf(text) {
   const found = LINE.exec(text);
   if (!found) return null;
   const word = found[1].toLowerCase().replace(/s$/, "");
-  const name = OTHERS.get(word) || word;
+  const name = SYNONYMS.get(word) || word;
   const kind = KINDS.get(name);
   const [, , first, last, words] = found;
   return kind ? { name, kind, first, last, words } : null;

@@ -10,26 +10,26 @@
  */
 
 /** The distance of control points from pins, for a wire within one column or from right to left. */
-const OUT = 12;
+const CONTROL_OFFSET = 12;
 /** The distance of turning points from pins and parts. */
-const ASIDE = 8;
+const TURN_DISTANCE = 8;
 /** The minimum distance of a control point from its end of the curve, for other wires. */
-const BEND = 30;
+const MIN_BEND = 30;
 /** The distance of a wire from the part that it runs along. */
-const LANE = 5;
+const LANE_DISTANCE = 5;
 /** The offsets that separate wires along the same part. */
-const LANES = [0, -2, 2, -4, 4];
+const LANE_OFFSETS = [0, -2, 2, -4, 4];
 /** The number of intervals into which a curve is sampled. */
-const LOOKS = 24;
+const SAMPLES = 24;
 
 /**
  * Returns the direct curve between the ends of a wire. Between ends in one column it is an arc to the right.
  * @param {Ends} ends
  * @returns {Curve}
  */
-function straight({ from, to }) {
-  if (from.x === to.x) return [from, { x: from.x + OUT, y: from.y }, { x: to.x + OUT, y: to.y }, to];
-  const bend = Math.max(BEND, Math.abs(to.x - from.x) / 2);
+function directCurve({ from, to }) {
+  if (from.x === to.x) return [from, { x: from.x + CONTROL_OFFSET, y: from.y }, { x: to.x + CONTROL_OFFSET, y: to.y }, to];
+  const bend = Math.max(MIN_BEND, Math.abs(to.x - from.x) / 2);
   return [from, { x: from.x + bend, y: from.y }, { x: to.x - bend, y: to.y }, to];
 }
 
@@ -39,7 +39,7 @@ function straight({ from, to }) {
  * @param {Point} to
  * @returns {Curve}
  */
-function level(from, to) {
+function levelCurve(from, to) {
   const x = (from.x + to.x) / 2;
   return [from, { x, y: from.y }, { x, y: to.y }, to];
 }
@@ -50,7 +50,7 @@ function level(from, to) {
  * @param {number} part the curve's parameter, from 0 (start) to 1 (end)
  * @returns {Point}
  */
-export function pointOf(curve, part) {
+export function pointAt(curve, part) {
   const rest = 1 - part;
   const weights = [rest ** 3, 3 * rest ** 2 * part, 3 * rest * part ** 2, part ** 3];
   /** @type {(of: (point: Point) => number) => number} */
@@ -63,7 +63,7 @@ export function pointOf(curve, part) {
  * @param {Point} point
  * @param {Box} box
  */
-function isIn({ x, y }, box) {
+function isInside({ x, y }, box) {
   return x > box.x && x < box.x + box.width && y > box.y && y < box.y + box.height;
 }
 
@@ -73,7 +73,7 @@ function isIn({ x, y }, box) {
  * @param {Box} box
  */
 export function isBelow(curve, box) {
-  return Array.from({ length: LOOKS - 1 }, (_, at) => pointOf(curve, (at + 1) / LOOKS)).some((point) => isIn(point, box));
+  return Array.from({ length: SAMPLES - 1 }, (_, at) => pointAt(curve, (at + 1) / SAMPLES)).some((point) => isInside(point, box));
 }
 
 /**
@@ -84,7 +84,7 @@ export function isBelow(curve, box) {
 function lanesOf({ from, to }, boxes) {
   /** @type {(lane: number) => number} */
   const way = (lane) => Math.abs(lane - from.y) + Math.abs(lane - to.y);
-  return boxes.flatMap(({ y, height }) => [y - LANE, y + height + LANE]).filter((lane) => lane > 0)
+  return boxes.flatMap(({ y, height }) => [y - LANE_DISTANCE, y + height + LANE_DISTANCE]).filter((lane) => lane > 0)
     .sort((one, other) => way(one) - way(other));
 }
 
@@ -93,8 +93,8 @@ function lanesOf({ from, to }, boxes) {
  * @param {Ends} ends
  * @param {Box[]} between
  */
-function laneBeside({ from, to }, between) {
-  const lanes = between.flatMap(({ y, height }) => [y - LANE, y + height + LANE]);
+function laneAround({ from, to }, between) {
+  const lanes = between.flatMap(({ y, height }) => [y - LANE_DISTANCE, y + height + LANE_DISTANCE]);
   const free = lanes.filter((lane) => between.every(({ y, height }) => lane < y || lane > y + height));
   /** @type {(lane: number) => number} */
   const way = (lane) => Math.abs(lane - from.y) + Math.abs(lane - to.y);
@@ -109,8 +109,8 @@ function laneBeside({ from, to }, between) {
  * @param {number} right the x coordinate of the second point
  * @returns {Curve[]}
  */
-function turning({ from, to }, y, left, right) {
-  return [level(from, { x: left, y }), level({ x: left, y }, { x: right, y }), level({ x: right, y }, to)];
+function turningRoute({ from, to }, y, left, right) {
+  return [levelCurve(from, { x: left, y }), levelCurve({ x: left, y }, { x: right, y }), levelCurve({ x: right, y }, to)];
 }
 
 /**
@@ -120,14 +120,14 @@ function turning({ from, to }, y, left, right) {
  * @param {number} y of the horizontal part
  * @returns {Curve[]}
  */
-function detour(ends, y) {
+function detourRoute(ends, y) {
   const { from, to } = ends;
-  if (to.x - from.x > 2 * ASIDE) return turning(ends, y, from.x + ASIDE, to.x - ASIDE);
+  if (to.x - from.x > 2 * TURN_DISTANCE) return turningRoute(ends, y, from.x + TURN_DISTANCE, to.x - TURN_DISTANCE);
   const [above, below] = [{ x: from.x, y }, { x: to.x, y }];
   return [
-    [from, { x: from.x + OUT, y: from.y }, { x: from.x + OUT, y }, above],
-    level(above, below),
-    [below, { x: to.x - OUT, y }, { x: to.x - OUT, y: to.y }, to],
+    [from, { x: from.x + CONTROL_OFFSET, y: from.y }, { x: from.x + CONTROL_OFFSET, y }, above],
+    levelCurve(above, below),
+    [below, { x: to.x - CONTROL_OFFSET, y }, { x: to.x - CONTROL_OFFSET, y: to.y }, to],
   ];
 }
 
@@ -141,18 +141,18 @@ function detour(ends, y) {
 export function routeOf(ends, boxes, number) {
   const { from, to } = ends;
   // A part that covers an end of the wire cannot be avoided.
-  const others = boxes.filter((box) => !isIn(from, box) && !isIn(to, box));
+  const others = boxes.filter((box) => !isInside(from, box) && !isInside(to, box));
   /** @type {(route: Curve[]) => boolean} */
   const isFree = (route) => !route.some((curve) => others.some((box) => isBelow(curve, box)));
-  const direct = [straight(ends)];
+  const direct = [directCurve(ends)];
   if (isFree(direct)) return direct;
-  const offset = LANES[number % LANES.length];
+  const offset = LANE_OFFSETS[number % LANE_OFFSETS.length];
   const between = others.filter(({ x, width }) => x > from.x && x + width < to.x);
-  const left = Math.min(...between.map(({ x }) => x)) - ASIDE;
-  const right = Math.max(...between.map(({ x, width }) => x + width)) + ASIDE;
+  const left = Math.min(...between.map(({ x }) => x)) - TURN_DISTANCE;
+  const right = Math.max(...between.map(({ x, width }) => x + width)) + TURN_DISTANCE;
   const hasRoom = between.length > 0 && left > from.x && right < to.x;
-  const around = hasRoom ? [turning(ends, laneBeside(ends, between) + offset, left, right)] : [];
-  const further = lanesOf(ends, others).map((lane) => detour(ends, lane + offset));
+  const around = hasRoom ? [turningRoute(ends, laneAround(ends, between) + offset, left, right)] : [];
+  const further = lanesOf(ends, others).map((lane) => detourRoute(ends, lane + offset));
   return [...around, ...further].find(isFree) || direct;
 }
 

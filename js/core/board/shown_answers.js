@@ -16,7 +16,7 @@ import * as say from "../../words/board.js";
 
 /** The first line of an answer to `trace` with the place `lamps` alone. */
 const TRACE = /^trace ran \d+ \w+ lines (\d+) ([.*]+|-)$/;
-const REFUSED = /^no \d/;
+const REFUSAL = /^no \d/;
 
 /** Converts answers about the lamps of a board with a display. */
 class ShownAnswers {
@@ -53,7 +53,7 @@ class ShownAnswers {
   read(answers, at) {
     const wrong = (/** @type {string} */ words) => ({ text: "", words, count: 1 });
     const answer = answers[at];
-    if (REFUSED.test(answer)) return wrong(say.isRefusal(at + 1, answer));
+    if (REFUSAL.test(answer)) return wrong(say.isRefusal(at + 1, answer));
     const [word, marks = ""] = answer.split(" ");
     if (word === "lamps") {
       const words = this.faultOf(marks, at + 1) || (this.isScanned ? say.isInstant(at + 1, this.name) : "");

@@ -9,7 +9,7 @@ const FEED = "feed";
  * Returns the text that a code prints; `?` if the front panel has no word for it.
  * @param {string | undefined} word
  */
-function printedBy(word) {
+function textOfWord(word) {
   return word === undefined ? "?" : word.replace(/_/g, " ");
 }
 
@@ -26,7 +26,7 @@ export function linesOf(codes, words) {
       lines.push("");
       continue;
     }
-    const printed = printedBy(words[code]);
+    const printed = textOfWord(words[code]);
     if (lines[last] !== "" && lines[last].length + printed.length > WIDTH) lines.push(printed);
     else lines[last] += printed;
   }

@@ -7,7 +7,7 @@ import { sentText } from "../text/text_fault.js";
 /** @typedef {{ text: string, board: string }} WiredText a text, and the bench's answer to `board` once it is wired */
 
 /** The maximum number of texts that are kept: going back can lead to an earlier board. */
-const MOST_TEXTS = 4;
+const MAX_TEXTS = 4;
 
 /**
  * Returns whether a text describes the wired board; comments can differ.
@@ -37,5 +37,5 @@ export function wiredOf(answers, text, kept) {
  * @param {WiredText[]} [kept]
  */
 export function keptWith(wired, kept = []) {
-  return [wired, ...kept.filter(({ board }) => board !== wired.board)].slice(0, MOST_TEXTS);
+  return [wired, ...kept.filter(({ board }) => board !== wired.board)].slice(0, MAX_TEXTS);
 }

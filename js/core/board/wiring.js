@@ -38,9 +38,9 @@ import * as say from "../../words/board.js";
 export const PIN_STEP = 18;
 export const HEAD = 26;
 const GAP = 14;
-const EDGE = 10;
+const MARGIN = 10;
 /** The maximum number of unused chain bits that are shown, so that they can be wired. */
-const FREE_BITS = 6;
+const MAX_FREE_BITS = 6;
 /** The columns of parts: their widths, and the room for wires to the left of each. */
 const COLUMNS = [
   { room: 0, width: 84 },
@@ -68,7 +68,7 @@ class Column {
   constructor(x, width) {
     this.x = x;
     this.width = width;
-    this.bottom = EDGE;
+    this.bottom = MARGIN;
   }
 
   /**
@@ -232,7 +232,7 @@ function drawChain(column, { clock, data, chips }, at, uses) {
   const bits = Array.from({ length: BITS_PER_CHIP * chips }, (_, bit) => (
     { id: `chain${at}.${bit}`, line: `chain${at}.${bit}`, label: say.bitPin(bit), number: BIT_NUMBERS[bit % BITS_PER_CHIP] }));
   const used = bits.filter(({ line }) => uses.of(line).length > 0).sort((one, other) => uses.orderOf(one.line) - uses.orderOf(other.line));
-  const free = bits.filter(({ line }) => uses.of(line).length === 0).slice(0, FREE_BITS);
+  const free = bits.filter(({ line }) => uses.of(line).length === 0).slice(0, MAX_FREE_BITS);
   const says = [say.clockIs(clock), say.dataIs(data), ...used.map(({ line, label }) => uses.say(label, line))];
   const inputs = [{ id: `clock ${at}`, line: clock, label: say.CLOCK_PIN, number: CLOCK_NUMBER },
     { id: `data ${at}`, line: data, label: say.DATA_PIN, number: DATA_NUMBER }];
@@ -303,7 +303,7 @@ function wiresOf(parts) {
  * @param {boolean[]} areUsed by column
  */
 function columnsOf(areUsed) {
-  let right = EDGE;
+  let right = MARGIN;
   return COLUMNS.map(({ room, width }, at) => {
     const column = new Column(right + room, width);
     if (areUsed[at]) right += room + width;
@@ -350,7 +350,7 @@ export function drawBoard(board, look = { names: [], colours: [], test: null, bu
   if (board.lamps.length > 0) parts.push(drawLamps(fourth, board.lamps, look));
   if (look.buzzer) parts.push(drawBuzzer(fourth, look.buzzer));
   moveParts(parts, moved);
-  const width = Math.max(...parts.map((part) => part.x + part.width)) + EDGE;
+  const width = Math.max(...parts.map((part) => part.x + part.width)) + MARGIN;
   const height = Math.max(...parts.map((part) => part.y + part.height)) + GAP;
   return { parts, wires: wiresOf(parts), width, height };
 }
