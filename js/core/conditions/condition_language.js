@@ -47,13 +47,13 @@ import * as say from "../../words/conditions.js";
  */
 
 /** @type {Beside} the default values, at the end of an instruction */
-const NOTHING = { test: "", owed: "0", keys: "", cycles: 0, seen: [], printed: [] };
+const DEFAULTS = { test: "", owed: "0", keys: "", cycles: 0, seen: [], printed: [] };
 
 /** @param {Names} names returns a function that returns whether a name is that of a lamp */
-const isLampOf = ({ face }) => (/** @type {string} */ name) => face.lampNumbers.has(name);
+const lampTestOf = ({ face }) => (/** @type {string} */ name) => face.lampNumbers.has(name);
 
 /** @type {(place: string) => place is "test" | "owed" | "keys"} */
-const isOfState = (place) => STATE_PLACES.has(place);
+const isStatePlace = (place) => STATE_PLACES.has(place);
 
 /**
  * Throws `Unreadable` if there are too many places for one `trace`.
@@ -69,7 +69,7 @@ function checkCount({ length }) {
  * @param {() => Read} read
  * @returns {{ read: Read, fault: "", column: -1 } | { read: null, fault: string, column: number }}
  */
-function orFault(read) {
+function resultOrError(read) {
   try {
     return { read: read(), fault: "", column: -1 };
   } catch (fault) {
@@ -83,8 +83,8 @@ function orFault(read) {
  * @param {() => Condition} read
  * @returns {ReadCondition}
  */
-function conditionOrFault(read) {
-  const { read: condition, ...wrong } = orFault(read);
+function conditionOrError(read) {
+  const { read: condition, ...wrong } = resultOrError(read);
   return /** @type {ReadCondition} */ ({ condition, ...wrong });
 }
 
@@ -109,7 +109,7 @@ function negationOf(node, text) {
  * @returns {Pick<Condition, "text" | "negation"> & import("./meaning.js").Meaning}
  */
 function meaningOfText(whole, names, looked) {
-  const node = parseCondition(whole, isLampOf(names));
+  const node = parseCondition(whole, lampTestOf(names));
   const text = withSingleBlanks(whole);
   return { ...meaningOf(node, names, looked), text, negation: negationOf(node, text) };
 }
@@ -121,14 +121,14 @@ function meaningOfText(whole, names, looked) {
  * @returns {ReadCondition}
  */
 export function conditionOf(whole, names) {
-  return conditionOrFault(() => {
+  return conditionOrError(() => {
     const looked = new Looked();
     const { text, negation, address, matches, explain } = meaningOfText(whole, names, looked);
     checkCount(looked.places);
     return {
       text, negation, places: looked.places, needs: [], address,
-      holds: (values, beside = NOTHING) => matches(values, beside),
-      explain: (values, beside = NOTHING) => (matches(values, beside) ? "" : explain(values, beside, false)),
+      holds: (values, beside = DEFAULTS) => matches(values, beside),
+      explain: (values, beside = DEFAULTS) => (matches(values, beside) ? "" : explain(values, beside, false)),
     };
   });
 }
@@ -140,23 +140,23 @@ export function conditionOf(whole, names) {
  * @returns {ReadCondition}
  */
 export function testConditionOf(whole, names) {
-  return conditionOrFault(() => {
+  return conditionOrError(() => {
     const looked = new Looked(true);
     const { text, negation, address, matches, explain } = meaningOfText(whole, names, looked);
     const { places: all } = looked;
-    const others = all.filter(isOfState);
-    const places = all.filter((place) => !isOfState(place));
+    const others = all.filter(isStatePlace);
+    const places = all.filter((place) => !isStatePlace(place));
     checkCount(places);
     /** @type {(values: string[], beside: Beside) => string[]} returns the values of all places, in their order */
     const whatIs = (values, beside) => {
       let at = 0;
-      return all.map((place) => (isOfState(place) ? beside[place] : values[at++]));
+      return all.map((place) => (isStatePlace(place) ? beside[place] : values[at++]));
     };
     const valuesOf = others.length === 0 ? (/** @type {string[]} */ values) => values : whatIs;
     return {
       text, negation, places, needs: [...looked.needs, ...others], address,
-      holds: (values, beside = NOTHING) => matches(valuesOf(values, beside), beside),
-      explain: (values, beside = NOTHING) => {
+      holds: (values, beside = DEFAULTS) => matches(valuesOf(values, beside), beside),
+      explain: (values, beside = DEFAULTS) => {
         const given = valuesOf(values, beside);
         return matches(given, beside) ? "" : explain(given, beside, false);
       },
@@ -183,13 +183,13 @@ export function tracedConditionOf(text, names) {
  * @returns {ReadExpression}
  */
 export function expressionOf(text, names) {
-  const { read: expression, ...wrong } = orFault(() => {
+  const { read: expression, ...wrong } = resultOrError(() => {
     const looked = new Looked();
-    const node = parse(text, isLampOf(names));
+    const node = parse(text, lampTestOf(names));
     if (isCondition(node)) {
       const { matches } = meaningOf(node, names, looked);
       checkCount(looked.places);
-      return { places: looked.places, number: null, textOf: (/** @type {string[]} */ values) => String(matches(values, NOTHING)) };
+      return { places: looked.places, number: null, textOf: (/** @type {string[]} */ values) => String(matches(values, DEFAULTS)) };
     }
     const { read, textOf } = valueIn(node, names, looked);
     checkCount(looked.places);

@@ -3,9 +3,9 @@
 import { cyclesOfMs } from "../time/mcs4_time.js";
 
 /** The maximum duration in a line: three hours. */
-const MOST_CYCLES = 1000000000;
+const MAX_CYCLES = 1000000000;
 /** The milliseconds in each unit. */
-const UNITS = new Map([["us", 0.001], ["ms", 1], ["s", 1000]]);
+const UNIT_MILLISECONDS = new Map([["us", 0.001], ["ms", 1], ["s", 1000]]);
 
 /**
  * A duration in cycles (0 if it is invalid), and the number of words that it consists of.
@@ -22,14 +22,14 @@ export function durationOf(words, from) {
   const joined = /^([0-9.]+)(us|ms|s)$/.exec(words[from] || "");
   const [number, unit] = joined ? joined.slice(1) : [words[from] || "", words[from + 1] || ""];
   if (!/^\d+(\.\d+)?$/.test(number) || number.length > 12) return { cycles: 0, words: 0 };
-  const milliseconds = UNITS.get(unit);
+  const milliseconds = UNIT_MILLISECONDS.get(unit);
   if (milliseconds) {
     const cycles = cyclesOfMs(Number(number) * milliseconds);
-    return { cycles: cycles > MOST_CYCLES ? 0 : cycles, words: joined ? 1 : 2 };
+    return { cycles: cycles > MAX_CYCLES ? 0 : cycles, words: joined ? 1 : 2 };
   }
   if (number.includes(".")) return { cycles: 0, words: 0 };
   const hasUnit = unit === "cycles" || unit === "cycle";
-  return { cycles: Number(number) > MOST_CYCLES ? 0 : Number(number), words: hasUnit ? 2 : 1 };
+  return { cycles: Number(number) > MAX_CYCLES ? 0 : Number(number), words: hasUnit ? 2 : 1 };
 }
 
 /**

@@ -28,7 +28,7 @@ import * as say from "../../words/conditions.js";
  * @param {Asked} asked
  * @returns {Meaning}
  */
-function meaningOfAsked({ what, want, isMany = false, measure, matches, remark, address = -1 }) {
+function meaningOfForm({ what, want, isMany = false, measure, matches, remark, address = -1 }) {
   return {
     address,
     matches: (values, beside) => matches(measure(values, beside), beside),
@@ -44,7 +44,7 @@ function meaningOfAsked({ what, want, isMany = false, measure, matches, remark, 
  * @param {string} text
  * @param {string} pattern
  */
-function fitsPattern(text, pattern) {
+function matchesPattern(text, pattern) {
   return text.length === pattern.length && [...pattern].every((mark, at) => mark === "?" || mark === text[at]);
 }
 
@@ -83,8 +83,8 @@ export function lampsMeaning(words, names, looked) {
     const lit = [...names.face.lamps].filter(([at]) => is[at] === "*").sort(([one], [other]) => one - other);
     return lit.length === 0 ? "" : say.litLamps(lit.map(([, { text }]) => text).join(" "));
   };
-  return meaningOfAsked({
-    what: "lamps", isMany: true, want, remark, measure: (values) => marksOf(values[place]), matches: (is) => fitsPattern(is, want),
+  return meaningOfForm({
+    what: "lamps", isMany: true, want, remark, measure: (values) => marksOf(values[place]), matches: (is) => matchesPattern(is, want),
   });
 }
 
@@ -107,11 +107,11 @@ export function displayMeaning(words, names, looked) {
   if (hasScannedDisplay(face)) {
     looked.need("seen", say.LIT_BY_TURNS);
     const seen = new SeenText(face, board.lamps.length);
-    return meaningOfAsked({ what: "display", want, matches, measure: (_, beside) => wordsOf(seen.read(beside.seen)) });
+    return meaningOfForm({ what: "display", want, matches, measure: (_, beside) => wordsOf(seen.read(beside.seen)) });
   }
   const reader = new DisplayText(displays, [...face.lamps].map(([at, { text }]) => ({ at, text })));
   const place = looked.at("lamps");
-  return meaningOfAsked({ what: "display", want, matches, measure: (values) => wordsOf(reader.read(marksOf(values[place]))) });
+  return meaningOfForm({ what: "display", want, matches, measure: (values) => wordsOf(reader.read(marksOf(values[place]))) });
 }
 
 /**
@@ -125,7 +125,7 @@ export function printedMeaning(words, { face, board }, looked) {
   if (words.length === 0) fail(say.PRINTED_FORM);
   looked.need("printed", say.LINE_BY_LINE);
   const want = words.join(" ");
-  return meaningOfAsked({
+  return meaningOfForm({
     what: "printed", want, matches: (is) => is === want, measure: (_, { printed }) => printed.slice(-words.length).join(" ") || "nothing",
   });
 }
@@ -143,7 +143,7 @@ export function cyclesMeaning(words, names, looked) {
   looked.need("cycles", say.onlyInTests("cycles"));
   /** @type {(is: number) => boolean} */
   const matches = (is) => (bound === "" ? is === cycles : bound === "at most" ? is <= cycles : is >= cycles);
-  return meaningOfAsked({
+  return meaningOfForm({
     what: "cycles", isMany: true, want: `${bound && `${bound} `}${cycles}`, matches: (is) => matches(Number(is)),
     measure: (_, beside) => String(beside.cycles),
   });
@@ -163,7 +163,7 @@ export function chainMeaning(name, words, { board }, looked) {
   const want = words.join("");
   if (!/^[01?]+$/.test(want) || want.length !== bits) fail(say.chainBits(name.slice("chain".length), bits));
   const at = looked.at(name);
-  return meaningOfAsked({ what: name, want, measure: (values) => values[at], matches: (is) => fitsPattern(is, want) });
+  return meaningOfForm({ what: name, want, measure: (values) => values[at], matches: (is) => matchesPattern(is, want) });
 }
 
 /**
@@ -186,7 +186,7 @@ function namedAddress(address, { map }) {
 export function counterMeaning(address, want, names, looked) {
   const digits = hex(address, 3);
   const at = looked.at("pc");
-  return meaningOfAsked({
+  return meaningOfForm({
     what: "pc", want, address,
     measure: (values, { owed }) => `${namedAddress(parseInt(values[at], 16), names)}${owed === "1" ? say.WITHIN_INSTRUCTION : ""}`,
     matches: (is, { owed }) => is.slice(0, 3) === digits && owed !== "1",

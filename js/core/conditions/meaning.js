@@ -31,7 +31,7 @@ const COMPARISONS = {
 };
 
 /** @type {Record<string, (words: string[], names: Names, looked: Looked) => Meaning>} the compilers of conditions, by keyword */
-const FORMS = { lamps: lampsMeaning, display: displayMeaning, printed: printedMeaning, cycles: cyclesMeaning };
+const COMPILERS = { lamps: lampsMeaning, display: displayMeaning, printed: printedMeaning, cycles: cyclesMeaning };
 
 /**
  * Returns the compiled comparison of two values.
@@ -117,7 +117,7 @@ function holdsMeaning({ place, values, text, column }, names, looked) {
  */
 function formMeaning({ words: [head, ...rest] }, names, looked) {
   const words = rest.map(({ text }) => text);
-  const form = FORMS[head.text];
+  const form = COMPILERS[head.text];
   return form ? form(words, names, looked) : chainMeaning(head.text, words, names, looked);
 }
 

@@ -41,16 +41,16 @@ export const LONGEST = 2000;
 export const MOST_DEPTH = 30;
 
 /** @type {Record<string, Sign>} the operator of each spelling */
-const SIGNS = { "=": "=", "==": "=", "!=": "!=", "<": "<", "<=": "<=", ">": ">", ">=": ">=" };
+const OPERATORS = { "=": "=", "==": "=", "!=": "!=", "<": "<", "<=": "<=", ">": ">", ">=": ">=" };
 const JOINS = new Map([["or", "or"], ["||", "or"], ["and", "and"], ["&&", "and"]]);
 const PORT = /^(rom\d+|ram\d+\.\d+)$/i;
 /** The kinds of nodes that are conditions. */
-const CONDITIONS = new Set(["or", "and", "not", "compare", "form", "holds", "panel", "at"]);
+const CONDITION_KINDS = new Set(["or", "and", "not", "compare", "form", "holds", "panel", "at"]);
 /** The number of numerals after the first word of a place that is written with blanks, such as `ram 0 0x12`. */
-const SPACED = new Map([["ram", 2], ["st", 3]]);
+const SPACED_NUMERALS = new Map([["ram", 2], ["st", 3]]);
 /** The kinds of nodes whose text stays without parentheses, because it is a single name or number. */
-const BARE = new Set(["number", "name", "lamp", "key"]);
-const FORMS = { lamp: say.LAMP_FORM, key: say.KEY_FORM };
+const BARE_KINDS = new Set(["number", "name", "lamp", "key"]);
+const PANEL_MESSAGES = { lamp: say.LAMP_FORM, key: say.KEY_FORM };
 const STATES = new Map([["on", true], ["off", false], ["down", true], ["up", false]]);
 
 /**
@@ -59,7 +59,7 @@ const STATES = new Map([["on", true], ["off", false], ["down", true], ["up", fal
  * @returns {node is ConditionNode}
  */
 export function isCondition(node) {
-  return CONDITIONS.has(node.kind);
+  return CONDITION_KINDS.has(node.kind);
 }
 
 /** A recursive-descent parser. */
@@ -164,7 +164,7 @@ class Parser {
     if (node.kind === "name" && node.text.startsWith("@")) {
       return { kind: "at", label: node.text.slice(1), text: node.text, column: node.column };
     }
-    if (node.kind === "lamp" || node.kind === "key") return fail(FORMS[node.kind], node.column);
+    if (node.kind === "lamp" || node.kind === "key") return fail(PANEL_MESSAGES[node.kind], node.column);
     return fail(say.noComparison(node.text), node.column);
   }
 
@@ -185,9 +185,9 @@ class Parser {
     const left = this.sum();
     if (isCondition(left)) return left;
     const token = this.scanner.peek();
-    if (token.kind === "sign" && token.text in SIGNS) {
+    if (token.kind === "sign" && token.text in OPERATORS) {
       this.scanner.next();
-      return this.compared(left, SIGNS[token.text]);
+      return this.compared(left, OPERATORS[token.text]);
     }
     if (left.kind === "name" && PORT.test(left.text) && left.way === "" && this.isValueNext()) fail(say.portForm(left.text), left.column);
     return left.kind === "name" && this.isValueNext() ? this.held(left, this.values()) : left;
@@ -299,7 +299,7 @@ class Parser {
     }
     this.depth -= 1;
     this.scanner.next();
-    return BARE.has(node.kind) ? node : { ...node, text: this.textFrom(column), column };
+    return BARE_KINDS.has(node.kind) ? node : { ...node, text: this.textFrom(column), column };
   }
 
   /**
@@ -320,7 +320,7 @@ class Parser {
     this.scanner.next();
     if (word === "at") return this.label(token.column);
     if (/^chain\d+$/.test(word)) return this.chain(token);
-    const more = SPACED.get(word) || 0;
+    const more = SPACED_NUMERALS.get(word) || 0;
     for (let count = 0; count < more; count++) {
       const { kind, column } = this.scanner.next();
       if (kind !== "number") fail(say.SPACED_FORM, Math.min(column, this.last));
@@ -367,7 +367,7 @@ class Parser {
     const { scanner } = this;
     scanner.goTo(token.end);
     const name = scanner.raw(this.depth > 0);
-    if (!name) return fail(FORMS[what], token.column);
+    if (!name) return fail(PANEL_MESSAGES[what], token.column);
     const state = this.peekLoosely();
     const isOn = state.kind === "word" ? STATES.get(state.text.toLowerCase()) : undefined;
     if (isOn !== undefined && (what === "key") === /^(down|up)$/i.test(state.text)) {
@@ -378,7 +378,7 @@ class Parser {
       scanner.goTo(token.column);
       return null;
     }
-    if (state.kind === "word") return fail(FORMS[what], token.column);
+    if (state.kind === "word") return fail(PANEL_MESSAGES[what], token.column);
     return { kind: what, text: name.text, column: token.column };
   }
 
@@ -391,7 +391,7 @@ class Parser {
     const { scanner } = this;
     scanner.goTo(token.end);
     const { kind, text } = this.peekLoosely();
-    if (kind === "sign" && (text in SIGNS || /^[+\-&]$/.test(text))) {
+    if (kind === "sign" && (text in OPERATORS || /^[+\-&]$/.test(text))) {
       return { kind: "name", text: token.text, way: "", column: token.column };
     }
     return this.formOf(token, this.following(false, true));

@@ -19,21 +19,21 @@ const ACCUMULATOR = "a";
 export const CHARACTERS = 16;
 export const STATUS = 4;
 /** The maximum values of places. All others have 4 bits, except register pairs and ROM bytes; `ret` is not a number. */
-const LARGEST = new Map([["cy", 1], ["test", 1], ["owed", 1], ["pc", LAST_ADDRESS], ["dcl", 7], ["src", 255], ["ret", -1]]);
-const LARGEST_BYTE = 255;
-const LARGEST_DIGIT = 15;
+const MAX_VALUES = new Map([["cy", 1], ["test", 1], ["owed", 1], ["pc", LAST_ADDRESS], ["dcl", 7], ["src", 255], ["ret", -1]]);
+const MAX_BYTE = 255;
+const MAX_DIGIT = 15;
 /** The maximum number of lamps that fit a number with one bit for each: larger numbers are not exact. */
-const MOST_LAMPS = 52;
+const MAX_LAMPS = 52;
 
 /** The names of places that every board has, for completion. */
 export const PLACE_WORDS = [
   "acc", "cy", "pc", "dcl", "src", "test", "lamps", ...upTo(16).map((at) => `r${at}`), ...upTo(8).map((at) => `p${at}`)];
 
 /** @param {string} place returns its maximum value; -1 if it is not a number */
-export const largestOf = (place) => LARGEST.get(place) ?? (/^(p\d$|rom\.)/.test(place) ? LARGEST_BYTE : LARGEST_DIGIT);
+export const largestOf = (place) => MAX_VALUES.get(place) ?? (/^(p\d$|rom\.)/.test(place) ? MAX_BYTE : MAX_DIGIT);
 
 /** @param {string[]} answers returns the first one */
-const first = ([answer]) => answer;
+const firstAnswer = ([answer]) => answer;
 
 /**
  * Returns the number with these hexadecimal digits, the most significant one first.
@@ -47,8 +47,8 @@ const asNumber = (answers) => parseInt(answers.join(""), 16);
  * @param {(board: Board) => boolean} [isOn] returns whether a board has the place
  * @returns {Place}
  */
-function single(name, isOn = () => true) {
-  return { name, most: () => largestOf(name), probesOn: (board) => (isOn(board) ? [name] : []), value: first, number: asNumber };
+function singlePlace(name, isOn = () => true) {
+  return { name, most: () => largestOf(name), probesOn: (board) => (isOn(board) ? [name] : []), value: firstAnswer, number: asNumber };
 }
 
 /**
@@ -57,8 +57,8 @@ function single(name, isOn = () => true) {
  * @param {(board: Board) => boolean} isOn returns whether a board has the line
  * @returns {Place}
  */
-function lineOf(name, isOn) {
-  return { ...single(name, isOn), most: () => 1 };
+function linePlace(name, isOn) {
+  return { ...singlePlace(name, isOn), most: () => 1 };
 }
 
 /**
@@ -77,11 +77,11 @@ function hasRam({ banks }, bank, chip) {
  * @returns {Place | null}
  */
 function registerPlace(name) {
-  if (/^(acc|cy|pc|dcl|src|ret|r\d|r1[0-5])$/.test(name)) return single(name);
+  if (/^(acc|cy|pc|dcl|src|ret|r\d|r1[0-5])$/.test(name)) return singlePlace(name);
   const pair = /^p([0-7])$/.exec(name);
   if (!pair) return null;
   const halves = [0, 1].map((half) => `r${2 * Number(pair[1]) + half}`);
-  return { ...single(name), probesOn: () => halves, value: (answers) => answers.join("") };
+  return { ...singlePlace(name), probesOn: () => halves, value: (answers) => answers.join("") };
 }
 
 /**
@@ -92,11 +92,11 @@ function registerPlace(name) {
 function memoryPlace(text) {
   const [word, ...parts] = text.split(/[\s.]+/);
   const [bank, at, third = 0] = parts.map(numberOf);
-  const isCharacter = word === "ram" && parts.length === 2 && at <= LARGEST_BYTE;
-  const isStatus = word === "st" && parts.length === 3 && at <= LARGEST_DIGIT && third < STATUS;
+  const isCharacter = word === "ram" && parts.length === 2 && at <= MAX_BYTE;
+  const isStatus = word === "st" && parts.length === 3 && at <= MAX_DIGIT && third < STATUS;
   if (!(bank <= 7) || (!isCharacter && !isStatus)) return null;
   const chip = (isStatus ? at : at >> 4) >> 2;
-  return single(isStatus ? `st.${bank}.${at}.${third}` : `ram.${bank}.0x${hex(at, 2)}`, (board) => hasRam(board, bank, chip));
+  return singlePlace(isStatus ? `st.${bank}.${at}.${third}` : `ram.${bank}.0x${hex(at, 2)}`, (board) => hasRam(board, bank, chip));
 }
 
 /**
@@ -111,7 +111,7 @@ function portPlace(name) {
   /** @type {(board: Board) => boolean} */
   const isOn = (board) => (
     isRom ? board.roms.some((each) => Number(each.chip) === Number(rom)) : hasRam(board, Number(bank), Number(chip)));
-  return line ? lineOf(name, isOn) : single(name, isOn);
+  return line ? linePlace(name, isOn) : singlePlace(name, isOn);
 }
 
 /**
@@ -130,8 +130,8 @@ function lampsNumber([marks]) {
 function lampPlace(name) {
   if (name === "lamps") {
     return {
-      name, most: ({ lamps }) => (lamps.length <= MOST_LAMPS ? 2 ** lamps.length - 1 : -1),
-      probesOn: ({ lamps }) => (lamps.length > 0 ? ["lamps"] : []), value: first, number: lampsNumber,
+      name, most: ({ lamps }) => (lamps.length <= MAX_LAMPS ? 2 ** lamps.length - 1 : -1),
+      probesOn: ({ lamps }) => (lamps.length > 0 ? ["lamps"] : []), value: firstAnswer, number: lampsNumber,
     };
   }
   const lamp = /^lamp[ .]?(\d+)$/.exec(name);
@@ -139,15 +139,15 @@ function lampPlace(name) {
     const at = Number(lamp[1]);
     // The value of a lamp is the level of its line.
     return {
-      ...lineOf(`lamp ${at}`, () => true), probesOn: ({ lamps }) => lamps.slice(at, at + 1),
+      ...linePlace(`lamp ${at}`, () => true), probesOn: ({ lamps }) => lamps.slice(at, at + 1),
       value: ([answer]) => (answer === "1" ? "*" : "."),
     };
   }
   const chain = /^chain([0-3])(?:\.(\d+))?$/.exec(name);
   if (!chain) return null;
   const [, number, bit] = chain;
-  if (bit === undefined) return { ...single(name, ({ chains }) => Number(number) < chains.length), most: () => -1 };
-  return lineOf(name, ({ chains }) => Number(number) < chains.length && Number(bit) < chains[Number(number)].chips * BITS_PER_CHIP);
+  if (bit === undefined) return { ...singlePlace(name, ({ chains }) => Number(number) < chains.length), most: () => -1 };
+  return linePlace(name, ({ chains }) => Number(number) < chains.length && Number(bit) < chains[Number(number)].chips * BITS_PER_CHIP);
 }
 
 /**

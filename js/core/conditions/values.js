@@ -26,14 +26,14 @@ import * as say from "../../words/conditions.js";
 /** The places that `state` reports and `trace` does not; only commands change them. */
 export const STATE_PLACES = new Set(["test", "owed", "keys"]);
 /** The maximum nesting of names in *Watch*: a name can stand for an expression with other names. */
-const MOST_NAMES_DEEP = 3;
+const MAX_NAME_DEPTH = 3;
 /** The last character of a RAM bank: a character is selected by the byte that SRC sends. */
 const LAST_CHARACTER = 255;
 /** The hint for each word that other programs use for a place. */
-const MEANT = new Map([["a", say.ACCUMULATOR_HINT], ["accu", say.ACCUMULATOR_HINT], ["accumulator", say.ACCUMULATOR_HINT],
+const HINTS = new Map([["a", say.ACCUMULATOR_HINT], ["accu", say.ACCUMULATOR_HINT], ["accumulator", say.ACCUMULATOR_HINT],
   ["c", say.CARRY_HINT], ["carry", say.CARRY_HINT], ["ip", say.COUNTER_HINT], ["bank", say.BANK_HINT]]);
 /** The factor that splits a number of up to 53 bits into two halves, because JavaScript's bit operators work on 32 bits. */
-const HALF = 2 ** 26;
+const HALF_FACTOR = 2 ** 26;
 
 /** The dependencies of a condition: its places, each once, and the values that a test must supply. */
 export class Looked {
@@ -82,13 +82,13 @@ function constant(number) {
  * @param {number} one
  * @param {number} other
  */
-function bothBits(one, other) {
-  const high = Math.floor(one / HALF) & Math.floor(other / HALF);
-  return high * HALF + ((one % HALF) & (other % HALF));
+function bitwiseAnd(one, other) {
+  const high = Math.floor(one / HALF_FACTOR) & Math.floor(other / HALF_FACTOR);
+  return high * HALF_FACTOR + ((one % HALF_FACTOR) & (other % HALF_FACTOR));
 }
 
 /** @type {Record<SumNode["sign"], (one: number, other: number) => number>} */
-const SUMS = { "+": (one, other) => one + other, "-": (one, other) => one - other, "&": bothBits };
+const OPERATIONS = { "+": (one, other) => one + other, "-": (one, other) => one - other, "&": bitwiseAnd };
 
 /**
  * Returns a value of 0 or 1.
@@ -218,7 +218,7 @@ function portValue({ text, way }, { board }, looked) {
 export function meantBy(text) {
   if (/^r\d+$/i.test(text)) return say.REGISTERS_ARE;
   if (/^(ram|st)\b/i.test(text)) return say.CHARACTERS_ARE;
-  return /^(ram|rom)\d/i.test(text) ? say.PORTS_ARE : MEANT.get(text.toLowerCase()) || "";
+  return /^(ram|rom)\d/i.test(text) ? say.PORTS_ARE : HINTS.get(text.toLowerCase()) || "";
 }
 
 /**
@@ -226,7 +226,7 @@ export function meantBy(text) {
  * @param {string} text
  * @param {Names} names
  */
-function proposalFor(text, { map, watched, face }) {
+function suggestionFor(text, { map, watched, face }) {
   const meant = meantBy(text);
   if (meant) return meant;
   const known = [...(map ? map.names.keys() : []), ...(watched ? watched.keys() : []), ...face.lampNumbers.keys()];
@@ -240,8 +240,8 @@ function proposalFor(text, { map, watched, face }) {
  * @param {Names} names
  * @returns {never}
  */
-function noPlace(text, names) {
-  return fail(say.noSuchPlace(text, proposalFor(text, names)));
+function failForUnknown(text, names) {
+  return fail(say.noSuchPlace(text, suggestionFor(text, names)));
 }
 
 /**
@@ -253,7 +253,7 @@ function noPlace(text, names) {
  * @returns {Value}
  */
 function watchedValue(name, text, names, looked) {
-  if (looked.depth >= MOST_NAMES_DEEP) return fail(say.namesTooDeep(name, MOST_NAMES_DEEP));
+  if (looked.depth >= MAX_NAME_DEPTH) return fail(say.namesTooDeep(name, MAX_NAME_DEPTH));
   const node = parse(text, (lamp) => names.face.lampNumbers.has(lamp));
   if (isCondition(node)) return fail(say.isNoValue(name, text));
   looked.depth += 1;
@@ -290,7 +290,7 @@ function nameValue(node, names, looked) {
   const found = sourceName(text, names.map);
   if (found) return constant(found.value);
   if (names.face.lampNumbers.has(text)) return lampValue(text, names, looked);
-  return placeValue(placeByOtherName(text), names, looked) || noPlace(text, names);
+  return placeValue(placeByOtherName(text), names, looked) || failForUnknown(text, names);
 }
 
 /**
@@ -309,7 +309,7 @@ export function characterValues({ text, column }, count, names, looked) {
       const at = parseInt(byte, 16) + more;
       const each = at <= LAST_CHARACTER ? placeOf(`ram.${bank}.${at}`) : null;
       if (more > 0 && (!each || each.probesOn(names.board).length === 0)) fail(say.NO_RAM_FOR_LAST);
-      return placeValue(each || place, names, looked) || noPlace(text, names);
+      return placeValue(each || place, names, looked) || failForUnknown(text, names);
     });
   });
 }
@@ -324,7 +324,7 @@ export function characterValues({ text, column }, count, names, looked) {
 function sumValue({ sign, left, right, text }, names, looked) {
   const [one, other] = [valueIn(left, names, looked), valueIn(right, names, looked)];
   const isConstant = one.isConstant && other.isConstant;
-  return { name: text, most: Infinity, isConstant, read: (values) => SUMS[sign](one.read(values), other.read(values)) };
+  return { name: text, most: Infinity, isConstant, read: (values) => OPERATIONS[sign](one.read(values), other.read(values)) };
 }
 
 /**
@@ -335,7 +335,7 @@ function sumValue({ sign, left, right, text }, names, looked) {
  */
 export function constantIn(node, map) {
   if (node.kind === "number") return node.value;
-  if (node.kind === "sum") return SUMS[node.sign](constantIn(node.left, map), constantIn(node.right, map));
+  if (node.kind === "sum") return OPERATIONS[node.sign](constantIn(node.left, map), constantIn(node.right, map));
   const found = node.kind === "name" && node.way === "" ? sourceName(node.text.replace(/^@/, ""), map) : undefined;
   return found ? found.value : fail(map ? say.noConstant(node.text) : say.noNames(node.text), node.column);
 }
