@@ -20,7 +20,7 @@ import { LARGEST_PIECE, endWithout, watcherOf } from "./goals.js";
  * @param {Watcher} watcher
  * @param {number} cycles
  */
-function linesOf(watcher, cycles) {
+function pieceLines(watcher, cycles) {
   let lines = "";
   for (let left = cycles; left > 0; left -= LONGEST_RUN) {
     const run = Math.min(left, LONGEST_RUN);
@@ -64,7 +64,7 @@ export async function seek(engine, file, goal, goesOn, most, codes) {
   const piece = new PieceSize(FIRST_CYCLES, 1, LARGEST_PIECE);
   for (let done = 0; done < most;) {
     const cycles = Math.min(piece.size, watcher.most(), most - done);
-    const found = piece.measure(() => foundIn(new Answers(engine.serve(copy, linesOf(watcher, cycles), copy).answers), watcher));
+    const found = piece.measure(() => foundIn(new Answers(engine.serve(copy, pieceLines(watcher, cycles), copy).answers), watcher));
     if (found) return { ...found, cycles: done + found.cycles };
     done += cycles;
     if (!(await goesOn(done))) throw new Cancelled();

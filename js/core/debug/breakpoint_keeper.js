@@ -28,7 +28,7 @@ import * as say from "../../words/debug.js";
 
 const TOO_MANY = say.tooManyOn(MOST_ON);
 /** The maximum number of sessions whose lists are kept. */
-const MOST_LISTS = 30;
+const MAX_LISTS = 30;
 
 /** The breakpoints of the current session, in the list and in the bench. */
 export class BreakpointKeeper {
@@ -75,7 +75,7 @@ export class BreakpointKeeper {
     this.list.forgetHits();
     this.lists.delete(id);
     this.lists.set(id, this.list);
-    for (const oldest of [...this.lists.keys()].slice(0, -MOST_LISTS)) this.lists.delete(oldest);
+    for (const oldest of [...this.lists.keys()].slice(0, -MAX_LISTS)) this.lists.delete(oldest);
     this.isKept = kept !== undefined;
     this.map = null;
     this.words = "";

@@ -24,7 +24,7 @@ function quoted(text) {
  * Returns the text inside quotes, without escapes.
  * @param {string} [text]
  */
-function plain(text = "") {
+function unquote(text = "") {
   return text.replace(/\\(.)/g, "$1").slice(0, LONGEST_WORDS);
 }
 
@@ -50,7 +50,7 @@ export function breakpointOfLine(line) {
   const [, ofSource = "0", address, off, from = "1", condition, note] = found;
   return {
     line: Number(ofSource), address: address === undefined ? -1 : parseInt(address, 16), isOn: off === undefined,
-    from: Math.max(1, Number(from)), condition: plain(condition), note: plain(note),
+    from: Math.max(1, Number(from)), condition: unquote(condition), note: unquote(note),
   };
 }
 

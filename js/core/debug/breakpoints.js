@@ -23,12 +23,12 @@ export const MOST_ON = 32;
 /** The maximum number of breakpoints in a list. */
 export const MOST_BREAKPOINTS = 256;
 /** The maximum number of deleted breakpoints that are kept, to be restored with their lines on undo. */
-const MOST_GONE = 256;
+const MAX_DELETED = 256;
 /** The maximum number of replaced texts whose breakpoints are kept. */
-const MOST_TEXTS = 30;
+const MAX_TEXTS = 30;
 
 /** @type {Omit<Breakpoint, "id" | "line" | "address">} the default values */
-const PLAIN = { isOn: true, condition: "", from: 1, note: "", hits: 0 };
+const DEFAULTS = { isOn: true, condition: "", from: 1, note: "", hits: 0 };
 
 /** The breakpoints of a program's text and of ROM. */
 export class BreakpointList {
@@ -51,7 +51,7 @@ export class BreakpointList {
    */
   make(some) {
     this.made += 1;
-    return { ...PLAIN, line: 0, address: -1, ...some, hits: 0, id: this.made };
+    return { ...DEFAULTS, line: 0, address: -1, ...some, hits: 0, id: this.made };
   }
 
   sort() {
@@ -150,7 +150,7 @@ export class BreakpointList {
   remember(text) {
     this.ofTexts.delete(text);
     this.ofTexts.set(text, [...this.all]);
-    for (const oldest of [...this.ofTexts.keys()].slice(0, -MOST_TEXTS)) this.ofTexts.delete(oldest);
+    for (const oldest of [...this.ofTexts.keys()].slice(0, -MAX_TEXTS)) this.ofTexts.delete(oldest);
   }
 
   /** Limits the number of breakpoints and of enabled breakpoints to their maximums. */
@@ -198,7 +198,7 @@ export class BreakpointList {
    */
   leave(breakpoint, { from, removed = [] }) {
     this.gone.push({ text: removed[breakpoint.line - from.line - 1] || "", breakpoint });
-    if (this.gone.length > MOST_GONE) this.gone.shift();
+    if (this.gone.length > MAX_DELETED) this.gone.shift();
   }
 
   /**
@@ -279,7 +279,7 @@ export class BreakpointList {
  * @param {number} most the maximum result
  * @param {boolean} isAtEnd
  */
-function sameLines(olds, news, most, isAtEnd) {
+function countEqualLines(olds, news, most, isAtEnd) {
   let count = 0;
   /** @type {(lines: string[]) => string} */
   const next = (lines) => lines[isAtEnd ? lines.length - 1 - count : count];
@@ -296,8 +296,8 @@ function sameLines(olds, news, most, isAtEnd) {
 function replacedLines({ from, to, text, removed = Array(to.line - from.line + 1).fill("\n"), isWhole = false }) {
   const most = Math.min(removed.length, text.length);
   const isBefore = from.ch === 0;
-  const one = sameLines(removed, text, most, isBefore);
-  const other = sameLines(removed, text, most - one, !isBefore);
+  const one = countEqualLines(removed, text, most, isBefore);
+  const other = countEqualLines(removed, text, most - one, !isBefore);
   const [before, after] = isBefore ? [other, one] : [one, other];
   const staying = [...text.slice(0, before), ...text.slice(text.length - after)];
   const isOther = isWhole && staying.join("").trim() === "" && removed.length > 2 && text.length > 2;

@@ -37,11 +37,11 @@ import * as say from "../../words/debug.js";
  * @typedef {{ faults: CommonMistake[], stop: number }} Looked
  */
 
-const ALL = Object.keys(say.KINDS).length;
+const KIND_COUNT = Object.keys(say.KINDS).length;
 /** The cycles that are checked after time starts and after each key change: half a second of a real 4004. Then samples are checked. */
-const LOOKED_CYCLES = 50000;
+const CHECKED_CYCLES = 50000;
 /** One of this many calls of `look` checks a sample, of `SAMPLE_CYCLES` cycles. */
-const SAMPLE = 16;
+const SAMPLE_INTERVAL = 16;
 const SAMPLE_CYCLES = 2000;
 /** The maximum number of cycles that one call of `look` checks. At full speed, lines have more: checking all would be too slow. */
 export const CYCLES_OF_CALL = 10000;
@@ -71,14 +71,14 @@ export class CommonMistakes {
     /** The address of a mistake that is not reported again when the session continues there, -1 for none. */
     this.skipped = -1;
     /** The cycles that are still to be checked in full. */
-    this.left = LOOKED_CYCLES;
+    this.left = CHECKED_CYCLES;
     this.looks = 0;
   }
 
   /** Prepares for running time: each kind can be reported again. */
   begin() {
     this.reported.clear();
-    this.left = LOOKED_CYCLES;
+    this.left = CHECKED_CYCLES;
     this.skipped = this.stopped;
     this.stopped = -1;
   }
@@ -97,7 +97,7 @@ export class CommonMistakes {
    */
   look(planned, file = this.session.file) {
     const most = this.mostOf(planned);
-    if (most === 0 || (this.reported.size === ALL && this.conditions.size === 0)) return NOTHING;
+    if (most === 0 || (this.reported.size === KIND_COUNT && this.conditions.size === 0)) return NOTHING;
     const all = this.faultsIn(linesUpTo(planned, most), file);
     const last = all.find((fault) => this.isStop(fault, planned, file));
     const faults = all.filter(({ isAgain }) => !isAgain);
@@ -131,10 +131,10 @@ export class CommonMistakes {
    */
   mostOf(planned) {
     const cycles = planned.reduce((sum, each) => sum + cyclesOfLine(each), 0);
-    if (planned.some(({ change }) => change !== null)) this.left = LOOKED_CYCLES;
+    if (planned.some(({ change }) => change !== null)) this.left = CHECKED_CYCLES;
     this.looks += 1;
     const isAll = this.stops.size > 0 && cycles <= CYCLES_OF_CALL;
-    const sample = this.looks % SAMPLE === 0 ? SAMPLE_CYCLES : 0;
+    const sample = this.looks % SAMPLE_INTERVAL === 0 ? SAMPLE_CYCLES : 0;
     const most = isAll ? cycles : Math.min(cycles, CYCLES_OF_CALL, Math.max(this.left, sample));
     this.left = Math.max(0, this.left - most);
     return most;

@@ -32,9 +32,9 @@ import { changedFrom, CHANGES_ALWAYS } from "../../words/debug.js";
  */
 
 /** The place that cannot be watched: the counter changes with each instruction. */
-const ALWAYS = "pc";
+const UNWATCHABLE = "pc";
 /** The maximum number of cycles in one query. */
-const ASKED_CYCLES = 50000;
+const QUERY_CYCLES = 50000;
 
 /** @returns {SeenChange} an empty result */
 const nothingSeen = () => ({ cycles: -1, id: 0, change: "", hits: new Map() });
@@ -54,7 +54,8 @@ export function readWatches(wanted, names) {
     const probes = place ? place.probesOn(names.board) : [];
     const { condition, fault, column } = text.trim() === "" ? { condition: null, fault: "", column: -1 } : tracedConditionOf(text, names);
     const all = new Set([...places, ...probes, ...(condition ? condition.places : [])]);
-    const wrong = !place || probes.length === 0 ? boardLacks(name) : name === ALWAYS ? CHANGES_ALWAYS : fault && inColumn(fault, column);
+    const wrong = !place || probes.length === 0 ? boardLacks(name)
+      : name === UNWATCHABLE ? CHANGES_ALWAYS : fault && inColumn(fault, column);
     const words = wrong || (all.size > MOST_PLACES ? tooManyPlaces(all.size, MOST_PLACES) : "");
     if (words) faults.set(id, words);
     if (words || !place) return [];
@@ -219,8 +220,8 @@ function partsOf(planned) {
   const all = cyclesOfLine(planned);
   /** @type {(PlannedLine & { cycles: number })[]} */
   const parts = planned.change ? [{ ...planned, cycles: 0 }] : [];
-  for (let done = 0; done < all; done += ASKED_CYCLES) {
-    const cycles = Math.min(ASKED_CYCLES, all - done);
+  for (let done = 0; done < all; done += QUERY_CYCLES) {
+    const cycles = Math.min(QUERY_CYCLES, all - done);
     parts.push({ line: `run ${cycles}`, change: null, cycles });
   }
   return parts;
@@ -296,5 +297,5 @@ export class SoftStops {
  */
 export function watchablePlace(name, board) {
   const place = placeOf(name);
-  return place && place.name !== ALWAYS && place.probesOn(readBoard(board)).length > 0 ? place : null;
+  return place && place.name !== UNWATCHABLE && place.probesOn(readBoard(board)).length > 0 ? place : null;
 }

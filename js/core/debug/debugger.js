@@ -75,7 +75,7 @@ import { CommonMistakes } from "./common_mistakes.js";
 export const NEAR_CYCLES = CYCLES_PER_SECOND;
 /** The same for a search for a change or a condition, and for a count of instructions. */
 const NEAR_CHANGE = 10000000;
-const ALL = 100000000;
+const NEAR_COUNT = 100000000;
 
 /** @type {Tally} the empty tally */
 export const NO_TALLY = { hits: [], notes: [], noted: 0, usual: [] };
@@ -101,7 +101,7 @@ export function bothTallies(one, other) {
  */
 export function nearOf({ kind }) {
   if (kind === "change" || kind === "when") return NEAR_CHANGE;
-  return kind === "count" ? ALL : NEAR_CYCLES;
+  return kind === "count" ? NEAR_COUNT : NEAR_CYCLES;
 }
 
 /** The debugger of a session. */

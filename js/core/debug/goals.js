@@ -50,7 +50,7 @@ export function counterOf(regs) {
  * @param {(traced: Traced) => number} goal returns the cycles up to the goal for the instruction that reaches it, otherwise -1
  * @returns {Watcher}
  */
-function traced(places, goal) {
+function traceWatcher(places, goal) {
   return {
     first: "",
     most: () => LARGEST_PIECE,
@@ -76,7 +76,7 @@ function traced(places, goal) {
  */
 function becoming(asked) {
   let before = "";
-  const watcher = traced(` ${asked.places.join(" ")}`, () => -1);
+  const watcher = traceWatcher(` ${asked.places.join(" ")}`, () => -1);
   return {
     ...watcher,
     take: (answers) => {
@@ -100,9 +100,9 @@ function becoming(asked) {
  * @param {number} level the depth: 0 for the return from the next call, -1 for the return from the current subroutine
  * @returns {Watcher}
  */
-function returned(codes, level) {
+function returnWatcher(codes, level) {
   let depth = 0;
-  const watcher = traced(" ret", ({ cycles, address }) => {
+  const watcher = traceWatcher(" ret", ({ cycles, address }) => {
     if (isCall(codes[address])) depth += 1;
     if (!isReturn(codes[address])) return -1;
     depth -= 1;
@@ -117,7 +117,7 @@ function returned(codes, level) {
  * @param {boolean} isOwed true if the second cycle of an instruction is pending
  * @returns {Watcher}
  */
-function counted(count, isOwed) {
+function countWatcher(count, isOwed) {
   let left = count;
   let wasOwed = isOwed;
   return {
@@ -145,10 +145,10 @@ function counted(count, isOwed) {
  * @param {number} address
  * @returns {Watcher}
  */
-function arrived(engine, file, address) {
+function addressWatcher(engine, file, address) {
   const first = `break ${address}\n`;
   const [answer] = engine.ask(file, first).answers;
-  if (!answer.startsWith("ok ")) return beginning(address);
+  if (!answer.startsWith("ok ")) return instructionWatcher(address);
   return {
     first,
     most: () => LARGEST_PIECE,
@@ -167,9 +167,9 @@ function arrived(engine, file, address) {
  * Returns a watcher for an address that examines all instructions. The first instruction does not count: it is the current position.
  * @param {number} address
  */
-function beginning(address) {
+function instructionWatcher(address) {
   let isFirst = true;
-  return traced("", (instruction) => {
+  return traceWatcher("", (instruction) => {
     const isHere = isFirst && instruction.cycles === 0;
     isFirst = false;
     return instruction.address === address && !isHere ? instruction.cycles : -1;
@@ -202,16 +202,16 @@ export function endWithout(goal) {
  * @returns {Watcher | null} null if the goal does not exist
  */
 export function watcherOf(engine, file, goal, codes = () => romCodes(engine, file)) {
-  if (goal.kind === "here") return arrived(engine, file, goal.address);
+  if (goal.kind === "here") return addressWatcher(engine, file, goal.address);
   if (goal.kind === "change") {
     const place = placeOf(goal.place);
     const probes = place ? place.probesOn(readBoard(engine.ask(file, "board\n").answers)) : [];
-    return probes.length > 0 ? traced(` ${probes.join(" ")}`, ({ cycles }) => cycles + 1) : null;
+    return probes.length > 0 ? traceWatcher(` ${probes.join(" ")}`, ({ cycles }) => cycles + 1) : null;
   }
   if (goal.kind === "when") return goal.asked ? becoming(goal.asked) : null;
   const [regs] = engine.ask(file, "regs\n").answers;
   const { counter, isOwed } = counterOf(regs);
-  if (goal.kind === "count") return counted(goal.count, isOwed);
-  if (goal.kind === "out") return isInSubroutine(regs, codes()) ? returned(codes(), -1) : null;
-  return isOwed || !isCall(codes()[counter]) ? counted(1, isOwed) : returned(codes(), 0);
+  if (goal.kind === "count") return countWatcher(goal.count, isOwed);
+  if (goal.kind === "out") return isInSubroutine(regs, codes()) ? returnWatcher(codes(), -1) : null;
+  return isOwed || !isCall(codes()[counter]) ? countWatcher(1, isOwed) : returnWatcher(codes(), 0);
 }

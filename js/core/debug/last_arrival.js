@@ -19,7 +19,7 @@ import { counterOf } from "./goals.js";
  */
 
 /** The lines that set or delete breakpoints and watches. */
-const MARKS = /^(un)?(break|watch) /;
+const MARK_LINE = /^(un)?(break|watch) /;
 /** The cycles of a JMS. */
 const JMS_CYCLES = 2;
 
@@ -66,7 +66,7 @@ class LastArrival {
     for (const { line, cycles, moment } of units) {
       if (cycles === 0) {
         // Lines that changed breakpoints in the past are skipped, and so are runs of no cycle.
-        if (MARKS.test(line) || /^(run|step)\b/.test(line)) continue;
+        if (MARK_LINE.test(line) || /^(run|step)\b/.test(line)) continue;
         [lines, count] = [`${lines}${line}\n`, count + 1];
         continue;
       }

@@ -13,8 +13,8 @@ import * as say from "../../words/debug.js";
  */
 
 /** The maximum number of lines that are reported, and of changes for each line. */
-const MOST_LINES = 8;
-const MOST_CHANGES = 6;
+const MAX_LINES = 8;
+const MAX_CHANGES = 6;
 
 /**
  * Returns the text of the values that changed between two pauses.
@@ -24,8 +24,8 @@ const MOST_CHANGES = 6;
 export function wordsOfChanges(before, after) {
   const old = before.all();
   const changed = [...after.all()].filter(([name, value]) => old.get(name) !== value).map(([name, value]) => `${name} ${value}`);
-  const more = changed.length - MOST_CHANGES;
-  return changed.slice(0, MOST_CHANGES).join(" ") + (more > 0 ? say.andMore(more) : "");
+  const more = changed.length - MAX_CHANGES;
+  return changed.slice(0, MAX_CHANGES).join(" ") + (more > 0 ? say.andMore(more) : "");
 }
 
 /**
@@ -35,7 +35,7 @@ export function wordsOfChanges(before, after) {
  * @param {number} cycles between the pauses
  * @param {SourceMap} map
  */
-function lineDone({ registers: before }, { registers: after }, cycles, map) {
+function steppedLine({ registers: before }, { registers: after }, cycles, map) {
   const address = parseInt(before.counter, 16);
   if (!map.beginsInstruction(address) || before.owed !== "0" || after.owed !== "0") return 0;
   const line = map.lineOf(address);
@@ -76,12 +76,12 @@ export class LineChanges {
     this.before = standing;
     this.cycles = cycles;
     if (before && map && done === 0) return;
-    const line = before && map && done > 0 ? lineDone(before, standing, done, map) : 0;
+    const line = before && map && done > 0 ? steppedLine(before, standing, done, map) : 0;
     if (!before || line === 0) {
       this.lines = new Map();
       return;
     }
     const lines = [...this.lines].filter(([each]) => each !== line);
-    this.lines = new Map([...lines, /** @type {[number, string]} */ ([line, wordsOfChanges(before, standing)])].slice(-MOST_LINES));
+    this.lines = new Map([...lines, /** @type {[number, string]} */ ([line, wordsOfChanges(before, standing)])].slice(-MAX_LINES));
   }
 }

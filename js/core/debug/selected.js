@@ -20,7 +20,7 @@ const READS = new Set([0xE8, 0xE9, 0xEB, 0xEC, 0xED, 0xEE, 0xEF]);
  * Returns whether an instruction is SRC.
  * @param {number} code
  */
-function isSource(code) {
+function isSrc(code) {
   return code >> 4 === 2 && code % 2 === 1;
 }
 
@@ -29,7 +29,7 @@ function isSource(code) {
  * @param {number} code
  */
 export function usesSelected(code) {
-  return code >> 4 === 0xE || isSource(code);
+  return code >> 4 === 0xE || isSrc(code);
 }
 
 /** The selection by SRC, and the instructions that have used it. */
@@ -68,7 +68,7 @@ export class Selected {
    * @param {string[]} values the values of src, dcl and ret after the instruction
    */
   follow(code, address, [source, bank]) {
-    if (isSource(code)) {
+    if (isSrc(code)) {
       this.kept.set(numberOf(bank), parseInt(source, 16));
       this.source = address;
       this.users.clear();

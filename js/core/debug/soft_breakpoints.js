@@ -30,7 +30,7 @@ export function isSoft({ condition, from, note }) {
  * @param {Names} names
  * @returns {{ note: Note, fault: "", column: -1 } | { note: null, fault: string, column: number }}
  */
-function partOf(text, names) {
+function compileBraces(text, names) {
   const lamp = names.face.lampNumbers.get(text.trim());
   const place = placeOf(lamp === undefined ? text : `lamp ${lamp}`);
   const probes = place ? place.probesOn(names.board) : [];
@@ -58,7 +58,7 @@ export function noteOf(text, names) {
     begin += part.length;
     const found = /^\{(.*)\}$/.exec(part);
     if (!found) return () => part;
-    const { note, fault: wrong, column } = partOf(found[1], names);
+    const { note, fault: wrong, column } = compileBraces(found[1], names);
     if (!note) {
       fault = fault || inColumn(say.noteAsks(part, wrong), at + 1 + column);
       return () => part;

@@ -23,11 +23,11 @@ import * as say from "../../words/debug.js";
  */
 
 /** The instructions that use a status character, with its number. */
-const STATUS = /^(?:RD|WR)([0-3])$/;
+const STATUS_INSTRUCTION = /^(?:RD|WR)([0-3])$/;
 /** The words in an instruction's description that show that it uses the accumulator or the carry. */
-const ACCUMULATOR = /\b(ACC|CY|carry|borrow)\b/;
+const ACCUMULATOR_WORD = /\b(ACC|CY|carry|borrow)\b/;
 /** The instructions that use a RAM character. */
-const CHARACTER = new Set(["WRM", "RDM", "ADM", "SBM"]);
+const CHARACTER_INSTRUCTIONS = new Set(["WRM", "RDM", "ADM", "SBM"]);
 
 /**
  * Joins pieces to one text.
@@ -78,7 +78,7 @@ function characterPieces(bank, byte, standing) {
  * @param {Standing} standing
  * @returns {Piece[]}
  */
-function selectedBy(byte, standing) {
+function selectionPieces(byte, standing) {
   const chip = byte >> 4;
   const rom = standing.romPort(chip) ? [say.romChip(chip)] : [];
   const hasRam = standing.sourceOf() !== undefined;
@@ -101,7 +101,7 @@ function registerPieces(word, { head }, standing) {
   const pieces = [`P${number} = ${byte}: R${2 * number} `, registerValue(2 * number, standing), `, R${2 * number + 1} `,
     registerValue(2 * number + 1, standing)];
   if (!head || head.text.toUpperCase() !== "SRC") return pieces;
-  return [...pieces, say.SELECTS, ...selectedBy(parseInt(byte, 16), standing)];
+  return [...pieces, say.SELECTS, ...selectionPieces(parseInt(byte, 16), standing)];
 }
 
 /**
@@ -118,14 +118,14 @@ function portPieces(name, standing) {
     return [port ? say.portOfRom(chip, port.out, port.in) : say.boardLacks(say.romChip(chip))];
   }
   const byte = standing.sourceOf();
-  const uses = CHARACTER.has(name) || name === "WMP" || STATUS.test(name);
+  const uses = CHARACTER_INSTRUCTIONS.has(name) || name === "WMP" || STATUS_INSTRUCTION.test(name);
   if (byte === undefined) return uses ? [say.bankWithoutRam(bank)] : [];
-  if (CHARACTER.has(name)) return characterPieces(bank, byte, standing);
+  if (CHARACTER_INSTRUCTIONS.has(name)) return characterPieces(bank, byte, standing);
   if (name === "WMP") {
     const out = standing.ramPort(bank, byte >> 6);
     return [say.portOfRam(bank, byte >> 6, out)];
   }
-  const status = STATUS.exec(name);
+  const status = STATUS_INSTRUCTION.exec(name);
   if (!status) return [];
   const words = say.statusAt(bank, byte >> 6, byte >> 4 & 3, status[1]);
   const value = standing.status(bank, byte >> 4, Number(status[1]));
@@ -145,7 +145,7 @@ function instructionPieces(name, does, parts, standing) {
   const [operand] = parts.operands;
   if (name === "SRC" && operand && PAIR.test(operand.text)) return registerPieces(operand.text, parts, standing);
   const pieces = portPieces(name, standing);
-  if (!ACCUMULATOR.test(does)) return pieces;
+  if (!ACCUMULATOR_WORD.test(does)) return pieces;
   /** @type {Piece[]} */
   const accumulator = ["acc ", machineValue("acc", "acc", standing), ", cy ", machineValue("cy", "cy", standing)];
   return pieces.length > 0 ? [...pieces, "; ", ...accumulator] : accumulator;
@@ -163,7 +163,7 @@ function numberPieces(written, value, { head }, standing) {
   if (!(value <= 255)) return [written];
   const binary = value.toString(2).padStart(value > 15 ? 8 : 4, "0").replace(/(....)(....)/, "$1 $2");
   if (!head || head.text.toUpperCase() !== "FIM") return [`${written}, ${binary}`];
-  return [say.bySource(written, binary), ...selectedBy(value, standing)];
+  return [say.bySource(written, binary), ...selectionPieces(value, standing)];
 }
 
 /**

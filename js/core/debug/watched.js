@@ -25,9 +25,9 @@ import * as say from "../../words/debug.js";
 
 /** The maximum number of watched expressions, and the maximum length of one. */
 export const MOST_WATCHED = 40;
-const LONGEST = 200;
+const MAX_LENGTH = 200;
 /** The largest number that is shown without its hexadecimal form. */
-const LAST_PLAIN = 9;
+const MAX_PLAIN = 9;
 
 /**
  * Returns the reader of a place that `poke` can set.
@@ -35,7 +35,7 @@ const LAST_PLAIN = 9;
  * @param {(standing: Standing) => string} value
  * @returns {Reader}
  */
-function cell(place, value) {
+function editableReader(place, value) {
   return (standing) => {
     const is = value(standing);
     return is === "" ? [say.LACKED] : [{ place, name: place, value: is }];
@@ -53,9 +53,9 @@ const REGISTERS = {
  * @returns {Reader | null}
  */
 function machineReader(place) {
-  if (Object.prototype.hasOwnProperty.call(REGISTERS, place)) return cell(place, REGISTERS[place]);
+  if (Object.prototype.hasOwnProperty.call(REGISTERS, place)) return editableReader(place, REGISTERS[place]);
   const register = /^r(\d+)$/.exec(place);
-  if (register) return cell(place, (standing) => standing.register(Number(register[1])));
+  if (register) return editableReader(place, (standing) => standing.register(Number(register[1])));
   const pair = /^p(\d)$/.exec(place);
   if (!pair) return null;
   const halves = [0, 1].map((half) => 2 * Number(pair[1]) + half);
@@ -69,8 +69,8 @@ function machineReader(place) {
  */
 function memoryReader(place) {
   const [kind, bank, at, number] = place.split(".");
-  if (kind === "ram") return cell(place, (standing) => standing.character(Number(bank), Number(at)));
-  return kind === "st" ? cell(place, (standing) => standing.status(Number(bank), Number(at), Number(number))) : null;
+  if (kind === "ram") return editableReader(place, (standing) => standing.character(Number(bank), Number(at)));
+  return kind === "st" ? editableReader(place, (standing) => standing.status(Number(bank), Number(at), Number(number))) : null;
 }
 
 /**
@@ -118,7 +118,7 @@ function expressionReader(text) {
     const answers = expression.places.map((place) => answerAt(place, standing, names.board));
     const number = expression.number ? expression.number(answers) : 0;
     const value = expression.textOf(answers);
-    return [number > LAST_PLAIN && /^\d+$/.test(value) ? say.withHex(value, number.toString(16).toUpperCase()) : value];
+    return [number > MAX_PLAIN && /^\d+$/.test(value) ? say.withHex(value, number.toString(16).toUpperCase()) : value];
   };
 }
 
@@ -162,7 +162,7 @@ function faultOf(value, begin, names) {
  * @returns {{ watched: Watched | null, fault: string }}
  */
 export function readWatched(text, names = null) {
-  if (text.length > LONGEST) return { watched: null, fault: say.tooLong(LONGEST) };
+  if (text.length > MAX_LENGTH) return { watched: null, fault: say.tooLong(MAX_LENGTH) };
   const { name, value, column } = partsOfWatched(text);
   if (name !== "" && !NAME.test(name)) return { watched: null, fault: say.NAME_FORM };
   if (value === "") return { watched: null, fault: say.EXPRESSION_MISSING };
