@@ -89,7 +89,7 @@ function wire(sketch, name, target) {
   const { board, draft } = sketch;
   const line = boardLines(board).find((each) => each.name === name);
   if (!line || !wiringOf(board).has(target)) throw new ActRefusal(say.boardHasNo(line ? target : name));
-  if (!mayWire(board, line, target)) throw new ActRefusal(whyNot(line, target));
+  if (!mayWire(board, line, target)) throw new ActRefusal(wireRefusal(line, target));
   const [kind, number] = readTarget(target);
   if (kind === "clock" || kind === "data") sketch.edit([setValue(draft, draft.entry("chain", number), kind, name)]);
   if (kind === "lamp") sketch.edit([setValue(draft, draft.entry("lamp", number), "line", name)]);
@@ -110,7 +110,7 @@ function wire(sketch, name, target) {
  * @param {import("../bench/board_form.js").BoardLine} line
  * @param {string} target
  */
-function whyNot({ name, kind, isInput }, target) {
+function wireRefusal({ name, kind, isInput }, target) {
   const [what] = readTarget(target);
   if (what === "column") return say.needsInput(name, nameOfTarget(target));
   if (isInput) return say.needsOutput(name, nameOfTarget(target));
@@ -177,7 +177,7 @@ function renameLamp(sketch, lamp, name) {
  * @param {string} part
  * @param {string} name
  */
-function rename(sketch, part, name) {
+function renamePart(sketch, part, name) {
   const { draft, text, board } = sketch;
   const [kind, number] = readTarget(part);
   if (kind === "lamp") renameLamp(sketch, number, name);
@@ -259,7 +259,7 @@ function perform(sketch, act) {
       return ["", `${doneTo(act.part, "deleted")}${words && say.andWithIt(words)}`];
     }
     case "name":
-      rename(sketch, act.part, act.name);
+      renamePart(sketch, act.part, act.name);
       return [act.part, say.named(capital(nameOfPart(act.part)), act.name.trim())];
     case "colour":
       setColour(sketch, act.lamp, act.colour);

@@ -98,7 +98,7 @@ export function needRom(sketch) {
  * @param {(board: Board) => string[]} find returns the suitable free lines
  * @param {() => string} add adds a part with such lines
  */
-function need(sketch, count, find, add) {
+function needLines(sketch, count, find, add) {
   while (find(sketch.board).length < count) alsoAdd(sketch, add);
   return find(sketch.board).slice(0, count);
 }
@@ -136,7 +136,7 @@ function freeForLamps(board) {
 export function addChain(sketch, chips = 1) {
   const at = sketch.board.chains.length;
   if (at >= MAX_PARTS.chain) throw new ActRefusal(say.mostChains(MAX_PARTS.chain));
-  const [clock, data] = need(sketch, 2, freeOutputs, () => addRom(sketch, OUTPUTS));
+  const [clock, data] = needLines(sketch, 2, freeOutputs, () => addRom(sketch, OUTPUTS));
   sketch.edit(addPart(sketch.draft, "chain", { clock, data, chips }));
   return `chain ${at}`;
 }
@@ -206,7 +206,7 @@ export function addColumn(sketch) {
   const { matrix } = sketch.board;
   if (!matrix) throw new ActRefusal(say.NO_KEYS);
   if (matrix.columns.length >= MAX_COLUMNS) throw new ActRefusal(say.mostColumns(MAX_COLUMNS));
-  const [line] = need(sketch, 1, freeInputs, () => addRom(sketch, INPUTS));
+  const [line] = needLines(sketch, 1, freeInputs, () => addRom(sketch, INPUTS));
   const { draft } = sketch;
   sketch.edit(appendElement(draft, draft.keyOf(draft.entry("keys", 0), "columns").value, written(line)));
   return "keys";
@@ -243,7 +243,7 @@ export function addLamp(sketch, line = "", colour = "") {
   const hasRam = sketch.board.banks.length > 0;
   // The first lamp of a board without RAM gets a RAM chip, so that all lamps can be at one port.
   if (!line && !hasRam && at === 0) alsoAdd(sketch, () => addRam(sketch));
-  putLamps(sketch, [line || need(sketch, 1, freeForLamps, () => addRam(sketch))[0]]);
+  putLamps(sketch, [line || needLines(sketch, 1, freeForLamps, () => addRam(sketch))[0]]);
   if (colour) sketch.edit(colourLamp(sketch.draft, at, colour));
   return `lamp ${at}`;
 }
@@ -256,7 +256,7 @@ export function addLamp(sketch, line = "", colour = "") {
 export function addBuzzer(sketch, line = "") {
   if (new Face(sketch.text).buzzer) throw new ActRefusal(say.ONE_BUZZER);
   needRom(sketch);
-  const output = line || need(sketch, 1, freeOutputs, () => addRam(sketch))[0];
+  const output = line || needLines(sketch, 1, freeOutputs, () => addRam(sketch))[0];
   sketch.edit(setWhole(sketch.draft, "buzzer", output, "buzzer"));
   return BUZZER;
 }
@@ -296,7 +296,7 @@ export function addScanned(sketch, digits) {
   const at = sketch.board.lamps.length;
   /** @type {(board: Board) => string[]} */
   const find = (board) => freeForLamps(board).filter((line) => line.startsWith("ram"));
-  putLamps(sketch, need(sketch, count, find, () => addRam(sketch)));
+  putLamps(sketch, needLines(sketch, count, find, () => addRam(sketch)));
   // (These words are a comment in a board's text, in the syntax of tools/lib/face.txt.)
   // eslint-disable-next-line no-restricted-syntax
   const words = `${counted(digits, "digit")} of 7 segments scanned by ${at + LINES_OF_DIGIT.segments}`;

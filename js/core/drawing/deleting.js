@@ -21,7 +21,7 @@ import * as say from "../../words/drawing.js";
  */
 
 /** @returns {Gone} no parts */
-function nothing() {
+function noParts() {
   return { roms: new Set(), rams: new Set(), chains: new Set(), keys: false, columns: new Set(), lamps: new Set() };
 }
 
@@ -62,7 +62,7 @@ export function displayAt(face, lamp) {
  * @param {Face} face
  * @param {Gone} gone
  */
-function spread(board, face, gone) {
+function addDependents(board, face, gone) {
   board.chains.forEach(({ clock, data }, at) => {
     if (isLineGone(gone, clock) || isLineGone(gone, data)) gone.chains.add(at);
   });
@@ -88,7 +88,7 @@ function removeAll(sketch, gone) {
   const { matrix } = sketch.board;
   if (gone.lamps.size > 0) removeLamps(sketch, gone.lamps);
   if (gone.keys && matrix) removeKeys(sketch);
-  else if (gone.columns.size > 0) takeColumns(sketch, gone.columns);
+  else if (gone.columns.size > 0) removeKeyColumns(sketch, gone.columns);
   for (const chain of descending(gone.chains)) removeChain(sketch, chain);
   sketch.goneChains.push(...gone.chains);
   for (const rom of gone.roms) removeRom(sketch, rom);
@@ -127,7 +127,7 @@ function removeKeys(sketch) {
  * @param {Sketch} sketch
  * @param {Set<number>} columns
  */
-function takeColumns(sketch, columns) {
+function removeKeyColumns(sketch, columns) {
   sketch.edit(removeColumns(sketch.draft, columns));
   for (const column of descending(columns)) {
     const { draft } = sketch;
@@ -185,7 +185,7 @@ function removeRam(sketch, ram) {
  * @param {Gone} gone
  * @param {string} part
  */
-function mark(board, gone, part) {
+function addDeleted(board, gone, part) {
   const [kind, number] = readTarget(part);
   if (kind === "rom") gone.roms.add(number);
   else if (kind === "chain") gone.chains.add(number);
@@ -193,15 +193,15 @@ function mark(board, gone, part) {
   else if (kind === "column") gone.columns.add(number);
   else if (kind === "keys") gone.keys = true;
   else if (kind === "lamps") board.lamps.forEach((_, at) => gone.lamps.add(at));
-  else if (kind === "ram") markRam(board, gone, part.slice(4));
-  else throw new ActRefusal(whyItStays(part));
+  else if (kind === "ram") addDeletedRam(board, gone, part.slice(4));
+  else throw new ActRefusal(deletionRefusal(part));
 }
 
 /**
  * Returns the message for a part or pin that cannot be deleted.
  * @param {string} part
  */
-function whyItStays(part) {
+function deletionRefusal(part) {
   if (part === "processor" || part === "TEST") return say.PROCESSOR_STAYS;
   if (/^(clock|data)/.test(part)) return say.CHAIN_NEEDS_LINES;
   return say.LINE_STAYS;
@@ -213,7 +213,7 @@ function whyItStays(part) {
  * @param {Gone} gone
  * @param {string} ram `bank.chip`
  */
-function markRam({ banks }, gone, ram) {
+function addDeletedRam({ banks }, gone, ram) {
   const [bank, chip] = ram.split(".").map(Number);
   const { chips } = banks.find((each) => each.bank === bank) || { chips: 0 };
   if (chip !== chips - 1) throw new ActRefusal(say.deleteChipFirst(bank, chips - 1));
@@ -237,11 +237,11 @@ export function deletePart(sketch, part) {
     return "";
   }
   if (part.startsWith("row ")) return deleteRow(sketch, Number(part.slice(4)));
-  const gone = nothing();
-  mark(board, gone, part);
+  const gone = noParts();
+  addDeleted(board, gone, part);
   // Chains depend on ROMs and RAM; keys and lamps depend on chains. Two passes are enough.
   const face = new Face(sketch.text);
-  for (let times = 0; times < 2; times++) spread(board, face, gone);
+  for (let times = 0; times < 2; times++) addDependents(board, face, gone);
   const words = wordsOfGone(board, gone, part);
   removeAll(sketch, gone);
   return words;

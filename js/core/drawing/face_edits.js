@@ -12,13 +12,15 @@ import { addFaceLine, faceLines, numberOfLine, removeFaceLine, removeWords, setW
 
 export { COLOURS };
 /** The kinds of lines that begin with the number of a row. */
-const OF_ROWS = ["row", "grid"];
+const ROW_KINDS = ["row", "grid"];
 /** The kinds of lines that begin with the number of a lamp. */
-const OF_LAMPS = new Set([...KINDS].filter(([name, { head }]) => head.startsWith("N") && !OF_ROWS.includes(name)).map(([name]) => name));
+const LAMP_KINDS = new Set(
+  [...KINDS].filter(([name, { head }]) => head.startsWith("N") && !ROW_KINDS.includes(name)).map(([name]) => name),
+);
 /** The kinds of lines that begin with a port or a line of a port. */
-const OF_PORTS = ["port", "buzzer", "printer"];
+const PORT_KINDS = ["port", "buzzer", "printer"];
 /** The word in a list for a part without a name or colour. */
-const NONE = "_";
+const NO_WORD = "_";
 
 /**
  * Returns a name as one word, with underscores for blanks.
@@ -42,8 +44,8 @@ function setInList(draft, kind, lamp, text) {
   const own = lists.find((line) => numberOfLine(line) <= lamp && lamp < numberOfLine(line) + line.words.length);
   if (own) {
     const others = own.words.filter((_, at) => numberOfLine(own) + at !== lamp);
-    if (text === "" && others.every((word) => word.text === NONE)) return [removeFaceLine(draft, own)];
-    return setWord(own.words[lamp - numberOfLine(own)], text || NONE);
+    if (text === "" && others.every((word) => word.text === NO_WORD)) return [removeFaceLine(draft, own)];
+    return setWord(own.words[lamp - numberOfLine(own)], text || NO_WORD);
   }
   if (text === "") return [];
   const before = lists.find((line) => numberOfLine(line) + line.words.length === lamp);
@@ -63,7 +65,7 @@ export function nameLamp(draft, lamp, name) {
   const own = lines.find((line) => line.kind === "lamp" && numberOfLine(line) <= lamp && lamp < numberOfLine(line) + line.words.length);
   const old = own && own.words[lamp - numberOfLine(own)].text;
   const onGrid = lines.filter(({ kind }) => kind === "grid").flatMap(({ words }) => words)
-    .filter(({ text }) => text === old && text !== NONE);
+    .filter(({ text }) => text === old && text !== NO_WORD);
   return [...setInList(draft, "lamp", lamp, word), ...onGrid.flatMap((each) => setWord(each, word || String(lamp)))];
 }
 
@@ -79,10 +81,11 @@ export function colourLamp(draft, lamp, colour) {
     && lamp <= Number(line.last.text));
   if (!range || !range.first || !range.last) return setInList(draft, "colour", lamp, colour);
   const first = numberOfLine(range);
-  const [old = { text: NONE }] = range.words;
-  const words = Array.from({ length: Number(range.last.text) - first + 1 }, (_, at) => (first + at === lamp ? colour || NONE : old.text));
+  const [old = { text: NO_WORD }] = range.words;
+  const count = Number(range.last.text) - first + 1;
+  const words = Array.from({ length: count }, (_, at) => (first + at === lamp ? colour || NO_WORD : old.text));
   const areAlike = words.every((word) => word === words[0]);
-  if (areAlike) return words[0] === NONE ? [removeFaceLine(draft, range)] : setWord(range.words[0], words[0]);
+  if (areAlike) return words[0] === NO_WORD ? [removeFaceLine(draft, range)] : setWord(range.words[0], words[0]);
   return [{ from: range.first.to, to: range.end, insert: `: ${words.join(" ")}` }];
 }
 
@@ -94,7 +97,7 @@ export function colourLamp(draft, lamp, colour) {
  * @returns {TextEdit[]}
  */
 export function nameKey(draft, { row, column }, name) {
-  const word = wordOf(name) || NONE;
+  const word = wordOf(name) || NO_WORD;
   const line = faceLines(draft).find((each) => each.kind === "row" && numberOfLine(each) === row);
   const count = line ? line.words.length : 0;
   if (line && column < count) return setWord(line.words[column], word);
@@ -152,7 +155,7 @@ export function renumberLamps(draft, gone) {
   const numberOf = (lamp) => lamp - [...gone].filter((each) => each < lamp).length;
   return faceLines(draft).flatMap((line) => {
     if (line.kind === "grid") return renumberGrid(draft, line, gone, numberOf);
-    if (!OF_LAMPS.has(line.kind) || !line.first || Number.isNaN(numberOfLine(line))) return [];
+    if (!LAMP_KINDS.has(line.kind) || !line.first || Number.isNaN(numberOfLine(line))) return [];
     if (line.last) return renumberRange(draft, line, gone, numberOf);
     return renumberList(draft, line, gone, numberOf);
   });
@@ -208,11 +211,11 @@ function renumberGrid(draft, line, gone, numberOf) {
     .flatMap((list) => list.words.map(({ text }, at) => /** @type {[string, number]} */ ([text, numberOfLine(list) + at]))));
   const texts = line.words.map(({ text }) => {
     const named = names.get(text);
-    if (named !== undefined) return gone.has(named) ? NONE : text;
+    if (named !== undefined) return gone.has(named) ? NO_WORD : text;
     if (!/^\d+$/.test(text)) return text;
-    return gone.has(Number(text)) ? NONE : String(numberOf(Number(text)));
+    return gone.has(Number(text)) ? NO_WORD : String(numberOf(Number(text)));
   });
-  if (texts.every((text) => text === NONE)) return [removeFaceLine(draft, line)];
+  if (texts.every((text) => text === NO_WORD)) return [removeFaceLine(draft, line)];
   return line.words.flatMap((word, at) => setWord(word, texts[at]));
 }
 
@@ -224,7 +227,7 @@ function renumberGrid(draft, line, gone, numberOf) {
  */
 export function renamePorts(draft, newPortOf) {
   return faceLines(draft).flatMap((line) => {
-    if (!line.first || !OF_PORTS.includes(line.kind)) return [];
+    if (!line.first || !PORT_KINDS.includes(line.kind)) return [];
     // A printer line has two: the line of its strobe, and the port of its code.
     const words = [line.first, ...(line.kind === "printer" ? line.words.slice(0, 1) : [])];
     const renamed = words.map(({ text }, at) => renamedPort(text, line.kind !== "port" && at === 0, newPortOf));

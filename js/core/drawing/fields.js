@@ -43,7 +43,7 @@ function text(label, value, act) {
  * @param {(value: string) => Act} act
  * @returns {Field}
  */
-function choice(label, value, options, act) {
+function choiceField(label, value, options, act) {
   return { label, value, options: options.map((each) => (typeof each === "string" ? { value: each, words: each } : each)), act };
 }
 
@@ -63,7 +63,7 @@ function numbers({ from, to }) {
  */
 function lineField(board, target, label = nameOfTarget(target)) {
   const now = wiringOf(board).get(target) || "";
-  return choice(say.lineOf(label), now, sourcesOf(board, target), (line) => ({ kind: "wire", line, target }));
+  return choiceField(say.lineOf(label), now, sourcesOf(board, target), (line) => ({ kind: "wire", line, target }));
 }
 
 /**
@@ -85,11 +85,11 @@ function portField(face, part) {
 function directionField(line, port) {
   const at = Number(line.split(".")[1]);
   const options = say.DIRECTIONS.map(([value, words]) => ({ value, words }));
-  return choice(say.lineIsA(at), port[3 - at], options, (as) => ({ kind: "port", line, as }));
+  return choiceField(say.lineIsA(at), port[3 - at], options, (as) => ({ kind: "port", line, as }));
 }
 
 /** @type {(part: string) => Button} returns the button that copies a part */
-const copyOf = (part) => ({ word: say.COPY, act: { kind: "copy", part } });
+const copyButton = (part) => ({ word: say.COPY, act: { kind: "copy", part } });
 /** @type {(part: string, word?: string) => Button} returns the button that deletes a part */
 const deletionOf = (part, word = say.DELETE) => ({ word, act: { kind: "delete", part } });
 
@@ -100,13 +100,13 @@ const deletionOf = (part, word = say.DELETE) => ({ word, act: { kind: "delete", 
  * @param {string} part
  * @returns {Fields}
  */
-function ofRom(board, face, part) {
+function romFields(board, face, part) {
   const chip = readTarget(part)[1];
   const rom = board.roms.find((each) => Number(each.chip) === chip);
   const port = rom ? rom.port : "0000";
   const lines = upTo(4).map((at) => directionField(`rom${chip}.${at}`, port));
   const fields = [portField(face, part), ...lines];
-  return { title: say.romWithPort(chip), part, fields, buttons: [copyOf(part), deletionOf(part)] };
+  return { title: say.romWithPort(chip), part, fields, buttons: [copyButton(part), deletionOf(part)] };
 }
 
 /**
@@ -116,13 +116,13 @@ function ofRom(board, face, part) {
  * @param {string} part
  * @returns {Fields}
  */
-function ofChain(board, face, part) {
+function chainFields(board, face, part) {
   const at = readTarget(part)[1];
-  const chips = choice("chips", String(board.chains[at].chips), numbers(RANGES["chain.chips"]), (value) => (
+  const chips = choiceField("chips", String(board.chains[at].chips), numbers(RANGES["chain.chips"]), (value) => (
     { kind: "chips", chain: at, chips: Number(value) }));
   const lines = [lineField(board, `clock ${at}`, "clock"), lineField(board, `data ${at}`, "data")];
   const fields = [portField(face, part), ...lines, chips];
-  return { title: say.chainOf(at), part, fields, buttons: [copyOf(part), deletionOf(part)] };
+  return { title: say.chainOf(at), part, fields, buttons: [copyButton(part), deletionOf(part)] };
 }
 
 /**
@@ -131,8 +131,8 @@ function ofChain(board, face, part) {
  * @param {Face} face
  * @returns {Fields}
  */
-function ofKeys(board, face) {
-  const rows = choice("rows", String(board.rows), numbers(RANGES["keys.rows"]), (value) => ({ kind: "rows", rows: Number(value) }));
+function keysFields(board, face) {
+  const rows = choiceField("rows", String(board.rows), numbers(RANGES["keys.rows"]), (value) => ({ kind: "rows", rows: Number(value) }));
   const columns = upTo(board.columns).map((at) => lineField(board, `column ${at}`, `column ${at}`));
   const names = upTo(board.rows).flatMap((row) => upTo(board.columns).map((column) => {
     const faceText = face.keys.get(`${row} ${column}`);
@@ -150,7 +150,7 @@ function ofKeys(board, face) {
  * @param {number} lamp
  * @returns {Fields}
  */
-function ofLamp(board, face, lamp) {
+function lampFields(board, face, lamp) {
   const part = `lamp ${lamp}`;
   const all = lampsWith(face, lamp);
   const isOne = all.length === 1;
@@ -158,11 +158,11 @@ function ofLamp(board, face, lamp) {
   const [name, colour] = [face.lamps.get(lamp), face.colours.get(all[0])];
   const fields = [
     text("name", name ? name.text : "", (value) => ({ kind: "name", part, name: value })),
-    choice("colour", colour ? colour.text : "red", [...COLOURS], (value) => ({ kind: "colour", lamp: all[0], colour: value })),
+    choiceField("colour", colour ? colour.text : "red", [...COLOURS], (value) => ({ kind: "colour", lamp: all[0], colour: value })),
     lineField(board, part, "lamp"),
   ];
-  const copies = displayAt(face, all[0]) ? [{ ...copyOf(`lamp ${all[0]}`), word: say.COPY_DISPLAY }] : [];
-  const buttons = isOne ? [copyOf(part), deletionOf(part)] : [...copies, deletionOf(part, say.deleteLamps(all.length))];
+  const copies = displayAt(face, all[0]) ? [{ ...copyButton(`lamp ${all[0]}`), word: say.COPY_DISPLAY }] : [];
+  const buttons = isOne ? [copyButton(part), deletionOf(part)] : [...copies, deletionOf(part, say.deleteLamps(all.length))];
   return { title: say.lampTitle(lamp), part, fields, buttons };
 }
 
@@ -172,7 +172,7 @@ function ofLamp(board, face, lamp) {
  * @param {Face} face
  * @returns {Fields}
  */
-function ofBuzzer(board, { buzzer }) {
+function buzzerFields(board, { buzzer }) {
   const name = text("name", buzzer ? buzzer.name : "", (value) => ({ kind: "name", part: "buzzer", name: value }));
   const fields = [name, lineField(board, BUZZER, "buzzer")];
   return { title: say.THE_BUZZER_TITLE, part: "buzzer", fields, buttons: [deletionOf("buzzer")] };
@@ -184,9 +184,9 @@ function ofBuzzer(board, { buzzer }) {
  * @param {string} part
  * @returns {Fields}
  */
-function ofRam(face, part) {
+function ramFields(face, part) {
   const title = say.ramWithPort(part.slice(4));
-  return { title, part: part.split(".")[0], fields: [portField(face, part)], buttons: [copyOf(part), deletionOf(part)] };
+  return { title, part: part.split(".")[0], fields: [portField(face, part)], buttons: [copyButton(part), deletionOf(part)] };
 }
 
 /**
@@ -195,7 +195,7 @@ function ofRam(face, part) {
  * @param {string} name
  * @returns {Fields}
  */
-function ofLine(board, name) {
+function lineFields(board, name) {
   const line = boardLines(board).find((each) => each.name === name);
   const rom = line && line.kind === "rom" ? board.roms.find(({ chip }) => name.startsWith(`rom${chip}.`)) : null;
   const isInput = line !== undefined && line.isInput;
@@ -213,7 +213,7 @@ function ofLine(board, name) {
  * @param {string} target
  * @returns {Fields}
  */
-function ofTarget(board, target) {
+function targetFields(board, target) {
   const [kind, number] = readTarget(target);
   const canGo = kind === "column" || (kind === "row" && number === board.rows - 1 && number > 0);
   const name = nameOfTarget(target);
@@ -231,19 +231,19 @@ function ofTarget(board, target) {
  */
 export function fieldsOf(board, face, chosen) {
   const [kind, number] = readTarget(chosen);
-  if (kind === "rom") return ofRom(board, face, chosen);
-  if (kind === "chain") return ofChain(board, face, chosen);
-  if (kind === "keys") return ofKeys(board, face);
-  if (kind === "lamp") return ofLamp(board, face, number);
-  if (kind === "ram") return ofRam(face, chosen);
-  if (kind === "buzzer" && board.buzzer) return ofBuzzer(board, face);
+  if (kind === "rom") return romFields(board, face, chosen);
+  if (kind === "chain") return chainFields(board, face, chosen);
+  if (kind === "keys") return keysFields(board, face);
+  if (kind === "lamp") return lampFields(board, face, number);
+  if (kind === "ram") return ramFields(face, chosen);
+  if (kind === "buzzer" && board.buzzer) return buzzerFields(board, face);
   if (kind === "lamps") return { title: say.ALL_LAMPS, part: "lamp 0", fields: [], buttons: [deletionOf("lamps", say.DELETE_ALL_LAMPS)] };
   if (kind === "test" && face.test) {
     const name = text("name", face.test.name, (value) => ({ kind: "name", part: "test", name: value }));
     return { title: say.atTest(face.test.kind), part: "test", fields: [name], buttons: [deletionOf("test")] };
   }
-  if (wiringOf(board).has(chosen)) return ofTarget(board, chosen);
-  if (chosen.includes(".")) return ofLine(board, chosen);
+  if (wiringOf(board).has(chosen)) return targetFields(board, chosen);
+  if (chosen.includes(".")) return lineFields(board, chosen);
   const title = text("title", face.title, (name) => ({ kind: "name", part: "title", name }));
   return { title: say.BOARD_TITLE, part: "", fields: [title], buttons: [] };
 }

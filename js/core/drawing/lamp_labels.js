@@ -7,9 +7,9 @@ import * as say from "../../words/drawing.js";
 /** @typedef {import("../board/face.js").Face} Face */
 
 /** The labels of a BCD digit's lamps, and of seven segments. */
-const OF_NUMBER = ["8", "4", "2", "1"];
-const SEGMENTS = ["a", "b", "c", "d", "e", "f", "g"];
-const POINT = "point";
+const BCD_LABELS = ["8", "4", "2", "1"];
+const SEGMENT_LABELS = ["a", "b", "c", "d", "e", "f", "g"];
+const POINT_LABEL = "point";
 
 /**
  * Returns the label of each lamp; "" for a lamp without a label.
@@ -34,7 +34,7 @@ export function lampLabels(face, count) {
  */
 function labelsOf(group) {
   const { rows, columns } = group;
-  const lamps = [...(columns < SEGMENTS.length ? OF_NUMBER : SEGMENTS), POINT].slice(0, columns);
+  const lamps = [...(columns < SEGMENT_LABELS.length ? BCD_LABELS : SEGMENT_LABELS), POINT_LABEL].slice(0, columns);
   if (isScanned(group)) return [...lamps.map((lamp) => say.allDigits(lamp)), ...upTo(rows).map((digit) => `digit ${digit}`)];
   return upTo(rows).flatMap((digit) => lamps.map((lamp) => `digit ${digit}: ${lamp}`));
 }

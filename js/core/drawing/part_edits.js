@@ -15,7 +15,7 @@ import { KEYS } from "../bench/board_form.js";
  */
 
 /** The maximum length of an array's line after an element is added; a longer array continues on the next line. */
-const LONGEST_LINE = 100;
+const MAX_LINE_LENGTH = 100;
 const INDENT = "    ";
 
 /**
@@ -93,7 +93,7 @@ function atEnd({ text, lines }, gap, block) {
  * @param {number} from
  * @param {number} to
  */
-function around(draft, from, to) {
+function tokensAround(draft, from, to) {
   const words = tomlWords(draft.lines).filter(({ kind }) => kind !== "end");
   /** @type {(word: TomlWord | undefined) => { text: string, from: number, to: number } | null} */
   const withOffsets = (word) => (word
@@ -119,9 +119,9 @@ export function appendElement(draft, array, element) {
   const line = draft.lines[last.end.line - 1];
   const before = inner[inner.length - 2];
   const hasOwnLine = before ? before.end.line < last.line : last.line > array.line;
-  const isShort = line.length + element.length + 2 <= LONGEST_LINE;
+  const isShort = line.length + element.length + 2 <= MAX_LINE_LENGTH;
   if (!hasOwnLine && isShort) return [{ from: at, to: at, insert: `, ${element}` }];
-  const { next } = around(draft, at, at);
+  const { next } = tokensAround(draft, at, at);
   const hasComma = next !== null && next.text === ",";
   const indent = last.line > array.line ? (/^[ \t]*/.exec(line) || [""])[0] : INDENT;
   // The end of the array continues after the new element.
@@ -154,7 +154,7 @@ export function removeLines({ lines, starts, text }, first, last) {
  * @param {number} to
  * @returns {TextEdit}
  */
-function removeStretch({ text }, from, to) {
+function removeRange({ text }, from, to) {
   const [before] = /** @type {RegExpExecArray} */ (/[ \t]*$/.exec(text.slice(0, from)));
   const [after] = /** @type {RegExpExecArray} */ (/^[ \t]*/.exec(text.slice(to)));
   const isFirst = from === before.length || text[from - before.length - 1] === "\n";
@@ -173,11 +173,11 @@ function removeStretch({ text }, from, to) {
 export function removeElement(draft, array, at) {
   const element = /** @type {Value[]} */ (array.inner)[at];
   const [from, to] = [draft.startOf(element), draft.endOf(element)];
-  const { before, next } = around(draft, from, to);
-  if (next && next.text === ",") return [removeStretch(draft, from, next.to)];
+  const { before, next } = tokensAround(draft, from, to);
+  if (next && next.text === ",") return [removeRange(draft, from, next.to)];
   if (!before || before.text !== ",") return [{ from, to, insert: "" }];
   if (!draft.text.slice(before.to, from).includes("\n")) return [{ from: before.from, to, insert: "" }];
-  return [removeStretch(draft, from, to), { from: before.from, to: before.to, insert: "" }];
+  return [removeRange(draft, from, to), { from: before.from, to: before.to, insert: "" }];
 }
 
 /**

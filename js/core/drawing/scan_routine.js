@@ -78,7 +78,7 @@ class Labels {
  * @param {Labels} labels
  * @returns {Line[]}
  */
-function toFirstRow(first, labels) {
+function shiftToFirstRow(first, labels) {
   if (first === 0) return [];
   const rounds = Math.ceil(first / TURNS);
   const [turn, shift] = [labels.of("first"), labels.of("shift")];
@@ -167,7 +167,7 @@ export function keyScanOf({ matrix, chains }, text) {
   const lines = [
     [scan, ["LDM", "0"]], ["", ["XCH", "R4"], say.FIRST_ROW],
     ["", ["LDM", String(TURNS - rows)]], ["", ["XCH", "R7"], say.counts(rows)],
-    ["", ["LDM", String(data.bit)]], ["", ["JMS", shift], say.ONE_ENTERS], ...toFirstRow(first, labels),
+    ["", ["LDM", String(data.bit)]], ["", ["JMS", shift], say.ONE_ENTERS], ...shiftToFirstRow(first, labels),
     ...readColumns(columns, labels).map((line, at) => /** @type {Line} */ (at === 0 ? [row, line[1], line[2]] : line)),
     ["", ["LDM", "0"]], ["", ["JMS", shift], say.NEXT_ROW], ["", ["INC", "R4"]], ["", ["ISZ", "R7,", row]], ["", ["BBL", "0"], say.NO_KEY],
     ...columns.flatMap((_, column) => /** @type {Line[]} */ ([
