@@ -6,7 +6,7 @@ import { makeCurrentSession, makeRecovery, makeRunning, makeServing } from "./co
 import { connectSound, makeDrawing, makePressing, makeScope, makeSnapshotView } from "./compose_board.js";
 import { makeBreakpoints, makeHeat, makeHistory, makeMistakes, makeTravel, makeValues, makeWatched } from "./compose_debug.js";
 import { lampNames } from "../core/board/face_board.js";
-import { isTextOf, keptWith, wiredOf } from "../core/board/wired_text.js";
+import { currentWiredText, isTextOf, textsToKeep } from "../core/board/wired_text.js";
 import { cellWords } from "../core/help/manual.js";
 import { Layout } from "./layout.js";
 import { LogView } from "./lines/log_view.js";
@@ -149,8 +149,9 @@ export class Page {
    */
   draw(record, board) {
     const { wiring } = this.editors;
-    const wired = wiring === null ? wiredOf(board, this.boardEditor.text, record.wired) : { text: wiring, board: board.join("\n") };
-    record.wired = keptWith(wired, record.wired);
+    const wired = wiring === null ? currentWiredText(board, this.boardEditor.text, record.wired)
+      : { text: wiring, board: board.join("\n") };
+    record.wired = textsToKeep(wired, record.wired);
     const { snapshotView } = this;
     this.current.takeTitle(titleOf(wired.text, this.programEditor.text) || (board.length > 1 ? say.MY_BOARD : ""));
     snapshotView.draw(board, wired.text);
@@ -171,7 +172,7 @@ export class Page {
     const { session } = this.current;
     const [wired] = (session && session.record.wired) || [];
     if (!session || !wired || !isTextOf(boardText, wired)) return;
-    session.record.wired = keptWith({ ...wired, text: boardText }, session.record.wired);
+    session.record.wired = textsToKeep({ ...wired, text: boardText }, session.record.wired);
     this.snapshotView.readFace(boardText);
     connectSound(this, boardText);
   }

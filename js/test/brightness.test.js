@@ -2,10 +2,10 @@
 import assert from "node:assert/strict";
 import { readFileSync } from "node:fs";
 import { test } from "node:test";
-import { Brightness, shineOf } from "../core/board/brightness.js";
+import { Brightness, brightnessOf } from "../core/board/brightness.js";
 import { matrixKey } from "../core/board/key_place.js";
 import { EYE_MS } from "../core/time/mcs4_time.js";
-import { numberOf } from "../core/board/digit_patterns.js";
+import { shownNumber } from "../core/board/digit_patterns.js";
 import { DisplayText } from "../core/board/display_text.js";
 import { Face } from "../core/board/face.js";
 import { SoundPieces, samplesOf } from "../core/board/sound_samples.js";
@@ -170,7 +170,7 @@ test("a lamp that flickers from now on is seen to 63 % after the persistence, an
   assert.ok(Math.abs(seen.lamps[0] - Math.exp(-1)) < 1e-9);
   seen.begin("*");
   assert.equal(seen.lamps[0], 1);
-  assert.deepEqual([0, 0.25, 1, 2].map(shineOf), [0, 0.53, 1, 1]);
+  assert.deepEqual([0, 0.25, 1, 2].map(brightnessOf), [0, 0.53, 1, 1]);
 });
 
 test("a lamp that stands still is full at once, and fades when it goes out; one that is lit for a moment is seen, and is not lit", () => {
@@ -219,7 +219,7 @@ test("digits that are shifted in are shown at once when they stand, and nothing 
   const seen = new Brightness(new Face(example.board), 43);
   const pass = (cycles, key = null) => {
     seen.add(calls.advance(cycles, key).litShares, (FRAME_TIME * cycles) / FRAME);
-    return seen.patterns.map(numberOf).join(" ");
+    return seen.patterns.map(shownNumber).join(" ");
   };
   for (let frame = 0; frame < 60; frame++) pass(FRAME);
   let isAtOnce = 0;
@@ -248,7 +248,7 @@ test("a display that is refreshed in the main loop shows its number in each fram
   for (let frame = 0; frame < 150; frame++) {
     const { litShares, snapshot } = calls.advance(FRAME);
     seen.add(litShares, FRAME_TIME);
-    numbers.add(seen.patterns.map(numberOf).join(" "));
+    numbers.add(seen.patterns.map(shownNumber).join(" "));
     matches += Number(instants.read(/ lamps (\S+) /.exec(snapshot[0])[1]).number === "42");
   }
   assert.deepEqual([...numbers], ["42"]);

@@ -7,12 +7,12 @@ import { valueOfExpression } from "../core/adapter/expression_values.js";
 import { Console } from "../core/adapter/console.js";
 import { replaceNames } from "../core/bench/names_in_lines.js";
 import { conditionOf, expressionOf, testConditionOf, tracedConditionOf } from "../core/conditions/condition_language.js";
-import { LONGEST, MOST_DEPTH } from "../core/conditions/parser.js";
+import { MAX_DEPTH, MAX_LENGTH } from "../core/conditions/parser.js";
 import { readSetting } from "../core/conditions/setting.js";
 import { DebugSession } from "../core/debug/debug_session.js";
 import { goalOfText } from "../core/debug/becoming.js";
 import { noteOf, softBreakpointOf } from "../core/debug/soft_breakpoints.js";
-import { Standing } from "../core/debug/standing.js";
+import { MachineState } from "../core/debug/standing.js";
 import { textOf } from "../core/debug/value_words.js";
 import { namesOfWatched, readWatched } from "../core/debug/watched.js";
 import { readCampaign } from "../core/explore/campaign.js";
@@ -166,7 +166,7 @@ const USES = {
   Watch: (text) => {
     const { watched, fault } = readWatched(text, names);
     const look = ["state\n", "ram 0\n"].map((line) => session.debugger.session.ask(line).join("\n"));
-    return fault || textOf(watched.pieces(new Standing(look), names)) === "true";
+    return fault || textOf(watched.pieces(new MachineState(look), names)) === "true";
   },
   "mcs4 debug": async (text) => {
     known();
@@ -298,8 +298,8 @@ test("errors point at their column, and propose", () => {
     ["(r5 = 1) = 3", 9, "=: a condition ends before this; join two by and, or"],
     ["r5 = (cy = 1)", 5, "(cy = 1): this is a condition, but a value is needed"],
     ['display "3', 8, "the closing quotation mark is missing"], ["ret = 3", 0, "ret is not one number"],
-    [`${"(".repeat(MOST_DEPTH + 1)}r5 = 1`, MOST_DEPTH, "parentheses can be nested at most 30 deep"],
-    ["x".repeat(LONGEST + 1), LONGEST - 1, "a condition has at most 2000 characters"],
+    [`${"(".repeat(MAX_DEPTH + 1)}r5 = 1`, MAX_DEPTH, "parentheses can be nested at most 30 deep"],
+    ["x".repeat(MAX_LENGTH + 1), MAX_LENGTH - 1, "a condition has at most 2000 characters"],
   ]) {
     const read = conditionOf(text, names);
     assert.deepEqual([read.fault, read.column], [fault, column], text);

@@ -3,12 +3,12 @@ import assert from "node:assert/strict";
 import { test } from "node:test";
 import { readBoard } from "../core/bench/answers.js";
 import { Face, faceFaults } from "../core/board/face.js";
-import { linesOfPrinter, missingOf } from "../core/board/face_board.js";
-import { SHELF, actOn, isReadAlike } from "../core/drawing/acts.js";
+import { linesOfPrinter, missingParts } from "../core/board/face_board.js";
+import { SHELF, actOn, matchesBench } from "../core/drawing/acts.js";
 import { boardLines } from "../core/bench/board_form.js";
-import { mayWire, sourcesOf, targetsOf, wiringOf, withBuzzer } from "../core/drawing/board_lines.js";
+import { canWire, sourcesOf, targetsOf, wiringOf, withBuzzer } from "../core/drawing/board_lines.js";
 import { fieldsOf } from "../core/drawing/fields.js";
-import { edited, inverseOf } from "../core/drawing/text_edits.js";
+import { edited, inverseEdits } from "../core/drawing/text_edits.js";
 import { headOf } from "../core/board/face_words.js";
 import { sentText } from "../core/text/text_fault.js";
 import { Engine } from "../core/engine/engine.js";
@@ -89,12 +89,12 @@ function check(name, text, act, wanted) {
   assert.equal(done.refusal, "", said);
   const [first, after] = ask([text, done.text]);
   assert.match(after.first, /^ok/, `${said}\n${done.text}`);
-  assert.ok(isReadAlike(done.text, after.board), said);
+  assert.ok(matchesBench(done.text, after.board), said);
   if (wanted) assert.deepEqual(readBoard(after.board), wanted, said);
   assert.equal(edited(text, done.edits), done.text);
-  assert.equal(edited(done.text, inverseOf(text, done.edits)), text);
+  assert.equal(edited(done.text, inverseEdits(text, done.edits)), text);
   assert.ok(faceFaults(done.text).length <= faceFaults(text).length, said);
-  const faults = (boardText, board) => missingOf(new Face(boardText), board).length;
+  const faults = (boardText, board) => missingParts(new Face(boardText), board).length;
   assert.ok(faults(done.text, readBoard(after.board)) <= faults(text, readBoard(first.board)), `${said}\n${done.text}`);
   assert.match(done.words, /^[A-Z].*\.$/);
   return { ...done, board: readBoard(after.board) };
@@ -103,14 +103,14 @@ function check(name, text, act, wanted) {
 onBench("each board is read as the bench reads it", () => {
   ask(BOARDS.map(({ text }) => text)).forEach(({ first, board }, at) => {
     assert.match(first, /^ok/, BOARDS[at].name);
-    assert.ok(isReadAlike(BOARDS[at].text, board), BOARDS[at].name);
+    assert.ok(matchesBench(BOARDS[at].text, board), BOARDS[at].name);
   });
 });
 
 onBench("a text that is read otherwise is not edited", () => {
   for (const text of ['[[rom]]\n"chip" = 0\nport = "00\\u00300"\n', 'rom = [{ chip = 0, port = """0000""" }]\n']) {
     const [{ first, board }] = ask([text]);
-    assert.deepEqual([first, isReadAlike(text, board)], ["ok 1", false]);
+    assert.deepEqual([first, matchesBench(text, board)], ["ok 1", false]);
   }
   assert.match(actOn("[[rom\n", { kind: "add", part: "ram" }).refusal, /has errors/);
 });
@@ -313,7 +313,7 @@ onBench("what may be wired is what the bench takes, and all of it is offered", (
     const pairs = boardLines(board).flatMap((line) => [...wiringOf(board).keys()].map((target) => ({ line, target })));
     const answers = ask(pairs.map(({ line, target }) => textOf(wired(board, line.name, target))));
     pairs.forEach(({ line, target }, at) => {
-      assert.equal(mayWire(board, line, target), answers[at].first.startsWith("ok"),
+      assert.equal(canWire(board, line, target), answers[at].first.startsWith("ok"),
         `${name}: ${line.name} to ${target}: ${answers[at].first}`);
     });
   }
@@ -359,7 +359,7 @@ onBench("whatever is done one after the other, the bench takes the text, comment
       else {
         const next = check(`seed ${seed}`, text, act);
         assert.deepEqual(comments(next.text), comments(text), `seed ${seed}: ${JSON.stringify(act)}`);
-        back.unshift(...inverseOf(text, next.edits));
+        back.unshift(...inverseEdits(text, next.edits));
         ({ text } = next);
         done += 1;
       }

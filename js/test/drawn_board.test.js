@@ -10,7 +10,7 @@ import { titleOf } from "../core/session/session_summary.js";
 import { fieldsOf } from "../core/drawing/fields.js";
 import { lampLabels } from "../core/drawing/lamp_labels.js";
 import { MovedParts } from "../core/drawing/moved_parts.js";
-import { edited, inverseOf } from "../core/drawing/text_edits.js";
+import { edited, inverseEdits } from "../core/drawing/text_edits.js";
 import { Engine } from "../core/engine/engine.js";
 import { examplesOfPage, moduleOfPage } from "./page_session.js";
 
@@ -31,7 +31,7 @@ async function drawn(text = "") {
       return engine.ask(file, lines).answers;
     },
     edit: (edits) => {
-      desk.steps.push(inverseOf(desk.text, edits));
+      desk.steps.push(inverseEdits(desk.text, edits));
       desk.text = edited(desk.text, edits);
     },
     undo: () => {

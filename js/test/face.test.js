@@ -3,8 +3,8 @@ import { readFileSync } from "node:fs";
 import { test } from "node:test";
 import { readBoard } from "../core/bench/answers.js";
 import { DisplayText } from "../core/board/display_text.js";
-import { Face, faceFaults, moreThan } from "../core/board/face.js";
-import { missingOf } from "../core/board/face_board.js";
+import { Face, faceFaults, moreFaults } from "../core/board/face.js";
+import { missingParts } from "../core/board/face_board.js";
 
 /** The samples: comments of a board, and their meaning. */
 const sample = (name) => readFileSync(new URL(`../../checks/faces/${name}`, import.meta.url), "utf8");
@@ -40,7 +40,7 @@ for (const name of ["all", "faults", "many", "none", "printer", "scanned", "show
     const wanted = sample(`${name}.expected`).split("\n").filter(Boolean);
     const patterns = wanted.filter((line) => line.startsWith("shows ")).map((line) => line.split(" ")[1]);
     const face = new Face(text);
-    assert.deepEqual(wordsOf(face, [...faceFaults(text), ...missingOf(face, board)], patterns), wanted);
+    assert.deepEqual(wordsOf(face, [...faceFaults(text), ...missingParts(face, board)], patterns), wanted);
   });
 }
 
@@ -59,7 +59,7 @@ test("a face takes no more time than its text has letters", () => {
 });
 
 test("of many faults the first ones are reported", () => {
-  assert.deepEqual([moreThan([1, 2], 2), moreThan([1, 2], 1), moreThan(new Array(1020), 20)], ["", "And 1 more.", "And 1,000 more."]);
+  assert.deepEqual([moreFaults([1, 2], 2), moreFaults([1, 2], 1), moreFaults(new Array(1020), 20)], ["", "And 1 more.", "And 1,000 more."]);
 });
 
 /** Lamps of digits, four each, the highest bit first; `width` 5 has a point after each. */

@@ -2,7 +2,7 @@
 import assert from "node:assert/strict";
 import { test } from "node:test";
 import { readBoard } from "../core/bench/answers.js";
-import { isBelow, pathText, routeOf } from "../core/board/routes.js";
+import { isCovered, pathText, routeOf } from "../core/board/routes.js";
 import { drawBoard } from "../core/board/wiring.js";
 
 /** A board with as many chips, chains, keys and lamps as there can be. */
@@ -28,7 +28,7 @@ for (const [name, board] of Object.entries({ "a small board": SMALL, "the larges
     assert.ok(wires.length > 0);
     wires.forEach((wire, at) => {
       const route = routeOf(wire, parts, at);
-      for (const curve of route) for (const part of parts) assert.ok(!isBelow(curve, part), `${wire.line} below ${part.id}`);
+      for (const curve of route) for (const part of parts) assert.ok(!isCovered(curve, part), `${wire.line} below ${part.id}`);
       assert.deepEqual([route[0][0], route[route.length - 1][3]], [wire.from, wire.to]);
       for (let next = 1; next < route.length; next++) assert.deepEqual(route[next][0], route[next - 1][3]);
     });
@@ -57,7 +57,7 @@ test("where parts were dragged to and fro, with room between them, hardly a wire
       y += height + 24;
     });
     const { parts, wires } = drawBoard(SMALL, undefined, moved);
-    const isHidden = (route) => route.some((curve) => parts.some((part) => isBelow(curve, part)));
+    const isHidden = (route) => route.some((curve) => parts.some((part) => isCovered(curve, part)));
     wires.forEach((wire, at) => {
       below += Number(isHidden(routeOf(wire, parts, at)));
       wouldBe += Number(isHidden(routeOf(wire, [], at)));

@@ -4,7 +4,7 @@ import assert from "node:assert/strict";
 import { readFileSync } from "node:fs";
 import { test } from "node:test";
 import { Face } from "../core/board/face.js";
-import { linesOf } from "../core/board/strip.js";
+import { printoutLines } from "../core/board/strip.js";
 import { BenchCalls } from "../core/engine/bench_calls.js";
 import { moduleOfPage } from "./page_session.js";
 
@@ -44,12 +44,12 @@ async function press(strip, names, byLines = false) {
   }
 }
 
-const stripOf = ({ printed }) => linesOf(printed ? printed.codes.map(([, code]) => code) : [], printer.words).slice(0, -1);
+const stripOf = ({ printed }) => printoutLines(printed ? printed.codes.map(([, code]) => code) : [], printer.words).slice(0, -1);
 
 test("what is sent becomes lines", () => {
-  assert.deepEqual(linesOf([1, 2, 10, 15, 3], printer.words), ["12+", "3"]);
-  assert.deepEqual(linesOf([0, 1, 2], ["CE", "a_b"]), ["CEa b?"]);
-  assert.deepEqual(linesOf(Array.from({ length: 30 }, () => 7), printer.words), ["7".repeat(24), "7".repeat(6)]);
+  assert.deepEqual(printoutLines([1, 2, 10, 15, 3], printer.words), ["12+", "3"]);
+  assert.deepEqual(printoutLines([0, 1, 2], ["CE", "a_b"]), ["CEa b?"]);
+  assert.deepEqual(printoutLines(Array.from({ length: 30 }, () => 7), printer.words), ["7".repeat(24), "7".repeat(6)]);
 });
 
 test("what is keyed and what comes", async () => {

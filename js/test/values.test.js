@@ -5,9 +5,9 @@ import { readBoard } from "../core/bench/answers.js";
 import { Face } from "../core/board/face.js";
 import { DebugSession } from "../core/debug/debug_session.js";
 import { LineChanges } from "../core/debug/line_changes.js";
-import { Standing } from "../core/debug/standing.js";
+import { MachineState } from "../core/debug/standing.js";
 import { textOf, valuesAt } from "../core/debug/value_words.js";
-import { answerAt } from "../core/debug/standing_places.js";
+import { valueOfPlace } from "../core/debug/standing_places.js";
 import { namesOfWatched, readAllWatched, readWatched } from "../core/debug/watched.js";
 import { Engine } from "../core/engine/engine.js";
 import { Answers, valuesOf } from "../core/engine/tracing.js";
@@ -40,7 +40,7 @@ async function open(lines = POKES) {
 }
 
 function standingOf(session, banks = [0, 2]) {
-  return new Standing(["state", ...banks.map((bank) => `ram ${bank}`)].map((line) => session.ask(`${line}\n`).join("\n")));
+  return new MachineState(["state", ...banks.map((bank) => `ram ${bank}`)].map((line) => session.ask(`${line}\n`).join("\n")));
 }
 
 /** The names that expressions may have. */
@@ -158,7 +158,7 @@ keys = { chain = 0, first = 0, rows = 2, columns = ["rom1.0", "rom1.2"] }
     for (let from = 0; from < places.length; from += 16) {
       const some = places.slice(from, from + 16);
       const values = valuesOf(new Answers(session.ask(`trace 1 ${some.join(" ")}\n`)).takeTrace().row);
-      const answers = some.map((place) => `${place} ${answerAt(place, standing, board)}`);
+      const answers = some.map((place) => `${place} ${valueOfPlace(place, standing, board)}`);
       assert.deepEqual(answers, some.map((place, at) => `${place} ${values[at]}`));
     }
   }

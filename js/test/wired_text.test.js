@@ -1,7 +1,7 @@
 // The text whose face is shown is that of the board that is wired.
 import assert from "node:assert/strict";
 import { test } from "node:test";
-import { isTextOf, keptWith, wiredOf } from "../core/board/wired_text.js";
+import { currentWiredText, isTextOf, textsToKeep } from "../core/board/wired_text.js";
 
 const ROM = "[[rom]]\nchip = 0\nport = \"0000\"\n";
 const FACED = `# title: Mine\n${ROM}`;
@@ -11,7 +11,7 @@ const MINE = { text: FACED, board: ANSWERS.join("\n") };
 
 test("a text that was typed since is not that of the board that is wired", () => {
   for (const typed of [ROM.replace("chip = 0", "chip = 2"), `${ROM}[[lamp\n`, ""]) {
-    assert.deepEqual(wiredOf(ANSWERS, typed, [MINE]), MINE);
+    assert.deepEqual(currentWiredText(ANSWERS, typed, [MINE]), MINE);
     assert.equal(isTextOf(typed, MINE), false);
   }
 });
@@ -19,25 +19,25 @@ test("a text that was typed since is not that of the board that is wired", () =>
 test("a text with other comments is", () => {
   const renamed = FACED.replace("Mine", "Other");
   assert.equal(isTextOf(renamed, MINE), true);
-  assert.deepEqual(wiredOf(ANSWERS, renamed, [MINE]), { ...MINE, text: renamed });
+  assert.deepEqual(currentWiredText(ANSWERS, renamed, [MINE]), { ...MINE, text: renamed });
 });
 
 test("a text that is read otherwise here is known by what was wired", () => {
   const dotted = { text: "# title: Dotted\nx.y = 1\n", board: ANSWERS.join("\n") };
-  assert.deepEqual(wiredOf(ANSWERS, "", [dotted]), dotted);
+  assert.deepEqual(currentWiredText(ANSWERS, "", [dotted]), dotted);
   assert.equal(isTextOf("# title: Again\nx.y = 1\n", dotted), true);
   assert.equal(isTextOf("x.y = 2\n", dotted), false);
 });
 
 test("a board that was wired before has its text again, and one of unknown text has none", () => {
   const other = { text: "# title: Other\n", board: OTHER.join("\n") };
-  const kept = keptWith(other, keptWith(MINE));
+  const kept = textsToKeep(other, textsToKeep(MINE));
   assert.deepEqual(kept, [other, MINE]);
-  assert.deepEqual(wiredOf(ANSWERS, "", kept), MINE);
-  assert.deepEqual(wiredOf(["board"], ROM, kept), { text: "", board: "board" });
-  assert.deepEqual(keptWith({ ...MINE, text: ROM }, kept).map(({ text }) => text), [ROM, "# title: Other\n"]);
+  assert.deepEqual(currentWiredText(ANSWERS, "", kept), MINE);
+  assert.deepEqual(currentWiredText(["board"], ROM, kept), { text: "", board: "board" });
+  assert.deepEqual(textsToKeep({ ...MINE, text: ROM }, kept).map(({ text }) => text), [ROM, "# title: Other\n"]);
 });
 
 test("a session that has kept none has the face of its text", () => {
-  assert.deepEqual(wiredOf(ANSWERS, "# title: Old\n", undefined), { text: "# title: Old\n", board: ANSWERS.join("\n") });
+  assert.deepEqual(currentWiredText(ANSWERS, "# title: Old\n", undefined), { text: "# title: Old\n", board: ANSWERS.join("\n") });
 });

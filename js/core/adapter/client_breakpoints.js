@@ -4,11 +4,11 @@
 import { watchedPlaces } from "../bench/answers.js";
 import { LAST_ADDRESS } from "../bench/numbers.js";
 import { conditionOf } from "../conditions/condition_language.js";
-import { BreakpointList, MOST_BREAKPOINTS, MOST_ON, instructionOfAddress, instructionOfLine } from "../debug/breakpoints.js";
+import { BreakpointList, MAX_BREAKPOINTS, MOST_ON, instructionOfAddress, instructionOfLine } from "../debug/breakpoints.js";
 import { placeOf } from "../conditions/places.js";
 import { watchablePlace } from "../debug/data_watches.js";
 import { LARGEST_PIECE } from "../debug/debug_session.js";
-import { CYCLES_OF_CALL } from "../debug/common_mistakes.js";
+import { MAX_CYCLES_PER_CALL } from "../debug/common_mistakes.js";
 import { listOf, needNumber, needText, textOrNone, wordsOf } from "./dap_protocol.js";
 import * as say from "../../words/adapter.js";
 import { inColumn, noLabel } from "../../words/conditions.js";
@@ -196,7 +196,7 @@ export class ClientBreakpoints {
     const hits = new Map([...this.byId].map(([id, { address }]) => [address, (session.breakpoints.get(id) || { hits: 0 }).hits]));
     session.breakpoints = new BreakpointList();
     this.byId.clear();
-    for (const each of merged.slice(0, Math.min(MOST_ON, MOST_BREAKPOINTS))) {
+    for (const each of merged.slice(0, Math.min(MOST_ON, MAX_BREAKPOINTS))) {
       const { address, condition, from, note } = each;
       const added = session.breakpoints.add({ address, condition, from, note });
       added.hits = hits.get(address) || 0;
@@ -299,7 +299,7 @@ export class ClientBreakpoints {
       return fault ? { verified: false, message: stopsEachTime(inColumn(fault, column)) } : { verified: true };
     });
     // The debugger checks every instruction only in pieces of CYCLES_OF_CALL.
-    if (session.largestPiece >= CYCLES_OF_CALL) session.largestPiece = usual.stops.size > 0 ? CYCLES_OF_CALL : LARGEST_PIECE;
+    if (session.largestPiece >= MAX_CYCLES_PER_CALL) session.largestPiece = usual.stops.size > 0 ? MAX_CYCLES_PER_CALL : LARGEST_PIECE;
     return answers;
   }
 

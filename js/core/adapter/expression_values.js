@@ -3,7 +3,7 @@
 import { hex } from "../bench/numbers.js";
 import { expressionOf } from "../conditions/condition_language.js";
 import { placeOf } from "../conditions/places.js";
-import { Standing } from "../debug/standing.js";
+import { MachineState } from "../debug/standing.js";
 import { textOf, valuesAt } from "../debug/value_words.js";
 import { inBase, numberInBase } from "./number_format.js";
 import { AdapterError } from "./dap_protocol.js";
@@ -109,6 +109,6 @@ export function hoverOf(text, context) {
     return found && { ...found, words: session.map.meaningOf(name) };
   };
   const doesOf = (/** @type {string} */ word) => (instructions.get(word) || { does: "" }).does;
-  const pieces = valuesAt(trimmed, 0, new Standing(session.debugger.session.takeSnapshot()), { nameOf, doesOf });
+  const pieces = valuesAt(trimmed, 0, new MachineState(session.debugger.session.takeSnapshot()), { nameOf, doesOf });
   return pieces.length > 0 ? textOf(pieces) : doesOf(trimmed.toUpperCase()) || valueOfExpression(trimmed, context);
 }

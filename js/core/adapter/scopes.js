@@ -4,7 +4,7 @@ import { readBoard, readMarks } from "../bench/answers.js";
 import { hex, upTo } from "../bench/numbers.js";
 import { keysOf } from "../board/board_keys.js";
 import { KeysDown, textOfKey } from "../board/key_place.js";
-import { Standing, wordsOfCharacter } from "../debug/standing.js";
+import { MachineState, wordsOfCharacter } from "../debug/standing.js";
 import { numberOfPlace, referenceOf, referenceOfBank } from "./memory.js";
 import { inBase, numberInBase } from "./number_format.js";
 import { setPlace } from "./set_place.js";
@@ -27,7 +27,7 @@ import { sourceOfBank } from "../../words/debug.js";
  * @typedef {import("./number_format.js").Base} Base
  *
  * The state that the scopes show.
- * @typedef {{ standing: Standing, face: Face, session: DebugSession, board: import("../bench/answers.js").Board }} ShownState
+ * @typedef {{ standing: MachineState, face: Face, session: DebugSession, board: import("../bench/answers.js").Board }} ShownState
  */
 
 /** The references of the scopes. */
@@ -203,7 +203,7 @@ export class Scopes {
   get state() {
     const { session, face } = this;
     const bench = session.debugger.session;
-    return { standing: new Standing(bench.takeSnapshot()), face, session, board: readBoard(bench.statusQueries.board) };
+    return { standing: new MachineState(bench.takeSnapshot()), face, session, board: readBoard(bench.statusQueries.board) };
   }
 
   /** Returns the scopes that are not empty. */

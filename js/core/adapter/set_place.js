@@ -2,7 +2,7 @@
 
 import { refusalOf } from "../bench/answers.js";
 import { expressionOf } from "../conditions/condition_language.js";
-import { largestOf } from "../conditions/places.js";
+import { maxOf } from "../conditions/places.js";
 import { Unreadable } from "../conditions/scanner.js";
 import { linesOfSetting, settablePlace, settingOf } from "../conditions/setting.js";
 import { keyOfText, lineOfKey, textOfKey } from "../board/key_place.js";
@@ -44,7 +44,7 @@ function linesFor(place, text, session, begin = 0) {
     return `${lineOfKey(word === say.DOWN ? "press" : "release", key)}\n`;
   }
   const value = valueOf(text, session, begin);
-  if (value < 0 || value > largestOf(place)) throw new AdapterError(say.holds(place, largestOf(place)));
+  if (value < 0 || value > maxOf(place)) throw new AdapterError(say.holds(place, maxOf(place)));
   return linesOfSetting(place, value);
 }
 

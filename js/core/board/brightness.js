@@ -13,7 +13,7 @@ import { EYE_MS } from "../time/mcs4_time.js";
  */
 
 /** The duty cycle from which a flickering lamp counts as on. */
-export const SEEN_PART = 0.5;
+export const MIN_ON_DUTY = 0.5;
 /** The minimum milliseconds without a change before a lamp or a display can count as steady. */
 const MIN_REST = 2;
 /** The exponent from duty cycle to perceived brightness: the eye distinguishes dark lamps better than bright ones. */
@@ -29,7 +29,7 @@ const SEGMENTS = 8;
  * Returns the perceived brightness of a lamp, from 0 to 1, rounded to hundredths.
  * @param {number} part the duty cycle, from 0 to 1
  */
-export function shineOf(part) {
+export function brightnessOf(part) {
   return Math.round(100 * Math.min(1, part) ** (1 / GAMMA)) / 100;
 }
 
@@ -127,7 +127,7 @@ export class SeenDigit {
   /** True if the pattern with the largest share has less than half of the picture. */
   get isSmeared() {
     const all = [...this.parts.values()].reduce((sum, part) => sum + part, 0);
-    return this.longest.part < SEEN_PART * all;
+    return this.longest.part < MIN_ON_DUTY * all;
   }
 
   /** The pattern with the largest share, and that share. */
@@ -201,7 +201,7 @@ export class Brightness {
       const isLitNow = isLit(litShares.marks, at);
       // A lamp that goes off fades, so that a short flash stays visible.
       if (isStill && isLitNow) this.lamps[at] = 1;
-      this.isOn[at] = isStill ? isLitNow : this.lamps[at] >= SEEN_PART;
+      this.isOn[at] = isStill ? isLitNow : this.lamps[at] >= MIN_ON_DUTY;
     });
     this.scanned.forEach((parts, at) => this.fade(parts, litShares.scanned[at], cycles, kept));
     litShares.displays.forEach((shown, at) => {

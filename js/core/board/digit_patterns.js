@@ -11,18 +11,18 @@ export const NOT_LIT = -1;
 const LIT = "*".charCodeAt(0);
 
 /** @type {Map<number, string>} the character that each pattern of seven segments shows */
-const SIGNS = new Map([...SEGMENTS].map(([marks, sign]) => [segmentsAt(marks, 0), sign]));
+const CHARACTERS = new Map([...SEGMENTS].map(([marks, sign]) => [segmentsAt(marks, 0), sign]));
 /** The pattern for a BCD value above 9: segments a, b, e and g. */
-const NO_DIGIT = 1 + 2 + 16 + 64;
+const INVALID_DIGIT = 1 + 2 + 16 + 64;
 /** The patterns of the digits 0 to 9, in the shape of a 7447. */
 const DIGITS = [..."0123456789"].map(patternOf);
 
 /**
- * Returns the pattern that shows a digit, a minus or a blank; `NO_DIGIT` for any other character.
+ * Returns the pattern that shows a digit, a minus or a blank; `INVALID_DIGIT` for any other character.
  * @param {string} sign
  */
 export function patternOf(sign) {
-  const [[pattern] = [NO_DIGIT]] = [...SIGNS].filter(([, each]) => each === sign);
+  const [[pattern] = [INVALID_DIGIT]] = [...CHARACTERS].filter(([, each]) => each === sign);
   return pattern;
 }
 
@@ -81,7 +81,7 @@ export function patternsAt(display, marks) {
  */
 function multiplexedPatterns({ first, rows, columns, by }, marks) {
   const value = valueAt(marks, first);
-  const segments = columns >= 7 ? segmentsAt(marks, first) : value < 10 ? DIGITS[value] : NO_DIGIT;
+  const segments = columns >= 7 ? segmentsAt(marks, first) : value < 10 ? DIGITS[value] : INVALID_DIGIT;
   const point = hasPoints(columns) && isLit(marks, first + columns - 1) ? POINT : 0;
   return Array.from({ length: rows }, (_, digit) => (isLit(marks, by + digit) ? segments + point : NOT_LIT));
 }
@@ -104,7 +104,7 @@ function directPatterns({ first, rows, columns }, marks) {
     const isLast = digit === rows - 1;
     const value = valueAt(marks, at);
     isLeading = isLeading && value === 0 && point === 0 && !isLast;
-    patterns.push(isLeading ? 0 : (value < 10 ? DIGITS[value] : NO_DIGIT) + (isLast ? 0 : point));
+    patterns.push(isLeading ? 0 : (value < 10 ? DIGITS[value] : INVALID_DIGIT) + (isLast ? 0 : point));
   }
   return patterns;
 }
@@ -113,10 +113,10 @@ function directPatterns({ first, rows, columns }, marks) {
  * Returns the number that patterns show, without leading dark digits and without a point at the end. An unknown pattern becomes `?`.
  * @param {number[]} patterns
  */
-export function numberOf(patterns) {
+export function shownNumber(patterns) {
   const signs = patterns.map((pattern) => {
     const bits = pattern === NOT_LIT ? 0 : pattern & ~POINT;
-    return `${SIGNS.get(bits) ?? "?"}${pattern !== NOT_LIT && pattern & POINT ? "." : ""}`;
+    return `${CHARACTERS.get(bits) ?? "?"}${pattern !== NOT_LIT && pattern & POINT ? "." : ""}`;
   });
   return signs.join("").replace(/\.$/, "").replace(/^ +/, "");
 }

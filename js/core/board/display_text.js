@@ -1,6 +1,6 @@
 // The text of a board's displays, as `mcs4 display` prints it.
 
-import { isLit, numberOf, patternsAt } from "./digit_patterns.js";
+import { isLit, patternsAt, shownNumber } from "./digit_patterns.js";
 
 /** @typedef {import("./face.js").Group} Group */
 
@@ -36,7 +36,7 @@ export class DisplayText {
       if (text === "minus") minus = "-";
       else names += `${names && " "}${text.replace(/_/g, " ")}`;
     }
-    return { number: minus + patterns.map(numberOf).join(" "), names };
+    return { number: minus + patterns.map(shownNumber).join(" "), names };
   }
 }
 

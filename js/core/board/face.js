@@ -1,6 +1,6 @@
 // Parses the front panel of a board: names, colours and positions in the comments of its text. The syntax is defined in tools/lib/face.txt.
 
-import { COLOURS, fitsHead, fitsWords, headOf, isNumber, limit, said, sizeOf, wordsOf } from "./face_words.js";
+import { COLOURS, fitsHead, fitsWords, headOf, isNumber, limit, messageOf, sizeOf, wordsOf } from "./face_words.js";
 import { matrixKey, textOfKey } from "./key_place.js";
 import * as say from "../../words/board.js";
 
@@ -91,7 +91,7 @@ export class Face {
   isFirst(name, line, words, ...about) {
     const before = this.lines.get(name);
     if (before === undefined) this.lines.set(name, line);
-    else this.fault(line, said(words, ...about, before));
+    else this.fault(line, messageOf(words, ...about, before));
     return before === undefined;
   }
 
@@ -107,7 +107,7 @@ export class Face {
     this.comments += `${text}\n`;
     this.isRefused = kind.isRefused;
     if (kind.counts) this.wordCount += wordsOf(words).filter((word) => word !== "_").length;
-    if (this.wordCount > MAX_WORDS) this.fault(line, said("too many words"));
+    if (this.wordCount > MAX_WORDS) this.fault(line, messageOf("too many words"));
     else if (!fitsHead(kind, first, last)) this.fault(line, kind.form);
     else if (kind.size === "-" && !fitsWords(kind, wordsOf(words))) this.fault(line, kind.other);
     else if (name === "colour" && last !== undefined) this.readRange(Number(first), Number(last), words, line, kind);
@@ -150,9 +150,9 @@ export class Face {
       if (name === "_") return;
       const before = this.lines.get(`lamp ${name}`);
       const other = this.lamps.get(first + at);
-      if (before !== undefined) this.fault(line, said("second name", name, before));
-      else if (/^[*.?-]+$/.test(name)) this.fault(line, said("a pattern", name));
-      else if (other) this.fault(line, said("named before", first + at, other.text));
+      if (before !== undefined) this.fault(line, messageOf("second name", name, before));
+      else if (/^[*.?-]+$/.test(name)) this.fault(line, messageOf("a pattern", name));
+      else if (other) this.fault(line, messageOf("named before", first + at, other.text));
       else {
         this.lines.set(`lamp ${name}`, line);
         this.lamps.set(first + at, { text: name, line });
@@ -197,9 +197,9 @@ export class Face {
       lamp += 1;
       const before = this.colours.get(lamp);
       if (word === "_") continue;
-      if (!COLOURS.has(word)) this.fault(line, said("no colour", word));
+      if (!COLOURS.has(word)) this.fault(line, messageOf("no colour", word));
       else if (before) {
-        this.fault(line, said("coloured before", lamp, before.line));
+        this.fault(line, messageOf("coloured before", lamp, before.line));
         return;
       } else this.colours.set(lamp, { text: word, line });
     }
@@ -212,7 +212,7 @@ export class Face {
    * @param {number} line
    */
   readGrid(row, text, line) {
-    if (row >= limit("rows")) this.fault(line, said("no such row"));
+    if (row >= limit("rows")) this.fault(line, messageOf("no such row"));
     else if (this.isFirst(`grid ${row}`, line, "second row of grid", row)) {
       wordsOf(text).forEach((word, column) => {
         if (word !== "_") this.gridWords.push({ row, column, word, line });
@@ -228,7 +228,7 @@ export class Face {
     const named = this.lampNumbers.get(word);
     if (named !== undefined) this.grid.push({ row, column, lamp: named, line });
     else if (isNumber(word)) this.grid.push({ row, column, lamp: Number(word), line });
-    else this.fault(line, said("no such lamp", word));
+    else this.fault(line, messageOf("no such lamp", word));
   }
 
   /**
@@ -252,8 +252,8 @@ export class Face {
     const isSmall = rows <= most && columns <= most;
     const twice = Math.max(first, by);
     const isTwice = twice < Math.min(first + columns, by + rows);
-    if (!isSmall) this.fault(line, said("too many scanned", row));
-    else if (isTwice) this.fault(line, said("scanned twice", twice, column, row === "digits" ? say.A_DIGIT : say.A_ROW));
+    if (!isSmall) this.fault(line, messageOf("too many scanned", row));
+    else if (isTwice) this.fault(line, messageOf("scanned twice", twice, column, row === "digits" ? say.A_DIGIT : say.A_ROW));
     return isSmall && !isTwice;
   }
 
@@ -286,8 +286,8 @@ export class Face {
   readPrinter(strobe, text, line) {
     const [port, ...words] = wordsOf(text);
     if (!this.isFirst("printer", line, "second printer")) return;
-    if (words.length > limit("codes")) this.fault(line, said("too many codes", words.length));
-    else if (strobe.startsWith(`${port}.`)) this.fault(line, said("strobe in code", strobe));
+    if (words.length > limit("codes")) this.fault(line, messageOf("too many codes", words.length));
+    else if (strobe.startsWith(`${port}.`)) this.fault(line, messageOf("strobe in code", strobe));
     else this.printer = { strobe, port, words, line };
   }
 
@@ -337,7 +337,7 @@ const READERS = {
  * @returns {Fault[]}
  */
 export function faceFaults(text) {
-  return byLine(new Face(text).faults);
+  return sortedByLine(new Face(text).faults);
 }
 
 /**
@@ -345,7 +345,7 @@ export function faceFaults(text) {
  * @param {unknown[]} faults
  * @param {number} most the maximum number of listed errors
  */
-export function moreThan(faults, most) {
+export function moreFaults(faults, most) {
   return faults.length > most ? say.andMore((faults.length - most).toLocaleString("en")) : "";
 }
 
@@ -353,6 +353,6 @@ export function moreThan(faults, most) {
  * Returns errors sorted by line.
  * @param {Fault[]} faults
  */
-export function byLine(faults) {
+export function sortedByLine(faults) {
   return [...faults].sort((one, other) => one.line - other.line);
 }

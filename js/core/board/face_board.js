@@ -1,7 +1,7 @@
 // Compares a front panel with its board: parts that the board lacks, and the groups, names and colours of the lamps that it has.
 
-import { byLine } from "./face.js";
-import { KINDS, said } from "./face_words.js";
+import { sortedByLine } from "./face.js";
+import { KINDS, messageOf } from "./face_words.js";
 import { BITS_PER_CHIP } from "../bench/board_form.js";
 import { upTo } from "../bench/numbers.js";
 
@@ -59,7 +59,7 @@ export function printerOf(board, { printer }) {
  * Returns the number after the last lamp of a group.
  * @param {Group} group
  */
-export function endOf({ first, rows, columns, by }) {
+export function endOfGroup({ first, rows, columns, by }) {
   return by < 0 ? first + rows * columns : Math.max(first + columns, by + rows);
 }
 
@@ -67,7 +67,7 @@ export function endOf({ first, rows, columns, by }) {
  * Returns the numbers of a group's lamps.
  * @param {Group} group
  */
-export function lampsOf({ first, rows, columns, by }) {
+export function lampsOfGroup({ first, rows, columns, by }) {
   const from = (/** @type {number} */ begin, /** @type {number} */ count) => upTo(count).map((at) => begin + at);
   return by < 0 ? from(first, rows * columns) : [...from(first, columns), ...from(by, rows)];
 }
@@ -81,14 +81,14 @@ export const isScanned = ({ by }) => by >= 0;
  * @param {number} count of the board's lamps
  */
 export function fittingGroups(face, count) {
-  return face.groups.filter((group) => endOf(group) <= count);
+  return face.groups.filter((group) => endOfGroup(group) <= count);
 }
 
 /**
  * Returns the number of the lamp that is the minus of a display; -1 if there is none.
  * @param {Face} face
  */
-export function minusOf({ lampNumbers }) {
+export function minusLamp({ lampNumbers }) {
   return lampNumbers.get("minus") ?? -1;
 }
 
@@ -99,8 +99,8 @@ export function minusOf({ lampNumbers }) {
  */
 export function looseLamps(face, count) {
   const groups = fittingGroups(face, count);
-  const placed = new Set([...groups.flatMap(lampsOf), ...face.grid.map(({ lamp }) => lamp)]);
-  if (groups.some(({ kind }) => kind === "display")) placed.add(minusOf(face));
+  const placed = new Set([...groups.flatMap(lampsOfGroup), ...face.grid.map(({ lamp }) => lamp)]);
+  if (groups.some(({ kind }) => kind === "display")) placed.add(minusLamp(face));
   return upTo(count).filter((at) => !placed.has(at));
 }
 
@@ -118,13 +118,13 @@ export function linesOfPrinter({ strobe, port }) {
  * @param {Board} board
  * @returns {Fault[]}
  */
-export function missingOf(face, board) {
+export function missingParts(face, board) {
   /** @type {Fault[]} */
   const faults = [];
   const count = board.lamps.length;
   /** @type {(kind: string, line: number, words: string, ...about: (string | number)[]) => void} */
   const add = (kind, line, words, ...about) => {
-    faults.push({ line, words: said(words, ...about), isRefused: isRefused(kind) });
+    faults.push({ line, words: messageOf(words, ...about), isRefused: isRefused(kind) });
   };
   for (const { text, line, key: { row, column } } of face.keys.values()) {
     if (text === "" || (row < board.rows && column < board.columns)) continue;
@@ -134,7 +134,7 @@ export function missingOf(face, board) {
   for (const [line, lamp] of lastColours(face)) if (lamp >= count) add("colour", line, "no lamp for colour", lamp, count);
   for (const { lamp, line } of face.grid) if (lamp >= count) add("grid", line, "no lamp for place", lamp, count);
   for (const group of face.groups) {
-    if (endOf(group) > count) add(group.kind, group.line, "no lamps for group", group.kind, endOf(group) - 1, count);
+    if (endOfGroup(group) > count) add(group.kind, group.line, "no lamps for group", group.kind, endOfGroup(group) - 1, count);
   }
   const { buzzer } = face;
   if (buzzer && !hasOutput(board, buzzer.place)) add("buzzer", buzzer.line, "no output line", buzzer.place);
@@ -142,7 +142,7 @@ export function missingOf(face, board) {
   const lacking = printer && linesOfPrinter(printer).find((line) => !hasOutput(board, line));
   if (printer && lacking) add("printer", printer.line, "no output line", lacking);
   for (const [place, { line }] of face.ports) if (!hasPlace(board, place)) add("port", line, "port not there", place);
-  return byLine(faults);
+  return sortedByLine(faults);
 }
 
 /**

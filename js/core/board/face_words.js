@@ -51,7 +51,7 @@ export const limit = (name) => LIMITS.get(name) || 0;
  * @param {string} name of the message
  * @param {...(string | number)} about values for `{1}`, `{2}` ..
  */
-export function said(name, ...about) {
+export function messageOf(name, ...about) {
   const message = MESSAGES.get(name) || name;
   return about.reduce((/** @type {string} */ words, value, at) => words.replace(`{${at + 1}}`, () => String(value)), message);
 }

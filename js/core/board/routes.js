@@ -72,7 +72,7 @@ function isInside({ x, y }, box) {
  * @param {Curve} curve
  * @param {Box} box
  */
-export function isBelow(curve, box) {
+export function isCovered(curve, box) {
   return Array.from({ length: SAMPLES - 1 }, (_, at) => pointAt(curve, (at + 1) / SAMPLES)).some((point) => isInside(point, box));
 }
 
@@ -143,7 +143,7 @@ export function routeOf(ends, boxes, number) {
   // A part that covers an end of the wire cannot be avoided.
   const others = boxes.filter((box) => !isInside(from, box) && !isInside(to, box));
   /** @type {(route: Curve[]) => boolean} */
-  const isFree = (route) => !route.some((curve) => others.some((box) => isBelow(curve, box)));
+  const isFree = (route) => !route.some((curve) => others.some((box) => isCovered(curve, box)));
   const direct = [directCurve(ends)];
   if (isFree(direct)) return direct;
   const offset = LANE_OFFSETS[number % LANE_OFFSETS.length];

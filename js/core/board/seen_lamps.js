@@ -1,6 +1,6 @@
 // Reads a lamp of a board, at an instant and as perceived over time.
 
-import { SEEN_PART } from "./brightness.js";
+import { MIN_ON_DUTY } from "./brightness.js";
 import { isLit } from "./digit_patterns.js";
 
 /**
@@ -35,6 +35,6 @@ export function scannedLampAt({ first, rows, columns, by }, number, at) {
   return {
     column, row, part,
     isLit: (marks) => isLit(marks, column) && isLit(marks, row),
-    isOn: (brightness) => part(brightness) >= SEEN_PART,
+    isOn: (brightness) => part(brightness) >= MIN_ON_DUTY,
   };
 }

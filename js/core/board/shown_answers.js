@@ -3,7 +3,7 @@
 
 import { SeenText, hasScannedDisplay } from "../engine/seen_text.js";
 import { DisplayText, wholeText } from "./display_text.js";
-import { endOf } from "./face_board.js";
+import { endOfGroup } from "./face_board.js";
 import * as say from "../../words/board.js";
 
 /**
@@ -28,7 +28,7 @@ class ShownAnswers {
   constructor(face, board, name) {
     this.name = name;
     const displays = face.groups.filter(({ kind }) => kind === "display");
-    this.needed = Math.max(...displays.map(endOf));
+    this.needed = Math.max(...displays.map(endOfGroup));
     this.isScanned = hasScannedDisplay(face);
     this.text = new DisplayText(displays, [...face.lamps].map(([at, { text }]) => ({ at, text })));
     this.seen = new SeenText(face, board.lamps.length);

@@ -18,7 +18,7 @@ function textOfWord(word) {
  * @param {number[]} codes
  * @param {string[]} words the words for codes 0, 1 ..
  */
-export function linesOf(codes, words) {
+export function printoutLines(codes, words) {
   const lines = [""];
   for (const code of codes) {
     const last = lines.length - 1;

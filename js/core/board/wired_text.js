@@ -25,7 +25,7 @@ export function isTextOf(text, wired) {
  * @param {WiredText[] | undefined} kept the texts that the session keeps; undefined if it has none yet: then the editor's text is returned
  * @returns {WiredText}
  */
-export function wiredOf(answers, text, kept) {
+export function currentWiredText(answers, text, kept) {
   const board = answers.join("\n");
   if (!kept || new BoardDraft(text).isAsBench(answers)) return { text, board };
   return kept.find((each) => each.board === board) || { text: "", board };
@@ -36,6 +36,6 @@ export function wiredOf(answers, text, kept) {
  * @param {WiredText} wired
  * @param {WiredText[]} [kept]
  */
-export function keptWith(wired, kept = []) {
+export function textsToKeep(wired, kept = []) {
   return [wired, ...kept.filter(({ board }) => board !== wired.board)].slice(0, MAX_TEXTS);
 }

@@ -36,7 +36,7 @@ import * as say from "../../words/board.js";
 
 /** Lengths in the diagram: between two pins, of a part's title bar, between two parts, and of the margin. */
 export const PIN_STEP = 18;
-export const HEAD = 26;
+export const TITLE_HEIGHT = 26;
 const GAP = 14;
 const MARGIN = 10;
 /** The maximum number of unused chain bits that are shown, so that they can be wired. */
@@ -50,7 +50,7 @@ const COLUMNS = [
 ];
 
 /** The maximum length of a title in the first column. */
-const LONGEST_NAME = 11;
+const MAX_TITLE_LENGTH = 11;
 
 /** Pin numbers on the package: TEST of the 4004, port lines 0 to 3 of the 4001 and 4002, and clock, data and bits 0 to 9 of the 4003. */
 const TEST_NUMBER = 10;
@@ -81,10 +81,10 @@ class Column {
   add(part, left, right) {
     const { x, width } = this;
     const y = this.bottom;
-    const height = HEAD + Math.max(left.length, right.length, 1) * PIN_STEP;
+    const height = TITLE_HEIGHT + Math.max(left.length, right.length, 1) * PIN_STEP;
     this.bottom += height + GAP;
     /** @type {(pinX: number) => (pin: PinToPut, at: number) => Pin} */
-    const put = (pinX) => (pin, at) => ({ ...pin, x: pinX, y: y + HEAD + at * PIN_STEP + PIN_STEP / 2 });
+    const put = (pinX) => (pin, at) => ({ ...pin, x: pinX, y: y + TITLE_HEIGHT + at * PIN_STEP + PIN_STEP / 2 });
     return { ...part, x, y, width, height, pins: [...left.map(put(x)), ...right.map(put(x + width))] };
   }
 }
@@ -190,7 +190,7 @@ function nameOf({ name }) {
  */
 function drawTest(column, test) {
   const name = nameOf(test);
-  const title = name.length > LONGEST_NAME ? `${name.slice(0, LONGEST_NAME - 1)}…` : name;
+  const title = name.length > MAX_TITLE_LENGTH ? `${name.slice(0, MAX_TITLE_LENGTH - 1)}…` : name;
   const says = [say.putsTest(test.kind, name, test.level)];
   return column.add({ id: "test", kind: "test", title, says }, [], [{ id: "test", line: "", label: test.kind }]);
 }

@@ -3,12 +3,12 @@
 
 import { hex, upTo } from "../bench/numbers.js";
 import { DisplayText } from "../board/display_text.js";
-import { lampsOf, printerOf } from "../board/face_board.js";
+import { lampsOfGroup, printerOf } from "../board/face_board.js";
 import { SeenText, hasScannedDisplay } from "../engine/seen_text.js";
 import { wholeDuration } from "./durations.js";
 import { placeOf } from "./places.js";
 import { fail } from "./scanner.js";
-import { lampAt } from "./values.js";
+import { lampNumberOf } from "./values.js";
 import * as say from "../../words/conditions.js";
 
 /**
@@ -58,7 +58,7 @@ const marksOf = (value) => (value === "-" ? "" : value);
  */
 function isOfDisplay(at, { face }) {
   if (face.lamps.has(at)) return false;
-  return face.groups.some((group) => group.kind === "display" && lampsOf(group).includes(at));
+  return face.groups.some((group) => group.kind === "display" && lampsOfGroup(group).includes(at));
 }
 
 /**
@@ -73,7 +73,7 @@ export function lampsMeaning(words, names, looked) {
   if (words.length === 0) fail(say.LAMPS_FORM);
   let want = words.join("");
   if (!/^[*.?]+$/.test(want)) {
-    const wanted = new Set(words.join(" ") === "none" ? [] : words.map((name) => lampAt(name, names)));
+    const wanted = new Set(words.join(" ") === "none" ? [] : words.map((name) => lampNumberOf(name, names)));
     want = upTo(count).map((at) => (wanted.has(at) ? "*" : isOfDisplay(at, names) ? "?" : ".")).join("");
   }
   if (want.length !== count) fail(say.otherPattern(want.length, count));

@@ -37,8 +37,8 @@ export const WORDS = new Set(["or", "and", "not", "lamps", "lamp", "key", "displ
   "off", "down", "up", "none", "in", "out"]);
 
 /** The maximum length of a condition, and the maximum nesting of parentheses. */
-export const LONGEST = 2000;
-export const MOST_DEPTH = 30;
+export const MAX_LENGTH = 2000;
+export const MAX_DEPTH = 30;
 
 /** @type {Record<string, Sign>} the operator of each spelling */
 const OPERATORS = { "=": "=", "==": "=", "!=": "!=", "<": "<", "<=": "<=", ">": ">", ">=": ">=" };
@@ -291,7 +291,7 @@ class Parser {
   inside() {
     const { column } = this.scanner.next();
     this.depth += 1;
-    if (this.depth > MOST_DEPTH) fail(say.tooDeep(MOST_DEPTH), column);
+    if (this.depth > MAX_DEPTH) fail(say.tooDeep(MAX_DEPTH), column);
     const node = this.joined("or");
     const token = this.scanner.peek();
     if (token.text !== ")" || token.kind !== "sign") {
@@ -510,7 +510,7 @@ class Parser {
  * @returns {Node}
  */
 export function parse(text, isOfPanel = () => false) {
-  if (text.length > LONGEST) fail(say.tooLong(LONGEST), LONGEST - 1);
+  if (text.length > MAX_LENGTH) fail(say.tooLong(MAX_LENGTH), MAX_LENGTH - 1);
   return new Parser(text, isOfPanel).whole();
 }
 
@@ -521,7 +521,7 @@ export function parse(text, isOfPanel = () => false) {
  * @returns {ConditionNode}
  */
 export function parseCondition(text, isOfPanel = () => false) {
-  if (text.length > LONGEST) fail(say.tooLong(LONGEST), LONGEST - 1);
+  if (text.length > MAX_LENGTH) fail(say.tooLong(MAX_LENGTH), MAX_LENGTH - 1);
   const parser = new Parser(text, isOfPanel);
   return parser.needCondition(parser.whole());
 }

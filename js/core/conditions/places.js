@@ -30,7 +30,7 @@ export const PLACE_WORDS = [
   "acc", "cy", "pc", "dcl", "src", "test", "lamps", ...upTo(16).map((at) => `r${at}`), ...upTo(8).map((at) => `p${at}`)];
 
 /** @param {string} place returns its maximum value; -1 if it is not a number */
-export const largestOf = (place) => MAX_VALUES.get(place) ?? (/^(p\d$|rom\.)/.test(place) ? MAX_BYTE : MAX_DIGIT);
+export const maxOf = (place) => MAX_VALUES.get(place) ?? (/^(p\d$|rom\.)/.test(place) ? MAX_BYTE : MAX_DIGIT);
 
 /** @param {string[]} answers returns the first one */
 const firstAnswer = ([answer]) => answer;
@@ -48,7 +48,7 @@ const asNumber = (answers) => parseInt(answers.join(""), 16);
  * @returns {Place}
  */
 function singlePlace(name, isOn = () => true) {
-  return { name, most: () => largestOf(name), probesOn: (board) => (isOn(board) ? [name] : []), value: firstAnswer, number: asNumber };
+  return { name, most: () => maxOf(name), probesOn: (board) => (isOn(board) ? [name] : []), value: firstAnswer, number: asNumber };
 }
 
 /**
@@ -165,6 +165,6 @@ export function placeOf(text) {
  * first, for example a name in *Watch*.
  * @param {string} text
  */
-export function placeByOtherName(text) {
+export function placeByAlias(text) {
   return text.trim().toLowerCase() === ACCUMULATOR ? placeOf("acc") : null;
 }

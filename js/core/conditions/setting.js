@@ -2,9 +2,9 @@
 
 import { LAST_ADDRESS, hex, numberOf } from "../bench/numbers.js";
 import { parse } from "./parser.js";
-import { largestOf, placeOf } from "./places.js";
+import { maxOf, placeOf } from "./places.js";
 import { Unreadable, fail } from "./scanner.js";
-import { constantIn, meantBy } from "./values.js";
+import { constantIn, hintFor } from "./values.js";
 import * as say from "../../words/conditions.js";
 
 /**
@@ -66,7 +66,7 @@ export function settingOf(text) {
 function settingOfParts({ text, column }, value) {
   const place = settablePlace(text);
   if (place !== "") return { place, value };
-  return fail(placeOf(text) || !meantBy(text) ? say.cannotBeSet(text) : say.noSuchPlace(text, meantBy(text)), column);
+  return fail(placeOf(text) || !hintFor(text) ? say.cannotBeSet(text) : say.noSuchPlace(text, hintFor(text)), column);
 }
 
 /**
@@ -82,7 +82,7 @@ export function readSetting(text, map, board = null) {
     const found = placeOf(place);
     if (board && found && found.probesOn(board).length === 0) fail(say.boardLacks(place), 0);
     const number = constantIn(value, map);
-    if (number < 0 || number > largestOf(place)) fail(say.holds(place, largestOf(place), value.text), value.column);
+    if (number < 0 || number > maxOf(place)) fail(say.holds(place, maxOf(place), value.text), value.column);
     return { place, lines: linesOfSetting(place, number), fault: "", column: -1 };
   } catch (fault) {
     if (fault instanceof Unreadable) return { place: "", lines: "", fault: fault.message, column: Math.max(0, fault.column) };

@@ -4,7 +4,7 @@
 import { keysOf, pinOf } from "../explore/explored_inputs.js";
 import { similarWords } from "../text/alike.js";
 import { isCondition, parse } from "./parser.js";
-import { placeByOtherName, placeOf } from "./places.js";
+import { placeByAlias, placeOf } from "./places.js";
 import { Unreadable, fail } from "./scanner.js";
 import * as say from "../../words/conditions.js";
 
@@ -106,7 +106,7 @@ function bitValue(name, at, read) {
  * @param {string} name
  * @param {Names} names
  */
-export function lampAt(name, { face, board }) {
+export function lampNumberOf(name, { face, board }) {
   const named = face.lampNumbers.get(name);
   if (named !== undefined) return named;
   if (/^\d+$/.test(name) && Number(name) < board.lamps.length) return Number(name);
@@ -122,7 +122,7 @@ export function lampAt(name, { face, board }) {
  * @returns {Value}
  */
 export function lampValue(name, names, looked) {
-  const lamp = lampAt(name, names);
+  const lamp = lampNumberOf(name, names);
   return bitValue(`lamp ${name}`, looked.at("lamps"), (marks) => Number(marks[lamp] === "*"));
 }
 
@@ -215,7 +215,7 @@ function portValue({ text, way }, { board }, looked) {
  * Returns a hint about the likely meaning of an unknown word; "" if there is none.
  * @param {string} text
  */
-export function meantBy(text) {
+export function hintFor(text) {
   if (/^r\d+$/i.test(text)) return say.REGISTERS_ARE;
   if (/^(ram|st)\b/i.test(text)) return say.CHARACTERS_ARE;
   return /^(ram|rom)\d/i.test(text) ? say.PORTS_ARE : HINTS.get(text.toLowerCase()) || "";
@@ -227,7 +227,7 @@ export function meantBy(text) {
  * @param {Names} names
  */
 function suggestionFor(text, { map, watched, face }) {
-  const meant = meantBy(text);
+  const meant = hintFor(text);
   if (meant) return meant;
   const known = [...(map ? map.names.keys() : []), ...(watched ? watched.keys() : []), ...face.lampNumbers.keys()];
   const alike = similarWords(text, known);
@@ -290,7 +290,7 @@ function nameValue(node, names, looked) {
   const found = sourceName(text, names.map);
   if (found) return constant(found.value);
   if (names.face.lampNumbers.has(text)) return lampValue(text, names, looked);
-  return placeValue(placeByOtherName(text), names, looked) || failForUnknown(text, names);
+  return placeValue(placeByAlias(text), names, looked) || failForUnknown(text, names);
 }
 
 /**

@@ -51,12 +51,12 @@ function foundIn(answers, watcher) {
  * @param {Uint8Array} file is not changed
  * @param {Goal} goal
  * @param {(done: number) => Promise<boolean>} goesOn called after each piece with the number of cycles searched; returns whether to
- *   continue. Otherwise `seek` throws `Cancelled`
+ *   continue. Otherwise `searchGoal` throws `Cancelled`
  * @param {number} most the maximum number of cycles to search
  * @param {() => Uint8Array} [codes] returns the contents of ROM
  * @returns {Promise<Found>}
  */
-export async function seek(engine, file, goal, goesOn, most, codes) {
+export async function searchGoal(engine, file, goal, goesOn, most, codes) {
   const copy = file.slice();
   const watcher = watcherOf(engine, file, goal, codes);
   if (!watcher) return { cycles: 0, isReached: false, end: endWithout(goal) };

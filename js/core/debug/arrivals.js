@@ -24,9 +24,9 @@ import { cyclesOfLine } from "./ahead.js";
  */
 
 /** The maximum number of runs in one request to the bench. */
-const MOST_RUNS = 400;
+const MAX_RUNS = 400;
 /** The maximum number of notes in one report. */
-export const MOST_NOTES = 200;
+export const MAX_NOTES = 200;
 
 /**
  * Returns an empty result.
@@ -109,7 +109,7 @@ export class Arrivals {
     let [before, skipped, ran, arrivals] = [lines, count, 0, 0];
     while (ran < cycles) {
       const left = cycles - ran;
-      const runs = Math.min(left, MOST_RUNS, Math.max(1, Math.round(2 * this.density * left)));
+      const runs = Math.min(left, MAX_RUNS, Math.max(1, Math.round(2 * this.density * left)));
       const pair = `run ${Math.floor(left / runs)}\n${this.probes.lines}`;
       const answers = new Answers(engine.serve(file, before + pair.repeat(runs), file).answers);
       answers.skip(skipped);
@@ -163,7 +163,7 @@ export class Arrivals {
     if (found.hits + hits < from) return false;
     if (words) {
       seen.noted += 1;
-      if (seen.notes.length === MOST_NOTES) seen.notes.shift();
+      if (seen.notes.length === MAX_NOTES) seen.notes.shift();
       seen.notes.push({ id, cycles, words: words(values) });
       return false;
     }

@@ -17,7 +17,7 @@ import * as say from "../../words/debug.js";
  * @param {Names} names
  * @returns {{ asked: Asked | null, fault: string }}
  */
-export function askedOf(text, names) {
+export function searchConditionOf(text, names) {
   const { condition, ...wrong } = tracedConditionOf(text, names);
   if (!condition) {
     // For a value with an unknown name, report that name, not the missing comparison.
@@ -38,7 +38,7 @@ export function goalOfText(text, names) {
   const lamp = names.face.lampNumbers.get(text.trim()) ?? names.face.lampNumbers.get(text.trim().replace(/ /g, "_"));
   const place = placeOf(lamp === undefined ? text : `lamp ${lamp}`);
   if (place) return { goal: { kind: "change", place: place.name }, fault: "" };
-  const { asked, fault } = askedOf(text, names);
+  const { asked, fault } = searchConditionOf(text, names);
   return { goal: asked && { kind: "when", condition: text.trim() }, fault };
 }
 

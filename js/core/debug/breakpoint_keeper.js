@@ -1,7 +1,7 @@
 // Keeps the breakpoints of the current session: a list that moves with the source, and the bench's breakpoints, which are set from the
 // list. Breakpoints that only the bench has are added to the list: for example from a typed `break`, or from a session file of mcs4.
 
-import { BreakpointList, MOST_BREAKPOINTS, MOST_ON, instructionOfAddress, instructionOfLine } from "./breakpoints.js";
+import { BreakpointList, MAX_BREAKPOINTS, MOST_ON, instructionOfAddress, instructionOfLine } from "./breakpoints.js";
 import { isSoft } from "./soft_breakpoints.js";
 import * as say from "../../words/debug.js";
 
@@ -246,8 +246,8 @@ export class BreakpointKeeper {
    * @param {Partial<KeptBreakpoint>} some
    */
   add(some) {
-    if (this.list.all.length >= MOST_BREAKPOINTS) {
-      this.calls.showMessage(say.mostBreakpoints(MOST_BREAKPOINTS));
+    if (this.list.all.length >= MAX_BREAKPOINTS) {
+      this.calls.showMessage(say.mostBreakpoints(MAX_BREAKPOINTS));
       return;
     }
     const isFull = this.list.countOn >= MOST_ON;

@@ -2,7 +2,7 @@
 // left out.
 
 import { hex } from "../bench/numbers.js";
-import { MOST_BREAKPOINTS } from "./breakpoints.js";
+import { MAX_BREAKPOINTS } from "./breakpoints.js";
 
 /** @typedef {import("./breakpoints.js").KeptBreakpoint} KeptBreakpoint */
 
@@ -10,14 +10,14 @@ const TEXT = '"((?:[^"\\\\]|\\\\.)*)"';
 const LINE = new RegExp("^break(?: line (\\d{1,5}))?(?: at 0x([0-9A-F]{3}))?( off)?(?: from (\\d{1,9}))?"
   + `(?: if ${TEXT})?(?: log ${TEXT})?$`);
 /** The maximum length of a condition or a note. */
-export const LONGEST_WORDS = 250;
+export const MAX_TEXT_LENGTH = 250;
 
 /**
  * Returns a text in quotes.
  * @param {string} text
  */
-function quoted(text) {
-  return `"${text.slice(0, LONGEST_WORDS).replace(/\s+/g, " ").replace(/["\\]/g, "\\$&")}"`;
+function quote(text) {
+  return `"${text.slice(0, MAX_TEXT_LENGTH).replace(/\s+/g, " ").replace(/["\\]/g, "\\$&")}"`;
 }
 
 /**
@@ -25,7 +25,7 @@ function quoted(text) {
  * @param {string} [text]
  */
 function unquote(text = "") {
-  return text.replace(/\\(.)/g, "$1").slice(0, LONGEST_WORDS);
+  return text.replace(/\\(.)/g, "$1").slice(0, MAX_TEXT_LENGTH);
 }
 
 /**
@@ -35,7 +35,7 @@ function unquote(text = "") {
 export function linesOfBreakpoints(breakpoints) {
   return breakpoints.map(({ line, address, isOn, from, condition, note }) => ["break",
     ...(line > 0 ? [`line ${line}`] : []), ...(address >= 0 ? [`at 0x${hex(address, 3)}`] : []), ...(isOn ? [] : ["off"]),
-    ...(from > 1 ? [`from ${from}`] : []), ...(condition ? [`if ${quoted(condition)}`] : []), ...(note ? [`log ${quoted(note)}`] : []),
+    ...(from > 1 ? [`from ${from}`] : []), ...(condition ? [`if ${quote(condition)}`] : []), ...(note ? [`log ${quote(note)}`] : []),
   ].join(" "));
 }
 
@@ -58,6 +58,6 @@ export function breakpointOfLine(line) {
  * Returns at most as many breakpoints as a session can keep.
  * @param {KeptBreakpoint[]} breakpoints
  */
-export function mostBreakpoints(breakpoints) {
-  return breakpoints.slice(0, MOST_BREAKPOINTS);
+export function limitBreakpoints(breakpoints) {
+  return breakpoints.slice(0, MAX_BREAKPOINTS);
 }

@@ -21,7 +21,7 @@ import * as say from "../../words/debug.js";
 /** The maximum number of enabled breakpoints: the bench has room for as many. */
 export const MOST_ON = 32;
 /** The maximum number of breakpoints in a list. */
-export const MOST_BREAKPOINTS = 256;
+export const MAX_BREAKPOINTS = 256;
 /** The maximum number of deleted breakpoints that are kept, to be restored with their lines on undo. */
 const MAX_DELETED = 256;
 /** The maximum number of replaced texts whose breakpoints are kept. */
@@ -156,7 +156,7 @@ export class BreakpointList {
   /** Limits the number of breakpoints and of enabled breakpoints to their maximums. */
   limit() {
     let count = 0;
-    this.all = this.all.slice(0, MOST_BREAKPOINTS).map((each) => {
+    this.all = this.all.slice(0, MAX_BREAKPOINTS).map((each) => {
       count += each.isOn ? 1 : 0;
       return each.isOn && count > MOST_ON ? { ...each, isOn: false } : each;
     });

@@ -44,7 +44,7 @@ const CHECKED_CYCLES = 50000;
 const SAMPLE_INTERVAL = 16;
 const SAMPLE_CYCLES = 2000;
 /** The maximum number of cycles that one call of `look` checks. At full speed, lines have more: checking all would be too slow. */
-export const CYCLES_OF_CALL = 10000;
+export const MAX_CYCLES_PER_CALL = 10000;
 
 /** @type {Looked} */
 const NOTHING = { faults: [], stop: -1 };
@@ -133,9 +133,9 @@ export class CommonMistakes {
     const cycles = planned.reduce((sum, each) => sum + cyclesOfLine(each), 0);
     if (planned.some(({ change }) => change !== null)) this.left = CHECKED_CYCLES;
     this.looks += 1;
-    const isAll = this.stops.size > 0 && cycles <= CYCLES_OF_CALL;
+    const isAll = this.stops.size > 0 && cycles <= MAX_CYCLES_PER_CALL;
     const sample = this.looks % SAMPLE_INTERVAL === 0 ? SAMPLE_CYCLES : 0;
-    const most = isAll ? cycles : Math.min(cycles, CYCLES_OF_CALL, Math.max(this.left, sample));
+    const most = isAll ? cycles : Math.min(cycles, MAX_CYCLES_PER_CALL, Math.max(this.left, sample));
     this.left = Math.max(0, this.left - most);
     return most;
   }

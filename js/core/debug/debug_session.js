@@ -20,7 +20,7 @@ import { PieceSize } from "../engine/pieces.js";
 import { readProgram } from "../engine/program_check.js";
 import { WorkerSession } from "../engine/worker_session.js";
 import { BreakpointList } from "./breakpoints.js";
-import { Debugger, NO_TALLY, bothTallies, nearOf } from "./debugger.js";
+import { Debugger, NO_TALLY, addTallies, nearOf } from "./debugger.js";
 import { wordsOfGone, wordsOfHalt, wordsOfAddress, wordsOfStop, wordsOfWhen } from "../../words/stops.js";
 import * as say from "../../words/debug.js";
 
@@ -179,7 +179,7 @@ export class DebugSession {
       const frame = piece.measure(() => debug.advance(Math.min(piece.size, most - done)));
       done += frame.cycles;
       this.breakpoints.count(frame.tally.hits);
-      tally = bothTallies(tally, frame.tally);
+      tally = addTallies(tally, frame.tally);
       if (frame.stop) return this.stopped(goal, frame.stop, tally);
       const isOver = done >= most;
       if (!isOver && await goesOn(done, frame.tally)) continue;

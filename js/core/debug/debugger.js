@@ -21,11 +21,11 @@ import { runLines } from "../engine/key_queue.js";
 import { SEARCHED_CYCLES } from "../engine/pieces.js";
 import { Answers } from "../engine/tracing.js";
 import { CYCLES_PER_SECOND } from "../time/mcs4_time.js";
-import { cyclesToGoal, seek, linesUpTo } from "./ahead.js";
-import { Arrivals, MOST_NOTES, nothingSeen } from "./arrivals.js";
-import { askedOf } from "./becoming.js";
+import { cyclesToGoal, searchGoal, linesUpTo } from "./ahead.js";
+import { Arrivals, MAX_NOTES, nothingSeen } from "./arrivals.js";
+import { searchConditionOf } from "./becoming.js";
 import { DataWatches, SoftStops, readWatches } from "./data_watches.js";
-import { counterOf, watcherOf } from "./goals.js";
+import { parseCounter, watcherOf } from "./goals.js";
 import { lastArrival, lastCall } from "./last_arrival.js";
 import { isSoft, softBreakpointOf } from "./soft_breakpoints.js";
 import { planTyped } from "./typed_lines.js";
@@ -86,10 +86,10 @@ export const NO_TALLY = { hits: [], notes: [], noted: 0, usual: [] };
  * @param {Tally} other the later tally
  * @returns {Tally}
  */
-export function bothTallies(one, other) {
+export function addTallies(one, other) {
   return {
     hits: [...one.hits, ...other.hits],
-    notes: [...one.notes, ...other.notes].slice(-MOST_NOTES),
+    notes: [...one.notes, ...other.notes].slice(-MAX_NOTES),
     noted: one.noted + other.noted,
     usual: [...one.usual, ...other.usual],
   };
@@ -291,7 +291,7 @@ export class Debugger {
 
   /** The address of the next instruction. */
   get counter() {
-    return counterOf(this.session.ask("regs\n")[0]).counter;
+    return parseCounter(this.session.ask("regs\n")[0]).counter;
   }
 
   /** Ends a move or a run. */
@@ -331,7 +331,7 @@ export class Debugger {
     const codes = () => session.codes;
     const watcher = watcherOf(session.engine, session.file, goal, codes);
     const returns = watcher !== null && watcher.returns;
-    const sought = { ...await seek(session.engine, session.file, goal, goesOn, near, codes), id: 0, returns };
+    const sought = { ...await searchGoal(session.engine, session.file, goal, goesOn, near, codes), id: 0, returns };
     if (!watcher) return { found: sought, result: null, tally: NO_TALLY };
     const seen = await this.seenIn(sought.cycles, goesOn);
     if (sought.end === "bound" && seen.cycles < 0) {
@@ -387,7 +387,7 @@ export class Debugger {
       const result = await session.serve(served, goesOn);
       this.usual.forget();
       const tallies = runs.map(({ seen, done }) => this.tallyOf(seen, null, before + done));
-      return { result, typed: { ...stop, cycles: session.count.total - before, tally: tallies.reduce(bothTallies, NO_TALLY) } };
+      return { result, typed: { ...stop, cycles: session.count.total - before, tally: tallies.reduce(addTallies, NO_TALLY) } };
     } catch (fault) {
       arrivals.takeBack(hits);
       throw fault;
@@ -402,7 +402,7 @@ export class Debugger {
    */
   readGoal(goal) {
     if (goal.kind !== "when" || !this.names) return goal;
-    const { asked, fault } = askedOf(goal.condition, this.names);
+    const { asked, fault } = searchConditionOf(goal.condition, this.names);
     if (!asked) throw new Error(fault);
     return { ...goal, asked };
   }
@@ -461,7 +461,7 @@ export class Debugger {
     const { moment, present, ...report } = await aimBack(session.engine, session, { kind: "change", place }, goesOn);
     if (!moment) return { ...report, isFound: false, cycles: 0, address: -1 };
     const { file, count } = present || await session.timeline.at(session.engine, moment, goesOn);
-    const { counter } = counterOf(session.engine.ask(file, "regs\n").answers[0]);
+    const { counter } = parseCounter(session.engine.ask(file, "regs\n").answers[0]);
     return { ...report, isFound: true, cycles: session.count.total - count.total, address: report.line ? -1 : counter };
   }
 

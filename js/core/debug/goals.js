@@ -39,7 +39,7 @@ export const LARGEST_PIECE = 4 * LONGEST_RUN;
  * Parses the counter and the pending second cycle from an answer to `regs`.
  * @param {string} regs
  */
-export function counterOf(regs) {
+export function parseCounter(regs) {
   const { counter, owed } = readCounter(regs);
   return { counter: parseInt(counter, 16), isOwed: owed === "1" };
 }
@@ -128,7 +128,7 @@ function countWatcher(count, isOwed) {
     take: (answers) => {
       const begun = answers.takeCounts().reduce((sum, each) => sum + each.begun, 0);
       const ran = answers.takeRun();
-      const isNowOwed = counterOf(answers.take()).isOwed;
+      const isNowOwed = parseCounter(answers.take()).isOwed;
       left -= begun + Number(wasOwed) - Number(isNowOwed);
       wasOwed = isNowOwed;
       return left === 0 ? { cycles: ran.cycles, isReached: true, end: "" } : { ...ran, isReached: false };
@@ -156,7 +156,7 @@ function addressWatcher(engine, file, address) {
     after: "regs\n",
     take: (answers) => {
       const ran = answers.takeRun();
-      const { counter, isOwed } = counterOf(answers.take());
+      const { counter, isOwed } = parseCounter(answers.take());
       return !isOwed && counter === address ? { cycles: ran.cycles, isReached: true, end: "" } : { ...ran, isReached: false };
     },
     returns: false,
@@ -210,7 +210,7 @@ export function watcherOf(engine, file, goal, codes = () => romCodes(engine, fil
   }
   if (goal.kind === "when") return goal.asked ? becoming(goal.asked) : null;
   const [regs] = engine.ask(file, "regs\n").answers;
-  const { counter, isOwed } = counterOf(regs);
+  const { counter, isOwed } = parseCounter(regs);
   if (goal.kind === "count") return countWatcher(goal.count, isOwed);
   if (goal.kind === "out") return isInSubroutine(regs, codes()) ? returnWatcher(codes(), -1) : null;
   return isOwed || !isCall(codes()[counter]) ? countWatcher(1, isOwed) : returnWatcher(codes(), 0);

@@ -5,7 +5,7 @@
 import { readMarks, watchedPlaces } from "../bench/answers.js";
 import { aim, changeFinder, lastInPast } from "../engine/going_back.js";
 import { Arrivals } from "./arrivals.js";
-import { counterOf } from "./goals.js";
+import { parseCounter } from "./goals.js";
 
 /**
  * @typedef {import("../engine/engine_host.js").EngineHost} Engine
@@ -33,7 +33,7 @@ class LastArrival {
     this.engine = session.engine;
     this.arrivals = new Arrivals(breakpoints);
     /** The present: an arrival at this moment does not count. */
-    this.now = { total: session.count.total, counter: counterOf(session.ask("regs\n")[0]).counter };
+    this.now = { total: session.count.total, counter: parseCounter(session.ask("regs\n")[0]).counter };
     this.copy = new Uint8Array(0);
     this.total = 0;
     /** The cycle count at the arrival that was found. */

@@ -9,7 +9,7 @@ import * as say from "../../words/debug.js";
 
 /**
  * @typedef {import("../machine/source_map.js").SourceMap} SourceMap
- * @typedef {import("./standing.js").Standing} Standing
+ * @typedef {import("./standing.js").MachineState} MachineState
  */
 
 /** The maximum number of lines that are reported, and of changes for each line. */
@@ -18,8 +18,8 @@ const MAX_CHANGES = 6;
 
 /**
  * Returns the text of the values that changed between two pauses.
- * @param {Standing} before
- * @param {Standing} after
+ * @param {MachineState} before
+ * @param {MachineState} after
  */
 export function wordsOfChanges(before, after) {
   const old = before.all();
@@ -30,8 +30,8 @@ export function wordsOfChanges(before, after) {
 
 /**
  * Returns the line whose instruction was the only step between two pauses; 0 if there is none. A call counts with its whole subroutine.
- * @param {Standing} before
- * @param {Standing} after
+ * @param {MachineState} before
+ * @param {MachineState} after
  * @param {number} cycles between the pauses
  * @param {SourceMap} map
  */
@@ -51,7 +51,7 @@ function steppedLine({ registers: before }, { registers: after }, cycles, map) {
 /** The changes by the last lines. */
 export class LineChanges {
   constructor() {
-    /** @type {Standing | null} the state at the last pause; `cycles` is the cycle count then */
+    /** @type {MachineState | null} the state at the last pause; `cycles` is the cycle count then */
     this.before = null;
     this.cycles = 0;
     /** @type {Map<number, string>} the text of each line's changes, by line number */
@@ -66,7 +66,7 @@ export class LineChanges {
 
   /**
    * Adds a pause.
-   * @param {Standing} standing the state
+   * @param {MachineState} standing the state
    * @param {number} cycles the cycle count
    * @param {SourceMap | null} map the map of the program in ROM, null if its text is unknown
    */

@@ -21,7 +21,7 @@ export function wordsOfCharacter(byte) {
 }
 
 /** The state of the machine in a snapshot. */
-export class Standing {
+export class MachineState {
   /** @param {string[]} look the answers to `state`, and to `ram B` for each bank that has chips, each as one text */
   constructor([state, ...banks]) {
     const parts = partsOfState(state);

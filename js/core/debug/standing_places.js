@@ -6,7 +6,7 @@ import { hex, numberOf, upTo } from "../bench/numbers.js";
 
 /**
  * @typedef {import("../bench/answers.js").Board} Board
- * @typedef {import("./standing.js").Standing} Standing
+ * @typedef {import("./standing.js").MachineState} MachineState
  */
 
 /** @type {(bits: number, line: number) => string} returns a bit as "0" or "1" */
@@ -15,7 +15,7 @@ const bitOf = (bits, line) => String((bits >> line) & 1);
 /**
  * Returns the levels of the lines of a ROM's port as a number: for an output line its latch, for an input line the level that RDR reads.
  * @param {number} chip
- * @param {Standing} standing
+ * @param {MachineState} standing
  * @param {Board} board
  */
 function romLevels(chip, standing, { roms }) {
@@ -29,7 +29,7 @@ function romLevels(chip, standing, { roms }) {
 /**
  * Returns the value of a place without a number in its name, or of a register; undefined for any other place.
  * @param {string} place
- * @param {Standing} standing
+ * @param {MachineState} standing
  * @returns {string | undefined}
  */
 function registerAnswer(place, standing) {
@@ -54,10 +54,10 @@ function registerAnswer(place, standing) {
 /**
  * Returns the value of a place; "0" for a place that the board lacks, as in `trace`.
  * @param {string} place that `trace` or `state` reports
- * @param {Standing} standing
+ * @param {MachineState} standing
  * @param {Board} board
  */
-export function answerAt(place, standing, board) {
+export function valueOfPlace(place, standing, board) {
   const found = registerAnswer(place, standing);
   if (found !== undefined) return found;
   const [word, ...rest] = place.split(".");

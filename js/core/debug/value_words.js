@@ -9,7 +9,7 @@ import { wordsOfCharacter } from "./standing.js";
 import * as say from "../../words/debug.js";
 
 /**
- * @typedef {import("./standing.js").Standing} Standing
+ * @typedef {import("./standing.js").MachineState} MachineState
  * @typedef {import("../text/assembly.js").Parts} Parts
  *
  * A value that can be edited: its place for `poke`, its title, and its text.
@@ -40,7 +40,7 @@ export function textOf(pieces) {
 /**
  * Returns the value of a register.
  * @param {number} number of the register
- * @param {Standing} standing
+ * @param {MachineState} standing
  * @returns {Value}
  */
 function registerValue(number, standing) {
@@ -51,7 +51,7 @@ function registerValue(number, standing) {
  * Returns the value of the accumulator or the carry.
  * @param {string} place `acc` or `cy`
  * @param {string} name the title
- * @param {Standing} standing
+ * @param {MachineState} standing
  * @returns {Value}
  */
 function machineValue(place, name, { registers }) {
@@ -62,7 +62,7 @@ function machineValue(place, name, { registers }) {
  * Describes the RAM character that a byte selects in a bank, with its value.
  * @param {number} bank
  * @param {number} byte
- * @param {Standing} standing
+ * @param {MachineState} standing
  * @returns {Piece[]}
  */
 function characterPieces(bank, byte, standing) {
@@ -75,7 +75,7 @@ function characterPieces(bank, byte, standing) {
 /**
  * Describes the selection by a byte that SRC sends: a ROM's port, and a RAM character of the current bank.
  * @param {number} byte
- * @param {Standing} standing
+ * @param {MachineState} standing
  * @returns {Piece[]}
  */
 function selectionPieces(byte, standing) {
@@ -90,7 +90,7 @@ function selectionPieces(byte, standing) {
  * Describes a register or a register pair; for the operand of SRC, also the selection.
  * @param {string} word
  * @param {Parts} parts of its line
- * @param {Standing} standing
+ * @param {MachineState} standing
  * @returns {Piece[]}
  */
 function registerPieces(word, { head }, standing) {
@@ -107,7 +107,7 @@ function registerPieces(word, { head }, standing) {
 /**
  * Describes the value that an instruction reads or writes through the selection by SRC; returns no pieces if it uses none.
  * @param {string} name in upper case
- * @param {Standing} standing
+ * @param {MachineState} standing
  * @returns {Piece[]}
  */
 function portPieces(name, standing) {
@@ -138,7 +138,7 @@ function portPieces(name, standing) {
  * @param {string} name in upper case
  * @param {string} does the description of the instruction
  * @param {Parts} parts
- * @param {Standing} standing
+ * @param {MachineState} standing
  * @returns {Piece[]}
  */
 function instructionPieces(name, does, parts, standing) {
@@ -156,7 +156,7 @@ function instructionPieces(name, does, parts, standing) {
  * @param {string} written the number in decimal and hexadecimal
  * @param {number} value
  * @param {Parts} parts
- * @param {Standing} standing
+ * @param {MachineState} standing
  * @returns {Piece[]}
  */
 function numberPieces(written, value, { head }, standing) {
@@ -170,7 +170,7 @@ function numberPieces(written, value, { head }, standing) {
  * Describes the current value of the word at an index in a line; returns no pieces if the word has no value.
  * @param {string} text the line
  * @param {number} at the index
- * @param {Standing} standing
+ * @param {MachineState} standing
  * @param {Program} program
  * @returns {Piece[]}
  */

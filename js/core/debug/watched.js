@@ -8,23 +8,23 @@ import { WORDS, parse } from "../conditions/parser.js";
 import { placeOf } from "../conditions/places.js";
 import { Unreadable, numeralOf } from "../conditions/scanner.js";
 import { inColumn } from "../../words/conditions.js";
-import { answerAt } from "./standing_places.js";
+import { valueOfPlace } from "./standing_places.js";
 import { NAME } from "../text/assembly.js";
 import * as say from "../../words/debug.js";
 
 /**
- * @typedef {import("./standing.js").Standing} Standing
+ * @typedef {import("./standing.js").MachineState} MachineState
  * @typedef {import("./value_words.js").Piece} Piece
  * @typedef {import("../conditions/condition_language.js").Names} Names
  *
  * A watched expression. `text` is its saved form. `value` is the expression without the name. `place` is the place of a RAM character or a
  * status character, "" for any other expression. `pieces` returns the current value.
  * @typedef {{ name: string, text: string, place: string, value: string, pieces: Reader }} Watched
- * @typedef {(standing: Standing, names: Names) => Piece[]} Reader
+ * @typedef {(standing: MachineState, names: Names) => Piece[]} Reader
  */
 
 /** The maximum number of watched expressions, and the maximum length of one. */
-export const MOST_WATCHED = 40;
+export const MAX_WATCHED = 40;
 const MAX_LENGTH = 200;
 /** The largest number that is shown without its hexadecimal form. */
 const MAX_PLAIN = 9;
@@ -32,7 +32,7 @@ const MAX_PLAIN = 9;
 /**
  * Returns the reader of a place that `poke` can set.
  * @param {string} place
- * @param {(standing: Standing) => string} value
+ * @param {(standing: MachineState) => string} value
  * @returns {Reader}
  */
 function editableReader(place, value) {
@@ -42,7 +42,7 @@ function editableReader(place, value) {
   };
 }
 
-/** @type {Record<string, (standing: Standing) => string>} the values of named registers */
+/** @type {Record<string, (standing: MachineState) => string>} the values of named registers */
 const REGISTERS = {
   acc: ({ registers }) => registers.accumulator, cy: ({ registers }) => registers.carry, dcl: ({ registers }) => registers.bank,
 };
@@ -102,7 +102,7 @@ function portReader(place) {
 function placeReader(place) {
   return (standing, { board }) => {
     const probes = place.probesOn(board);
-    return [probes.length === 0 ? say.LACKED : place.value(probes.map((probe) => answerAt(probe, standing, board)))];
+    return [probes.length === 0 ? say.LACKED : place.value(probes.map((probe) => valueOfPlace(probe, standing, board)))];
   };
 }
 
@@ -115,7 +115,7 @@ function expressionReader(text) {
   return (standing, names) => {
     const { expression, fault } = expressionOf(text, names);
     if (!expression) return [fault];
-    const answers = expression.places.map((place) => answerAt(place, standing, names.board));
+    const answers = expression.places.map((place) => valueOfPlace(place, standing, names.board));
     const number = expression.number ? expression.number(answers) : 0;
     const value = expression.textOf(answers);
     return [number > MAX_PLAIN && /^\d+$/.test(value) ? say.withHex(value, number.toString(16).toUpperCase()) : value];
@@ -183,7 +183,7 @@ export function readWatched(text, names = null) {
  */
 export function readAllWatched(texts) {
   if (!Array.isArray(texts)) return { all: [], fault: "" };
-  const read = texts.slice(0, MOST_WATCHED).flatMap((text) => (typeof text === "string" ? [readWatched(text)] : []));
+  const read = texts.slice(0, MAX_WATCHED).flatMap((text) => (typeof text === "string" ? [readWatched(text)] : []));
   const wrong = read.find(({ fault }) => fault !== "");
   return { all: read.flatMap(({ watched }) => (watched ? [watched] : [])), fault: wrong ? wrong.fault : "" };
 }

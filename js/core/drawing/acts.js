@@ -5,14 +5,14 @@ import { boardLines } from "../bench/board_form.js";
 import { readBoard } from "../bench/answers.js";
 import { counted } from "../bench/numbers.js";
 import { Face } from "../board/face.js";
-import { BUZZER, bitOf, mayWire, nameOfTarget, readTarget, wiringOf } from "./board_lines.js";
+import { BUZZER, bitOf, canWire, nameOfTarget, splitTarget, wiringOf } from "./board_lines.js";
 import {
-  INPUTS, OUTPUTS, addBuzzer, addChain, addColumn, addDisplay, addKeys, addLamp, addRam, addRom, addScanned, keepOutputs, nameOfPart,
-  needRom, setChips, setRows,
+  INPUTS, OUTPUTS, addBuzzer, addChain, addColumn, addDisplay, addKeys, addLamp, addRam, addRom, addScanned, nameOfPart, needRom,
+  requireOutputs, setChips, setRows,
 } from "./adding.js";
-import { deletePart, displayAt, lampsWith } from "./deleting.js";
-import { COLOURS, colourLamp, moveBuzzer, nameKey, nameLamp, setWhole, wordOf } from "./face_edits.js";
-import { setValue, setWritten } from "./part_edits.js";
+import { deletePart, displayAt, groupLampsOf } from "./deleting.js";
+import { COLOURS, colourLamp, moveBuzzer, nameKey, nameLamp, setLineText, wordOf } from "./face_edits.js";
+import { replaceValue, setValue } from "./part_edits.js";
 import { ActRefusal, Sketch } from "./sketch.js";
 import * as say from "../../words/drawing.js";
 
@@ -75,7 +75,7 @@ function addFromShelf(sketch, { part, line, digits = 1 }) {
 function addTest(sketch, kind) {
   if (new Face(sketch.text).test) throw new ActRefusal(say.TEST_IN_USE);
   needRom(sketch);
-  sketch.edit(setWhole(sketch.draft, "test", "", `${kind} ${kind === "button" ? "PUSH" : "RUN"}`));
+  sketch.edit(setLineText(sketch.draft, "test", "", `${kind} ${kind === "button" ? "PUSH" : "RUN"}`));
   return "test";
 }
 
@@ -89,14 +89,14 @@ function wire(sketch, name, target) {
   const { board, draft } = sketch;
   const line = boardLines(board).find((each) => each.name === name);
   if (!line || !wiringOf(board).has(target)) throw new ActRefusal(say.boardHasNo(line ? target : name));
-  if (!mayWire(board, line, target)) throw new ActRefusal(wireRefusal(line, target));
-  const [kind, number] = readTarget(target);
+  if (!canWire(board, line, target)) throw new ActRefusal(wireRefusal(line, target));
+  const [kind, number] = splitTarget(target);
   if (kind === "clock" || kind === "data") sketch.edit([setValue(draft, draft.entry("chain", number), kind, name)]);
   if (kind === "lamp") sketch.edit([setValue(draft, draft.entry("lamp", number), "line", name)]);
   if (kind === "buzzer") sketch.edit(moveBuzzer(draft, name));
   if (kind === "column") {
     const columns = draft.keyOf(draft.entry("keys", 0), "columns").value;
-    sketch.edit([setWritten(draft, /** @type {import("../text/board_reader.js").Value[]} */ (columns.inner)[number], name)]);
+    sketch.edit([replaceValue(draft, /** @type {import("../text/board_reader.js").Value[]} */ (columns.inner)[number], name)]);
   }
   if (kind === "row") {
     const { chain, bit } = bitOf(name);
@@ -111,7 +111,7 @@ function wire(sketch, name, target) {
  * @param {string} target
  */
 function wireRefusal({ name, kind, isInput }, target) {
-  const [what] = readTarget(target);
+  const [what] = splitTarget(target);
   if (what === "column") return say.needsInput(name, nameOfTarget(target));
   if (isInput) return say.needsOutput(name, nameOfTarget(target));
   if (what === "row") return say.cannotDrive(name);
@@ -134,7 +134,7 @@ function setPort(sketch, line, as) {
   if (isTurned && takers.length > 0) {
     throw new ActRefusal(say.takenLine(line, takers.map(nameOfTarget).join(say.AND)));
   }
-  keepOutputs(sketch, (each) => isTurned && each === line);
+  requireOutputs(sketch, (each) => isTurned && each === line);
   sketch.edit([setValue(draft, entry, "port", port.slice(0, 3 - at) + as + port.slice(4 - at))]);
 }
 
@@ -145,7 +145,7 @@ function setPort(sketch, line, as) {
  */
 function copy(sketch, part) {
   const { board, text } = sketch;
-  const [kind, number] = readTarget(part);
+  const [kind, number] = splitTarget(part);
   const face = new Face(text);
   if (kind === "rom") return addRom(sketch, (board.roms.find(({ chip }) => Number(chip) === number) || { port: OUTPUTS }).port);
   if (kind === "ram") return addRam(sketch);
@@ -153,7 +153,7 @@ function copy(sketch, part) {
   if (kind !== "lamp") throw new ActRefusal(say.ONLY_ONCE);
   const display = displayAt(face, number);
   if (display) return addDisplay(sketch, display.columns < 7 ? "digit" : "segments", display.rows);
-  if (lampsWith(face, number).length > 1) throw new ActRefusal(say.COPY_IN_TEXT);
+  if (groupLampsOf(face, number).length > 1) throw new ActRefusal(say.COPY_IN_TEXT);
   return addLamp(sketch, "", (face.colours.get(number) || { text: "" }).text);
 }
 
@@ -179,18 +179,18 @@ function renameLamp(sketch, lamp, name) {
  */
 function renamePart(sketch, part, name) {
   const { draft, text, board } = sketch;
-  const [kind, number] = readTarget(part);
+  const [kind, number] = splitTarget(part);
   if (kind === "lamp") renameLamp(sketch, number, name);
   else if (kind === "key") sketch.edit(nameKey(draft, { row: number, column: Number(part.split(" ")[2]) }, name));
-  else if (kind === "title") sketch.edit(setWhole(draft, "title", "", name));
+  else if (kind === "title") sketch.edit(setLineText(draft, "title", "", name));
   else if (kind === "test") {
     const { test } = new Face(text);
     if (!test || wordOf(name) === "") throw new ActRefusal(say.TEST_NEEDS_NAME);
-    sketch.edit(setWhole(draft, "test", "", `${test.kind} ${wordOf(name)}${test.level ? " to 1" : ""}`));
+    sketch.edit(setLineText(draft, "test", "", `${test.kind} ${wordOf(name)}${test.level ? " to 1" : ""}`));
   } else if (kind === "buzzer") {
     if (!board.buzzer || name.trim() === "") throw new ActRefusal(say.BUZZER_NEEDS_NAME);
-    sketch.edit(setWhole(draft, "buzzer", board.buzzer, name));
-  } else if (["rom", "ram", "chain"].includes(kind)) sketch.edit(setWhole(draft, "port", part.replace(" ", ""), name));
+    sketch.edit(setLineText(draft, "buzzer", board.buzzer, name));
+  } else if (["rom", "ram", "chain"].includes(kind)) sketch.edit(setLineText(draft, "port", part.replace(" ", ""), name));
   else throw new ActRefusal(say.NO_OWN_NAME);
 }
 
@@ -210,15 +210,15 @@ function setColour(sketch, lamp, colour) {
  * @param {string} part
  * @param {string} what the participle of the action
  */
-function doneTo(part, what) {
-  return `${capital(nameOfPart(part))} ${part === "keys" || part === "lamps" ? "were" : "was"} ${what}`;
+function messageAbout(part, what) {
+  return `${capitalized(nameOfPart(part))} ${part === "keys" || part === "lamps" ? "were" : "was"} ${what}`;
 }
 
 /**
  * Returns a text with an upper-case first letter.
  * @param {string} words
  */
-function capital(words) {
+function capitalized(words) {
   return words.charAt(0).toUpperCase() + words.slice(1);
 }
 
@@ -235,11 +235,11 @@ function perform(sketch, act) {
       const part = addFromShelf(sketch, act);
       const isDisplay = ["digit", "segments", "scanned"].includes(act.part);
       const digits = act.digits || 1;
-      return [part, isDisplay ? say.displayAdded(counted(digits, "digit")) : doneTo(part, "added")];
+      return [part, isDisplay ? say.displayAdded(counted(digits, "digit")) : messageAbout(part, "added")];
     }
     case "copy": {
       const part = copy(sketch, act.part);
-      return [part, say.copyAdded(capital(nameOfPart(part)), nameOfPart(act.part))];
+      return [part, say.copyAdded(capitalized(nameOfPart(part)), nameOfPart(act.part))];
     }
     case "wire":
       wire(sketch, act.line, act.target);
@@ -256,11 +256,11 @@ function perform(sketch, act) {
     case "column": return [addColumn(sketch), say.MORE_COLUMNS];
     case "delete": {
       const words = deletePart(sketch, act.part);
-      return ["", `${doneTo(act.part, "deleted")}${words && say.andWithIt(words)}`];
+      return ["", `${messageAbout(act.part, "deleted")}${words && say.andWithIt(words)}`];
     }
     case "name":
       renamePart(sketch, act.part, act.name);
-      return [act.part, say.named(capital(nameOfPart(act.part)), act.name.trim())];
+      return [act.part, say.named(capitalized(nameOfPart(act.part)), act.name.trim())];
     case "colour":
       setColour(sketch, act.lamp, act.colour);
       return [`lamp ${act.lamp}`, say.lampIs(act.lamp, act.colour || say.USUAL_RED)];
@@ -277,7 +277,7 @@ function newFault(before, after) {
   const { faults } = new Face(after);
   if (faults.length <= old.length) return "";
   const [found] = faults.filter(({ words }) => !old.includes(words.replace(/\d+/g, "")));
-  return found ? `${capital(found.words)}.` : say.FACE_UNREADABLE;
+  return found ? `${capitalized(found.words)}.` : say.FACE_UNREADABLE;
 }
 
 /**
@@ -307,7 +307,7 @@ export function actOn(text, act) {
  * @param {string} text
  * @param {Shelved} part
  */
-export function whyNotAdded(text, part) {
+export function addRefusal(text, part) {
   return actOn(text, { kind: "add", part }).refusal;
 }
 
@@ -316,7 +316,7 @@ export function whyNotAdded(text, part) {
  * @param {string} text
  * @param {string[]} answers to `board` after the bench has wired the text
  */
-export function isReadAlike(text, answers) {
+export function matchesBench(text, answers) {
   return new Sketch(text).draft.isAsBench(answers);
 }
 

@@ -5,7 +5,7 @@ import { Face } from "../board/face.js";
 import { linesOfPrinter } from "../board/face_board.js";
 import { limit } from "../board/face_words.js";
 import { BITS_PER_CHIP, MAX_COLUMNS, MAX_PARTS, RANGES } from "../bench/board_form.js";
-import { addGroup, colourLamp, setWhole } from "./face_edits.js";
+import { addGroup, colourLamp, setLineText } from "./face_edits.js";
 import { BUZZER, bitOf, freeLines, wiringOf } from "./board_lines.js";
 import { addPart, appendElement, setValue, written } from "./part_edits.js";
 import { ActRefusal } from "./sketch.js";
@@ -19,7 +19,7 @@ import * as say from "../../words/drawing.js";
 /** The masks of a ROM's port with four outputs, and with four inputs. */
 export const OUTPUTS = "0000";
 export const INPUTS = "iiii";
-const LINES_OF_DIGIT = { digit: 4, segments: 7 };
+const LINES_PER_DIGIT = { digit: 4, segments: 7 };
 
 /**
  * Returns the lowest unused number; undefined if all are used.
@@ -257,7 +257,7 @@ export function addBuzzer(sketch, line = "") {
   if (new Face(sketch.text).buzzer) throw new ActRefusal(say.ONE_BUZZER);
   needRom(sketch);
   const output = line || needLines(sketch, 1, freeOutputs, () => addRam(sketch))[0];
-  sketch.edit(setWhole(sketch.draft, "buzzer", output, "buzzer"));
+  sketch.edit(setLineText(sketch.draft, "buzzer", output, "buzzer"));
   return BUZZER;
 }
 
@@ -269,11 +269,11 @@ export function addBuzzer(sketch, line = "") {
  */
 export function addDisplay(sketch, kind, digits) {
   if (!Number.isInteger(digits) || digits < 1) throw new ActRefusal(say.LEAST_DIGITS);
-  needRoom(sketch, digits * LINES_OF_DIGIT[kind]);
+  needRoom(sketch, digits * LINES_PER_DIGIT[kind]);
   needRom(sketch);
   const at = sketch.board.lamps.length;
   if (kind === "digit") for (let digit = 0; digit < digits; digit++) putLamps(sketch, portOfDigit(sketch));
-  else putLamps(sketch, bitsOfSegments(sketch, digits * LINES_OF_DIGIT.segments));
+  else putLamps(sketch, bitsOfSegments(sketch, digits * LINES_PER_DIGIT.segments));
   // (These words are a comment in a board's text, in the syntax of tools/lib/face.txt.)
   // eslint-disable-next-line no-restricted-syntax
   const words = `${counted(digits, "digit")}${kind === "segments" ? " of 7 segments" : ""}`;
@@ -290,7 +290,7 @@ export function addDisplay(sketch, kind, digits) {
 export function addScanned(sketch, digits) {
   const most = limit("scanned");
   if (!Number.isInteger(digits) || digits < 1 || digits > most) throw new ActRefusal(say.mostScanned(most));
-  const count = LINES_OF_DIGIT.segments + digits;
+  const count = LINES_PER_DIGIT.segments + digits;
   needRoom(sketch, count);
   needRom(sketch);
   const at = sketch.board.lamps.length;
@@ -299,7 +299,7 @@ export function addScanned(sketch, digits) {
   putLamps(sketch, needLines(sketch, count, find, () => addRam(sketch)));
   // (These words are a comment in a board's text, in the syntax of tools/lib/face.txt.)
   // eslint-disable-next-line no-restricted-syntax
-  const words = `${counted(digits, "digit")} of 7 segments scanned by ${at + LINES_OF_DIGIT.segments}`;
+  const words = `${counted(digits, "digit")} of 7 segments scanned by ${at + LINES_PER_DIGIT.segments}`;
   sketch.edit(addGroup(sketch.draft, "display", at, words));
   return `lamp ${at}`;
 }
@@ -335,7 +335,7 @@ function bitsOfSegments(sketch, count) {
  * @param {Sketch} sketch
  * @param {(line: string) => boolean} goes returns whether a line is not an output after the action
  */
-export function keepOutputs({ text }, goes) {
+export function requireOutputs({ text }, goes) {
   const { buzzer, printer } = new Face(text);
   if (buzzer && goes(buzzer.place)) throw new ActRefusal(say.buzzerIsAt(buzzer.place));
   const line = printer && linesOfPrinter(printer).find(goes);
@@ -354,7 +354,7 @@ export function setChips(sketch, chain, chips) {
   if (chips < from) throw new ActRefusal(say.LEAST_CHIPS);
   /** @type {(line: string) => boolean} */
   const isBeyond = (line) => line.startsWith(`chain${chain}.`) && bitOf(line).bit >= BITS_PER_CHIP * chips;
-  keepOutputs(sketch, isBeyond);
+  requireOutputs(sketch, isBeyond);
   const beyond = [...wiringOf(sketch.board).values()].find(isBeyond);
   if (beyond) throw new ActRefusal(say.inUse(beyond));
   sketch.edit([setValue(sketch.draft, sketch.draft.entry("chain", chain), "chips", chips)]);

@@ -6,7 +6,7 @@ import { boardLines } from "../bench/board_form.js";
 import { counted } from "../bench/numbers.js";
 import { Face } from "../board/face.js";
 import { sentText } from "../text/text_fault.js";
-import { SHELF, actOn, isReadAlike, whyNotAdded } from "./acts.js";
+import { SHELF, actOn, addRefusal, matchesBench } from "./acts.js";
 import { nameOfTarget, sourcesOf, targetsOf, wiringOf, withBuzzer } from "./board_lines.js";
 import { fieldsOf } from "./fields.js";
 import { MovedParts } from "./moved_parts.js";
@@ -102,7 +102,7 @@ export class Drawing {
     const text = this.calls.text();
     if (text !== this.text) {
       const { refused, answers } = await this.ask(text);
-      if (refused || isReadAlike(text, answers)) this.take(text, refused ? this.answers : answers, refused);
+      if (refused || matchesBench(text, answers)) this.take(text, refused ? this.answers : answers, refused);
       else this.take(text, answers, say.CANNOT_READ);
     }
     this.reportChange();
@@ -122,7 +122,7 @@ export class Drawing {
     this.board = withBuzzer(readBoard(answers), this.face);
     this.fault = fault;
     this.begun = "";
-    if (fault === "") this.shelf = new Map(SHELF.map((part) => [part, whyNotAdded(text, part)]));
+    if (fault === "") this.shelf = new Map(SHELF.map((part) => [part, addRefusal(text, part)]));
     if (!this.isThere(this.chosen)) this.chosen = "";
   }
 
@@ -231,7 +231,7 @@ export class Drawing {
     if (done.refusal) return this.say(done.refusal);
     if (done.edits.length === 0) return this.say(say.NO_CHANGE);
     const { refused, answers } = await this.ask(done.text);
-    if (refused || !isReadAlike(done.text, answers)) return this.say(say.notDone(refused || say.CANNOT_READ));
+    if (refused || !matchesBench(done.text, answers)) return this.say(say.notDone(refused || say.CANNOT_READ));
     // If the text was edited while the bench was checking, start again.
     if (this.calls.text() !== text) return this.perform(act);
     this.calls.edit(done.edits);

@@ -50,7 +50,7 @@ export function wiringOf({ chains, matrix, lamps, buzzer }) {
  * @param {Target} target
  * @returns {[string, number]}
  */
-export function readTarget(target) {
+export function splitTarget(target) {
   const [kind, number] = target.split(" ");
   return [kind, Number(number)];
 }
@@ -60,7 +60,7 @@ export function readTarget(target) {
  * @param {Target} target
  */
 export function nameOfTarget(target) {
-  const [kind, number] = readTarget(target);
+  const [kind, number] = splitTarget(target);
   if (kind === "lamp") return target;
   if (target === BUZZER) return say.THE_BUZZER;
   return kind === "clock" || kind === "data" ? say.ofChain(kind, number) : say.ofKeys(target);
@@ -81,8 +81,8 @@ export function bitOf(line) {
  * @param {BoardLine} line
  * @param {Target} target
  */
-export function mayWire({ chains, matrix }, { name, kind, isInput }, target) {
-  const [what, number] = readTarget(target);
+export function canWire({ chains, matrix }, { name, kind, isInput }, target) {
+  const [what, number] = splitTarget(target);
   if (what === "column") return isInput;
   if (what === "lamp" || target === BUZZER) return !isInput;
   if (what !== "row") return kind !== "bit" && !isInput;
@@ -101,7 +101,7 @@ export function mayWire({ chains, matrix }, { name, kind, isInput }, target) {
 export function targetsOf(board, name) {
   const line = boardLines(board).find((each) => each.name === name);
   if (!line) return [];
-  return [...wiringOf(board)].filter(([target, now]) => now !== name && mayWire(board, line, target)).map(([target]) => target);
+  return [...wiringOf(board)].filter(([target, now]) => now !== name && canWire(board, line, target)).map(([target]) => target);
 }
 
 /**
@@ -110,7 +110,7 @@ export function targetsOf(board, name) {
  * @param {Target} target
  */
 export function sourcesOf(board, target) {
-  return boardLines(board).filter((line) => mayWire(board, line, target)).map(({ name }) => name);
+  return boardLines(board).filter((line) => canWire(board, line, target)).map(({ name }) => name);
 }
 
 /**

@@ -3,11 +3,11 @@
 
 import { counted } from "../bench/numbers.js";
 import { Face } from "../board/face.js";
-import { isScanned, lampsOf } from "../board/face_board.js";
-import { removeColumns, removeRows, renamePorts, renumberLamps, setWhole } from "./face_edits.js";
-import { BUZZER, readTarget } from "./board_lines.js";
+import { isScanned, lampsOfGroup } from "../board/face_board.js";
+import { removeColumns, removeRows, renamePorts, renumberLamps, setLineText } from "./face_edits.js";
+import { BUZZER, splitTarget } from "./board_lines.js";
 import { nameOfPart, setRows } from "./adding.js";
-import { removeElement, removePart, setValue, setWritten } from "./part_edits.js";
+import { removeElement, removePart, replaceValue, setValue } from "./part_edits.js";
 import { ActRefusal } from "./sketch.js";
 import * as say from "../../words/drawing.js";
 
@@ -41,8 +41,8 @@ function isLineGone({ roms, rams, chains }, line) {
  * @param {Face} face
  * @param {number} lamp
  */
-export function lampsWith(face, lamp) {
-  const all = face.groups.map(lampsOf).find((lamps) => lamps.includes(lamp));
+export function groupLampsOf(face, lamp) {
+  const all = face.groups.map(lampsOfGroup).find((lamps) => lamps.includes(lamp));
   return all || [lamp];
 }
 
@@ -74,7 +74,7 @@ function addDependents(board, face, gone) {
   board.lamps.forEach((line, at) => isLineGone(gone, line) && gone.lamps.add(at));
   // A lamp is deleted together with its group. (The loop also visits lamps that it adds.)
   for (const at of gone.lamps) {
-    const groups = face.groups.map(lampsOf).filter((lamps) => lamps.includes(at));
+    const groups = face.groups.map(lampsOfGroup).filter((lamps) => lamps.includes(at));
     for (const lamp of groups.flat()) if (lamp < board.lamps.length) gone.lamps.add(lamp);
   }
 }
@@ -148,8 +148,8 @@ function removeChain(sketch, chain) {
   const bits = values.filter(({ inner }) => rename(String(inner)) !== inner);
   const numbers = draft.of("keys").map((entry) => draft.keyOf(entry, "chain").value).filter(({ inner }) => Number(inner) > chain);
   sketch.edit([
-    ...bits.map((value) => setWritten(draft, value, rename(String(value.inner)))),
-    ...numbers.map((value) => setWritten(draft, value, Number(value.inner) - 1)),
+    ...bits.map((value) => replaceValue(draft, value, rename(String(value.inner)))),
+    ...numbers.map((value) => replaceValue(draft, value, Number(value.inner) - 1)),
   ]);
   sketch.edit(renamePorts(sketch.draft, (port) => (port === `chain${chain}` ? "" : rename(port))));
   sketch.edit(removePart(sketch.draft, "chain", chain));
@@ -186,7 +186,7 @@ function removeRam(sketch, ram) {
  * @param {string} part
  */
 function addDeleted(board, gone, part) {
-  const [kind, number] = readTarget(part);
+  const [kind, number] = splitTarget(part);
   if (kind === "rom") gone.roms.add(number);
   else if (kind === "chain") gone.chains.add(number);
   else if (kind === "lamp") gone.lamps.add(number);
@@ -229,11 +229,11 @@ function addDeletedRam({ banks }, gone, ram) {
 export function deletePart(sketch, part) {
   const { board } = sketch;
   if (part === "test") {
-    sketch.edit(setWhole(sketch.draft, "test", "", ""));
+    sketch.edit(setLineText(sketch.draft, "test", "", ""));
     return "";
   }
   if (part === "buzzer" || part === BUZZER) {
-    sketch.edit(setWhole(sketch.draft, "buzzer", board.buzzer || "", ""));
+    sketch.edit(setLineText(sketch.draft, "buzzer", board.buzzer || "", ""));
     return "";
   }
   if (part.startsWith("row ")) return deleteRow(sketch, Number(part.slice(4)));

@@ -2,7 +2,7 @@
 // deleted.
 
 import { COLOURS, KINDS } from "../board/face_words.js";
-import { addFaceLine, faceLines, numberOfLine, removeFaceLine, removeWords, setWord } from "./face_lines.js";
+import { addFaceLine, faceLines, headNumber, removeFaceLine, removeWords, setWord } from "./face_lines.js";
 
 /**
  * @typedef {import("./board_draft.js").BoardDraft} BoardDraft
@@ -41,14 +41,14 @@ export function wordOf(name) {
  */
 function setInList(draft, kind, lamp, text) {
   const lists = faceLines(draft).filter((line) => line.kind === kind && line.first && !line.last);
-  const own = lists.find((line) => numberOfLine(line) <= lamp && lamp < numberOfLine(line) + line.words.length);
+  const own = lists.find((line) => headNumber(line) <= lamp && lamp < headNumber(line) + line.words.length);
   if (own) {
-    const others = own.words.filter((_, at) => numberOfLine(own) + at !== lamp);
+    const others = own.words.filter((_, at) => headNumber(own) + at !== lamp);
     if (text === "" && others.every((word) => word.text === NO_WORD)) return [removeFaceLine(draft, own)];
-    return setWord(own.words[lamp - numberOfLine(own)], text || NO_WORD);
+    return setWord(own.words[lamp - headNumber(own)], text || NO_WORD);
   }
   if (text === "") return [];
-  const before = lists.find((line) => numberOfLine(line) + line.words.length === lamp);
+  const before = lists.find((line) => headNumber(line) + line.words.length === lamp);
   if (before) return [{ from: before.end, to: before.end, insert: ` ${text}` }];
   return addFaceLine(draft, kind, `# ${kind} ${lamp}: ${text}`);
 }
@@ -62,8 +62,8 @@ function setInList(draft, kind, lamp, text) {
 export function nameLamp(draft, lamp, name) {
   const word = wordOf(name);
   const lines = faceLines(draft);
-  const own = lines.find((line) => line.kind === "lamp" && numberOfLine(line) <= lamp && lamp < numberOfLine(line) + line.words.length);
-  const old = own && own.words[lamp - numberOfLine(own)].text;
+  const own = lines.find((line) => line.kind === "lamp" && headNumber(line) <= lamp && lamp < headNumber(line) + line.words.length);
+  const old = own && own.words[lamp - headNumber(own)].text;
   const onGrid = lines.filter(({ kind }) => kind === "grid").flatMap(({ words }) => words)
     .filter(({ text }) => text === old && text !== NO_WORD);
   return [...setInList(draft, "lamp", lamp, word), ...onGrid.flatMap((each) => setWord(each, word || String(lamp)))];
@@ -77,10 +77,10 @@ export function nameLamp(draft, lamp, name) {
  * @returns {TextEdit[]}
  */
 export function colourLamp(draft, lamp, colour) {
-  const range = faceLines(draft).find((line) => line.kind === "colour" && line.last && numberOfLine(line) <= lamp
+  const range = faceLines(draft).find((line) => line.kind === "colour" && line.last && headNumber(line) <= lamp
     && lamp <= Number(line.last.text));
   if (!range || !range.first || !range.last) return setInList(draft, "colour", lamp, colour);
-  const first = numberOfLine(range);
+  const first = headNumber(range);
   const [old = { text: NO_WORD }] = range.words;
   const count = Number(range.last.text) - first + 1;
   const words = Array.from({ length: count }, (_, at) => (first + at === lamp ? colour || NO_WORD : old.text));
@@ -98,7 +98,7 @@ export function colourLamp(draft, lamp, colour) {
  */
 export function nameKey(draft, { row, column }, name) {
   const word = wordOf(name) || NO_WORD;
-  const line = faceLines(draft).find((each) => each.kind === "row" && numberOfLine(each) === row);
+  const line = faceLines(draft).find((each) => each.kind === "row" && headNumber(each) === row);
   const count = line ? line.words.length : 0;
   if (line && column < count) return setWord(line.words[column], word);
   const before = Array.from({ length: column - count }, (_, at) => `${row}.${count + at}`);
@@ -114,7 +114,7 @@ export function nameKey(draft, { row, column }, name) {
  * @param {string} words "" removes the line
  * @returns {TextEdit[]}
  */
-export function setWhole(draft, kind, head, words) {
+export function setLineText(draft, kind, head, words) {
   const text = words.trim().replace(/[ \t]+/g, " ");
   const line = faceLines(draft).find((each) => each.kind === kind && (each.first ? each.first.text.toLowerCase() : "") === head);
   if (!line) return text === "" ? [] : addFaceLine(draft, kind, `# ${kind}${head && ` ${head}`}: ${text}`);
@@ -155,7 +155,7 @@ export function renumberLamps(draft, gone) {
   const numberOf = (lamp) => lamp - [...gone].filter((each) => each < lamp).length;
   return faceLines(draft).flatMap((line) => {
     if (line.kind === "grid") return renumberGrid(draft, line, gone, numberOf);
-    if (!LAMP_KINDS.has(line.kind) || !line.first || Number.isNaN(numberOfLine(line))) return [];
+    if (!LAMP_KINDS.has(line.kind) || !line.first || Number.isNaN(headNumber(line))) return [];
     if (line.last) return renumberRange(draft, line, gone, numberOf);
     return renumberList(draft, line, gone, numberOf);
   });
@@ -170,7 +170,7 @@ export function renumberLamps(draft, gone) {
  * @returns {TextEdit[]}
  */
 function renumberList(draft, line, gone, numberOf) {
-  const first = numberOfLine(line);
+  const first = headNumber(line);
   const isGroup = line.kind !== "lamp" && line.kind !== "colour";
   const kept = isGroup ? [...(gone.has(first) ? [] : [first])] : line.words.map((_, at) => first + at).filter((lamp) => !gone.has(lamp));
   if (kept.length === 0) return [removeFaceLine(draft, line)];
@@ -192,7 +192,7 @@ function renumberList(draft, line, gone, numberOf) {
 function renumberRange(draft, line, gone, numberOf) {
   const { first, last } = line;
   if (!first || !last) return [];
-  const lamps = Array.from({ length: Math.max(0, Number(last.text) - numberOfLine(line) + 1) }, (_, at) => numberOfLine(line) + at);
+  const lamps = Array.from({ length: Math.max(0, Number(last.text) - headNumber(line) + 1) }, (_, at) => headNumber(line) + at);
   const kept = lamps.filter((lamp) => !gone.has(lamp));
   if (kept.length === 0) return [removeFaceLine(draft, line)];
   return [...setWord(first, String(numberOf(kept[0]))), ...setWord(last, String(numberOf(kept[kept.length - 1])))];
@@ -208,7 +208,7 @@ function renumberRange(draft, line, gone, numberOf) {
  */
 function renumberGrid(draft, line, gone, numberOf) {
   const names = new Map(faceLines(draft).filter(({ kind, first, last }) => kind === "lamp" && first && !last)
-    .flatMap((list) => list.words.map(({ text }, at) => /** @type {[string, number]} */ ([text, numberOfLine(list) + at]))));
+    .flatMap((list) => list.words.map(({ text }, at) => /** @type {[string, number]} */ ([text, headNumber(list) + at]))));
   const texts = line.words.map(({ text }) => {
     const named = names.get(text);
     if (named !== undefined) return gone.has(named) ? NO_WORD : text;
@@ -254,7 +254,7 @@ function renamedPort(text, isLine, newPortOf) {
  * @param {number} left the number of remaining rows
  */
 export function removeRows(draft, left) {
-  return faceLines(draft).filter((line) => line.kind === "row" && numberOfLine(line) >= left).map((line) => removeFaceLine(draft, line));
+  return faceLines(draft).filter((line) => line.kind === "row" && headNumber(line) >= left).map((line) => removeFaceLine(draft, line));
 }
 
 /**

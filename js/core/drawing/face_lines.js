@@ -51,7 +51,7 @@ export function faceLines(draft) {
  * Returns the number before the colon of a line; NaN if it has none.
  * @param {FaceLine} line
  */
-export function numberOfLine({ first }) {
+export function headNumber({ first }) {
   return first ? Number(first.text) : NaN;
 }
 

@@ -4,8 +4,8 @@
 import { upTo } from "../bench/numbers.js";
 import { COLOURS } from "../board/face_words.js";
 import { RANGES, boardLines } from "../bench/board_form.js";
-import { displayAt, lampsWith } from "./deleting.js";
-import { BUZZER, nameOfTarget, readTarget, sourcesOf, wiringOf } from "./board_lines.js";
+import { displayAt, groupLampsOf } from "./deleting.js";
+import { BUZZER, nameOfTarget, sourcesOf, splitTarget, wiringOf } from "./board_lines.js";
 import * as say from "../../words/drawing.js";
 
 /**
@@ -91,7 +91,7 @@ function directionField(line, port) {
 /** @type {(part: string) => Button} returns the button that copies a part */
 const copyButton = (part) => ({ word: say.COPY, act: { kind: "copy", part } });
 /** @type {(part: string, word?: string) => Button} returns the button that deletes a part */
-const deletionOf = (part, word = say.DELETE) => ({ word, act: { kind: "delete", part } });
+const deleteButton = (part, word = say.DELETE) => ({ word, act: { kind: "delete", part } });
 
 /**
  * Returns the form for a ROM.
@@ -101,12 +101,12 @@ const deletionOf = (part, word = say.DELETE) => ({ word, act: { kind: "delete", 
  * @returns {Fields}
  */
 function romFields(board, face, part) {
-  const chip = readTarget(part)[1];
+  const chip = splitTarget(part)[1];
   const rom = board.roms.find((each) => Number(each.chip) === chip);
   const port = rom ? rom.port : "0000";
   const lines = upTo(4).map((at) => directionField(`rom${chip}.${at}`, port));
   const fields = [portField(face, part), ...lines];
-  return { title: say.romWithPort(chip), part, fields, buttons: [copyButton(part), deletionOf(part)] };
+  return { title: say.romWithPort(chip), part, fields, buttons: [copyButton(part), deleteButton(part)] };
 }
 
 /**
@@ -117,12 +117,12 @@ function romFields(board, face, part) {
  * @returns {Fields}
  */
 function chainFields(board, face, part) {
-  const at = readTarget(part)[1];
+  const at = splitTarget(part)[1];
   const chips = choiceField("chips", String(board.chains[at].chips), numbers(RANGES["chain.chips"]), (value) => (
     { kind: "chips", chain: at, chips: Number(value) }));
   const lines = [lineField(board, `clock ${at}`, "clock"), lineField(board, `data ${at}`, "data")];
   const fields = [portField(face, part), ...lines, chips];
-  return { title: say.chainOf(at), part, fields, buttons: [copyButton(part), deletionOf(part)] };
+  return { title: say.chainOf(at), part, fields, buttons: [copyButton(part), deleteButton(part)] };
 }
 
 /**
@@ -140,7 +140,7 @@ function keysFields(board, face) {
   }));
   const more = { word: say.ANOTHER_COLUMN, act: /** @type {Act} */ ({ kind: "column" }) };
   const fields = [rows, lineField(board, "row 0", "row 0"), ...columns, ...names];
-  return { title: say.KEYS, part: "keys", fields, buttons: [more, deletionOf("keys")] };
+  return { title: say.KEYS, part: "keys", fields, buttons: [more, deleteButton("keys")] };
 }
 
 /**
@@ -152,7 +152,7 @@ function keysFields(board, face) {
  */
 function lampFields(board, face, lamp) {
   const part = `lamp ${lamp}`;
-  const all = lampsWith(face, lamp);
+  const all = groupLampsOf(face, lamp);
   const isOne = all.length === 1;
   // All lamps of a display have the colour of its first lamp.
   const [name, colour] = [face.lamps.get(lamp), face.colours.get(all[0])];
@@ -162,7 +162,7 @@ function lampFields(board, face, lamp) {
     lineField(board, part, "lamp"),
   ];
   const copies = displayAt(face, all[0]) ? [{ ...copyButton(`lamp ${all[0]}`), word: say.COPY_DISPLAY }] : [];
-  const buttons = isOne ? [copyButton(part), deletionOf(part)] : [...copies, deletionOf(part, say.deleteLamps(all.length))];
+  const buttons = isOne ? [copyButton(part), deleteButton(part)] : [...copies, deleteButton(part, say.deleteLamps(all.length))];
   return { title: say.lampTitle(lamp), part, fields, buttons };
 }
 
@@ -175,7 +175,7 @@ function lampFields(board, face, lamp) {
 function buzzerFields(board, { buzzer }) {
   const name = text("name", buzzer ? buzzer.name : "", (value) => ({ kind: "name", part: "buzzer", name: value }));
   const fields = [name, lineField(board, BUZZER, "buzzer")];
-  return { title: say.THE_BUZZER_TITLE, part: "buzzer", fields, buttons: [deletionOf("buzzer")] };
+  return { title: say.THE_BUZZER_TITLE, part: "buzzer", fields, buttons: [deleteButton("buzzer")] };
 }
 
 /**
@@ -186,7 +186,7 @@ function buzzerFields(board, { buzzer }) {
  */
 function ramFields(face, part) {
   const title = say.ramWithPort(part.slice(4));
-  return { title, part: part.split(".")[0], fields: [portField(face, part)], buttons: [copyButton(part), deletionOf(part)] };
+  return { title, part: part.split(".")[0], fields: [portField(face, part)], buttons: [copyButton(part), deleteButton(part)] };
 }
 
 /**
@@ -214,12 +214,12 @@ function lineFields(board, name) {
  * @returns {Fields}
  */
 function targetFields(board, target) {
-  const [kind, number] = readTarget(target);
+  const [kind, number] = splitTarget(target);
   const canGo = kind === "column" || (kind === "row" && number === board.rows - 1 && number > 0);
   const name = nameOfTarget(target);
   const title = name.charAt(0).toUpperCase() + name.slice(1);
   const part = kind === "row" || kind === "column" ? "keys" : `chain ${number}`;
-  return { title, part, fields: [lineField(board, target, say.IT_IS)], buttons: canGo ? [deletionOf(target)] : [] };
+  return { title, part, fields: [lineField(board, target, say.IT_IS)], buttons: canGo ? [deleteButton(target)] : [] };
 }
 
 /**
@@ -230,17 +230,17 @@ function targetFields(board, target) {
  * @returns {Fields}
  */
 export function fieldsOf(board, face, chosen) {
-  const [kind, number] = readTarget(chosen);
+  const [kind, number] = splitTarget(chosen);
   if (kind === "rom") return romFields(board, face, chosen);
   if (kind === "chain") return chainFields(board, face, chosen);
   if (kind === "keys") return keysFields(board, face);
   if (kind === "lamp") return lampFields(board, face, number);
   if (kind === "ram") return ramFields(face, chosen);
   if (kind === "buzzer" && board.buzzer) return buzzerFields(board, face);
-  if (kind === "lamps") return { title: say.ALL_LAMPS, part: "lamp 0", fields: [], buttons: [deletionOf("lamps", say.DELETE_ALL_LAMPS)] };
+  if (kind === "lamps") return { title: say.ALL_LAMPS, part: "lamp 0", fields: [], buttons: [deleteButton("lamps", say.DELETE_ALL_LAMPS)] };
   if (kind === "test" && face.test) {
     const name = text("name", face.test.name, (value) => ({ kind: "name", part: "test", name: value }));
-    return { title: say.atTest(face.test.kind), part: "test", fields: [name], buttons: [deletionOf("test")] };
+    return { title: say.atTest(face.test.kind), part: "test", fields: [name], buttons: [deleteButton("test")] };
   }
   if (wiringOf(board).has(chosen)) return targetFields(board, chosen);
   if (chosen.includes(".")) return lineFields(board, chosen);

@@ -1,6 +1,6 @@
 // The labels of lamps in the drawing: a lamp's name or, for a lamp of a display without a name, its digit and segment.
 
-import { isScanned, lampNames, lampsOf } from "../board/face_board.js";
+import { isScanned, lampNames, lampsOfGroup } from "../board/face_board.js";
 import { upTo } from "../bench/numbers.js";
 import * as say from "../../words/drawing.js";
 
@@ -21,7 +21,7 @@ export function lampLabels(face, count) {
   for (const group of face.groups) {
     if (group.kind !== "display") continue;
     const own = labelsOf(group);
-    lampsOf(group).forEach((lamp, at) => {
+    lampsOfGroup(group).forEach((lamp, at) => {
       if (lamp < count) labels[lamp] = labels[lamp] || own[at];
     });
   }

@@ -205,7 +205,7 @@ export function removePart(draft, kind, at) {
  * @returns {TextEdit}
  */
 export function setValue(draft, entry, name, value) {
-  return setWritten(draft, draft.keyOf(entry, name).value, value);
+  return replaceValue(draft, draft.keyOf(entry, name).value, value);
 }
 
 /**
@@ -215,6 +215,6 @@ export function setValue(draft, entry, name, value) {
  * @param {string | number} value
  * @returns {TextEdit}
  */
-export function setWritten(draft, old, value) {
+export function replaceValue(draft, old, value) {
   return { from: draft.startOf(old), to: draft.endOf(old), insert: written(value) };
 }

@@ -18,7 +18,7 @@ import * as say from "../../words/key_scan.js";
 const LABEL_WIDTH = 12;
 const COMMENT_COLUMN = 32;
 /** The number of values of a register, and the maximum number of rounds in an ISZ loop. */
-const TURNS = 16;
+const REGISTER_VALUES = 16;
 
 /**
  * Returns the port of a line.
@@ -36,7 +36,7 @@ function portOf(line) {
 const isSame = (one, other) => one.title === other.title;
 
 /** @param {number} byte returns its hexadecimal numeral */
-const inHex = (byte) => `0x${byte.toString(16).toUpperCase().padStart(2, "0")}`;
+const hexByte = (byte) => `0x${byte.toString(16).toUpperCase().padStart(2, "0")}`;
 
 /**
  * Returns the lines that select a port.
@@ -46,7 +46,7 @@ const inHex = (byte) => `0x${byte.toString(16).toUpperCase().padStart(2, "0")}`;
 function selected({ bank, source, title }) {
   /** @type {Line[]} */
   const designated = bank < 0 ? [] : [["", ["LDM", String(bank)]], ["", ["DCL"]]];
-  return [...designated, ["", ["FIM", "P0,", inHex(source)], title], ["", ["SRC", "P0"]]];
+  return [...designated, ["", ["FIM", "P0,", hexByte(source)], title], ["", ["SRC", "P0"]]];
 }
 
 /**
@@ -80,11 +80,13 @@ class Labels {
  */
 function shiftToFirstRow(first, labels) {
   if (first === 0) return [];
-  const rounds = Math.ceil(first / TURNS);
+  const rounds = Math.ceil(first / REGISTER_VALUES);
   const [turn, shift] = [labels.of("first"), labels.of("shift")];
   /** @type {Line[]} */
-  const counters = [["", ["LDM", String((TURNS - (first % TURNS)) % TURNS)]], ["", ["XCH", "R8"], say.goesTo(first)]];
-  if (rounds > 1) counters.push(["", ["LDM", String(TURNS - rounds)]], ["", ["XCH", "R9"]]);
+  const counters = [
+    ["", ["LDM", String((REGISTER_VALUES - (first % REGISTER_VALUES)) % REGISTER_VALUES)]], ["", ["XCH", "R8"], say.goesTo(first)],
+  ];
+  if (rounds > 1) counters.push(["", ["LDM", String(REGISTER_VALUES - rounds)]], ["", ["XCH", "R9"]]);
   /** @type {Line[]} */
   const loop = [[turn, ["LDM", "0"]], ["", ["JMS", shift]], ["", ["ISZ", "R8,", turn]]];
   return [...counters, ...loop, .../** @type {Line[]} */ (rounds > 1 ? [["", ["ISZ", "R9,", turn]]] : [])];
@@ -146,7 +148,7 @@ function headOf({ chain, first, rows, columns }, clock, data, labels) {
   const banks = [...new Set([data.bank, clock.bank])].filter((bank) => bank >= 0);
   return [
     say.scansKeys(rows, first, chain, read), say.callIt(labels.of("scan")),
-    say.usesThese(first > TURNS ? "R9" : first > 0 ? "R8" : "R7"), say.writesPorts(written), ...banks.map(say.designates),
+    say.usesThese(first > REGISTER_VALUES ? "R9" : first > 0 ? "R8" : "R7"), say.writesPorts(written), ...banks.map(say.designates),
   ].map((words) => `; ${words}`);
 }
 
@@ -166,7 +168,7 @@ export function keyScanOf({ matrix, chains }, text) {
   /** @type {Line[]} */
   const lines = [
     [scan, ["LDM", "0"]], ["", ["XCH", "R4"], say.FIRST_ROW],
-    ["", ["LDM", String(TURNS - rows)]], ["", ["XCH", "R7"], say.counts(rows)],
+    ["", ["LDM", String(REGISTER_VALUES - rows)]], ["", ["XCH", "R7"], say.counts(rows)],
     ["", ["LDM", String(data.bit)]], ["", ["JMS", shift], say.ONE_ENTERS], ...shiftToFirstRow(first, labels),
     ...readColumns(columns, labels).map((line, at) => /** @type {Line} */ (at === 0 ? [row, line[1], line[2]] : line)),
     ["", ["LDM", "0"]], ["", ["JMS", shift], say.NEXT_ROW], ["", ["INC", "R4"]], ["", ["ISZ", "R7,", row]], ["", ["BBL", "0"], say.NO_KEY],

@@ -3,7 +3,7 @@
 import { Face } from "../board/face.js";
 import { BoardDraft } from "./board_draft.js";
 import { withBuzzer } from "./board_lines.js";
-import { edited, fromLast } from "./text_edits.js";
+import { edited, toSuccessive } from "./text_edits.js";
 
 /**
  * @typedef {import("./text_edits.js").TextEdit} TextEdit
@@ -30,7 +30,7 @@ export class Sketch {
    * @param {TextEdit[]} edits
    */
   edit(edits) {
-    const inTurn = fromLast(edits);
+    const inTurn = toSuccessive(edits);
     this.edits.push(...inTurn);
     this.draft = new BoardDraft(edited(this.draft.text, inTurn));
   }

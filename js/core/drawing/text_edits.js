@@ -21,7 +21,7 @@ export function edited(text, edits) {
  * @param {TextEdit[]} edits
  * @returns {TextEdit[]}
  */
-export function inverseOf(text, edits) {
+export function inverseEdits(text, edits) {
   let now = text;
   /** @type {TextEdit[]} */
   const back = [];
@@ -39,7 +39,7 @@ export function inverseOf(text, edits) {
  * @param {TextEdit[]} edits
  * @returns {TextEdit[]}
  */
-export function fromLast(edits) {
+export function toSuccessive(edits) {
   let end = Infinity;
   return [...edits].sort((one, other) => other.from - one.from || other.to - one.to).map(({ from, to, insert }) => {
     const edit = { from, to: Math.max(from, Math.min(to, end)), insert };

@@ -1,7 +1,7 @@
 // Full speed, in the worker: runs batches of cycles one after the other, and decides when to report them.
 
 import { RunLog } from "../bench/run_log.js";
-import { NO_TALLY, bothTallies } from "../debug/debugger.js";
+import { NO_TALLY, addTallies } from "../debug/debugger.js";
 
 /**
  * @typedef {import("../debug/debugger.js").DebugFrame} DebugFrame
@@ -55,7 +55,7 @@ export class FullSpeed {
     const { cycles, changesKeys, tally } = this.unreported;
     const { end, stop, snapshot } = frame;
     this.unreported = {
-      cycles: cycles + frame.cycles, end, stop, snapshot, tally: bothTallies(tally, frame.tally),
+      cycles: cycles + frame.cycles, end, stop, snapshot, tally: addTallies(tally, frame.tally),
       changesKeys: changesKeys || frame.changesKeys,
       litShares: null,
       heard: null,

@@ -2,7 +2,7 @@
 
 import { readBoard } from "../bench/answers.js";
 import { Face } from "../board/face.js";
-import { NO_TALLY, bothTallies } from "../debug/debugger.js";
+import { NO_TALLY, addTallies } from "../debug/debugger.js";
 import { namesOfWatched } from "../debug/watched.js";
 import { SourceMap } from "../machine/source_map.js";
 import { sentText } from "../text/text_fault.js";
@@ -161,7 +161,7 @@ export class OpenBench {
   takeUnreported() {
     const { tally, ...result } = this.fullSpeed.take();
     const late = { ...NO_TALLY, usual: this.debugger.takeLate() };
-    return { ...result, tally: bothTallies(late, tally), ...this.shown(this.session.takeSnapshot(), false) };
+    return { ...result, tally: addTallies(late, tally), ...this.shown(this.session.takeSnapshot(), false) };
   }
 
   /** Does the debugger's work that was postponed until after the report. */

@@ -2,7 +2,7 @@
 // snapshot.
 
 import { LineChanges } from "../debug/line_changes.js";
-import { Standing } from "../debug/standing.js";
+import { MachineState } from "../debug/standing.js";
 import { valuesAt } from "../debug/value_words.js";
 
 /**
@@ -30,7 +30,7 @@ export class SourceValues {
     this.calls = calls;
     /** @type {string[]} the last snapshot */
     this.snapshot = [];
-    /** @type {Standing | null} the state in that snapshot */
+    /** @type {MachineState | null} the state in that snapshot */
     this.read = null;
     this.isRunning = false;
     this.changes = new LineChanges();
@@ -43,13 +43,13 @@ export class SourceValues {
     this.changes.forget();
   }
 
-  /** @returns {Standing | null} the state of the machine, null while time is running */
+  /** @returns {MachineState | null} the state of the machine, null while time is running */
   get standing() {
     if (this.calls.isRunning()) return null;
     const snapshot = this.calls.snapshot();
     if (snapshot !== this.snapshot) {
       this.snapshot = snapshot;
-      this.read = snapshot.length > 0 ? new Standing(snapshot) : null;
+      this.read = snapshot.length > 0 ? new MachineState(snapshot) : null;
     }
     return this.read;
   }

@@ -3,7 +3,7 @@
 // text; the piece of a lamp has the colour and brightness level of the lamp. js/node/panel_terminal.mjs positions the rows.
 
 import { hex, upTo } from "../bench/numbers.js";
-import { linesOf } from "../board/strip.js";
+import { printoutLines } from "../board/strip.js";
 import { escaped } from "../text/escaped.js";
 import { withoutTabs } from "../text/without_tabs.js";
 import { LARGE_ROWS, largeRows } from "./large_digits.js";
@@ -227,7 +227,7 @@ export class Screen {
   printoutRows(room) {
     const { printing, printed, subject: { face } } = this.panel;
     if (!printing || !face.printer) return [];
-    const lines = linesOf(printed, face.printer.words).map(escaped);
+    const lines = printoutLines(printed, face.printer.words).map(escaped);
     const count = Math.max(MIN_PRINTOUT_ROWS, room);
     const head = count > MIN_PRINTOUT_ROWS ? [say.PAPER] : [];
     const last = lines.slice(-(count - head.length));

@@ -2,7 +2,7 @@
 
 import { counted, hex, numberOf, upTo } from "../bench/numbers.js";
 import { linesOfBreakpoints } from "../debug/breakpoint_lines.js";
-import { Standing } from "../debug/standing.js";
+import { MachineState } from "../debug/standing.js";
 import { withoutTabs } from "../text/without_tabs.js";
 import { wordsOfAddress } from "../../words/stops.js";
 import { framesOf } from "../adapter/frames.js";
@@ -17,7 +17,7 @@ import * as say from "../../words/prompt.js";
  * @param {DebugSession} session
  */
 function standingOf(session) {
-  return new Standing(session.debugger.session.takeSnapshot());
+  return new MachineState(session.debugger.session.takeSnapshot());
 }
 
 /**

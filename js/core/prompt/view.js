@@ -5,7 +5,7 @@
 //     view.lines(sizeOf(24, 80), { head, here, other });      sizeOf returns null if the terminal is too small
 
 import { upTo } from "../bench/numbers.js";
-import { Standing } from "../debug/standing.js";
+import { MachineState } from "../debug/standing.js";
 import { escaped } from "../text/escaped.js";
 import { wordsOfCycles } from "../time/cycles.js";
 import { codeLines, keysDown, linesOfSource, sourceLine } from "./looks.js";
@@ -91,7 +91,7 @@ export class View {
   readRegisters() {
     const { session } = this.prompt;
     const { total } = session.debugger.session.count;
-    const { registers, ports } = new Standing(session.debugger.session.takeSnapshot());
+    const { registers, ports } = new MachineState(session.debugger.session.takeSnapshot());
     const { accumulator, carry, bank, test } = registers;
     const now = new Map([["acc", accumulator], ["cy", carry], ["test", test], ["dcl", bank], ["SRC", ports.sources[0]]]);
     for (const at of upTo(8)) now.set(`P${at}`, `${registers.registers[2 * at]}${registers.registers[2 * at + 1]}`);

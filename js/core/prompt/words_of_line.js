@@ -3,7 +3,7 @@
 import { LAST_ADDRESS, numberOf } from "../bench/numbers.js";
 import { wholeDuration } from "../conditions/durations.js";
 import { instructionOfAddress, instructionOfLine } from "../debug/breakpoints.js";
-import { askedOf } from "../debug/becoming.js";
+import { searchConditionOf } from "../debug/becoming.js";
 import { ADDRESS_RANGE } from "../../words/adapter.js";
 import * as say from "../../words/prompt.js";
 
@@ -84,6 +84,6 @@ export function cyclesIn(text) {
 export function conditionIn(text, session) {
   const isPlace = /^\d+$/.test(text) || /^[^\s:]*\.[A-Za-z0-9]+:/.test(text) || addressIn(text, session) !== undefined;
   if (isPlace || !/[\s=<>!]/.test(text)) return "";
-  const { asked, fault } = askedOf(text, session.names);
+  const { asked, fault } = searchConditionOf(text, session.names);
   return asked ? text : refuse(fault);
 }

@@ -3,7 +3,7 @@
 
 import { partLines } from "../bench/part_lines.js";
 import { Face } from "../board/face.js";
-import { endOf, isScanned, lampsOf } from "../board/face_board.js";
+import { endOfGroup, isScanned, lampsOfGroup } from "../board/face_board.js";
 import { upTo } from "../bench/numbers.js";
 
 /**
@@ -56,8 +56,8 @@ class Drawing {
   }
 
   drawGroups() {
-    for (const group of this.face.groups.filter((each) => endOf(each) <= this.lampCount)) {
-      for (const lamp of lampsOf(group)) this.drawn.add(lamp);
+    for (const group of this.face.groups.filter((each) => endOfGroup(each) <= this.lampCount)) {
+      for (const lamp of lampsOfGroup(group)) this.drawn.add(lamp);
       if (group.kind === "display") this.drawDisplay(group);
       else if (group.kind === "die") {
         this.drawGrid(upTo(7).map((at) => ({ lamp: group.first + at, column: PIPS[at][0], row: PIPS[at][1] })));

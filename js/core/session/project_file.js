@@ -4,7 +4,7 @@
 import { checksum } from "./checksum.js";
 import { shortName } from "./names.js";
 import { hex } from "../bench/numbers.js";
-import { breakpointOfLine, linesOfBreakpoints, mostBreakpoints } from "../debug/breakpoint_lines.js";
+import { breakpointOfLine, limitBreakpoints, linesOfBreakpoints } from "../debug/breakpoint_lines.js";
 import { LONGEST_KEPT } from "../text/text_fault.js";
 import * as say from "../../words/session.js";
 
@@ -238,7 +238,7 @@ export function readTexts(lines, acceptsLong = false) {
   const texts = { name, boardText, programText, testText, propertiesText };
   const words = wordsOfLength(texts);
   if (words && !acceptsLong) throw new TextTooLong(words);
-  const withBreakpoints = breakpoints.length > 0 ? { ...texts, breakpoints: mostBreakpoints(breakpoints) } : texts;
+  const withBreakpoints = breakpoints.length > 0 ? { ...texts, breakpoints: limitBreakpoints(breakpoints) } : texts;
   return watched.length > 0 ? { ...withBreakpoints, watched } : withBreakpoints;
 }
 

@@ -2,7 +2,7 @@
 
 import { joinLines } from "../bench/inputs.js";
 import { breakpointOfLine, linesOfBreakpoints } from "../debug/breakpoint_lines.js";
-import { MOST_BREAKPOINTS } from "../debug/breakpoints.js";
+import { MAX_BREAKPOINTS } from "../debug/breakpoints.js";
 import { NotAProject } from "./project_file.js";
 import * as say from "../../words/session.js";
 
@@ -77,7 +77,7 @@ export function breakpointsIn(text) {
     return breakpoint;
   });
   const { length } = breakpoints;
-  if (length > MOST_BREAKPOINTS) throw new NotAProject(say.tooManyBreakpoints(length, MOST_BREAKPOINTS));
+  if (length > MAX_BREAKPOINTS) throw new NotAProject(say.tooManyBreakpoints(length, MAX_BREAKPOINTS));
   return breakpoints;
 }
 

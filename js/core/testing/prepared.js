@@ -3,7 +3,7 @@
 import { readBoard, refusalOf } from "../bench/answers.js";
 import { matchAnswers, readInputs } from "../bench/inputs.js";
 import { Face } from "../board/face.js";
-import { missingOf } from "../board/face_board.js";
+import { missingParts } from "../board/face_board.js";
 import { SourceMap } from "../machine/source_map.js";
 import { faultsOfLines, sentText } from "../text/text_fault.js";
 import { romCodes } from "../engine/rom_codes.js";
@@ -28,7 +28,7 @@ import { romCodes } from "../engine/rom_codes.js";
  * @returns {TextFault[]}
  */
 export function faultsOfNames(face, board) {
-  const found = [...face.faults, ...missingOf(face, board)].filter(({ isRefused }) => isRefused);
+  const found = [...face.faults, ...missingParts(face, board)].filter(({ isRefused }) => isRefused);
   return found.map(({ line, words }) => ({ text: "board", line, number: 0, words }));
 }
 

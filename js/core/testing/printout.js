@@ -1,6 +1,6 @@
 // The printout of a test: the codes that the program has sent to the board's printer in the test, and in the state from which it began.
 
-import { linesOf } from "../board/strip.js";
+import { printoutLines } from "../board/strip.js";
 import { Printing } from "../engine/printing.js";
 
 /**
@@ -40,6 +40,6 @@ export class Printout {
 
   /** The words in the completed lines. */
   get words() {
-    return linesOf(this.codes, this.printer.words).slice(0, -1).join(" ").split(/\s+/).filter(Boolean);
+    return printoutLines(this.codes, this.printer.words).slice(0, -1).join(" ").split(/\s+/).filter(Boolean);
   }
 }

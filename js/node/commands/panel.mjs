@@ -3,8 +3,8 @@ import { basename } from "node:path";
 import { codesOf } from "../../core/engine/rom_codes.js";
 import { listQueries, PAGES } from "../../core/bench/rom_bytes.js";
 import { differences } from "../../core/bench/begun_script.js";
-import { missingOf } from "../../core/board/face_board.js";
-import { byLine } from "../../core/board/face.js";
+import { missingParts } from "../../core/board/face_board.js";
+import { sortedByLine } from "../../core/board/face.js";
 import { Panel } from "../../core/panel/terminal_panel.js";
 import { Screen, hasRoom, middleRows } from "../../core/panel/screen.js";
 import { otherBoard } from "../../words/commands.js";
@@ -77,7 +77,7 @@ async function readTexts(session, name, texts) {
  * @param {number} before the number of lines before the text in its file
  */
 function missingPartNote({ board, face }, before) {
-  const [note] = byLine([...face.faults, ...missingOf(face, board)]);
+  const [note] = sortedByLine([...face.faults, ...missingParts(face, board)]);
   return note ? noteOfBoard(note.line + before, note.words) : "";
 }
 

@@ -2,10 +2,10 @@
 
 import { Announcer } from "../../core/board/announcer.js";
 import { Cell, Switch, block, element } from "../ui/dom.js";
-import { shineOf } from "../../core/board/brightness.js";
+import { brightnessOf } from "../../core/board/brightness.js";
 import { MINUS, NOT_LIT, POINT, hasPoints, isLit, patternsAt } from "../../core/board/digit_patterns.js";
 import { DisplayText } from "../../core/board/display_text.js";
-import { fittingGroups, isScanned, minusOf } from "../../core/board/face_board.js";
+import { fittingGroups, isScanned, minusLamp } from "../../core/board/face_board.js";
 import { upTo } from "../../core/bench/numbers.js";
 
 /**
@@ -81,7 +81,7 @@ class Digit {
    */
   show(lit, parts) {
     for (let at = 0; at < this.segments.length; at++) {
-      const shine = shineOf(parts[at]);
+      const shine = brightnessOf(parts[at]);
       if (shine !== this.shines[at]) this.segments[at].style.setProperty("--shine", String(shine));
       this.shines[at] = shine;
       if ((lit ^ this.lit) & (1 << at)) this.segments[at].classList.toggle("lit");
@@ -131,7 +131,7 @@ export class DisplayView {
     const groups = fittingGroups(face, lines.length).filter(({ kind }) => kind === "display");
     this.displays = groups.map((group) => new Display(group));
     this.text = new DisplayText(groups, [...face.lamps].map(([at, { text }]) => ({ at, text })));
-    this.minus = minusOf(face);
+    this.minus = minusLamp(face);
     this.sign = new Digit(true, false);
     const drawn = this.displays.map(({ group, digits }) => {
       const colour = face.colours.get(group.first);

@@ -5,8 +5,8 @@ import { Brightness } from "../../core/board/brightness.js";
 import { EYE_MS } from "../../core/time/mcs4_time.js";
 import { DisplayView } from "./display_view.js";
 import { Cell, block, button, element, makeFirstTabStop, makeOneTabStop, pressedSwitch } from "../ui/dom.js";
-import { Face, moreThan, byLine } from "../../core/board/face.js";
-import { missingOf } from "../../core/board/face_board.js";
+import { Face, moreFaults, sortedByLine } from "../../core/board/face.js";
+import { missingParts } from "../../core/board/face_board.js";
 import { KeysDown } from "../../core/board/key_place.js";
 import { LampsView } from "./lamps_view.js";
 import * as say from "../../words/board.js";
@@ -113,10 +113,10 @@ export class FrontView {
    * @param {Face} face
    */
   drawFaults(board, face) {
-    const faults = byLine([...face.faults, ...missingOf(face, board)]);
+    const faults = sortedByLine([...face.faults, ...missingParts(face, board)]);
     const root = block("face-faults");
     const messages = faults.slice(0, MAX_FAULTS).map(({ line, words }) => say.lineOfBoard(line, words));
-    root.replaceChildren(...[...messages, moreThan(faults, MAX_FAULTS)].filter(Boolean).map((words) => element("li", {}, words)));
+    root.replaceChildren(...[...messages, moreFaults(faults, MAX_FAULTS)].filter(Boolean).map((words) => element("li", {}, words)));
     root.hidden = faults.length === 0;
   }
 

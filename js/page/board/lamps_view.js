@@ -2,7 +2,7 @@
 // those of their lines.
 
 import { block, element } from "../ui/dom.js";
-import { shineOf } from "../../core/board/brightness.js";
+import { brightnessOf } from "../../core/board/brightness.js";
 import { fittingGroups, isScanned, looseLamps } from "../../core/board/face_board.js";
 import { lampAt, scannedLampAt } from "../../core/board/seen_lamps.js";
 import { upTo } from "../../core/bench/numbers.js";
@@ -39,7 +39,7 @@ class Lamp {
    * @param {boolean} isOn whether the lamp counts as on
    */
   show(part, isOn) {
-    if (part !== this.part) this.showShine(shineOf(part));
+    if (part !== this.part) this.showShine(brightnessOf(part));
     this.part = part;
     if (this.isLit === isOn) return;
     this.isLit = isOn;

@@ -2,7 +2,7 @@
 
 import { block, button, element, onClick } from "../ui/dom.js";
 import { printerOf } from "../../core/board/face_board.js";
-import { linesOf } from "../../core/board/strip.js";
+import { printoutLines } from "../../core/board/strip.js";
 
 /**
  * @typedef {import("../../core/bench/answers.js").Board} Board
@@ -93,7 +93,7 @@ export class PrinterView {
 
   /** Shows the lines of the printout. Elements of unchanged lines stay. */
   show() {
-    const lines = this.printer ? linesOf(this.codes, this.printer.words).slice(-MAX_LINES) : [];
+    const lines = this.printer ? printoutLines(this.codes, this.printer.words).slice(-MAX_LINES) : [];
     if (lines[lines.length - 1] === "") lines.pop();
     let same = 0;
     while (same < lines.length && lines[same] === this.lines[same]) same += 1;

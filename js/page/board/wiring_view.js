@@ -5,7 +5,7 @@ import { Switch, block, element } from "../ui/dom.js";
 import { upTo } from "../../core/bench/numbers.js";
 import { svgElement } from "../ui/svg.js";
 import { pathText, routeOf } from "../../core/board/routes.js";
-import { HEAD, drawBoard, isHigh, isHighAtRom } from "../../core/board/wiring.js";
+import { TITLE_HEIGHT, drawBoard, isHigh, isHighAtRom } from "../../core/board/wiring.js";
 import * as say from "../../words/board.js";
 
 /**
@@ -157,7 +157,7 @@ export class WiringView {
     const { id, kind, title, x, y, width, height, says } = part;
     const words = `${title}: ${says.join("; ")}`;
     const box = svgElement("g", { class: `part of-${kind}`, role: "button", tabindex: -1, "aria-label": words });
-    const head = svgElement("text", { class: "title", x: x + width / 2, y: y + HEAD - 9 }, title);
+    const head = svgElement("text", { class: "title", x: x + width / 2, y: y + TITLE_HEIGHT - 9 }, title);
     const isChip = part.pins.some(({ number }) => number !== undefined);
     const [middle, notch] = [x + width / 2, NOTCH];
     box.append(svgElement("rect", { x, y, width, height, rx: isChip ? 2 : 4 }), head);

@@ -2,7 +2,7 @@
 
 import { wantsKey } from "../board/pressing.js";
 import { button, isDialogOpen, onClick } from "../ui/dom.js";
-import { HEAD } from "../../core/board/wiring.js";
+import { TITLE_HEIGHT } from "../../core/board/wiring.js";
 import { Drawing } from "../../core/drawing/board_drawing.js";
 import { DrawingView } from "./drawing_view.js";
 import { PictureInput } from "./picture_input.js";
@@ -150,7 +150,7 @@ export class DrawingController {
     if (this.calls.text() === text || chosen === "") return;
     const part = [...picture.parts.values()].find(({ id, pins }) => id === chosen || pins.some((pin) => pin.id === chosen));
     if (part && point && !before.has(part.id)) {
-      this.move(part.id, { x: point.x - part.width / 2, y: point.y - HEAD / 2 });
+      this.move(part.id, { x: point.x - part.width / 2, y: point.y - TITLE_HEIGHT / 2 });
       this.keep();
     }
     picture.focus(chosen);

@@ -4,7 +4,7 @@ import { wordsOfCycles } from "../../core/time/cycles.js";
 import { wordsOfAddress, wordsOfLine } from "../../words/stops.js";
 import { Cell, block, button, buttonOf, element, onClick } from "../ui/dom.js";
 import { counted, hex } from "../../core/bench/numbers.js";
-import { MOST_NOTES } from "../../core/debug/arrivals.js";
+import { MAX_NOTES } from "../../core/debug/arrivals.js";
 import { detailsOfBreakpoint, markOf } from "../../core/machine/breakpoint_marks.js";
 import * as say from "../../words/machine.js";
 
@@ -134,7 +134,7 @@ export class BreakpointsView {
    */
   log({ notes, noted }, keeper) {
     if (notes.length === 0) return;
-    const lines = notes.slice(-MOST_NOTES).map(({ id, cycles, words }) => {
+    const lines = notes.slice(-MAX_NOTES).map(({ id, cycles, words }) => {
       const found = keeper.list.get(id);
       const where = found ? whereBreakpointIs(found, keeper.map) : "";
       return element("p", { title: say.loggedAt(wordsOfCycles(cycles)) }, element("b", {}, where), ` ${words}`);
@@ -143,7 +143,7 @@ export class BreakpointsView {
     if (noted > notes.length) lines.unshift(element("p", { className: "hint" }, say.moreNotes(more)));
     this.notes.hidden = false;
     this.notes.append(...lines);
-    while (this.notes.children.length > MOST_NOTES) this.notes.children[0].remove();
+    while (this.notes.children.length > MAX_NOTES) this.notes.children[0].remove();
     this.notes.scrollTop = this.notes.scrollHeight;
   }
 

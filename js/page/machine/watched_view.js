@@ -1,11 +1,11 @@
 // The list of watched expressions, each with its name and its present value. Values can be edited in place.
 
 import { Cell, block, element, field, onClick } from "../ui/dom.js";
-import { MOST_WATCHED, readAllWatched, readWatched } from "../../core/debug/watched.js";
+import { MAX_WATCHED, readAllWatched, readWatched } from "../../core/debug/watched.js";
 import * as say from "../../words/machine.js";
 
 /**
- * @typedef {import("../../core/debug/standing.js").Standing} Standing
+ * @typedef {import("../../core/debug/standing.js").MachineState} MachineState
  * @typedef {import("../../core/debug/watched.js").Watched} Watched
  * @typedef {import("../../core/conditions/condition_language.js").Names} Names
  * @typedef {{ root: HTMLLIElement, value: HTMLElement, shape: string, cells: Cell[] }} Row
@@ -15,7 +15,7 @@ import * as say from "../../words/machine.js";
  * The calls that the watch list makes.
  * @typedef {object} WatchedCalls
  * @property {import("../text/meaning_view.js").Offer} offer Makes a cell that shows a value editable.
- * @property {() => Standing | null} standing Returns the state with the values; null while time is running.
+ * @property {() => MachineState | null} standing Returns the state with the values; null while time is running.
  * @property {() => Names} names Returns the names that an expression can use.
  * @property {() => void} listed Handles a changed list.
  * @property {(texts: string[]) => void} keep Saves the texts of the list.
@@ -47,8 +47,8 @@ export class WatchedView {
   add() {
     const written = field("watched-field");
     const { watched, fault } = readWatched(written.value, this.calls.names());
-    const isFull = this.all.length >= MOST_WATCHED;
-    this.status.textContent = isFull ? say.mostWatched(MOST_WATCHED) : fault;
+    const isFull = this.all.length >= MAX_WATCHED;
+    this.status.textContent = isFull ? say.mostWatched(MAX_WATCHED) : fault;
     written.setAttribute("aria-invalid", String(this.status.textContent !== ""));
     if (!watched || isFull) return;
     written.value = "";

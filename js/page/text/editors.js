@@ -10,7 +10,7 @@ import { completeBoard } from "../../core/text/board_completion.js";
 import { completeProgram } from "../../core/text/completion.js";
 import { block, button, onClick } from "../ui/dom.js";
 import { EditorView } from "./text_editor_view.js";
-import { moreThan } from "../../core/board/face.js";
+import { moreFaults } from "../../core/board/face.js";
 import { PARTS } from "../../core/text/folding.js";
 import { LiveFaults } from "./live_faults.js";
 import { instructionsOf } from "../../core/help/manual.js";
@@ -178,7 +178,7 @@ export class Editors {
   show(name, { faults, areAll }) {
     const shownFaults = name === "board" ? [...faults, ...faultsOfFace(this.board.text)] : faults;
     const more = areAll || faults.length < 2 ? "" : say.MAY_BE_MORE;
-    this[name].showFaults(shownFaults.slice(0, MAX_FAULTS), moreThan(shownFaults, MAX_FAULTS) || more);
+    this[name].showFaults(shownFaults.slice(0, MAX_FAULTS), moreFaults(shownFaults, MAX_FAULTS) || more);
     this.calls.hasFaults(name, shownFaults.length);
   }
 

@@ -1,7 +1,7 @@
 // The editor of a text that belongs to a board and a program: its tests or its properties. The editor completes the names in both, and
 // shows errors while the user types.
 
-import { Face, moreThan } from "../../core/board/face.js";
+import { Face, moreFaults } from "../../core/board/face.js";
 import { button, onClick } from "../ui/dom.js";
 import { EditorView } from "./text_editor_view.js";
 import { PARTS } from "../../core/text/folding.js";
@@ -115,7 +115,7 @@ export class TextTab {
       const text = lines[line - 1] || "";
       return { number, line, from: text.length - text.trimStart().length, to: text.length, words };
     });
-    this.editor.showFaults(entries.slice(0, MAX_FAULTS), moreThan(entries, MAX_FAULTS));
+    this.editor.showFaults(entries.slice(0, MAX_FAULTS), moreFaults(entries, MAX_FAULTS));
     this.tabCalls.counted(entries.length);
   }
 }
