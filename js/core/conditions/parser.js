@@ -66,11 +66,11 @@ export function isCondition(node) {
 class Parser {
   /**
    * @param {string} text
-   * @param {(name: string) => boolean} isOfPanel returns whether a lamp has the name
+   * @param {(name: string) => boolean} isLampName returns whether a lamp has the name
    */
-  constructor(text, isOfPanel) {
+  constructor(text, isLampName) {
     this.text = text;
-    this.isOfPanel = isOfPanel;
+    this.isLampName = isLampName;
     this.scanner = new Scanner(text);
     this.depth = 0;
   }
@@ -89,7 +89,7 @@ class Parser {
    * Returns "or" or "and" for a token that is such an operator, otherwise "".
    * @param {Token} token
    */
-  joinOf({ kind, text }) {
+  operatorOf({ kind, text }) {
     const word = text.toLowerCase();
     return kind === "sign" || kind === "word" ? JOINS.get(word) || "" : "";
   }
@@ -108,8 +108,8 @@ class Parser {
    * Parses the whole text.
    * @returns {Node}
    */
-  whole() {
-    const node = this.joined("or");
+  parseWhole() {
+    const node = this.parseJoined("or");
     const token = this.scanner.peek();
     if (token.kind !== "end") fail(say.notExpected(this.textOf(token)), token.column);
     return node;
@@ -128,29 +128,29 @@ class Parser {
    * @param {"or" | "and"} by
    * @returns {Node}
    */
-  joined(by) {
+  parseJoined(by) {
     const { column } = this.scanner.peek();
-    const read = () => (by === "or" ? this.joined("and") : this.negated());
+    const read = () => (by === "or" ? this.parseJoined("and") : this.parseNegated());
     const parts = [read()];
-    while (this.joinOf(this.scanner.peek()) === by) {
+    while (this.operatorOf(this.scanner.peek()) === by) {
       this.scanner.next();
       parts.push(read());
     }
     if (parts.length === 1) return parts[0];
-    return { kind: by, parts: parts.map((part) => this.needCondition(part)), text: this.textFrom(column), column };
+    return { kind: by, parts: parts.map((part) => this.requireCondition(part)), text: this.textFrom(column), column };
   }
 
   /**
    * Parses a comparison after any number of `not`.
    * @returns {Node}
    */
-  negated() {
+  parseNegated() {
     const { column } = this.scanner.peek();
     let count = 0;
     for (; this.isNot(this.scanner.peek()); count++) this.scanner.next();
-    const node = this.comparison();
+    const node = this.parseComparison();
     if (count === 0) return node;
-    const part = this.needCondition(node);
+    const part = this.requireCondition(node);
     return count % 2 === 0 ? part : { kind: "not", part, text: this.textFrom(column), column };
   }
 
@@ -159,7 +159,7 @@ class Parser {
    * @param {Node} node
    * @returns {ConditionNode}
    */
-  needCondition(node) {
+  requireCondition(node) {
     if (isCondition(node)) return node;
     if (node.kind === "name" && node.text.startsWith("@")) {
       return { kind: "at", label: node.text.slice(1), text: node.text, column: node.column };
@@ -173,7 +173,7 @@ class Parser {
    * @param {Node} node
    * @returns {ValueNode}
    */
-  needValue(node) {
+  requireValue(node) {
     return isCondition(node) ? fail(say.noValue(node.text), node.column) : node;
   }
 
@@ -181,16 +181,16 @@ class Parser {
    * Parses a comparison, a place with its values, or a single value.
    * @returns {Node}
    */
-  comparison() {
-    const left = this.sum();
+  parseComparison() {
+    const left = this.parseSum();
     if (isCondition(left)) return left;
     const token = this.scanner.peek();
     if (token.kind === "sign" && token.text in OPERATORS) {
       this.scanner.next();
-      return this.compared(left, OPERATORS[token.text]);
+      return this.parseRightSide(left, OPERATORS[token.text]);
     }
     if (left.kind === "name" && PORT.test(left.text) && left.way === "" && this.isValueNext()) fail(say.portForm(left.text), left.column);
-    return left.kind === "name" && this.isValueNext() ? this.held(left, this.values()) : left;
+    return left.kind === "name" && this.isValueNext() ? this.holdsNode(left, this.parseValues()) : left;
   }
 
   /**
@@ -199,12 +199,12 @@ class Parser {
    * @param {Sign} sign
    * @returns {ConditionNode}
    */
-  compared(left, sign) {
+  parseRightSide(left, sign) {
     const { column } = left;
-    this.needMore(sign);
-    const right = this.needValue(this.sum());
+    this.requireMore(sign);
+    const right = this.requireValue(this.parseSum());
     if (this.isValueNext() && (sign === "=" || sign === "!=") && left.kind === "name") {
-      const holds = this.held(left, [right, ...this.values()]);
+      const holds = this.holdsNode(left, [right, ...this.parseValues()]);
       return sign === "=" ? holds : { kind: "not", part: holds, text: this.textFrom(column), column };
     }
     return { kind: "compare", sign, left, right, text: this.textFrom(column), column };
@@ -216,21 +216,21 @@ class Parser {
    * @param {ValueNode[]} values
    * @returns {HoldsNode}
    */
-  held(place, values) {
+  holdsNode(place, values) {
     return { kind: "holds", place, values, text: this.textFrom(place.column), column: place.column };
   }
 
   /** Returns whether the next token begins a value. */
   isValueNext() {
     const token = this.scanner.peek();
-    return token.kind === "number" || (token.kind === "word" && this.joinOf(token) === "" && !this.isNot(token));
+    return token.kind === "number" || (token.kind === "word" && this.operatorOf(token) === "" && !this.isNot(token));
   }
 
   /** Parses consecutive values. */
-  values() {
+  parseValues() {
     /** @type {ValueNode[]} */
     const values = [];
-    while (this.isValueNext()) values.push(this.needValue(this.operand()));
+    while (this.isValueNext()) values.push(this.requireValue(this.parseOperand()));
     return values;
   }
 
@@ -240,15 +240,15 @@ class Parser {
    * Parses operands joined by `+`, `-` or `&`.
    * @returns {Node}
    */
-  sum() {
-    let left = this.operand();
+  parseSum() {
+    let left = this.parseOperand();
     for (;;) {
       const { kind, text } = this.scanner.peek();
       if (kind !== "sign" || (text !== "+" && text !== "-" && text !== "&")) return left;
       const { column } = left;
       this.scanner.next();
-      this.needMore(text);
-      const [one, other] = [this.needValue(left), this.needValue(this.operand())];
+      this.requireMore(text);
+      const [one, other] = [this.requireValue(left), this.requireValue(this.parseOperand())];
       left = { kind: "sum", sign: text, left: one, right: other, text: this.textFrom(column), column };
     }
   }
@@ -257,30 +257,30 @@ class Parser {
    * Throws `Unreadable` if the text ends after an operator.
    * @param {string} sign the operator
    */
-  needMore(sign) {
-    if (this.scanner.peek().kind === "end") fail(say.missingBehind(sign), this.last);
+  requireMore(sign) {
+    if (this.scanner.peek().kind === "end") fail(say.missingBehind(sign), this.lastColumn);
   }
 
   /**
    * Parses a number, a name, a place, a condition with a keyword, or an expression in parentheses.
    * @returns {Node}
    */
-  operand() {
+  parseOperand() {
     const token = this.scanner.peek();
     const { kind, text, column } = token;
-    if (kind === "sign" && text === "(") return this.inside();
+    if (kind === "sign" && text === "(") return this.parseParentheses();
     if (kind === "number") {
       this.scanner.next();
       return { kind: "number", value: numeralOf(text), text, column };
     }
-    if (kind !== "word" || this.joinOf(token) !== "" || this.isNot(token)) {
-      return fail(kind === "end" ? say.NO_CONDITION : say.missingBefore(this.textOf(token)), Math.min(column, this.last));
+    if (kind !== "word" || this.operatorOf(token) !== "" || this.isNot(token)) {
+      return fail(kind === "end" ? say.NO_CONDITION : say.missingBefore(this.textOf(token)), Math.min(column, this.lastColumn));
     }
-    return this.named(token);
+    return this.parseNamed(token);
   }
 
   /** The last column of the text, for errors at its end. */
-  get last() {
+  get lastColumn() {
     return Math.max(0, this.text.length - 1);
   }
 
@@ -288,11 +288,11 @@ class Parser {
    * Parses an expression in parentheses.
    * @returns {Node}
    */
-  inside() {
+  parseParentheses() {
     const { column } = this.scanner.next();
     this.depth += 1;
     if (this.depth > MAX_DEPTH) fail(say.tooDeep(MAX_DEPTH), column);
-    const node = this.joined("or");
+    const node = this.parseJoined("or");
     const token = this.scanner.peek();
     if (token.text !== ")" || token.kind !== "sign") {
       fail(token.kind === "end" ? say.NOT_CLOSED : say.notExpected(this.textOf(token)), token.kind === "end" ? column : token.column);
@@ -307,26 +307,26 @@ class Parser {
    * @param {Token} token
    * @returns {Node}
    */
-  named(token) {
+  parseNamed(token) {
     const word = token.text.toLowerCase();
-    if (word === "lamps") return this.lamps(token);
-    if (word === "display") return this.display(token);
+    if (word === "lamps") return this.parseLamps(token);
+    if (word === "display") return this.parseDisplay(token);
     if (word === "printed" || word === "cycles") {
       this.scanner.goTo(token.end);
-      return this.formOf(token, this.following(word === "printed"));
+      return this.formNode(token, this.wordsAfter(word === "printed"));
     }
-    const panel = word === "lamp" || word === "key" ? this.panel(token, word) : null;
+    const panel = word === "lamp" || word === "key" ? this.parsePanel(token, word) : null;
     if (panel) return panel;
     this.scanner.next();
-    if (word === "at") return this.label(token.column);
-    if (/^chain\d+$/.test(word)) return this.chain(token);
+    if (word === "at") return this.parseLabel(token.column);
+    if (/^chain\d+$/.test(word)) return this.parseChain(token);
     const more = SPACED_NUMERALS.get(word) || 0;
     for (let count = 0; count < more; count++) {
       const { kind, column } = this.scanner.next();
-      if (kind !== "number") fail(say.SPACED_FORM, Math.min(column, this.last));
+      if (kind !== "number") fail(say.SPACED_FORM, Math.min(column, this.lastColumn));
     }
     const text = more === 0 ? token.text : this.textFrom(token.column);
-    return { kind: "name", text, way: this.way(word), column: token.column };
+    return { kind: "name", text, way: this.parseDirection(word), column: token.column };
   }
 
   /**
@@ -334,7 +334,7 @@ class Parser {
    * @param {string} word the port
    * @returns {"" | "in" | "out"}
    */
-  way(word) {
+  parseDirection(word) {
     const next = this.scanner.peek();
     const way = next.text.toLowerCase();
     if (!PORT.test(word) || next.kind !== "word" || (way !== "in" && way !== "out")) return "";
@@ -347,7 +347,7 @@ class Parser {
    * @param {number} column of `at`
    * @returns {AtNode}
    */
-  label(column) {
+  parseLabel(column) {
     const name = this.scanner.peek();
     if (name.kind !== "word") fail(say.AT_FORM, column);
     this.scanner.next();
@@ -363,7 +363,7 @@ class Parser {
    * @param {"lamp" | "key"} what
    * @returns {Node | null}
    */
-  panel(token, what) {
+  parsePanel(token, what) {
     const { scanner } = this;
     scanner.goTo(token.end);
     const name = scanner.raw(this.depth > 0);
@@ -374,7 +374,7 @@ class Parser {
       scanner.next();
       return { kind: "panel", what, name: name.text, isOn, text: this.textFrom(token.column), column: token.column };
     }
-    if (/^([=<>!+\-&|]\S*|or|and)$/i.test(name.text) && !this.isOfPanel(name.text)) {
+    if (/^([=<>!+\-&|]\S*|or|and)$/i.test(name.text) && !this.isLampName(name.text)) {
       scanner.goTo(token.column);
       return null;
     }
@@ -387,14 +387,14 @@ class Parser {
    * @param {Token} token
    * @returns {Node}
    */
-  lamps(token) {
+  parseLamps(token) {
     const { scanner } = this;
     scanner.goTo(token.end);
     const { kind, text } = this.peekLoosely();
     if (kind === "sign" && (text in OPERATORS || /^[+\-&]$/.test(text))) {
       return { kind: "name", text: token.text, way: "", column: token.column };
     }
-    return this.formOf(token, this.following(false, true));
+    return this.formNode(token, this.wordsAfter(false, true));
   }
 
   /**
@@ -402,15 +402,15 @@ class Parser {
    * @param {Token} head
    * @returns {ConditionNode}
    */
-  display(head) {
+  parseDisplay(head) {
     this.scanner.goTo(head.end);
-    const isNot = this.equality();
-    const form = this.formOf(head, this.following(true, true));
+    const isNot = this.skipEquality();
+    const form = this.formNode(head, this.wordsAfter(true, true));
     return isNot ? { kind: "not", part: form, text: form.text, column: head.column } : form;
   }
 
   /** Skips an optional `=`, `==` or `!=`; returns true for `!=`. */
-  equality() {
+  skipEquality() {
     const { text } = this.peekLoosely();
     if (text === "=" || text === "==" || text === "!=") this.scanner.next();
     return text === "!=";
@@ -422,7 +422,7 @@ class Parser {
     const { place } = scanner;
     const name = scanner.raw(false);
     scanner.goTo(place);
-    const isWord = name && (this.isOfPanel(name.text) || !/^([=<>+\-&|)]|!=)/.test(name.text));
+    const isWord = name && (this.isLampName(name.text) || !/^([=<>+\-&|)]|!=)/.test(name.text));
     if (name && isWord) return { kind: "word", text: name.text.replace(/\)+$/, "") };
     return scanner.peek();
   }
@@ -432,7 +432,7 @@ class Parser {
    * @param {boolean} isText true if the words can be in quotes
    * @param {boolean} [hasLamps] true if the words can be names of lamps: a lamp can be named `or`
    */
-  following(isText, hasLamps = false) {
+  wordsAfter(isText, hasLamps = false) {
     const { scanner } = this;
     scanner.back();
     /** @type {Token[]} */
@@ -443,9 +443,9 @@ class Parser {
       if (!word) return words;
       if (isText && words.length === 0 && word.text.startsWith('"')) {
         scanner.goTo(word.column);
-        return this.quoted();
+        return this.parseQuoted();
       }
-      const isEnd = this.joinOf(word) !== "" && !(hasLamps && this.isLampsFrom(word.column));
+      const isEnd = this.operatorOf(word) !== "" && !(hasLamps && this.isLampsFrom(word.column));
       if (isEnd || (this.depth > 0 && word.text === ")")) {
         scanner.goTo(place);
         return words;
@@ -459,11 +459,11 @@ class Parser {
    * @param {number} column
    */
   isLampsFrom(column) {
-    return this.text.slice(column).trim().split(/\s+/).every((word) => this.isOfPanel(word));
+    return this.text.slice(column).trim().split(/\s+/).every((word) => this.isLampName(word));
   }
 
   /** Returns the words of a text in quotes. */
-  quoted() {
+  parseQuoted() {
     const token = this.scanner.next();
     return token.text.split(/\s+/).filter(Boolean).map((text) => ({ ...token, text }));
   }
@@ -474,7 +474,7 @@ class Parser {
    * @param {Token[]} words
    * @returns {FormNode}
    */
-  formOf(head, words) {
+  formNode(head, words) {
     const { column } = head;
     return { kind: "form", words: [{ ...head, text: head.text.toLowerCase() }, ...words], text: this.textFrom(column), column };
   }
@@ -484,9 +484,9 @@ class Parser {
    * @param {Token} head the name of the chain
    * @returns {ConditionNode}
    */
-  chain(head) {
+  parseChain(head) {
     const { scanner } = this;
-    const isNot = this.equality();
+    const isNot = this.skipEquality();
     /** @type {Token[]} */
     const words = [];
     for (;;) {
@@ -498,7 +498,7 @@ class Parser {
       }
       words.push(word);
     }
-    const form = this.formOf(head, words);
+    const form = this.formNode(head, words);
     return isNot ? { kind: "not", part: form, text: form.text, column: head.column } : form;
   }
 }
@@ -506,22 +506,22 @@ class Parser {
 /**
  * Parses a value or a condition; throws `Unreadable` for an error.
  * @param {string} text
- * @param {(name: string) => boolean} [isOfPanel] returns whether a lamp has the name
+ * @param {(name: string) => boolean} [isLampName] returns whether a lamp has the name
  * @returns {Node}
  */
-export function parse(text, isOfPanel = () => false) {
+export function parse(text, isLampName = () => false) {
   if (text.length > MAX_LENGTH) fail(say.tooLong(MAX_LENGTH), MAX_LENGTH - 1);
-  return new Parser(text, isOfPanel).whole();
+  return new Parser(text, isLampName).parseWhole();
 }
 
 /**
  * Parses a condition; throws `Unreadable` for an error.
  * @param {string} text
- * @param {(name: string) => boolean} [isOfPanel] returns whether a lamp has the name
+ * @param {(name: string) => boolean} [isLampName] returns whether a lamp has the name
  * @returns {ConditionNode}
  */
-export function parseCondition(text, isOfPanel = () => false) {
+export function parseCondition(text, isLampName = () => false) {
   if (text.length > MAX_LENGTH) fail(say.tooLong(MAX_LENGTH), MAX_LENGTH - 1);
-  const parser = new Parser(text, isOfPanel);
-  return parser.needCondition(parser.whole());
+  const parser = new Parser(text, isLampName);
+  return parser.requireCondition(parser.parseWhole());
 }
