@@ -101,16 +101,16 @@ test("later a sample is looked at, and all again after a key", () => {
   const debug = open("turn: JUN turn\n");
   const looked = () => {
     let sum = 0;
-    for (let at = 0; at < 32; at++) sum += Number(debug.usual.mostOf([{ line: "run 1543", change: null }]) > 0);
+    for (let at = 0; at < 32; at++) sum += Number(debug.usual.cyclesToCheck([{ line: "run 1543", change: null }]) > 0);
     return sum;
   };
   assert.equal(looked(), 32);
-  assert.equal(debug.usual.mostOf([{ line: "run 8000000", change: null }]), 50000 - 32 * 1543);
+  assert.equal(debug.usual.cyclesToCheck([{ line: "run 8000000", change: null }]), 50000 - 32 * 1543);
   debug.begin();
-  assert.equal(debug.usual.mostOf([{ line: "run 8000000", change: null }]), 10000);
+  assert.equal(debug.usual.cyclesToCheck([{ line: "run 8000000", change: null }]), 10000);
   debug.usual.left = 0;
   assert.equal(looked(), 2);
-  debug.usual.mostOf([{ line: "press 0 0", change: { key: matrixKey(0, 0), word: "press" } }, { line: "run 5", change: null }]);
+  debug.usual.cyclesToCheck([{ line: "press 0 0", change: { key: matrixKey(0, 0), word: "press" } }, { line: "run 5", change: null }]);
   assert.equal(looked(), 32);
 });
 

@@ -9,7 +9,7 @@ export class Announcer {
   constructor(say) {
     this.say = say;
     this.text = "";
-    this.said = "";
+    this.announced = "";
     /** True before the first text of a board, which is not announced. */
     this.isFirst = true;
     /** True if the text has not changed since the timer started. */
@@ -29,27 +29,27 @@ export class Announcer {
   announce(text) {
     if (this.isFirst) {
       this.isFirst = false;
-      this.text = this.said = text;
+      this.text = this.announced = text;
     }
     if (text === this.text) return;
     this.text = text;
     this.isStill = false;
-    if (this.timer === 0) this.wait();
+    if (this.timer === 0) this.startTimer();
   }
 
   /** Starts the timer. */
-  wait() {
+  startTimer() {
     this.isStill = true;
-    this.timer = Number(setTimeout(() => this.due(), STILL_TIME));
+    this.timer = Number(setTimeout(() => this.onTimer(), STILL_TIME));
   }
 
   /** Announces the text if it was still while the timer ran, otherwise starts the timer again. */
-  due() {
+  onTimer() {
     this.timer = 0;
     if (!this.isStill) {
-      this.wait();
-    } else if (this.text !== this.said) {
-      this.said = this.text;
+      this.startTimer();
+    } else if (this.text !== this.announced) {
+      this.announced = this.text;
       this.say(this.text);
     }
   }

@@ -84,16 +84,16 @@ export class SeenDigit {
     /** @type {Map<number, number>} the share of each pattern in the perceived picture */
     this.parts = new Map();
     /** The pattern of a steady digit; NOT_LIT for a digit that changes. */
-    this.whole = NOT_LIT;
+    this.steady = NOT_LIT;
   }
 
   /**
    * Shows one steady pattern.
    * @param {number} pattern
    */
-  stand(pattern) {
-    if (pattern === this.whole) return;
-    this.whole = pattern;
+  showSteady(pattern) {
+    if (pattern === this.steady) return;
+    this.steady = pattern;
     this.parts.clear();
     this.parts.set(pattern, 1);
   }
@@ -103,7 +103,7 @@ export class SeenDigit {
    * @param {number} kept the share of the picture that remains
    */
   fade(kept) {
-    this.whole = NOT_LIT;
+    this.steady = NOT_LIT;
     for (const [pattern, part] of this.parts) {
       if (part * kept < MIN_DUTY) this.parts.delete(pattern);
       else this.parts.set(pattern, part * kept);
@@ -235,7 +235,7 @@ export class Brightness {
     const isStill = this.stillDisplays[at].isStill && !isScanned(this.displays[at]);
     this.digits[at].forEach((digit, index) => {
       if (isStill) {
-        digit.stand(patterns[index]);
+        digit.showSteady(patterns[index]);
         return;
       }
       digit.fade(kept);

@@ -77,7 +77,7 @@ export class Face {
    * @param {number} line
    * @param {string} words the message
    */
-  fault(line, words) {
+  reportError(line, words) {
     this.faults.push({ line, words, isRefused: this.isRefused });
   }
 
@@ -88,10 +88,10 @@ export class Face {
    * @param {string} words the name of the error message
    * @param {...(string | number)} about values for the error message
    */
-  isFirst(name, line, words, ...about) {
+  defineOnce(name, line, words, ...about) {
     const before = this.lines.get(name);
     if (before === undefined) this.lines.set(name, line);
-    else this.fault(line, messageOf(words, ...about, before));
+    else this.reportError(line, messageOf(words, ...about, before));
     return before === undefined;
   }
 
@@ -107,9 +107,9 @@ export class Face {
     this.comments += `${text}\n`;
     this.isRefused = kind.isRefused;
     if (kind.counts) this.wordCount += wordsOf(words).filter((word) => word !== "_").length;
-    if (this.wordCount > MAX_WORDS) this.fault(line, messageOf("too many words"));
-    else if (!fitsHead(kind, first, last)) this.fault(line, kind.form);
-    else if (kind.size === "-" && !fitsWords(kind, wordsOf(words))) this.fault(line, kind.other);
+    if (this.wordCount > MAX_WORDS) this.reportError(line, messageOf("too many words"));
+    else if (!fitsHead(kind, first, last)) this.reportError(line, kind.form);
+    else if (kind.size === "-" && !fitsWords(kind, wordsOf(words))) this.reportError(line, kind.other);
     else if (name === "colour" && last !== undefined) this.readRange(Number(first), Number(last), words, line, kind);
     else READERS[name](this, { name, kind, first: (first || "").toLowerCase(), words, line });
   }
@@ -120,7 +120,7 @@ export class Face {
    * @param {number} line
    */
   readTitle(text, line) {
-    if (this.isFirst("title", line, "second title")) this.title = wordsOf(text).join(" ");
+    if (this.defineOnce("title", line, "second title")) this.title = wordsOf(text).join(" ");
   }
 
   /**
@@ -130,10 +130,10 @@ export class Face {
    * @param {number} line
    */
   readRow(row, text, line) {
-    if (!this.isFirst(`row ${row}`, line, "second row", row)) return;
+    if (!this.defineOnce(`row ${row}`, line, "second row", row)) return;
     wordsOf(text).forEach((name, column) => {
       const isNone = name === "_";
-      if (!isNone && !this.isFirst(`key ${name}`, line, "second key", name)) return;
+      if (!isNone && !this.defineOnce(`key ${name}`, line, "second key", name)) return;
       const key = matrixKey(row, column);
       this.keys.set(textOfKey(key), { text: isNone ? "" : name, line, key });
     });
@@ -150,9 +150,9 @@ export class Face {
       if (name === "_") return;
       const before = this.lines.get(`lamp ${name}`);
       const other = this.lamps.get(first + at);
-      if (before !== undefined) this.fault(line, messageOf("second name", name, before));
-      else if (/^[*.?-]+$/.test(name)) this.fault(line, messageOf("a pattern", name));
-      else if (other) this.fault(line, messageOf("named before", first + at, other.text));
+      if (before !== undefined) this.reportError(line, messageOf("second name", name, before));
+      else if (/^[*.?-]+$/.test(name)) this.reportError(line, messageOf("a pattern", name));
+      else if (other) this.reportError(line, messageOf("named before", first + at, other.text));
       else {
         this.lines.set(`lamp ${name}`, line);
         this.lamps.set(first + at, { text: name, line });
@@ -168,7 +168,7 @@ export class Face {
    * @param {number} line
    */
   readColours(first, text, line) {
-    this.colour(first, wordsOf(text.toLowerCase()), line);
+    this.setColours(first, wordsOf(text.toLowerCase()), line);
   }
 
   /**
@@ -181,8 +181,8 @@ export class Face {
    */
   readRange(first, last, text, line, kind) {
     const words = wordsOf(text.toLowerCase());
-    if (words.length !== 1 || last < first) this.fault(line, kind.form);
-    else this.colour(first, COLOURS.has(words[0]) ? repeated(words[0], last - first + 1) : words, line);
+    if (words.length !== 1 || last < first) this.reportError(line, kind.form);
+    else this.setColours(first, COLOURS.has(words[0]) ? repeated(words[0], last - first + 1) : words, line);
   }
 
   /**
@@ -191,15 +191,15 @@ export class Face {
    * @param {Iterable<string>} words the colours; `_` for none
    * @param {number} line
    */
-  colour(first, words, line) {
+  setColours(first, words, line) {
     let lamp = first - 1;
     for (const word of words) {
       lamp += 1;
       const before = this.colours.get(lamp);
       if (word === "_") continue;
-      if (!COLOURS.has(word)) this.fault(line, messageOf("no colour", word));
+      if (!COLOURS.has(word)) this.reportError(line, messageOf("no colour", word));
       else if (before) {
-        this.fault(line, messageOf("coloured before", lamp, before.line));
+        this.reportError(line, messageOf("coloured before", lamp, before.line));
         return;
       } else this.colours.set(lamp, { text: word, line });
     }
@@ -212,8 +212,8 @@ export class Face {
    * @param {number} line
    */
   readGrid(row, text, line) {
-    if (row >= limit("rows")) this.fault(line, messageOf("no such row"));
-    else if (this.isFirst(`grid ${row}`, line, "second row of grid", row)) {
+    if (row >= limit("rows")) this.reportError(line, messageOf("no such row"));
+    else if (this.defineOnce(`grid ${row}`, line, "second row of grid", row)) {
       wordsOf(text).forEach((word, column) => {
         if (word !== "_") this.gridWords.push({ row, column, word, line });
       });
@@ -228,7 +228,7 @@ export class Face {
     const named = this.lampNumbers.get(word);
     if (named !== undefined) this.grid.push({ row, column, lamp: named, line });
     else if (isNumber(word)) this.grid.push({ row, column, lamp: Number(word), line });
-    else this.fault(line, messageOf("no such lamp", word));
+    else this.reportError(line, messageOf("no such lamp", word));
   }
 
   /**
@@ -238,7 +238,7 @@ export class Face {
   readGroup({ name, kind, first, words, line }) {
     const size = sizeOf(kind, wordsOf(words));
     const group = size && { kind: name, first: Number(first), ...size, line };
-    if (!group) this.fault(line, kind.other);
+    if (!group) this.reportError(line, kind.other);
     else if (group.by < 0 || this.canBeScanned(group)) this.groups.push(group);
   }
 
@@ -252,8 +252,8 @@ export class Face {
     const isSmall = rows <= most && columns <= most;
     const twice = Math.max(first, by);
     const isTwice = twice < Math.min(first + columns, by + rows);
-    if (!isSmall) this.fault(line, messageOf("too many scanned", row));
-    else if (isTwice) this.fault(line, messageOf("scanned twice", twice, column, row === "digits" ? say.A_DIGIT : say.A_ROW));
+    if (!isSmall) this.reportError(line, messageOf("too many scanned", row));
+    else if (isTwice) this.reportError(line, messageOf("scanned twice", twice, column, row === "digits" ? say.A_DIGIT : say.A_ROW));
     return isSmall && !isTwice;
   }
 
@@ -264,7 +264,7 @@ export class Face {
    */
   readTest(text, line) {
     const [kind, name, , level] = wordsOf(text);
-    if (this.isFirst("test", line, "second test")) this.test = { kind, name, level: Number(level || 0), line };
+    if (this.defineOnce("test", line, "second test")) this.test = { kind, name, level: Number(level || 0), line };
   }
 
   /**
@@ -274,7 +274,7 @@ export class Face {
    * @param {number} line
    */
   readBuzzer(place, text, line) {
-    if (this.isFirst("buzzer", line, "second buzzer")) this.buzzer = { place, name: wordsOf(text).join(" "), line };
+    if (this.defineOnce("buzzer", line, "second buzzer")) this.buzzer = { place, name: wordsOf(text).join(" "), line };
   }
 
   /**
@@ -285,9 +285,9 @@ export class Face {
    */
   readPrinter(strobe, text, line) {
     const [port, ...words] = wordsOf(text);
-    if (!this.isFirst("printer", line, "second printer")) return;
-    if (words.length > limit("codes")) this.fault(line, messageOf("too many codes", words.length));
-    else if (strobe.startsWith(`${port}.`)) this.fault(line, messageOf("strobe in code", strobe));
+    if (!this.defineOnce("printer", line, "second printer")) return;
+    if (words.length > limit("codes")) this.reportError(line, messageOf("too many codes", words.length));
+    else if (strobe.startsWith(`${port}.`)) this.reportError(line, messageOf("strobe in code", strobe));
     else this.printer = { strobe, port, words, line };
   }
 
@@ -298,7 +298,7 @@ export class Face {
    * @param {number} line
    */
   readPort(port, text, line) {
-    if (this.isFirst(port, line, "second port", port)) this.ports.set(port, { text: wordsOf(text).join(" "), line });
+    if (this.defineOnce(port, line, "second port", port)) this.ports.set(port, { text: wordsOf(text).join(" "), line });
   }
 }
 

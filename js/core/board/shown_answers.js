@@ -28,7 +28,7 @@ class ShownAnswers {
   constructor(face, board, name) {
     this.name = name;
     const displays = face.groups.filter(({ kind }) => kind === "display");
-    this.needed = Math.max(...displays.map(endOfGroup));
+    this.lampsNeeded = Math.max(...displays.map(endOfGroup));
     this.isScanned = hasScannedDisplay(face);
     this.text = new DisplayText(displays, [...face.lamps].map(([at, { text }]) => ({ at, text })));
     this.seen = new SeenText(face, board.lamps.length);
@@ -41,7 +41,7 @@ class ShownAnswers {
    */
   faultOf(marks, line) {
     const count = marks === "-" ? 0 : marks.length;
-    return count < this.needed ? say.tooFewLamps(line, count, this.name, this.needed) : "";
+    return count < this.lampsNeeded ? say.tooFewLamps(line, count, this.name, this.lampsNeeded) : "";
   }
 
   /**

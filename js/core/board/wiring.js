@@ -132,7 +132,7 @@ class Uses {
    * Returns the rank of a line by its first use: rows first, then columns, then lamps.
    * @param {string} line
    */
-  orderOf(line) {
+  rankOf(line) {
     return this.order.get(line) || 0;
   }
 
@@ -149,7 +149,7 @@ class Uses {
    * @param {string} name of the line or its pin
    * @param {string} line
    */
-  say(name, line) {
+  describe(name, line) {
     const uses = this.of(line);
     return `${name} ${uses.join(say.AND) || say.NOT_USED}`;
   }
@@ -204,7 +204,7 @@ function drawTest(column, test) {
 function drawRom(column, { chip, port }, uses) {
   const isInput = (/** @type {number} */ at) => port[3 - at] === "i";
   const pins = linesOfPort(`rom${chip}`).map((pin, at) => ({ ...pin, label: say.portPin(isInput(at), at) }));
-  const says = pins.map(({ line }, at) => uses.say(say.lineOfPort(line, isInput(at)), line));
+  const says = pins.map(({ line }, at) => uses.describe(say.lineOfPort(line, isInput(at)), line));
   return column.add({ id: `rom ${chip}`, kind: "rom", title: say.romTitle(chip), says }, [], pins);
 }
 
@@ -217,7 +217,7 @@ function drawRom(column, { chip, port }, uses) {
  */
 function drawRam(column, bank, chip, uses) {
   const pins = linesOfPort(`ram${bank}.${chip}`).map((pin, at) => ({ ...pin, label: say.portPin(false, at) }));
-  const says = pins.map(({ line }) => uses.say(say.lineOfPort(line, false), line));
+  const says = pins.map(({ line }) => uses.describe(say.lineOfPort(line, false), line));
   return column.add({ id: `ram ${bank}.${chip}`, kind: "ram", title: say.ramTitle(bank, chip), says }, [], pins);
 }
 
@@ -231,9 +231,9 @@ function drawRam(column, bank, chip, uses) {
 function drawChain(column, { clock, data, chips }, at, uses) {
   const bits = Array.from({ length: BITS_PER_CHIP * chips }, (_, bit) => (
     { id: `chain${at}.${bit}`, line: `chain${at}.${bit}`, label: say.bitPin(bit), number: BIT_NUMBERS[bit % BITS_PER_CHIP] }));
-  const used = bits.filter(({ line }) => uses.of(line).length > 0).sort((one, other) => uses.orderOf(one.line) - uses.orderOf(other.line));
+  const used = bits.filter(({ line }) => uses.of(line).length > 0).sort((one, other) => uses.rankOf(one.line) - uses.rankOf(other.line));
   const free = bits.filter(({ line }) => uses.of(line).length === 0).slice(0, MAX_FREE_BITS);
-  const says = [say.clockIs(clock), say.dataIs(data), ...used.map(({ line, label }) => uses.say(label, line))];
+  const says = [say.clockIs(clock), say.dataIs(data), ...used.map(({ line, label }) => uses.describe(label, line))];
   const inputs = [{ id: `clock ${at}`, line: clock, label: say.CLOCK_PIN, number: CLOCK_NUMBER },
     { id: `data ${at}`, line: data, label: say.DATA_PIN, number: DATA_NUMBER }];
   return column.add({ id: `chain ${at}`, kind: "chain", title: say.chainTitle(at, chips), says }, inputs, [...used, ...free]);

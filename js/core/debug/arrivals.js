@@ -41,9 +41,9 @@ export class Arrivals {
   /** @param {SoftBreakpoint[]} breakpoints at different addresses */
   constructor(breakpoints) {
     this.breakpoints = breakpoints;
-    this.at = new Map(breakpoints.map((each) => [each.address, each]));
+    this.byAddress = new Map(breakpoints.map((each) => [each.address, each]));
     this.places = ["pc", ...new Set(breakpoints.flatMap(({ places }) => places))];
-    this.looks = new Map(breakpoints.map(({ id, places }) => [id, places.map((place) => this.places.indexOf(place))]));
+    this.placeIndexes = new Map(breakpoints.map(({ id, places }) => [id, places.map((place) => this.places.indexOf(place))]));
     this.first = breakpoints.map(({ address }) => `break ${address}\n`).join("");
     /** The queries after each run. */
     this.probes = new Probes(this.places);
@@ -66,7 +66,7 @@ export class Arrivals {
   look(engine, file, planned) {
     const seen = nothingSeen();
     if (this.isEmpty) return seen;
-    if (this.density === 0 && this.isQuiet(engine, file, planned)) return seen;
+    if (this.density === 0 && this.hasNoArrival(engine, file, planned)) return seen;
     if (this.copy.length !== file.length) this.copy = new Uint8Array(file.length);
     this.copy.set(file);
     let [lines, count, done] = [this.first, this.breakpoints.length, 0];
@@ -92,7 +92,7 @@ export class Arrivals {
    * @param {Uint8Array} file
    * @param {PlannedLine[]} planned
    */
-  isQuiet(engine, file, planned) {
+  hasNoArrival(engine, file, planned) {
     const answers = engine.ask(file, this.first + planned.map(({ line }) => `${line}\n`).join("")).answers.slice(this.breakpoints.length);
     return planned.every(({ change }, at) => change !== null || answers[at].endsWith(" end"));
   }
@@ -131,8 +131,8 @@ export class Arrivals {
    * Returns the breakpoint at the current address if its condition holds; otherwise null.
    * @param {string[]} row the values of `places`
    */
-  heldAt(row) {
-    const found = this.at.get(parseInt(row[0], 16));
+  breakpointAt(row) {
+    const found = this.byAddress.get(parseInt(row[0], 16));
     return found && found.holds(this.valuesFor(found, row)) ? found : null;
   }
 
@@ -142,7 +142,7 @@ export class Arrivals {
    * @param {string[]} row the values of `places`
    */
   valuesFor({ id }, row) {
-    return (this.looks.get(id) || []).map((at) => row[at]);
+    return (this.placeIndexes.get(id) || []).map((at) => row[at]);
   }
 
   /**
@@ -152,7 +152,7 @@ export class Arrivals {
    * @param {Seen} seen receives the hit, and the note or the stop
    */
   isStop(row, cycles, seen) {
-    const found = this.at.get(parseInt(row[0], 16));
+    const found = this.byAddress.get(parseInt(row[0], 16));
     // A breakpoint that always stops is set in the session itself.
     if (!found) return true;
     const { id, holds, words, from } = found;
@@ -181,7 +181,7 @@ export class Arrivals {
    * Restores earlier hit counts, because the counted hits did not happen.
    * @param {number[]} hits
    */
-  takeBack(hits) {
+  restoreHits(hits) {
     this.breakpoints.forEach((breakpoint, at) => {
       breakpoint.hits = hits[at];
     });

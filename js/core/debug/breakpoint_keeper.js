@@ -141,13 +141,13 @@ export class BreakpointKeeper {
     this.onBench = new Set(addresses);
     if (!before) {
       // First report after opening: another program set the breakpoints of the file that the list lacks.
-      if (!this.isKept) for (const address of addresses) this.adopt(address);
+      if (!this.isKept) for (const address of addresses) this.addFromBench(address);
       this.calls.changed();
       return;
     }
     const wanted = new Set(this.hard);
-    for (const address of addresses.filter((each) => !wanted.has(each) && !before.has(each))) this.adopt(address);
-    for (const address of [...wanted].filter((each) => before.has(each) && !addresses.includes(each))) this.drop(address);
+    for (const address of addresses.filter((each) => !wanted.has(each) && !before.has(each))) this.addFromBench(address);
+    for (const address of [...wanted].filter((each) => before.has(each) && !addresses.includes(each))) this.removeGone(address);
     this.apply();
   }
 
@@ -160,7 +160,7 @@ export class BreakpointKeeper {
    * Adds a breakpoint that only the bench has to the list.
    * @param {number} address
    */
-  adopt(address) {
+  addFromBench(address) {
     const found = this.list.atAddress(address);
     if (found) {
       this.list.change(found.id, { isOn: true });
@@ -177,7 +177,7 @@ export class BreakpointKeeper {
    * Removes a breakpoint that the bench no longer has from the list.
    * @param {number} address
    */
-  drop(address) {
+  removeGone(address) {
     const found = this.list.atAddress(address);
     if (found) this.list.remove(found.id);
   }
@@ -253,13 +253,13 @@ export class BreakpointKeeper {
     const isFull = this.list.countOn >= MOST_ON;
     if (isFull) this.calls.showMessage(TOO_MANY);
     this.list.add({ ...some, isOn: !isFull });
-    this.acted();
+    this.saveAndApply();
   }
 
   /** @param {number} id */
   remove(id) {
     this.list.remove(id);
-    this.acted();
+    this.saveAndApply();
   }
 
   /**
@@ -298,7 +298,7 @@ export class BreakpointKeeper {
       return;
     }
     this.list.change(id, some);
-    this.acted();
+    this.saveAndApply();
   }
 
   /**
@@ -311,12 +311,12 @@ export class BreakpointKeeper {
       this.list.change(id, { isOn: isOn && left > 0 });
       left -= 1;
     }
-    this.acted();
+    this.saveAndApply();
   }
 
   removeAll() {
     this.list.all = [];
-    this.acted();
+    this.saveAndApply();
   }
 
   /** Resets the hit counts. */
@@ -334,7 +334,7 @@ export class BreakpointKeeper {
   }
 
   /** Saves and applies a change by the user. */
-  acted() {
+  saveAndApply() {
     this.calls.touched();
     this.apply();
   }
@@ -363,7 +363,7 @@ export class BreakpointKeeper {
       .finally(() => {
         this.asked -= 1;
       })
-      .then(([faults]) => this.sent(list, hard, faults))
+      .then(([faults]) => this.handleAnswer(list, hard, faults))
       .catch((fault) => this.calls.failed(fault));
   }
 
@@ -373,7 +373,7 @@ export class BreakpointKeeper {
    * @param {number[]} hard the addresses of the breakpoints that always stop
    * @param {[number, string][]} faults the ids of breakpoints that cannot be compiled, each with an error message
    */
-  sent(list, hard, faults) {
+  handleAnswer(list, hard, faults) {
     if (list !== this.list) return;
     this.faults = new Map(faults);
     this.onBench = new Set(hard);

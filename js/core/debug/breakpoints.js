@@ -34,13 +34,13 @@ const DEFAULTS = { isOn: true, condition: "", from: 1, note: "", hits: 0 };
 export class BreakpointList {
   /** @param {Partial<KeptBreakpoint>[]} [kept] */
   constructor(kept = []) {
-    this.made = 0;
+    this.lastId = 0;
     /** @type {Breakpoint[]} sorted by line, those without a line last */
     this.all = kept.map((each) => this.make(each));
     /** @type {{ text: string, breakpoint: Breakpoint }[]} breakpoints deleted with their lines, with the lines' texts, the newest last */
-    this.gone = [];
+    this.deleted = [];
     /** @type {Map<string, Breakpoint[]>} the breakpoints of texts that were replaced as a whole, by text, the newest last */
-    this.ofTexts = new Map();
+    this.byText = new Map();
     this.sort();
   }
 
@@ -50,8 +50,8 @@ export class BreakpointList {
    * @returns {Breakpoint}
    */
   make(some) {
-    this.made += 1;
-    return { ...DEFAULTS, line: 0, address: -1, ...some, hits: 0, id: this.made };
+    this.lastId += 1;
+    return { ...DEFAULTS, line: 0, address: -1, ...some, hits: 0, id: this.lastId };
   }
 
   sort() {
@@ -119,7 +119,7 @@ export class BreakpointList {
    * @param {Edit} edit
    */
   edit(edit) {
-    return (edit.isWhole === true && this.exchange(edit)) || this.move(edit);
+    return (edit.isWhole === true && this.replaceText(edit)) || this.move(edit);
   }
 
   /**
@@ -127,9 +127,9 @@ export class BreakpointList {
    * editor before. Returns whether it was.
    * @param {Edit} edit
    */
-  exchange({ removed = [], text }) {
+  replaceText({ removed = [], text }) {
     this.remember(removed.join("\n"));
-    const known = this.ofTexts.get(text.join("\n"));
+    const known = this.byText.get(text.join("\n"));
     if (!known) return false;
     const ids = new Set(known.map(({ id }) => id));
     // A breakpoint that was changed in the meantime keeps the change. A breakpoint without a line belongs to ROM, not to the text.
@@ -137,7 +137,7 @@ export class BreakpointList {
       .map((each) => ({ ...(this.get(each.id) || each), line: each.line, address: each.address }));
     const ofRom = this.all.filter(({ id, line, address }) => !ids.has(id) && line === 0 && !back.some((each) => each.address === address));
     this.all = [...back, ...ofRom];
-    this.gone = this.gone.filter(({ breakpoint }) => !ids.has(breakpoint.id));
+    this.deleted = this.deleted.filter(({ breakpoint }) => !ids.has(breakpoint.id));
     this.sort();
     this.limit();
     return true;
@@ -148,9 +148,9 @@ export class BreakpointList {
    * @param {string} text
    */
   remember(text) {
-    this.ofTexts.delete(text);
-    this.ofTexts.set(text, [...this.all]);
-    for (const oldest of [...this.ofTexts.keys()].slice(0, -MAX_TEXTS)) this.ofTexts.delete(oldest);
+    this.byText.delete(text);
+    this.byText.set(text, [...this.all]);
+    for (const oldest of [...this.byText.keys()].slice(0, -MAX_TEXTS)) this.byText.delete(oldest);
   }
 
   /** Limits the number of breakpoints and of enabled breakpoints to their maximums. */
@@ -168,7 +168,7 @@ export class BreakpointList {
    */
   move(edit) {
     const { first, last, count, isOther } = replacedLines(edit);
-    if (isOther) return this.leaveText();
+    if (isOther) return this.detachAll();
     const more = count - (last - first + 1);
     if (more === 0) return false;
     const isMoved = this.all.some(({ line }) => line >= first);
@@ -177,15 +177,15 @@ export class BreakpointList {
       if (each.line > last) return [{ ...each, line: each.line + more }];
       // The breakpoint of a replaced line stays on that line number if the replacement has enough lines.
       if (each.line < first + count) return [each];
-      this.leave(each, edit);
+      this.keepDeleted(each, edit);
       return [];
     });
     const isUndone = edit.origin === "undo" || edit.origin === "redo";
-    return (isUndone && this.bringBack(edit, first, count)) || isMoved;
+    return (isUndone && this.restoreDeleted(edit, first, count)) || isMoved;
   }
 
   /** Detaches all breakpoints that have an address from their lines, after the whole text was replaced. Returns whether there are any. */
-  leaveText() {
+  detachAll() {
     this.all = this.all.map((each) => (each.address >= 0 ? { ...each, line: 0 } : each));
     this.sort();
     return this.all.length > 0;
@@ -196,9 +196,9 @@ export class BreakpointList {
    * @param {Breakpoint} breakpoint
    * @param {Edit} edit
    */
-  leave(breakpoint, { from, removed = [] }) {
-    this.gone.push({ text: removed[breakpoint.line - from.line - 1] || "", breakpoint });
-    if (this.gone.length > MAX_DELETED) this.gone.shift();
+  keepDeleted(breakpoint, { from, removed = [] }) {
+    this.deleted.push({ text: removed[breakpoint.line - from.line - 1] || "", breakpoint });
+    if (this.deleted.length > MAX_DELETED) this.deleted.shift();
   }
 
   /**
@@ -207,12 +207,12 @@ export class BreakpointList {
    * @param {number} first the first restored line, from 1
    * @param {number} count the number of restored lines
    */
-  bringBack({ from, text }, first, count) {
+  restoreDeleted({ from, text }, first, count) {
     const before = this.all.length;
     for (let line = first + count - 1; line >= first; line--) {
-      const at = this.gone.map((each) => each.text).lastIndexOf(text[line - from.line - 1]);
+      const at = this.deleted.map((each) => each.text).lastIndexOf(text[line - from.line - 1]);
       if (at < 0 || this.atLine(line)) continue;
-      const [{ breakpoint }] = this.gone.splice(at, 1);
+      const [{ breakpoint }] = this.deleted.splice(at, 1);
       this.all.push({ ...breakpoint, line });
     }
     this.sort();

@@ -67,20 +67,20 @@ export class CommonMistakes {
     /** @type {Set<Kind>} the kinds that were reported since time started */
     this.reported = new Set();
     /** The address of the last mistake that stopped time, -1 for none. */
-    this.stopped = -1;
+    this.stoppedAt = -1;
     /** The address of a mistake that is not reported again when the session continues there, -1 for none. */
-    this.skipped = -1;
+    this.skippedAt = -1;
     /** The cycles that are still to be checked in full. */
     this.left = CHECKED_CYCLES;
-    this.looks = 0;
+    this.callCount = 0;
   }
 
   /** Prepares for running time: each kind can be reported again. */
   begin() {
     this.reported.clear();
     this.left = CHECKED_CYCLES;
-    this.skipped = this.stopped;
-    this.stopped = -1;
+    this.skippedAt = this.stoppedAt;
+    this.stoppedAt = -1;
   }
 
   /** Forgets ROM, the board and the selection by SRC, after something other than running time has changed the session. */
@@ -96,13 +96,13 @@ export class CommonMistakes {
    * @returns {Looked}
    */
   look(planned, file = this.session.file) {
-    const most = this.mostOf(planned);
+    const most = this.cyclesToCheck(planned);
     if (most === 0 || (this.reported.size === KIND_COUNT && this.conditions.size === 0)) return NOTHING;
     const all = this.faultsIn(linesUpTo(planned, most), file);
     const last = all.find((fault) => this.isStop(fault, planned, file));
     const faults = all.filter(({ isAgain }) => !isAgain);
     if (!last) return { faults, stop: -1 };
-    this.stopped = last.address;
+    this.stoppedAt = last.address;
     return { faults: faults.filter((fault) => fault.cycles <= last.cycles), stop: last.cycles };
   }
 
@@ -129,12 +129,12 @@ export class CommonMistakes {
    * times.
    * @param {PlannedLine[]} planned
    */
-  mostOf(planned) {
+  cyclesToCheck(planned) {
     const cycles = planned.reduce((sum, each) => sum + cyclesOfLine(each), 0);
     if (planned.some(({ change }) => change !== null)) this.left = CHECKED_CYCLES;
-    this.looks += 1;
+    this.callCount += 1;
     const isAll = this.stops.size > 0 && cycles <= MAX_CYCLES_PER_CALL;
-    const sample = this.looks % SAMPLE_INTERVAL === 0 ? SAMPLE_CYCLES : 0;
+    const sample = this.callCount % SAMPLE_INTERVAL === 0 ? SAMPLE_CYCLES : 0;
     const most = isAll ? cycles : Math.min(cycles, MAX_CYCLES_PER_CALL, Math.max(this.left, sample));
     this.left = Math.max(0, this.left - most);
     return most;
@@ -171,7 +171,7 @@ export class CommonMistakes {
         continue;
       }
       const [changes, instructions] = [answers.takeTrace(), answers.takeTrace()];
-      this.follow({ codes, selected, done }, changes, instructions.lines, faults);
+      this.checkRun({ codes, selected, done }, changes, instructions.lines, faults);
       const { cycles, end } = answers.takeRun();
       done += cycles;
       if (end !== "end") break;
@@ -186,7 +186,7 @@ export class CommonMistakes {
    * @param {string[]} instructions the lines of a trace of all instructions
    * @param {CommonMistake[]} faults receives the mistakes
    */
-  follow({ codes, selected, done }, changes, instructions, faults) {
+  checkRun({ codes, selected, done }, changes, instructions, faults) {
     let values = valuesOf(changes.row);
     let at = 0;
     for (const line of instructions) {
@@ -194,7 +194,7 @@ export class CommonMistakes {
       const address = parseInt(line.slice(blank + 1), 16);
       const code = codes[address];
       const changed = at < changes.lines.length && changes.lines[at].startsWith(line);
-      if (changed || usesSelected(code) || isCall(code) || isReturn(code) || this.isUnspelled(address)) {
+      if (changed || usesSelected(code) || isCall(code) || isReturn(code) || this.isOutsideProgram(address)) {
         const cycles = done + Number(line.slice(0, blank));
         this.report(faults, address, cycles, this.faultOf(codes, address, values) || selected.faultOf(code, address, values));
         if (changed) {
@@ -214,8 +214,8 @@ export class CommonMistakes {
    * @param {{ kind: Kind, words: string } | null} fault null if the instruction is right
    */
   report(faults, address, cycles, fault) {
-    const isSkipped = cycles === 0 && address === this.skipped;
-    if (cycles === 0) this.skipped = -1;
+    const isSkipped = cycles === 0 && address === this.skippedAt;
+    if (cycles === 0) this.skippedAt = -1;
     if (!fault || isSkipped) return;
     const isAgain = this.reported.has(fault.kind);
     if (isAgain && !this.conditions.has(fault.kind)) return;
@@ -232,7 +232,7 @@ export class CommonMistakes {
    */
   faultOf(codes, address, values) {
     const code = codes[address];
-    if (this.isUnspelled(address)) return { kind: "bytes", words: say.RUNS_ON };
+    if (this.isOutsideProgram(address)) return { kind: "bytes", words: say.RUNS_ON };
     if (!isCall(code) && !isReturn(code)) return null;
     const returns = values[2].split(",").map((each) => parseInt(each, 16));
     const [newest, , oldest] = returns.map((each) => hex(each, 3));
@@ -245,7 +245,7 @@ export class CommonMistakes {
    * Returns whether no line of the program defines the byte at an address.
    * @param {number} address
    */
-  isUnspelled(address) {
+  isOutsideProgram(address) {
     return this.map !== null && this.map.lineOf(address) === 0;
   }
 }

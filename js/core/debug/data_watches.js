@@ -121,7 +121,7 @@ export class DataWatches {
     for (const line of lines) {
       const { cycles, address, row: next } = readTraced(line);
       const after = valuesOf(next);
-      const stops = this.watches.filter((watch) => this.counts(watch, before, after, seen));
+      const stops = this.watches.filter((watch) => this.countChange(watch, before, after, seen));
       if (stops.length > 0) {
         const [{ id, place }] = stops;
         const [from, to] = [before, after].map((values) => this.valueOf(stops[0], values));
@@ -140,7 +140,7 @@ export class DataWatches {
    * @param {string[]} after
    * @param {SeenChange} seen
    */
-  counts(watch, before, after, { hits }) {
+  countChange(watch, before, after, { hits }) {
     if (!this.changes(watch, before, after)) return false;
     const count = (hits.get(watch.id) || 0) + 1;
     hits.set(watch.id, count);
@@ -281,9 +281,9 @@ export class SoftStops {
    * Restores earlier hit counts, because the counted hits did not happen.
    * @param {number[]} hits
    */
-  takeBack(hits) {
+  restoreHits(hits) {
     const { length } = this.arrivals.hits;
-    this.arrivals.takeBack(hits.slice(0, length));
+    this.arrivals.restoreHits(hits.slice(0, length));
     this.changes.watches.forEach((watch, at) => {
       watch.hits = hits[length + at];
     });

@@ -61,8 +61,8 @@ export class DebugSession {
     /** The maximum number of cycles in a piece of a run. */
     this.largestPiece = LARGEST_PIECE;
     if (!file) {
-      this.put(engine, own, "wire", sentText(board, "#"));
-      this.put(engine, own, "asm", sentText(program, ";"));
+      this.sendText(engine, own, "wire", sentText(board, "#"));
+      this.sendText(engine, own, "asm", sentText(program, ";"));
     }
     this.debugger = new Debugger(new WorkerSession(engine, own));
     this.breakpoints = new BreakpointList();
@@ -78,7 +78,7 @@ export class DebugSession {
    * @param {"wire" | "asm"} word
    * @param {string} text
    */
-  put(engine, file, word, text) {
+  sendText(engine, file, word, text) {
     if (text === "") return;
     const refusal = refusalOf(engine.serve(file, `${word}\n${text}.\n`, file).answers[0]);
     if (refusal) this.refused.push({ word, refusal });

@@ -389,7 +389,7 @@ export class Debugger {
       const tallies = runs.map(({ seen, done }) => this.tallyOf(seen, null, before + done));
       return { result, typed: { ...stop, cycles: session.count.total - before, tally: tallies.reduce(addTallies, NO_TALLY) } };
     } catch (fault) {
-      arrivals.takeBack(hits);
+      arrivals.restoreHits(hits);
       throw fault;
     }
   }

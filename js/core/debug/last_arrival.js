@@ -72,7 +72,7 @@ class LastArrival {
       }
       const before = this.total;
       arrivals.run(engine, copy, { lines, count, cycles }, (_, row, ran) => {
-        const held = arrivals.heldAt(row);
+        const held = arrivals.breakpointAt(row);
         const isNow = before + ran === now.total && held !== null && held.address === now.counter;
         if (held && !isNow) {
           found = aim({ moment: { ...moment, cycles: moment.cycles + ran }, end: "break", id: held.id });

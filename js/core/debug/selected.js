@@ -41,7 +41,7 @@ export class Selected {
     /** @type {Map<number, number>} the number of chips in each bank */
     this.chips = new Map(board.banks.map(({ bank, chips }) => [Number(bank), Number(chips)]));
     /** @type {Map<number, number>} the SRC byte that each bank has latched */
-    this.kept = new Map();
+    this.latched = new Map();
     /** The address of the last SRC, -1 if there was none yet. */
     this.source = -1;
     /** @type {Set<string>} the users of the last SRC: "WRR", "RDR", and "RAM" for instructions that use RAM */
@@ -57,7 +57,7 @@ export class Selected {
   begin(state) {
     for (const item of itemsOf(valueIn(state, "banks"))) {
       const [bank, byte] = item.split(".");
-      this.kept.set(Number(bank), parseInt(byte, 16));
+      this.latched.set(Number(bank), parseInt(byte, 16));
     }
   }
 
@@ -69,7 +69,7 @@ export class Selected {
    */
   follow(code, address, [source, bank]) {
     if (isSrc(code)) {
-      this.kept.set(numberOf(bank), parseInt(source, 16));
+      this.latched.set(numberOf(bank), parseInt(source, 16));
       this.source = address;
       this.users.clear();
     } else if (WRITES.has(code) || READS.has(code)) this.users.add("RAM");
@@ -126,7 +126,7 @@ export class Selected {
    */
   faultOfRam(name, bank) {
     const chips = this.chips.get(bank) || 0;
-    const chip = (this.kept.get(bank) || 0) >> 6;
+    const chip = (this.latched.get(bank) || 0) >> 6;
     if (chip < chips) return null;
     const words = chips === 0 ? say.bankWithoutRam(bank) : say.chipOf(chip, bank, chips);
     return { kind: "chip", words: say.writesTo(name, words, this.description) };

@@ -127,7 +127,7 @@ function wireRefusal({ name, kind, isInput }, target) {
 function setPort(sketch, line, as) {
   const [chip, at] = line.replace("rom", "").split(".").map(Number);
   const { draft, board } = sketch;
-  const entry = draft.numbered("rom", chip);
+  const entry = draft.partByNumber("rom", chip);
   const port = String(draft.keyOf(entry, "port").value.inner);
   const takers = [...wiringOf(board)].filter(([target, name]) => name === line && target !== BUZZER).map(([target]) => target);
   const isTurned = (port[3 - at] === "i") !== (as === "i");

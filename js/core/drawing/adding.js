@@ -51,7 +51,7 @@ export function addRam(sketch) {
   const { to: most } = RANGES["ram.chips"];
   const open = banks.find(({ chips }) => chips < most);
   if (open) {
-    sketch.edit([setValue(sketch.draft, sketch.draft.numbered("ram", open.bank), "chips", open.chips + 1)]);
+    sketch.edit([setValue(sketch.draft, sketch.draft.partByNumber("ram", open.bank), "chips", open.chips + 1)]);
     return `ram ${open.bank}.${open.chips}`;
   }
   const bank = freeNumber(banks.map((each) => each.bank), MAX_PARTS.ram);

@@ -76,7 +76,7 @@ export class BoardDraft {
    * @param {"rom" | "ram"} kind
    * @param {number} number
    */
-  numbered(kind, number) {
+  partByNumber(kind, number) {
     const key = KEYS[kind][0];
     return this.entry(kind, this.of(kind).findIndex((entry) => this.keyOf(entry, key).value.inner === number));
   }

@@ -163,7 +163,7 @@ function removeChain(sketch, chain) {
 function removeRom(sketch, rom) {
   sketch.edit(renamePorts(sketch.draft, (port) => (port === `rom${rom}` ? "" : port)));
   const { draft } = sketch;
-  sketch.edit(removePart(draft, "rom", draft.of("rom").indexOf(draft.numbered("rom", rom))));
+  sketch.edit(removePart(draft, "rom", draft.of("rom").indexOf(draft.partByNumber("rom", rom))));
 }
 
 /**
@@ -175,7 +175,7 @@ function removeRam(sketch, ram) {
   const [bank, chip] = ram.split(".").map(Number);
   sketch.edit(renamePorts(sketch.draft, (port) => (port === `ram${ram}` ? "" : port)));
   const { draft } = sketch;
-  const entry = draft.numbered("ram", bank);
+  const entry = draft.partByNumber("ram", bank);
   sketch.edit(chip > 0 ? [setValue(draft, entry, "chips", chip)] : removePart(draft, "ram", draft.of("ram").indexOf(entry)));
 }
 

@@ -50,8 +50,8 @@ export class MovedParts {
   follow(from, to) {
     const done = this.deletions.find(({ before, after }) => before === from && after === to);
     const undone = this.deletions.find(({ before, after }) => before === to && after === from);
-    if (done) this.takeAway(done);
-    else if (undone) this.putBack(undone);
+    if (done) this.removeChains(done);
+    else if (undone) this.restoreChains(undone);
   }
 
   /** Returns whether positions have changed since the last call. */
@@ -65,7 +65,7 @@ export class MovedParts {
    * Removes the positions of deleted chains, and renumbers the others.
    * @param {Deletion} deletion
    */
-  takeAway({ gone, points }) {
+  removeChains({ gone, points }) {
     for (const [number, point] of this.takeChains()) {
       if (gone.includes(number)) points.set(`chain ${number}`, point);
       else this.moved.set(`chain ${number - gone.filter((each) => each < number).length}`, point);
@@ -76,7 +76,7 @@ export class MovedParts {
    * Restores the positions of deleted chains, and renumbers the others.
    * @param {Deletion} deletion
    */
-  putBack({ gone, points }) {
+  restoreChains({ gone, points }) {
     for (const [now, point] of this.takeChains()) {
       const number = gone.reduce((sum, each) => (each <= sum ? sum + 1 : sum), now);
       this.moved.set(`chain ${number}`, point);
