@@ -1,10 +1,10 @@
-// What page/build puts into the scripts of the page.
+// The modules that page/build adds to the scripts of the page, and the interface of Visual Studio Code.
 declare module "#answer-table" {
   const text: string;
   export default text;
 }
 
-/** What Visual Studio Code gives to the script of a view. */
+/** Returns the interface of Visual Studio Code for the script of a view. */
 declare function acquireVsCodeApi(): { postMessage(message: { place: string, isDown: boolean } | { isReady: true } | { isTorn: true }): void };
 
 declare module "#face-table" {
