@@ -185,7 +185,7 @@ def check_poor_browsers(browser, page, folder):
             re.compile(r"This browser has no WebAssembly with bulk memory.*97.*102.*16"))
     verdict("no button without a use", browser.script(SHOWN_CONTROLS), ["Dismiss"])
     for lack, code in NO_STORE.items():
-        verdict(lack, notice_at_start(browser, poor(page, folder, code)), re.compile("keeps nothing"))
+        verdict(lack, notice_at_start(browser, poor(page, folder, code)), re.compile("stores nothing"))
         works(browser, lack)
         verdict("a line is answered", lines_answered(browser, "poke r5 9"), re.compile(r"poke r5 9ok \d+"))
         browser.click("#sessions-button")

@@ -23,7 +23,7 @@ export function projectIn(folder) {
   const file = join(folder, PROJECT_FILE);
   const stat = statOfInput(file);
   if (!stat) throw new ProjectFault(file, "there is no such file; it names the files of a project");
-  if (!stat.isFile()) throw new ProjectFault(file, "it is no file");
+  if (!stat.isFile()) throw new ProjectFault(file, "it is not a file");
   const project = readProject(readUserFile(file, MAX_USER_TEXT), (path) => lookInFolder(folder, path), file);
   const place = (path) => join(folder, path);
   return {

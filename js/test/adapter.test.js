@@ -38,7 +38,7 @@ test("what cannot be launched is refused in words, and another launch can follow
   assert.match(await refused({ program: 3 }), /program is a text/);
   assert.match(await refused({ program: "/none.asm" }), /cannot read \/none.asm/);
   assert.match(await refused({ program: "/a.asm" }), /^a.asm, line 1: the assembler does not know the form of the line \(no 30\)$/);
-  assert.match(await refused({ program: "/b/b.asm" }), /^there is no board.toml beside \/b\/b.asm/);
+  assert.match(await refused({ program: "/b/b.asm" }), /^there is no board.toml next to \/b\/b.asm/);
   assert.match(await refused({ session: "/none.mcs" }), /^\/none.mcs does not exist/);
   assert.match(await refused({ project: "/b" }), /^there is no \/b\/mcs4.toml/);
   assert.match(await refused({ project: "/c/mcs4.toml" }), /^\/c\/mcs4.toml, line 2: \/x.asm is not a path from the project's folder/);

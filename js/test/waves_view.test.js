@@ -131,7 +131,7 @@ test("what was recorded, in words", () => {
   assert.equal(recordedText(waves, 3, false), "3 cycles recorded, 0.032 ms.");
   assert.equal(recordedText(waves, 9, true), "3 cycles recorded, 0.032 ms. The remembered past reaches no further back.");
   waves.isStuck = true;
-  assert.match(recordedText(waves, 9, false), /Then comes a code that is not an instruction\.$/);
+  assert.match(recordedText(waves, 9, false), /A code that is not an instruction follows\.$/);
   assert.match(recordedText(wavesWith([], 0), 9, true), /^Nothing was recorded/);
 });
 

@@ -95,13 +95,13 @@ export const OTHER_STATE = "the session's file reached another state than the se
 export const LAUNCH_NEEDS =
   "launch needs \"project\", a folder with mcs4.toml, or \"program\", a program's text, or \"session\", a session file";
 /** @type {(words: string) => string} */
-export const andBoard = (words) => `${words}; without "board" it is the project's, or board.toml beside the program`;
+export const andBoard = (words) => `${words}; without "board" it is the project's, or board.toml next to the program`;
 export const ONE_FILE = "program and session name the same file";
 /** @type {(file: string) => string} */
 export const noProjectFile = (file) => `there is no ${file}, which names the board and the program of a project`;
 export const DOT_ALONE = "a line with only a dot";
 /** @type {(program: string) => string} */
-export const noBoardBeside = (program) => `there is no board.toml beside ${program}: "board" names the board's text`;
+export const noBoardBeside = (program) => `there is no board.toml next to ${program}: "board" names the board's text`;
 /** @type {(session: string) => string} */
 export const sessionMissing = (session) => `${session} does not exist; "board" and "program" create it`;
 export const ATTACH_NEEDS = "attach needs \"session\", a session file; launch starts a program";

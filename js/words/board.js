@@ -24,7 +24,7 @@ export const andMore = (count) => `And ${count} more.`;
 export const LAMPS_AND_KEYS = "Lamps and keys";
 /** @type {(milliseconds: number) => string} */
 export const asSeen = (milliseconds) => (
-  `Brightness is averaged over ${milliseconds} ms, as the eye does.`);
+  `Brightness is averaged over ${milliseconds} ms, as by the eye.`);
 export const AT_INSTANT = "Paused: lamps show this instant.";
 /** @type {(line: number, words: string) => string} */
 export const lineOfBoard = (line, words) => `line ${line} of the board's text: ${words}`;

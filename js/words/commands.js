@@ -22,7 +22,7 @@ const OF_SESSION = "Counts the next cycles of the session in SESSION.";
 const WHAT_IS_COUNTED = `
       It counts a run of tests, as \`mcs4 test\` runs them, or the next CYCLES cycles of a copy of a session. CYCLES is 1 to
       100,000,000.`;
-const REPORT_OR_ERROR = "1: a test failed (the report is printed), or an error, which standard error names.";
+const REPORT_OR_ERROR = "1: a test failed (the report is printed), or an error, printed on standard error.";
 const WRONG_ARGUMENTS = "2: wrong arguments.";
 const SERVES_LINES = `
       Each line of standard input is a command or a question, and has an answer on standard output. An accepted command is on the disk
@@ -41,12 +41,12 @@ const STATUS_OF_PROGRAM = [
 /** @satisfies {Record<string, CommandWords>} */
 export const COMMAND_WORDS = {
   back: {
-    summary: "takes a session back by some commands",
+    summary: "undoes the last commands of a session",
     text: `
-      Takes SESSION back by N accepted commands, if its log still has them, and prints \`session M\` as \`mcs4 open\` does. Without
+      Undoes the last N accepted commands of SESSION, if its log still has them, and prints \`session M\` as \`mcs4 open\` does. Without
       N, it only prints how far back it can go, and changes nothing. N is 1 to 99,999.
 
-      What the N commands did is then gone from the session: copy the file first if you want to keep it.
+      The effects of the N commands are then lost: copy the file first if you want to keep them.
 
       The log starts again after a snapshot, which is made when the log is full, or after 4,000,000 cycles. A session file that the page
       has saved, or one of version 1, has no commands before that.
@@ -57,7 +57,7 @@ export const COMMAND_WORDS = {
     examples: [["mcs4 back s.mcs", "prints how far back it can go"], ["mcs4 back s.mcs 3", "goes back by three commands"]],
     status: [
       "0: the session has gone back, or the command has printed how far it can go back.",
-      "1: an error, which standard error names: nothing was changed.", WRONG_ARGUMENTS,
+      "1: an error, printed on standard error; nothing was changed.", WRONG_ARGUMENTS,
     ],
   },
   cover: {
@@ -152,7 +152,7 @@ export const COMMAND_WORDS = {
       there is an error.`,
     options: { folder: OF_FOLDER },
     examples: [["mcs4 new s.mcs < product.txt | mcs4 display board.toml", "shows the product"]],
-    status: ["0: the numbers are printed.", "1: an error, which standard error names.", WRONG_ARGUMENTS],
+    status: ["0: the numbers are printed.", "1: an error, printed on standard error.", WRONG_ARGUMENTS],
   },
   explain: {
     summary: "shows what was rejected in a script, where, and why",
@@ -204,7 +204,7 @@ export const COMMAND_WORDS = {
     ],
     status: [
       "0: no property was broken, and each goal was reached.",
-      "1: a property was broken, a goal was not reached, or an error, which standard error names.", WRONG_ARGUMENTS,
+      "1: a property was broken, a goal was not reached, or an error, printed on standard error.", WRONG_ARGUMENTS,
     ],
   },
   import: {
@@ -249,7 +249,7 @@ export const COMMAND_WORDS = {
       ["mcs4 keys --down 900 --up 2000 board.toml 12", "presses two keys for a shorter time"],
       ["mcs4 keys --until-stop calc.mcs board.toml '7='", "presses them up to the first stop"],
     ],
-    status: ["0: the lines are printed, or the keys were pressed.", "1: an error, which standard error names.", WRONG_ARGUMENTS],
+    status: ["0: the lines are printed, or the keys were pressed.", "1: an error, printed on standard error.", WRONG_ARGUMENTS],
   },
   listing: {
     summary: "prints a program with addresses and bytes, as assemblers do",
@@ -267,7 +267,7 @@ export const COMMAND_WORDS = {
       ["mcs4 listing program.asm", "prints a listing"],
       ["mcs4 listing --names program.asm", "prints the names with their values"],
     ],
-    status: ["0: the listing is printed.", "1: an error, which standard error names with its line.", WRONG_ARGUMENTS],
+    status: ["0: the listing is printed.", "1: an error, printed on standard error with its line.", WRONG_ARGUMENTS],
   },
   lsp: {
     summary: "a language server: errors, help and names in your editor",
@@ -277,7 +277,7 @@ export const COMMAND_WORDS = {
       definitions and references, renames, completes, lists names, offers quick fixes and colours. The manual's chapter "In your editor"
       has the settings of editors.
 
-      A program is checked with the board that mcs4.toml names, in its folder or one above it; otherwise with the \`board.toml\` beside
+      A program is checked with the board that mcs4.toml names, in its folder or one above it; otherwise with the \`board.toml\` next to
       it, or with a board with all ROMs. Nothing is written.`,
     options: { stdio: "Does nothing: some editors pass this option." },
     examples: [["mcs4 lsp", "is what an editor starts"]],
@@ -388,7 +388,7 @@ ${SERVES_LINES}`,
     ],
     status: [
       "0: the files are written.",
-      "1: a file that is no project, is cut off or damaged, would be lost, or cannot be read or written.",
+      "1: a file that is not a project, is cut off or damaged, would be lost, or cannot be read or written.",
       WRONG_ARGUMENTS,
     ],
   },
@@ -414,7 +414,7 @@ ${SERVES_LINES}`,
     ],
     status: [
       "0: all properties are proved, and each goal was reached.",
-      "1: a property is broken, or a goal is never reached; or an error, which standard error names.", WRONG_ARGUMENTS,
+      "1: a property is broken, or a goal is never reached; or an error, printed on standard error.", WRONG_ARGUMENTS,
       "3: none of these, but some property is not decided.",
     ],
   },
@@ -460,7 +460,7 @@ ${SERVES_LINES}`,
     ],
     status: [
       "0: the lines or the image are printed.",
-      "1: a file that is no image, a bad record, an address past FFF, a refusal among the answers, or a byte that no answer shows.",
+      "1: a file that is not an image, a bad record, an address past FFF, a refusal among the answers, or a byte that no answer shows.",
       WRONG_ARGUMENTS,
     ],
   },
@@ -475,7 +475,7 @@ ${SERVES_LINES}`,
       ${BOARD_AND_PROGRAM}`,
     options: { folder: OF_FOLDER },
     examples: [["mcs4 script board.toml calculator.asm '22/7=' > quotient.txt", "makes a script that divides"]],
-    status: ["0: the lines are printed.", "1: an error, which standard error names with its line.", WRONG_ARGUMENTS],
+    status: ["0: the lines are printed.", "1: an error, printed on standard error with its line.", WRONG_ARGUMENTS],
   },
   test: {
     summary: "runs tests of a program, and prints the results as TAP",
@@ -493,7 +493,7 @@ ${SERVES_LINES}`,
       ["mcs4 test -C examples/calculator", "runs the tests of a project"],
       ["prove --exec 'mcs4 test board.toml program.asm' tests/*.test", "runs the tests of many texts by prove"],
     ],
-    status: ["0: all tests passed.", "1: a test failed, or an error, which standard error names with its place.", WRONG_ARGUMENTS],
+    status: ["0: all tests passed.", "1: a test failed, or an error, printed on standard error with its place.", WRONG_ARGUMENTS],
   },
   trace: {
     summary: "prints what a session does next, one instruction per line",
@@ -664,7 +664,7 @@ export const NO_PROGRAM_IN_COPY = "this copy of the bench has no native program"
 export const notForSystem = (platform, machine) => `it is for Linux on x86-64, and this is ${platform} on ${machine}`;
 /** @type {(fault: string) => string} */
 export const needsProgram = (fault) => (
-  `only the native program keeps a session file, and it is not started: ${fault}. Commands that keep none run here`);
+  `a session file needs the native program, which is not started: ${fault}. Commands without a session file run here`);
 /** @type {(fault: string) => string} */
 export const runsOnModule = (fault) => (
   `commands run on the proved module, more slowly, because the native program is not started: ${fault}. This message appears once`);
@@ -736,7 +736,7 @@ export const isThere = (name) => `${name} already exists; name another folder, o
 
 export const LOAD_ASK_OR_SAVE = "load, ask or save is missing";
 /** @type {(word: string) => string} */
-export const noRomAction = (word) => `'${word}' is none of load, ask and save`;
+export const noRomAction = (word) => `'${word}' is not load, ask or save`;
 /** @type {(action: string, form: string) => string} */
 export const noFormOf = (action, form) => `rom ${action} takes no --${form}`;
 export const ADDRESS_RANGE = "ADDRESS is 0 to 4095, decimal or with 0x";

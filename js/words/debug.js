@@ -6,7 +6,7 @@ export const tooManyOn = (most) => `${most} breakpoints are on, the most that th
 /** @type {(why: string) => string} */
 export const untilThen = (why) => `${why} Until then this breakpoint stops nothing.`;
 /** @type {(most: number) => string} */
-export const mostBreakpoints = (most) => `At most ${most} breakpoints are kept: remove one first.`;
+export const mostBreakpoints = (most) => `There can be at most ${most} breakpoints: remove one first.`;
 
 // --- debug/breakpoints.js ---
 /** @type {(line: number, next: number) => string} */

@@ -25,7 +25,7 @@ export const COMMAND_WORDS = [
     first one is silent, the stop itself is not printed. After a command that moves, such as continue, the others are skipped.`),
   command("delete d", "delete [N ..]", "deletes breakpoints, or all of them", `
     N is the number that info breakpoints shows; $bpnum is the one that was set last. delete PLACE ends a watch.`),
-  command("disable dis disa", "disable N ..", "makes breakpoints pass, and keeps them"),
+  command("disable dis disa", "disable N ..", "disables breakpoints, without deleting them"),
   command("enable en", "enable N ..", "makes disabled breakpoints stop again"),
   command("watch wa", "watch PLACE", "stops when the value at PLACE changes", `
     PLACE is a nibble of RAM such as ram.0.0x12 (the session watches at most eight), or one other place: r4, acc, cy, lamps, lamp 3,

@@ -116,7 +116,7 @@ export const STEP_LAMP = {
 export const STEP_COUNT = {
   title: "A count",
   words: ["Four lamps show a number from 0 to 15. This program counts, and waits in between.",
-    "Try slow motion, too: the list of speeds is beside Reset.",
+    "Try slow motion, too: the list of speeds is next to Reset.",
     "Goal: the lamps have shown four different numbers."],
 };
 export const STEP_KEY = {
@@ -127,7 +127,7 @@ export const STEP_KEY = {
 };
 export const STEP_BREAKPOINT = {
   title: "A breakpoint",
-  words: ["The program pauses before a line with a breakpoint. Click beside the line show: in Source, or on the line in Disassembly.",
+  words: ["The program pauses before a line with a breakpoint. Click next to the line show: in Source, or on the line in Disassembly.",
     "Then press Continue.",
     "Step into (F11) runs one more instruction. A second click removes the breakpoint.",
     "Goal: the program pauses at a breakpoint."],

@@ -50,7 +50,7 @@ export const NOT_DONE = "It was not done.";
 export const MY_BOARD = "my board";
 
 // --- main.js ---
-export const NO_STORE = "This browser keeps nothing for this page: its store (IndexedDB) is missing, is blocked by the settings, or does "
+export const NO_STORE = "This browser stores nothing for this page: its store (IndexedDB) is missing, is blocked by the settings, or does "
   + "not answer. Everything works, but save the session to a file before you leave.";
 export const BULK_MEMORY = "WebAssembly with bulk memory";
 export const BIG_INTEGERS = "integers of any size (BigInt)";

@@ -95,7 +95,7 @@ export const NOTHING_DISPLAYED = "nothing is displayed";
 /** @type {(program: string, count: number) => string} */
 export const linesOf = (program, count) => `${program}, ${count} lines`;
 export const SESSION_FILE = "a session file, which is updated at each stop";
-export const IN_MEMORY = "in memory: nothing is kept";
+export const IN_MEMORY = "in memory: nothing is saved";
 /** @type {(kinds: string) => string} */
 export const infoShows = (kinds) => `info shows ${kinds}`;
 /** @type {(kind: string) => string} */

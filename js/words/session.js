@@ -157,7 +157,7 @@ export const noProjectSaved = (why) => (
 export const KEPT_HERE = "They are saved in this browser only. Download a copy to be safe. "
   + "Examples are saved once you change something.";
 export const PROMISED = " The browser has promised to keep them even when space is short.";
-export const KEPT_NOWHERE = "This browser keeps nothing for this page: save a session to a file before you leave.";
+export const KEPT_NOWHERE = "This browser stores nothing for this page: save a session to a file before you leave.";
 /** @type {(name: string, isKept: boolean) => string} */
 export const sessionLeft = (name, isKept) => (
   `"${name}" ${isKept ? "is saved" : "stays until this page is closed"}.`);

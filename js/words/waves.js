@@ -157,7 +157,7 @@ export const NOTHING_BEFORE = "Nothing was recorded: no cycle was done since the
 /** @type {(cycles: string, time: string) => string} */
 export const recordedSpan = (cycles, time) => `${cycles} recorded, ${time}.`;
 /** @type {(text: string) => string} */
-export const thenNoInstruction = (text) => `${text} Then comes a code that is not an instruction.`;
+export const thenNoInstruction = (text) => `${text} A code that is not an instruction follows.`;
 /** @type {(text: string) => string} */
 export const noFurtherBack = (text) => `${text} The remembered past reaches no further back.`;
 

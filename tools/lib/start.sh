@@ -231,6 +231,6 @@ find_or_build() {
 need_program() {
     find_or_build
     if [ -n "$program" ]; then return; fi
-    echo "mcs4: only the native program keeps a session file, and it is not started: $fault. Commands that keep none run here" >&2 || :
+    echo "mcs4: a session file needs the native program, which is not started: $fault. Commands without a session file run here" >&2 || :
     exit 1
 }

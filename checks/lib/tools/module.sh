@@ -112,7 +112,7 @@ same_on_module /dev/null prove $lock/board.toml $lock/lock.asm "$folder/found.pr
 
 # --- what does not work there
 
-keeps="only the native program keeps a session file, and it is not started: $why. Commands that keep none run here"
+keeps="a session file needs the native program, which is not started: $why. Commands without a session file run here"
 for words in "new $folder/new.mcs" "open $folder/session.mcs"; do
     # shellcheck disable=SC2086
     refuses 1 "mcs4: $keeps" elsewhere $words
