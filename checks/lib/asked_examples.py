@@ -13,7 +13,7 @@ from board4004 import CODES, TWO_WORDS
 from second_search import MISTAKES, Comparison, Question
 
 EXAMPLE_FILES = pathlib.Path(__file__).resolve().parent.parent.parent / "examples"
-MOST_OF_MUTANTS, PAUSE_OF_MUTANTS = 120, 1000
+MUTANT_MAX_STATES, MUTANT_PAUSE = 120, 1000
 
 
 def texts_of(props: str) -> tuple[list[str], list[str]]:
@@ -122,7 +122,7 @@ def nevers_in(props: str) -> list[str]:
 
 # The programs that make mistakes, with the mistakes. Lamps runs on into a ROM that the board lacks, and its second WRR has no output line.
 MADE = {"lamps.txt": ("rom", "wrr")}
-MOST_OF_PROGRAMS, PAUSE_OF_PROGRAMS = 60, 1000
+PROGRAM_MAX_STATES, PROGRAM_PAUSE = 60, 1000
 
 
 def programs() -> list[str]:
@@ -135,7 +135,7 @@ def mistakes_of(name: str, asked: tuple[str, ...] = MISTAKES) -> Question:
     """Returns the question whether an example's program makes one of these mistakes."""
     path = EXAMPLE_FILES / name
     board, program = texts_of(f"{name}/{name}.props" if path.is_dir() else str(path.with_suffix(".props").name))
-    return Question(board, program, [[("mistake", *asked)]], MOST_OF_PROGRAMS, PAUSE_OF_PROGRAMS)
+    return Question(board, program, [[("mistake", *asked)]], PROGRAM_MAX_STATES, PROGRAM_PAUSE)
 
 
 def program_of(image: dict[int, int]) -> list[str]:
@@ -153,7 +153,7 @@ def mutant(seed: int) -> tuple[str, Question]:
     chance = random.Random(seed)
     props, ports = chance.choice([*SHOWN.items()])
     others = [" & ".join(f"out ramport {port} whole {value} {value}" for value in values) for port, values in ports.items()]
-    question = question_of(props, others, MOST_OF_MUTANTS, PAUSE_OF_MUTANTS)
+    question = question_of(props, others, MUTANT_MAX_STATES, MUTANT_PAUSE)
     image, spans, _names = assemble(question.program)
     at = chance.choice([at for at, size in spans if size in (1, 2) and image[at] in CODES])
     is_long = CODES[image[at]][0] in TWO_WORDS

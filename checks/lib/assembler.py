@@ -17,7 +17,7 @@ RESERVED = {*ALONE, *ON_REGISTER, *ON_PAIR, *WITH_VALUES, "WPM", "ORG", "DB", *R
 ADDRESSES = 4096
 NAMES = 512
 # The maximum number of errors in an answer.
-MOST_ERRORS = 100
+MAX_ERRORS = 100
 
 
 class Refused(Exception):
@@ -238,7 +238,7 @@ def errors_answer(lines):
         judge(lines)
     except Refused as refused:
         return [refusal(refused)]
-    found = errors_of(lines)[:MOST_ERRORS]
+    found = errors_of(lines)[:MAX_ERRORS]
     return [f"errors {len(found)}", *(f"error {line} {number}" for number, line in found)]
 
 

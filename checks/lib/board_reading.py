@@ -5,8 +5,8 @@ import re
 import tomllib
 
 SECTIONS = ("rom", "ram", "chain", "keys", "lamp")
-MOST = {"rom": 16, "ram": 8, "chain": 4, "lamp": 64}
-MOST_COLUMNS = 8
+MAX_TABLES = {"rom": 16, "ram": 8, "chain": 4, "lamp": 64}
+MAX_COLUMNS = 8
 BITS_OF_CHIP = 10
 # The keys whose values must differ between the tables of a section.
 NUMBERED = {"rom": "chip", "ram": "bank"}
@@ -112,9 +112,9 @@ class BoardReading:
     def too_many(self):
         for section in SECTIONS:
             tables = [table for kind, _index, table in self.tables if kind == section]
-            if section in MOST and len(tables) > MOST[section]:
-                yield 27, section, MOST[section] + 1, None
-            if section == "keys" and any(len(table["columns"]) > MOST_COLUMNS for table in tables):
+            if section in MAX_TABLES and len(tables) > MAX_TABLES[section]:
+                yield 27, section, MAX_TABLES[section] + 1, None
+            if section == "keys" and any(len(table["columns"]) > MAX_COLUMNS for table in tables):
                 yield 27, "keys", 0, "columns"
 
     def twice(self):

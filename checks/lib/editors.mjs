@@ -146,7 +146,7 @@ async function tryAtOnce() {
  * Checks wrong sizes of messages, which must cause an error and the end: if the rest is missing, if it belongs to the next message, and at the
  * end.
  */
-async function tryLies() {
+async function tryWrongSizes() {
   const body = JSON.stringify({ jsonrpc: "2.0", id: 1, method: "initialize", params: {} });
   const lie = (size) => {
     const liar = new Client(MCS4);
@@ -166,7 +166,7 @@ async function tryLies() {
     "too small a size");
 }
 
-const lies = tryLies();
+const wrongSizes = tryWrongSizes();
 const client = new Client(MCS4);
 await client.begin();
 for (const name of examples()) await compare(client, name);
@@ -175,4 +175,4 @@ verdict(await client.end(), 0, "the end");
 await tryWrong();
 await tryAtOnce();
 await tryEnds();
-await lies;
+await wrongSizes;

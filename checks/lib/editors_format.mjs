@@ -11,7 +11,7 @@ const ACCEPTED = 500;
 const REFUSED = 60;
 const COUNT = ACCEPTED + REFUSED;
 /** The number of programs in one session. */
-const AT_ONCE = 50;
+const BATCH_SIZE = 50;
 const ALL_ROMS = `wire\n${[...Array(16).keys()].map((chip) => `[[rom]]\nchip = ${chip}\nport = "0000"\n`).join("")}.\n`;
 const LISTS = [...Array(16).keys()].map((page) => `list ${page * 256} 256\n`).join("");
 
@@ -49,8 +49,8 @@ const client = new Client(`${TOP}mcs4`);
 await client.begin();
 let changed = 0;
 let loaded = 0;
-for (let begin = 0; begin < COUNT; begin += AT_ONCE) {
-  const numbers = [...Array(Math.min(AT_ONCE, COUNT - begin)).keys()].map((at) => begin + at);
+for (let begin = 0; begin < COUNT; begin += BATCH_SIZE) {
+  const numbers = [...Array(Math.min(BATCH_SIZE, COUNT - begin)).keys()].map((at) => begin + at);
   const texts = numbers.map((number) => readFileSync(`${programs}/${number}.asm`, "utf8"));
   const after = [];
   for (const [at, number] of numbers.entries()) {

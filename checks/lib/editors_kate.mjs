@@ -6,7 +6,7 @@ import { cpSync, existsSync, mkdirSync, readFileSync, rmSync, writeFileSync } fr
 import { MessageClient } from "./message_client.mjs";
 
 /** The milliseconds to wait for each result. */
-const PATIENCE = 90000;
+const TIMEOUT = 90000;
 /** The milliseconds until a key without effect is pressed again, and until a command for the display is stopped. */
 const AGAIN = 20000;
 /** The title of Kate's question. */
@@ -19,12 +19,12 @@ const shortly = () => new Promise((resume) => setTimeout(resume, 100));
 
 /** Waits until `look` returns a value. */
 async function once(what, look) {
-  for (const end = Date.now() + PATIENCE; Date.now() < end;) {
+  for (const end = Date.now() + TIMEOUT; Date.now() < end;) {
     const found = look();
     if (found) return found;
     await shortly();
   }
-  throw new Error(`${what}: not after ${PATIENCE} ms`);
+  throw new Error(`${what}: not after ${TIMEOUT} ms`);
 }
 
 /** Returns the messages in one of the two files. */

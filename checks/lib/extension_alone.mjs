@@ -13,7 +13,7 @@ const TOP = new URL("../..", import.meta.url).pathname;
 const [extensionFolder, place] = process.argv.slice(2);
 const folder = join(place, "a board, and its program");
 /** The milliseconds to wait for each result; the editor also waits, however busy the machine is. */
-const PATIENCE = 60000;
+const TIMEOUT = 60000;
 
 function verdict(is, wanted, words) {
   const [one, other] = [JSON.stringify(is), JSON.stringify(wanted)];
@@ -22,7 +22,7 @@ function verdict(is, wanted, words) {
 
 /** Waits until `find` returns a value; returns null after a timeout. */
 async function until(find) {
-  for (const end = Date.now() + PATIENCE; Date.now() < end;) {
+  for (const end = Date.now() + TIMEOUT; Date.now() < end;) {
     const found = find();
     if (found) return found;
     await new Promise((resume) => { setTimeout(resume, 20); });

@@ -2,7 +2,7 @@
 import { spawn } from "node:child_process";
 
 /** The milliseconds to wait for an answer. */
-const PATIENCE = 60000;
+const TIMEOUT = 60000;
 
 export class MessageClient {
   /** @param {string} command that starts the server */
@@ -65,11 +65,11 @@ export class MessageClient {
 
   /** Waits for the first message that matches, removes it from the list, and returns it. */
   async next(matches) {
-    const end = Date.now() + PATIENCE;
+    const end = Date.now() + TIMEOUT;
     for (;;) {
       const at = this.received.findIndex(matches);
       if (at >= 0) return this.received.splice(at, 1)[0];
-      if (Date.now() > end) throw new Error(`no answer after ${PATIENCE} ms; on standard error: ${this.stderr}`);
+      if (Date.now() > end) throw new Error(`no answer after ${TIMEOUT} ms; on standard error: ${this.stderr}`);
       await new Promise((resume) => {
         const timer = setTimeout(resume, 1000);
         this.wake = () => {

@@ -9,7 +9,7 @@ from verdicts import eventually, verdict
 
 CONTROL, SHIFT, DELETE, LEFT, UP, RIGHT, DOWN = "\ue009", "\ue008", "\ue017", "\ue012", "\ue013", "\ue014", "\ue015"
 BOARD = "#board-editor"
-SAID = "return document.getElementById('drawing-status').textContent"
+DRAWING_STATUS = "return document.getElementById('drawing-status').textContent"
 STATE = "return document.getElementById('drawing-state').textContent"
 BULBS = "return [...document.querySelectorAll('#front .bulb')].map((bulb) => (bulb.classList.contains('lit') ? '*' : '.')).join('')"
 KEYS = "return document.querySelectorAll('#keys .key').length"
@@ -41,7 +41,7 @@ read:   SRC P1
         WMP
         JUN read
 """
-DRAWN = """[[rom]]
+DRAWN_BOARD = """[[rom]]
 chip = 0
 port = "0000"
 
@@ -111,21 +111,21 @@ def check_by_mouse(browser):
     eventually(browser, "an empty bench leads to the shelf", "return isShown(document.getElementById('shelf'))", True)
     eventually(browser, "and all of it is offered", DISABLED, [])
     browser.click("#shelf-keys")
-    eventually(browser, "keys come with what they need", SAID, "The keys were added, with ROM 0, chain 0 and ROM 1.")
+    eventually(browser, "keys come with what they need", DRAWING_STATUS, "The keys were added, with ROM 0, chain 0 and ROM 1.")
     for lamp in range(4):
         browser.click("#shelf-lamp")
-        eventually(browser, f"lamp {lamp} comes", SAID, re.compile(f"^Lamp {lamp} was added"))
-    verdict("the text is as one writes it", text_of(browser), DRAWN)
+        eventually(browser, f"lamp {lamp} comes", DRAWING_STATUS, re.compile(f"^Lamp {lamp} was added"))
+    verdict("the text is as one writes it", text_of(browser), DRAWN_BOARD)
     verdict("a second matrix is not offered, and says why", browser.script(DISABLED),
             ["Keys: A board has one key matrix: give it more rows and columns."])
     verdict("it is not wired yet, and says so", browser.script(STATE), re.compile("^Not applied yet"))
     browser.type_into("#chosen [aria-label=name]", "fourth one" + ENTER)
-    eventually(browser, "a lamp is named", SAID, "Lamp 3 is called fourth one.")
+    eventually(browser, "a lamp is named", DRAWING_STATUS, "Lamp 3 is called fourth one.")
     browser.type_into("#chosen [aria-label=colour]", "green")
-    eventually(browser, "and coloured", SAID, "Lamp 3 is green.")
+    eventually(browser, "and coloured", DRAWING_STATUS, "Lamp 3 is green.")
     verdict("as the face has it", text_of(browser).split("\n")[:3], ["# lamp 3: fourth_one", "# colour 3: green", ""])
     browser.click("#drawing-wire")
-    eventually(browser, "it is wired", SAID, "Board applied.")
+    eventually(browser, "it is wired", DRAWING_STATUS, "Board applied.")
     eventually(browser, "four keys", KEYS, 4)
     eventually(browser, "and four lamps", BULBS, "....")
     verdict("which is said no more", browser.script(STATE), "")
@@ -148,18 +148,18 @@ def check_wires(browser):
     before = text_of(browser)
     eventually(browser, "lines at 1 are coloured", "return document.querySelectorAll('#wiring-picture .high').length > 0", True)
     drag(browser, f"{pin('ROM 0 · 4001, out 2')} circle", f"{pin('Lamps · 3, open')} circle")
-    eventually(browser, "a wire is dragged from pin to pin", SAID, "Line rom0.2 is wired to lamp 1.")
+    eventually(browser, "a wire is dragged from pin to pin", DRAWING_STATUS, "Line rom0.2 is wired to lamp 1.")
     verdict("it is one word of the text", text_of(browser), before.replace('"ram0.0.1"', '"rom0.2"'))
     eventually(browser, "the picture has it", LINES, re.compile("open is at rom0.2"))
     verdict("levels of a board that is not wired are not shown", browser.script(HIGH) <= 1, True)
     drag(browser, f"{pin('ROM 1 · 4001, in 0')} circle", f"{pin('Chain 0 · 1 × 4003, clock')} circle")
-    eventually(browser, "one from an input to a clock is none", SAID, "No wire was drawn.")
+    eventually(browser, "one from an input to a clock is none", DRAWING_STATUS, "No wire was drawn.")
     press(browser, f"{pin('ROM 1 · 4001, in 0')} circle")
     eventually(browser, "nor is it offered", OFFERED, ["Keys · 4 × 3, column 1, at rom1.1", "Keys · 4 × 3, column 2, at rom1.2"])
     press(browser, f"{pin('Keys · 4 × 3, column 2')} circle")
-    eventually(browser, "a wire by one click after the other", SAID, "Line rom1.0 is wired to column 2 of the keys.")
+    eventually(browser, "a wire by one click after the other", DRAWING_STATUS, "Line rom1.0 is wired to column 2 of the keys.")
     browser.click("#drawing-undo")
-    eventually(browser, "it is undone", SAID, "Undone.")
+    eventually(browser, "it is undone", DRAWING_STATUS, "Undone.")
     browser.click("#drawing-undo")
     eventually(browser, "and the one before it", LINES, re.compile("open is at ram0.0.1"))
     verdict("the text is as it was", text_of(browser), before)
@@ -168,7 +168,7 @@ def check_wires(browser):
     browser.click("#shelf-ram")
     eventually(browser, "after a click on the shelf", LINES, re.compile("RAM 0.1"))
     browser.chord(CONTROL, "z")
-    eventually(browser, "Ctrl Z undoes it, too", SAID, "Undone.")
+    eventually(browser, "Ctrl Z undoes it, too", DRAWING_STATUS, "Undone.")
     verdict("and nothing else", browser.script(LINES), re.compile("open is at rom0.2"))
     check_part_is_dragged(browser)
     check_chain_keeps_its_place(browser)
@@ -180,33 +180,33 @@ def check_buzzer(browser):
     show_text(browser, "wiring")
     verdict("a board without a buzzer has no sound", browser.script(SOUND), "")
     browser.click("#shelf-buzzer")
-    eventually(browser, "a buzzer comes with what it needs", SAID, "The buzzer was added, with ROM 0.")
+    eventually(browser, "a buzzer comes with what it needs", DRAWING_STATUS, "The buzzer was added, with ROM 0.")
     verdict("as a line of the face", text_of(browser).split("\n")[0], "# buzzer rom0.0: buzzer")
     verdict("a second one is not offered, and says why", browser.script(DISABLED), ["Buzzer: A board has one buzzer: delete that one first."])
     drag(browser, f"{pin('ROM 0 · 4001, out 3')} circle", f"{pin('Buzzer, buzzer')} circle")
-    eventually(browser, "a wire is dragged to it", SAID, "Line rom0.3 is wired to the buzzer.")
+    eventually(browser, "a wire is dragged to it", DRAWING_STATUS, "Line rom0.3 is wired to the buzzer.")
     eventually(browser, "the picture has it", LINES, re.compile("buzzer sounds the edges of rom0.3"))
     browser.script("const name = document.querySelector('#chosen [aria-label=name]'); name.focus(); name.select()")
     browser.keys([*"the horn", ENTER], 10, 10)
-    eventually(browser, "it is named", SAID, "The buzzer is called the horn.")
+    eventually(browser, "it is named", DRAWING_STATUS, "The buzzer is called the horn.")
     verdict("in the same line", text_of(browser).split("\n")[0], "# buzzer rom0.3: the horn")
     browser.click("#drawing-wire")
     eventually(browser, "it is wired, and can be heard", SOUND, "Sound of the horn")
-    browser.until(SAID, "Board applied.")
+    browser.until(DRAWING_STATUS, "Board applied.")
     browser.script("document.querySelector('#wiring-picture .of-buzzer').focus()")
     browser.keys([DELETE])
-    eventually(browser, "the Delete key deletes it", SAID, "The buzzer was deleted.")
+    eventually(browser, "the Delete key deletes it", DRAWING_STATUS, "The buzzer was deleted.")
     browser.chord(CONTROL, "z")
     eventually(browser, "Ctrl Z brings it back", LINES, re.compile("the horn sounds the edges of rom0.3"))
     browser.script("document.querySelector(arguments[0]).focus()", pin("Buzzer, the horn"))
     browser.keys([ENTER])
-    eventually(browser, "Enter begins a wire at it", SAID, "Wire from the buzzer: it can end at 3 pins.")
+    eventually(browser, "Enter begins a wire at it", DRAWING_STATUS, "Wire from the buzzer: it can end at 3 pins.")
     browser.keys([UP, ENTER])
-    eventually(browser, "and ends it at another line", SAID, "Line rom0.2 is wired to the buzzer.")
+    eventually(browser, "and ends it at another line", DRAWING_STATUS, "Line rom0.2 is wired to the buzzer.")
     if browser.has_fingers:
         browser.fingers([f"{pin('ROM 0 · 4001, out 1')} circle"], 60)
         browser.fingers([f"{pin('Buzzer, the horn')} circle"], 60)
-        eventually(browser, "fingers wire it, too", SAID, "Line rom0.1 is wired to the buzzer.")
+        eventually(browser, "fingers wire it, too", DRAWING_STATUS, "Line rom0.1 is wired to the buzzer.")
 
 
 def check_part_is_dragged(browser):
@@ -237,7 +237,7 @@ def check_chain_keeps_its_place(browser):
     _, moved = browser.script(chains)
     browser.script("document.querySelector('#wiring-picture .of-chain').focus()")
     browser.keys([DELETE])
-    eventually(browser, "the first one is deleted", SAID, re.compile("^Chain 0 was deleted"))
+    eventually(browser, "the first one is deleted", DRAWING_STATUS, re.compile("^Chain 0 was deleted"))
     eventually(browser, "and the second one stays where it is", chains, [moved])
     browser.click("#drawing-undo")
     eventually(browser, "undone, both stand where they stood", chains, [first, moved])
@@ -250,7 +250,7 @@ def check_by_keyboard(browser):
     before = text_of(browser)
     verdict("Tab comes to the shelf", focused(browser, TAB, "e.id === 'shelf-lamp'", 14), True)
     browser.keys([ENTER])
-    eventually(browser, "Enter adds a lamp", SAID, "Lamp 3 was added.")
+    eventually(browser, "Enter adds a lamp", DRAWING_STATUS, "Lamp 3 was added.")
     verdict("Tab comes to the picture", focused(browser, TAB, "e.closest('#wiring-picture') !== null", 20), True)
     eventually(browser, "at the lamp that is chosen", FOCUS, re.compile("^Lamps · 4, lamp 3"))
     browser.keys([UP, UP, UP, UP])
@@ -262,26 +262,26 @@ def check_by_keyboard(browser):
     browser.keys([DOWN])
     eventually(browser, "to its clock", FOCUS, re.compile("clock, at rom0.0$"))
     browser.keys([ENTER])
-    eventually(browser, "Enter begins a wire", SAID, re.compile("^Wire from the clock of chain 0: it can end at 8 pins"))
+    eventually(browser, "Enter begins a wire", DRAWING_STATUS, re.compile("^Wire from the clock of chain 0: it can end at 8 pins"))
     browser.keys([UP])
     eventually(browser, "arrows go to where it can end", FOCUS, "RAM 0.0 · 4002, out 3, wired to lamp 3")
     browser.keys([ENTER])
-    eventually(browser, "Enter ends it", SAID, "Line ram0.0.3 is wired to the clock of chain 0.")
+    eventually(browser, "Enter ends it", DRAWING_STATUS, "Line ram0.0.3 is wired to the clock of chain 0.")
     eventually(browser, "the focus stays", FOCUS, "RAM 0.0 · 4002, out 3, wired to clock 0 and lamp 3")
     browser.keys([ENTER])
-    eventually(browser, "another one is begun", SAID, re.compile("^Wire from"))
+    eventually(browser, "another one is begun", DRAWING_STATUS, re.compile("^Wire from"))
     browser.keys([ESCAPE])
-    eventually(browser, "and left by Escape", SAID, "No wire was drawn.")
+    eventually(browser, "and left by Escape", DRAWING_STATUS, "No wire was drawn.")
     browser.keys([DELETE])
-    eventually(browser, "a line cannot be deleted", SAID, re.compile("is deleted only with its chip"))
+    eventually(browser, "a line cannot be deleted", DRAWING_STATUS, re.compile("is deleted only with its chip"))
     browser.chord(CONTROL, "z")
-    eventually(browser, "Ctrl Z takes the wire back", SAID, "Undone.")
+    eventually(browser, "Ctrl Z takes the wire back", DRAWING_STATUS, "Undone.")
     browser.chord(CONTROL, "z")
     eventually(browser, "and the lamp", LINES, re.compile("Lamps · 3"))
     verdict("the text is as it was", text_of(browser), before)
     browser.script("document.querySelector('#wiring-picture .of-chain').focus()")
     browser.keys([DELETE])
-    eventually(browser, "what hangs on a part goes with it", SAID, "Chain 0 was deleted, and with it the keys.")
+    eventually(browser, "what hangs on a part goes with it", DRAWING_STATUS, "Chain 0 was deleted, and with it the keys.")
     browser.chord(CONTROL, "z")
     eventually(browser, "and comes back with it", LINES, re.compile("Keys · 4 × 3"))
     verdict("nothing is lost", text_of(browser), before)
@@ -324,9 +324,9 @@ def check_zoom(browser):
     browser.keys("--")
     verdict("keys make it smaller", abs(browser.script(WIDTH) - before / 1.25 ** 2) <= 1, True)
     drag(browser, f"{pin('RAM 0.0 · 4002, out 3')} circle", f"{pin('Lamps · 3, alarm')} circle")
-    eventually(browser, "a wire is drawn all the same", SAID, "Line ram0.0.3 is wired to lamp 2.")
+    eventually(browser, "a wire is drawn all the same", DRAWING_STATUS, "Line ram0.0.3 is wired to lamp 2.")
     browser.click("#drawing-undo")
-    eventually(browser, "and undone", SAID, "Undone.")
+    eventually(browser, "and undone", DRAWING_STATUS, "Undone.")
     browser.script("document.querySelector('#wiring-picture .of-rom').focus()")
     browser.keys("-" * 20, 2, 2)
     smallest = browser.script(WIDTH)
@@ -353,11 +353,11 @@ def check_zoom(browser):
 def check_by_fingers(browser):
     """Checks that a wire can be drawn by touching one pin after the other."""
     browser.fingers([f"{pin('RAM 0.0 · 4002, out 3')} circle"], 60)
-    eventually(browser, "a finger begins a wire", SAID, re.compile("^Wire from line ram0.0.3"))
+    eventually(browser, "a finger begins a wire", DRAWING_STATUS, re.compile("^Wire from line ram0.0.3"))
     browser.fingers([f"{pin('Lamps · 3, alarm')} circle"], 60)
-    eventually(browser, "and another touch ends it", SAID, "Line ram0.0.3 is wired to lamp 2.")
+    eventually(browser, "and another touch ends it", DRAWING_STATUS, "Line ram0.0.3 is wired to lamp 2.")
     browser.fingers(["#drawing-undo"], 60)
-    eventually(browser, "a button undoes it", SAID, "Undone.")
+    eventually(browser, "a button undoes it", DRAWING_STATUS, "Undone.")
 
 
 # The position of a screen point on the sheet, and of the middle of a part's head there.
@@ -397,13 +397,13 @@ def check_pulled(browser, kind):
     place = [left + 330, top + 20]
     wanted = browser.script(ON_SHEET, *place)
     pull(browser, "rom", place, kind)
-    eventually(browser, f"a {kind} drags a chip onto the sheet", SAID, "ROM 0 was added.")
+    eventually(browser, f"a {kind} drags a chip onto the sheet", DRAWING_STATUS, "ROM 0 was added.")
     verdict("where it was dropped", is_near(browser.script(HEAD_OF, "ROM 0"), wanted), True)
     verdict("once", text_of(browser), '[[rom]]\nchip = 0\nport = "0000"\n')
     pull(browser, "lamp", [round(each) for each in browser.script(MIDDLE, f"{pin('ROM 0 · 4001, out 3')} circle")], kind)
     eventually(browser, "a lamp that is dropped on a pin is wired to it", LINES, re.compile("lamp 0 is at rom0.3"))
     browser.click("#drawing-undo")
-    eventually(browser, "undone in one step", SAID, "Undone.")
+    eventually(browser, "undone in one step", DRAWING_STATUS, "Undone.")
     verdict("the chip is as before", text_of(browser), '[[rom]]\nchip = 0\nport = "0000"\n')
     if kind == "mouse":
         pull(browser, "ram", place, kind, ESCAPE)
@@ -412,7 +412,7 @@ def check_pulled(browser, kind):
     pull(browser, "ram", [left, top], kind)
     verdict("nor does one that is dropped elsewhere", "ram" in text_of(browser), False)
     browser.click("#shelf-ram")
-    eventually(browser, "a click adds one, as ever", SAID, "RAM 0.0 was added.")
+    eventually(browser, "a click adds one, as ever", DRAWING_STATUS, "RAM 0.0 was added.")
 
 
 def check_shelf(browser):
@@ -421,7 +421,7 @@ def check_shelf(browser):
         check_pulled(browser, kind)
     browser.script("document.getElementById('shelf-chain').focus()")
     browser.chord(SHIFT, ENTER)
-    eventually(browser, "Shift and Enter add a part", SAID, re.compile("^Chain 0 was added"))
+    eventually(browser, "Shift and Enter add a part", DRAWING_STATUS, re.compile("^Chain 0 was added"))
     eventually(browser, "and go to it on the sheet", FOCUS, re.compile("^Chain 0"))
     before = browser.script(HEAD_OF, "Chain 0")
     browser.chord(SHIFT, DOWN)

@@ -8,7 +8,7 @@ from verdicts import eventually, verdict
 
 HOME, UP, RIGHT, LEFT, F1 = "\ue011", "\ue013", "\ue014", "\ue012", "\ue031"
 END, BACKSPACE, CONTROL = "\ue010", "\ue003", "\ue009"
-DRAWN = "return document.getElementById('drawing-status').textContent"
+DRAWING_STATUS = "return document.getElementById('drawing-status').textContent"
 SOURCE = "return document.querySelector('#program-editor .cm-editor').lineEditor.getValue()"
 TESTS = "return document.querySelector('#tests-editor .cm-editor').lineEditor.getValue()"
 SIZE = """
@@ -149,7 +149,7 @@ TRACE = """
 const { width, height } = document.getElementById("wave-canvas").getBoundingClientRect();
 return width > 400 && height > 100"""
 TOGETHER = ["processor", "calls", "watched", "breakpoints", "memory"]
-MOST_CONTROLS, MOST_WORDS, LEAST_LINES = 60, 350, 25
+MAX_CONTROLS, MAX_WORDS, MIN_LINES = 60, 350, 25
 
 
 def check_first_glance(browser, page, at_size):
@@ -159,16 +159,16 @@ def check_first_glance(browser, page, at_size):
     at_size(browser, 1440, 900)
     open_anew(browser, page)
     choose_example(browser, "calculator")
-    verdict(f"at most {MOST_CONTROLS} controls are seen", browser.script(CONTROLS) <= MOST_CONTROLS, True)
+    verdict(f"at most {MAX_CONTROLS} controls are seen", browser.script(CONTROLS) <= MAX_CONTROLS, True)
     # On a busy machine the status first reports that the tab was busy.
-    eventually(browser, f"and at most {MOST_WORDS} words", WORDS.replace("return words", f"return words <= {MOST_WORDS}"), True)
+    eventually(browser, f"and at most {MAX_WORDS} words", WORDS.replace("return words", f"return words <= {MAX_WORDS}"), True)
     verdict("no target is below 24 pixels", browser.script(SMALL, 24), [])
     stop_time(browser)
     show_text(browser, "waves")
     browser.script("document.getElementById('record-where').value = 'before'")
     browser.click("#record")
     eventually(browser, "a trace is seen", TRACE, True)
-    verdict(f"with {LEAST_LINES} lines of the source", browser.script(LINES) >= LEAST_LINES, True)
+    verdict(f"with {MIN_LINES} lines of the source", browser.script(LINES) >= MIN_LINES, True)
     verdict("and these panels, whole", browser.script(WHOLE, TOGETHER), TOGETHER)
     show_text(browser, "disassembly")
     for text in ("board", "wiring", "tests", "properties", "program"):
@@ -233,7 +233,7 @@ def check_small_things(browser, at_size):
     at_size(browser, 1920, 1080)
     choose_example(browser, "calculator")
     found = browser.script(CONTROLS)
-    verdict(f"a large window has at most {MOST_CONTROLS} controls, too", found <= MOST_CONTROLS or found, True)
+    verdict(f"a large window has at most {MAX_CONTROLS} controls, too", found <= MAX_CONTROLS or found, True)
     verdict("and no log in front", browser.script(SHOWN, ["log"]), [])
     browser.resize_back()
 
@@ -296,10 +296,10 @@ def draw_board(browser):
     browser.click("#shelf-keys")
     eventually(browser, "keys are chosen", "return document.querySelectorAll('#chosen [aria-label=rows]').length", 1)
     browser.type_into("#chosen [aria-label=rows]", "4")
-    eventually(browser, "they have four rows", DRAWN, re.compile("The keys have 4 rows"))
+    eventually(browser, "they have four rows", DRAWING_STATUS, re.compile("The keys have 4 rows"))
     for lamp in range(4):
         browser.click("#shelf-lamp")
-        eventually(browser, f"lamp {lamp} comes", DRAWN, re.compile(f"^Lamp {lamp} was added"))
+        eventually(browser, f"lamp {lamp} comes", DRAWING_STATUS, re.compile(f"^Lamp {lamp} was added"))
     browser.click("#drawing-wire")
     eventually(browser, "there are sixteen keys", "return document.querySelectorAll('#keys .key').length", 16)
     browser.script("document.activeElement.blur()")

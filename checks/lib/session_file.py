@@ -14,8 +14,8 @@ SLOTS = (16, 81_936)
 LENGTH_BYTES = 4
 SNAPSHOT_AREA = 16_384
 LOG_BYTES = 65_536
-MOST_RECORD = 8_192
-MOST_CYCLES = 4_000_000
+MAX_RECORD = 8_192
+MAX_CYCLES = 4_000_000
 
 
 def number(value, count):
@@ -279,7 +279,7 @@ def read(file):
     at = 0
     while log[at] == 1:
         size = int.from_bytes(log[at + 1:at + 3], "big")
-        if not 1 <= size <= MOST_RECORD or at + 3 + size + 1 > LOG_BYTES:
+        if not 1 <= size <= MAX_RECORD or at + 3 + size + 1 > LOG_BYTES:
             return None
         records.append(bytes(log[at + 3:at + 3 + size]))
         at += 3 + size
@@ -334,7 +334,7 @@ class Kept:
     def accept(self, command):
         """Accepts a command, and returns its answer."""
         record = command.record
-        if self.used + 3 + len(record) + 1 > LOG_BYTES or self.cycles + command.cycles > MOST_CYCLES:
+        if self.used + 3 + len(record) + 1 > LOG_BYTES or self.cycles + command.cycles > MAX_CYCLES:
             self.checkpoint()
         put_record(self.file, SLOTS[self.slot] + SNAPSHOT_AREA + self.used, record)
         self.used += 3 + len(record)

@@ -5,12 +5,12 @@ and their answers.
 import re
 
 import bench4004
-from session_file import MOST_CYCLES, NAME, SIZE, Board, State, read
+from session_file import MAX_CYCLES, NAME, SIZE, Board, State, read
 
-MOST_COMMANDS = 2**32 - 1
+MAX_COMMANDS = 2**32 - 1
 # The maximum numbers of chains, and of chips in a chain, by version.
-MOST_CHAINS = {1: 2, 2: 4}
-MOST_CHIPS = {1: 4, 2: 8}
+MAX_CHAINS = {1: 2, 2: 4}
+MAX_CHIPS = {1: 4, 2: 8}
 # Places by their numbers: their forms, the maxima of the numbers in them, and the maximum of their value.
 PLACES = (("acc", 15), ("cy", 1), ("pc", 4095), ("r{}", 15, 15), ("dcl", 7), ("rom.{}", 4095, 255), ("ram.{}.{}", 7, 255, 15),
           ("st.{}.{}.{}", 7, 15, 3, 15))
@@ -93,7 +93,7 @@ def read_board(reader, version):
     ports = [reader.take(4).decode("latin-1") for _chip in range(16)]
     roms = {chip: port for chip, port in enumerate(ports) if port != "----"}
     banks = {bank: chips for bank, chips in enumerate(reader.numbers(8, 4)) if chips}
-    chains = [(reader.take(4), reader.take(4), reader.number(MOST_CHIPS[version])) for _n in range(reader.number(MOST_CHAINS[version]))]
+    chains = [(reader.take(4), reader.take(4), reader.number(MAX_CHIPS[version])) for _n in range(reader.number(MAX_CHAINS[version]))]
     keys = None
     if reader.number(1):
         keys = (*reader.take(3), [reader.take(4) for _n in range(reader.number(8))])
@@ -107,7 +107,7 @@ def read_board(reader, version):
 def read_state(snapshot):
     """Parses the state in a snapshot; returns the state and its version."""
     reader = Reader(snapshot)
-    seq = reader.number(MOST_COMMANDS)
+    seq = reader.number(MAX_COMMANDS)
     version = 2 if snapshot[4:5] == b"\2" else 1
     reader.take(version - 1)
     board = read_board(reader, version)
@@ -198,14 +198,14 @@ class Standing:
         state, self.version = read_state(held[0])
         self.bench, self.board = bench_of(state), state.board.text().splitlines()
         commands = [read_command(record, self.version) for record in held[1]]
-        require(sum(cycles for _words, cycles in commands) <= MOST_CYCLES)
+        require(sum(cycles for _words, cycles in commands) <= MAX_CYCLES)
         for words, _cycles in commands:
             self.accept(words)
 
     def accept(self, words):
         """Applies a command, which must be accepted at this point."""
         board = self.bench.board
-        require(self.bench.seq < MOST_COMMANDS)
+        require(self.bench.seq < MAX_COMMANDS)
         require(words[0] != "run" or 1 <= int(words[1]) <= 100_000)
         require(not self.bench.answer(*words)[0].startswith("no "))
         require(len(board.breaks) <= 32 and len(board.watches) <= 8)

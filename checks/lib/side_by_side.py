@@ -31,8 +31,8 @@ sys.dont_write_bytecode = True
 TOP = pathlib.Path(__file__).resolve().parent.parent.parent
 CACHE = pathlib.Path(os.environ.get("XDG_CACHE_HOME") or pathlib.Path.home() / ".cache") / "fethsaim/check_seconds.json"
 # The minimum time of a check in seconds, and the factor of its usual time, after which it is ended.
-LEAST, TIMES = 900, 5
-PATIENCE = 5
+MIN_SECONDS, TIMES = 900, 5
+END_TIMEOUT = 5
 # The minimum number of processors for running checks next to the gate.
 ENOUGH = 4
 SUMMED = re.compile(r"^(\d+) passed, (\d+) failed", re.M)
@@ -82,7 +82,7 @@ class Check:
 
     def limit(self):
         """The seconds after which the check is ended."""
-        return int(os.environ.get("CHECK_SECONDS", LEAST + TIMES * self.seconds))
+        return int(os.environ.get("CHECK_SECONDS", MIN_SECONDS + TIMES * self.seconds))
 
 
 CHECKS = [
@@ -183,7 +183,7 @@ def command_of(process):
 def end_processes(mark):
     """Ends the processes that a check has left: asks twice, so that they can clean up, then kills them."""
     for number in (signal.SIGINT, signal.SIGTERM, signal.SIGKILL):
-        end = time.monotonic() + PATIENCE
+        end = time.monotonic() + END_TIMEOUT
         found = processes_with(mark)
         for process in found:
             try:

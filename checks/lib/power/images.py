@@ -17,7 +17,7 @@ from power.disk import Disk, Event
 
 SECTOR, BLOCK = 512, 4096
 # At each write and at each flush, this many random parts are drawn for each pending write, from at most this many pending writes.
-PARTS, MOST_PENDING = 12, 4
+PARTS, MAX_PENDING = 12, 4
 # The number of events after the first answer that still count as the beginning.
 BEGINNING = 20
 
@@ -127,7 +127,7 @@ class History:
         """Returns the ways in which the pending writes can be partly on the disk after an event."""
         found: list[tuple[str, dict[int, Part]]] = [("none", {}), ("all", dict.fromkeys(pending))]
         if event.what in ("write", "flushed"):
-            found += [("some", self.part_of(pending)) for _ in range(PARTS * min(len(pending), MOST_PENDING))]
+            found += [("some", self.part_of(pending)) for _ in range(PARTS * min(len(pending), MAX_PENDING))]
         return found
 
     def part_of(self, pending: list[int]) -> dict[int, Part]:

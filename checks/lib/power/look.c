@@ -12,9 +12,9 @@
 #include <sys/stat.h>
 #include <unistd.h>
 
-enum { MOST = 1 << 20 };
+enum { MAX_BYTES = 1 << 20 };
 
-static char bytes[MOST];
+static char bytes[MAX_BYTES];
 
 /* Drops the kernel's caches of the disk, whose contents have been replaced. */
 static void forget(void) {
@@ -42,8 +42,8 @@ static void copy(const char *file, char state[32]) {
         strcpy(state, errno == ENOENT || errno == ENOTDIR ? "absent" : "unreadable");
         return;
     }
-    ssize_t count = fstat(opened, &found) < 0 ? -1 : pread(opened, bytes, MOST, 0);
-    if (count < 0 || (count < found.st_size && count < MOST)) {
+    ssize_t count = fstat(opened, &found) < 0 ? -1 : pread(opened, bytes, MAX_BYTES, 0);
+    if (count < 0 || (count < found.st_size && count < MAX_BYTES)) {
         strcpy(state, "unreadable");
     } else {
         hand_on((size_t)count);
