@@ -3,7 +3,7 @@
 # shellcheck shell=sh
 
 # Prints the name of the file that lists the libraries below a crate as they were built here. Each line has the checksum of a library's file
-# `format`, which has the checksums of its other files.
+# `format`, against which the kit checks its other files.
 libraries_of() {
     echo "$top/crates/$1/out/libraries"
 }
