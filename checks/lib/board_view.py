@@ -1,6 +1,6 @@
-"""Tries the view of lamps and keys of the extension for Visual Studio Code: `python3 board_view.py FOLDER`, FOLDER that of the extension,
-unpacked from its .vsix. Its page is opened in Chromium with a stand-in for what the editor gives it (acquireVsCodeApi); what it says goes to
-the extension's own module, on the real debug adapter (board_view.mjs), and back. A line `ok WORDS` or `fault: WORDS` for each thing."""
+"""Checks the view of lamps and keys of the extension for Visual Studio Code: `python3 board_view.py FOLDER`, with FOLDER the extension, unpacked from
+its .vsix. Its page is opened in Chromium with a stand-in for the editor's interface (acquireVsCodeApi). Its messages go to the extension's module,
+on the real debug adapter (board_view.mjs), and back. Prints `ok WORDS` or `fault: WORDS` for each check."""
 
 import json
 import pathlib
@@ -35,7 +35,7 @@ def verdict(found, wanted, what):
 
 
 class Bridge:
-    """The page in the browser, and the extension in node; it passes each one's messages to the other."""
+    """The page in the browser, and the extension in node. Passes the messages of each one to the other."""
 
     def __init__(self, folder, browser):
         self.browser = browser
@@ -60,7 +60,7 @@ class Bridge:
                 self.messages.append(message)
 
     def until(self, code, wanted, what):
-        """Waits until the answer of a script is this value, and passes messages on meanwhile."""
+        """Waits until a script returns this value, and passes messages on meanwhile."""
         end = time.monotonic() + WAIT
         found = None
         while time.monotonic() < end:
