@@ -36,7 +36,7 @@ export function usageText(name) {
 
 /** Returns the usage text of mcs4. */
 export function mcs4Usage() {
-  return say.usageOf(say.MCS4_FORMS.map(([form]) => form).filter((form) => !form.endsWith("refusals")));
+  return say.usageOf(say.MCS4_USAGE.map(([form]) => form).filter((form) => !form.endsWith("refusals")));
 }
 
 /**
@@ -83,11 +83,11 @@ export function commandsByGroup() {
  * @param {string} top the folder that mcs4 is in, "" to leave out where the manual is
  */
 export function mcs4Help(top) {
-  const width = Math.max(...say.MCS4_FORMS.map(([form]) => form.length));
+  const width = Math.max(...say.MCS4_USAGE.map(([form]) => form.length));
   const groups = commandsByGroup().map(({ title, commands }) => (
     `${title}:\n${commands.map(({ name, does }) => folded(does, `${INDENT}${name.padEnd(9)} `, " ".repeat(12))).join("\n")}`));
   return `${[
-    `usage:\n${say.MCS4_FORMS.map(([form, does]) => `${INDENT}${form.padEnd(width)}  ${does}`).join("\n")}`,
+    `usage:\n${say.MCS4_USAGE.map(([form, does]) => `${INDENT}${form.padEnd(width)}  ${does}`).join("\n")}`,
     ...paragraphsOf(say.MCS4_TEXT).map((paragraph) => folded(paragraph)),
     ...groups,
     itemized(say.STATUS_HEAD, say.MCS4_STATUS),

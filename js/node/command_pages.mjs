@@ -44,7 +44,7 @@ function manualPage(name) {
   const { summary, text, examples, status } = say.COMMAND_WORDS[name];
   const titles = say.MANUAL_SECTIONS;
   return [
-    `.TH MCS4\\-${name.toUpperCase()} 1 "" Fethsaim "${say.TITLE_OF_PAGES}"`,
+    `.TH MCS4\\-${name.toUpperCase()} 1 "" Fethsaim "${say.MANUAL_TITLE}"`,
     ...section(titles.name, [`mcs4-${name} \\- ${roff(summary)}`]),
     ...section(titles.synopsis, joined(usageLines(name).map((form) => `.B ${roff(form)}`), ".br")),
     ...section(titles.description, paragraphs(text)),
@@ -62,10 +62,10 @@ function mcs4ManualPage() {
     [`.SS ${title}`, ...commands.flatMap(({ name, does }) => [".TP", `.BR mcs4\\-${name} (1)`, roff(does)])]));
   const [variables, files] = [say.MCS4_ENVIRONMENT.map((line) => [line.split(" ")[0], line.slice(line.indexOf(" ") + 1)]), [say.FILES_OF_MCS4]];
   return [
-    `.TH MCS4 1 "" Fethsaim "${say.TITLE_OF_PAGES}"`,
+    `.TH MCS4 1 "" Fethsaim "${say.MANUAL_TITLE}"`,
     ...section(titles.name, [`mcs4 \\- ${roff(say.MCS4_SUMMARY)}`]),
-    ...section(titles.synopsis, joined(say.MCS4_FORMS.map(([form]) => `.B ${roff(form)}`), ".br")),
-    ...section(titles.description, [...tagged(say.MCS4_FORMS), ".PP", ...paragraphs(say.MCS4_TEXT)]),
+    ...section(titles.synopsis, joined(say.MCS4_USAGE.map(([form]) => `.B ${roff(form)}`), ".br")),
+    ...section(titles.description, [...tagged(say.MCS4_USAGE), ".PP", ...paragraphs(say.MCS4_TEXT)]),
     ...section(titles.commands, groups),
     ...section(titles.status, tagged(statusRows(say.MCS4_STATUS))),
     ...section(titles.environment, tagged(variables)),

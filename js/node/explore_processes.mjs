@@ -173,7 +173,7 @@ function readReport(name) {
 export function mergeReports(names) {
   const reports = names.map(readReport);
   const at = reports.findIndex(({ sums }) => sums !== reports[0].sums);
-  if (at > 0) throw new CommandError(say.ofOtherTexts(names[at], names[0]));
+  if (at > 0) throw new CommandError(say.differentTexts(names[at], names[0]));
   return joinReports(reports);
 }
 

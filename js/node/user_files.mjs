@@ -379,7 +379,7 @@ export function writeNewFiles(folder, files, names) {
   const stat = inFolder(() => statSync(folder, { throwIfNoEntry: false }));
   if (stat && !stat.isDirectory()) throw new UserFileError(say.isNoFolder(folder));
   const existing = inFolder(() => names.map((name) => join(folder, name)).find((name) => lstatSync(name, { throwIfNoEntry: false })));
-  if (existing) throw new UserFileError(say.isThere(existing));
+  if (existing) throw new UserFileError(say.alreadyExists(existing));
   const madeFolders = tried(`cannot make ${folder}`, () => makeFolder(folder));
   const replacements = [];
   try {

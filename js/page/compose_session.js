@@ -37,7 +37,7 @@ export function makeSessionsController(page, parts) {
     },
     image: async (name, bytes) => {
       const words = await page.rom.load(name, bytes);
-      if (words) page.notice.show(words, "file", { word: say.TAKE_FROM_ROM, act: () => page.texts.takeFromRom() });
+      if (words) page.notice.show(words, "file", { word: say.DISASSEMBLE_ROM, act: () => page.texts.takeFromRom() });
     },
   });
 }

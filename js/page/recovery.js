@@ -51,7 +51,7 @@ export class Recovery {
     notice.show(words.ofFailure(fault));
     if (!calls.session()) return;
     const isRunning = calls.isRunning();
-    calls.halted(say.STOPPED);
+    calls.halted(say.PAUSED);
     // The run before the error is not lost.
     if (isRunning) bench.call("halt", []).then(calls.ran).catch(() => {});
   }
@@ -68,7 +68,7 @@ export class Recovery {
       if (!session) return;
       await calls.openAgain(session.record);
       this.isRestarting = false;
-      calls.halted(say.STOPPED);
+      calls.halted(say.PAUSED);
     } catch (fault) {
       notice.show(say.cannotRestart(words.ofFault(fault)));
     } finally {

@@ -5,7 +5,7 @@ import { CYCLES_PER_SECOND, CYCLE_US, EYE_CYCLES, FRAME_CYCLES, FRAME_MS, cycles
 import { MAX_AHEAD, MAX_DUE, RealTime } from "../core/time/real_time.js";
 import { wordsOfTime } from "../core/bench/words.js";
 import { PLACES_ARE } from "../words/conditions.js";
-import { cannotBeSought } from "../words/time.js";
+import { cannotSearchFor } from "../words/time.js";
 
 test("cycles of the 4004: eight periods of a clock of 740,740.7 Hz", () => {
   const cycles = (seconds) => (seconds * (5185185.185 / 7)) / 8;
@@ -113,6 +113,6 @@ test("times in words", () => {
 });
 
 test("a place that is unknown is answered in the status bar with some examples", () => {
-  assert.equal(cannotBeSought(`nonsense: no such place; ${PLACES_ARE} (column 1)`),
+  assert.equal(cannotSearchFor(`nonsense: no such place; ${PLACES_ARE} (column 1)`),
     "Nothing was done: nonsense: no such place; enter something such as r5, lamp 3 or rom0.2 (column 1).");
 });

@@ -10,8 +10,8 @@ export const noCommand = (command) => `unsupported request: ${command}`;
 export const noProgress = (id) => `no work in progress has the progressId ${id}`;
 
 // --- adapter/answering.js ---
-export const WHAT_IS_IN_ROM = "the contents of ROM";
-export const MADE_OF_ROM = "disassembled from ROM";
+export const ROM_CONTENTS = "the contents of ROM";
+export const DISASSEMBLED_FROM_ROM = "disassembled from ROM";
 /** @type {(name: string) => string} */
 export const oneSource = (name) => `there is one source, ${name}`;
 export const NO_REFERENCE = "this reference is unknown";
@@ -22,16 +22,16 @@ export const ADDRESSES_ARE = "addresses are 0x000 to 0xFFF";
 export const rowsAre = (most) => `instructionCount is 0 to ${most}`;
 /** @type {(what: string) => string} */
 export const boardHasNo = (what) => `the board has no ${what}`;
-export const COUNT_IS = "count is 0 or more";
+export const COUNT_RANGE = "count is 0 or more";
 export const OUTSIDE_OF_MEMORY = "it is outside the memory";
 /** @type {(line: string, answer: string) => string} */
 export const benchAnswered = (line, answer) => `${line}: the bench answered ${answer}`;
 export const BASE_64 = "data must be in base 64";
 
 // --- adapter/client_breakpoints.js ---
-export const HITS_WORDS = "a hit count is a number, as in 5: it stops from that hit on";
+export const HIT_COUNT_FORM = "a hit count is a number, as in 5: it stops from that hit on";
 /** @type {(most: number) => string} */
-export const mostOn = (most) => `at most ${most} breakpoints can be on`;
+export const tooManyEnabled = (most) => `at most ${most} breakpoints can be on`;
 /** @type {(place: string) => string} */
 export const notWatched = (place) => (
   `${place} cannot be watched; registers, pairs, ports, lines, lamps, chains and RAM characters that the board has can`);
@@ -53,8 +53,8 @@ export const seeHelp = (why) => `${why}; help shows what a line can be`;
 /** @type {(word: string) => string} */
 export const keyForm = (word) => `write ${word} KEY`;
 /** @type {(count: number) => string} */
-export const keysWait = (count) => `${count} key${count === 1 ? " waits" : "s wait"} until the machine runs (continue)`;
-export const TIME_RUNS = "the machine is running: pause it first";
+export const keysArePending = (count) => `${count} key${count === 1 ? " waits" : "s wait"} until the machine runs (continue)`;
+export const MACHINE_IS_RUNNING = "the machine is running: pause it first";
 /** @type {(form: string) => string} */
 export const placeForm = (form) => `write ${form}`;
 export const UNTIL_FORM = "until LABEL, until ADDRESS or until CONDITION";
@@ -68,7 +68,7 @@ export const ADDRESS_RANGE = "addresses are 0x000 to 0xFFF";
 // --- adapter/debug_adapter.js ---
 export const NOTHING_LAUNCHED = "nothing is launched yet";
 export const PATHS_ONLY = "files are named by paths here, not by addresses";
-export const CONDITION_OF_FAULT = "a condition, as in r5 > 8 and lamp open on: it pauses only if this holds before the instruction";
+export const EXCEPTION_CONDITION_HINT = "a condition, as in r5 > 8 and lamp open on: it pauses only if this holds before the instruction";
 export const RUNNING_LINES = "Running lines";
 /** @type {(done: number, all: number) => string} */
 export const charactersOf = (done, all) => `${done.toLocaleString("en")} of ${all.toLocaleString("en")} characters`;
@@ -113,13 +113,13 @@ export const romDiffers = (hasRom, address) => `ROM has ${hasRom ? "another byte
 /** @type {(program: string, session: string, why: string) => string} */
 export const notInRomOf = (program, session, why) => `${program} differs from the ROM of ${session}: ${why}`;
 /** @type {(difference: string) => string} */
-export const loadPuts = (difference) => (
+export const loadHint = (difference) => (
   `${difference}. "load": true puts it there; without "program" the source is disassembled from ROM`);
 
 // --- adapter/debugged_machine.js ---
 export const RUNNING = "Running";
 export const SEARCHING_BACK = "Searching the past";
-export const TIME_RUNS_ALREADY = "the machine is running already: pause it first";
+export const MACHINE_RUNS_ALREADY = "the machine is running already: pause it first";
 /** @type {(count: number) => string} */
 export const notesBefore = (count) => `(${count} notes before these)`;
 
@@ -130,7 +130,7 @@ export const noSuchTest = (name, file) => `${file} has no test ${name}`;
 /** @type {(name: string) => string} */
 export const testHasPassed = (name) => `The test passes: ${name}. This is its end; step back to see what led to it.`;
 /** @type {(file: string, line: number, words: string) => string} */
-export const testsHaveFault = (file, line, words) => `${file}, line ${line}: ${words || "it has an error"}; no test is run`;
+export const testsHaveError = (file, line, words) => `${file}, line ${line}: ${words || "it has an error"}; no test is run`;
 
 // --- adapter/move_requests.js ---
 export const CONFIGURED_FIRST = "send configurationDone first";
@@ -168,7 +168,7 @@ export const lampIs = (isOn) => (isOn ? "on" : "off");
 export const DOWN = "down";
 export const UP = "up";
 /** @type {(name: string) => string} */
-export const noneHere = (name) => `there is no ${name} here`;
+export const notFoundHere = (name) => `there is no ${name} here`;
 /** @type {(name: string) => string} */
 export const nothingSets = (name) => `${name} cannot be set: only the machine changes it`;
 

@@ -6,16 +6,16 @@ export const FIRST_IS_SESSION = "the first line of the answers must be `session 
 export const noAnswer = (at, answer, line, input) => (
   `line ${at} of the answers, \`${answer}\`, does not answer line ${line} of the script, \`${input}\``);
 /** @type {(words: string, commands: number) => string} */
-export const otherCountOfCommands = (words, commands) => `${words}: ${commands} commands were accepted before it`;
+export const wrongCommandCount = (words, commands) => `${words}: ${commands} commands were accepted before it`;
 /** @type {(at: number, answer: string) => string} */
-export const comesAfterLast = (at, answer) => (
+export const afterLastAnswer = (at, answer) => (
   `line ${at} of the answers, \`${answer}\`, comes after the answer to the last line of the script`);
 
 // --- bench/begun_script.js ---
 /** @type {(commands: number, most: number) => string} */
 export const acceptedMore = (commands, most) => `it has accepted ${commands} commands, but the whole script makes ${most}`;
 /** @type {(commands: number) => string} */
-export const someDiffer = (commands) => `after ${commands} commands some answers differ`;
+export const answersDiffer = (commands) => `after ${commands} commands some answers differ`;
 
 // --- bench/faults.js ---
 export const IT_WAS_CANCELLED = "it was cancelled";
@@ -38,16 +38,16 @@ export const tooManyFrom = (bytes, room, from) => `it has ${bytes} bytes, and on
 export const BEGINS_WITH_COLON = "a record of Intel HEX begins with `:`";
 export const RECORD_FORM = "a record has `:`, ten hexadecimal digits and two for each byte";
 /** @type {(count: number, bytes: number) => string} */
-export const otherCount = (count, bytes) => `it announces ${count} bytes and has ${bytes}`;
+export const wrongByteCount = (count, bytes) => `it announces ${count} bytes and has ${bytes}`;
 /** @type {(sum: string, right: string) => string} */
-export const otherSum = (sum, right) => `the checksum is ${sum}, and ${right} would be right`;
+export const wrongChecksum = (sum, right) => `the checksum is ${sum}, and ${right} would be right`;
 export const PAST_LAST = "past the last address, FFF";
 /** @type {(address: string) => string} */
-export const secondTime = (address) => `the address ${address}, which an earlier line has`;
+export const duplicateAddress = (address) => `the address ${address}, which an earlier line has`;
 /** @type {(type: number) => string} */
-export const beyondAll = (type) => `type 0${type} with a value other than 0: an address past FFF`;
+export const addressPastLast = (type) => `type 0${type} with a value other than 0: an address past FFF`;
 /** @type {(type: string, size: number) => string} */
-export const otherSize = (type, size) => `a record of type ${type} has ${["no", "one", "two", "three", "four"][size]} bytes`;
+export const wrongRecordSize = (type, size) => `a record of type ${type} has ${["no", "one", "two", "three", "four"][size]} bytes`;
 /** @type {(type: string) => string} */
 export const noType = (type) => `type ${type}, which has no meaning for a 4004`;
 export const AFTER_LAST = "a record after the last one (type 01)";

@@ -23,7 +23,7 @@ export const andMore = (count) => `And ${count} more.`;
 // --- board/front_view.js ---
 export const LAMPS_AND_KEYS = "Lamps and keys";
 /** @type {(milliseconds: number) => string} */
-export const asSeen = (milliseconds) => (
+export const averagedBrightness = (milliseconds) => (
   `Brightness is averaged over ${milliseconds} ms, as by the eye.`);
 export const AT_INSTANT = "Paused: lamps show this instant.";
 /** @type {(line: number, words: string) => string} */
@@ -62,12 +62,12 @@ export const drivesRow = (row) => `drives row ${row} of the keys`;
 export const readsColumn = (column) => `reads column ${column} of the keys`;
 export const AND = " and ";
 export const NOT_USED = "is not used";
-export const DOES_PROCESSOR = "it reads the ROMs' bytes and ports, writes the ports, and reads and writes RAM";
+export const PROCESSOR_ROLE = "it reads the ROMs' bytes and ports, writes the ports, and reads and writes RAM";
 /** @type {(kind: string, name: string) => string} */
 export const testIsAt = (kind, name) => `its input TEST is at the ${kind} ${name}`;
 export const TEST_IS_ONLY_INPUT = "TEST is only its input";
 /** @type {(kind: string, name: string, level: number) => string} */
-export const putsTest = (kind, name, level) => `the ${kind} ${name} puts TEST to ${level} while it is pressed`;
+export const drivesTest = (kind, name, level) => `the ${kind} ${name} puts TEST to ${level} while it is pressed`;
 /** @type {(line: string, isInput: boolean) => string} */
 export const lineOfPort = (line, isInput) => `line ${line}, ${isInput ? "an input" : "an output"},`;
 /** @type {(isInput: boolean, line: number) => string} */

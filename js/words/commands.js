@@ -17,8 +17,8 @@ const BOARD_AND_PROGRAM = `
 const PROGRAM_ALONE = `
       PROGRAM is a text, or a script of lines that contains one (\`asm\`): the first one is used. Without it, the command uses the program
       that mcs4.toml names in this folder.`;
-const OF_FOLDER = "Uses the project in FOLDER: the files that its mcs4.toml names.";
-const OF_SESSION = "Counts the next cycles of the session in SESSION.";
+const FOLDER_OPTION = "Uses the project in FOLDER: the files that its mcs4.toml names.";
+const SESSION_OPTION = "Counts the next cycles of the session in SESSION.";
 const WHAT_IS_COUNTED = `
       It counts a run of tests, as \`mcs4 test\` runs them, or the next CYCLES cycles of a copy of a session. CYCLES is 1 to
       100,000,000.`;
@@ -71,9 +71,9 @@ export const COMMAND_WORDS = {
 
       ${BOARD_AND_PROGRAM}`,
     options: {
-      folder: OF_FOLDER,
+      folder: FOLDER_OPTION,
       lcov: "Also writes the counts to FILE, in LCOV's format, for genhtml and editors. FILE must be new or such a file.",
-      session: OF_SESSION,
+      session: SESSION_OPTION,
     },
     examples: [
       ["mcs4 cover board.toml program.asm program.test", "counts a run of tests"],
@@ -125,7 +125,7 @@ export const COMMAND_WORDS = {
       stop. If the source of a session is not known, it is disassembled from ROM.
 
       If standard input is not a terminal, its lines are commands.`,
-    options: { folder: OF_FOLDER },
+    options: { folder: FOLDER_OPTION },
     examples: [
       ["mcs4 debug", "debugs the project of this folder, in memory"],
       ["mcs4 debug board.toml program.asm s.mcs", "debugs a session file with this program, or a new one"],
@@ -150,7 +150,7 @@ export const COMMAND_WORDS = {
 
       Leading zeros are dark, and so is a point after the last digit. Lamps that are not a digit are shown as \`?\`. Nothing is printed if
       there is an error.`,
-    options: { folder: OF_FOLDER },
+    options: { folder: FOLDER_OPTION },
     examples: [["mcs4 new s.mcs < product.txt | mcs4 display board.toml", "shows the product"]],
     status: ["0: the numbers are printed.", "1: an error, printed on standard error.", WRONG_ARGUMENTS],
   },
@@ -187,7 +187,7 @@ export const COMMAND_WORDS = {
 
       ${BOARD_AND_PROGRAM} The same holds for PROPERTIES, if the project names one text of them.`,
     options: {
-      folder: OF_FOLDER,
+      folder: FOLDER_OPTION,
       seconds: "Searches for SECONDS, 1 to 86,400; by default 10.",
       jobs: "Runs JOBS searches at once, 1 to 64; by default 1.",
       seed: "Begins with the seed SEED, 1 to 99,999,999; by default 1.",
@@ -238,7 +238,7 @@ export const COMMAND_WORDS = {
 
       ${BOARD_AND_PROGRAM}`,
     options: {
-      folder: OF_FOLDER,
+      folder: FOLDER_OPTION,
       down: "Keeps each key down for CYCLES cycles, 1 to 100,000; by default 4,000 (43 ms).",
       up: "Waits for CYCLES cycles after each key, 1 to 100,000; by default 16,000.",
       "until-stop": "Presses the keys on SESSION itself, prints the answers, and stops at a breakpoint, a watch, or a code that is not an "
@@ -259,7 +259,7 @@ export const COMMAND_WORDS = {
 
       ${PROGRAM_ALONE}`,
     options: {
-      folder: OF_FOLDER,
+      folder: FOLDER_OPTION,
       names: "Prints only the names, a line `NAME VALUE` for each.",
       labels: "Prints only the names that are labels.",
     },
@@ -291,7 +291,7 @@ export const COMMAND_WORDS = {
       Nothing is printed if there is an error.
 
       ${PROGRAM_ALONE}`,
-    options: { folder: OF_FOLDER },
+    options: { folder: FOLDER_OPTION },
     examples: [["printf 'break @scan\\nrun 100000\\n' | mcs4 names program.asm | mcs4 open s.mcs", "runs up to a label"]],
     status: ["0: the lines are printed.", "1: a name that the program lacks, or another error.", WRONG_ARGUMENTS],
   },
@@ -338,7 +338,7 @@ ${SERVES_LINES}`,
       With --source, or if mcs4.toml names the program, the listing has the lines of the program's source, and the next line is above
       it with its name, its number and its comment. PROGRAM must be what is in the ROM of SESSION, byte for byte.`,
     options: {
-      folder: OF_FOLDER,
+      folder: FOLDER_OPTION,
       stopped: "Begins paused.",
       source: "Shows the lines of PROGRAM, the text of the program in ROM.",
     },
@@ -362,7 +362,7 @@ ${SERVES_LINES}`,
       ${WHAT_IS_COUNTED}
 
       ${BOARD_AND_PROGRAM}`,
-    options: { folder: OF_FOLDER, session: OF_SESSION },
+    options: { folder: FOLDER_OPTION, session: SESSION_OPTION },
     examples: [
       ["mcs4 profile board.toml program.asm program.test", "counts a run of tests"],
       ["mcs4 profile --session s.mcs 100000 program.asm", "counts the next 100,000 cycles of a session"],
@@ -404,7 +404,7 @@ ${SERVES_LINES}`,
 
       ${BOARD_AND_PROGRAM} The same holds for PROPERTIES, if the project names one text of them.`,
     options: {
-      folder: OF_FOLDER,
+      folder: FOLDER_OPTION,
       most: "Searches at most N states, 1 to 999,999,999; by default 1,000,000.",
       memory: "Uses at most MB megabytes of memory for them, 1 to 1,000,000; by default all that there is.",
     },
@@ -473,7 +473,7 @@ ${SERVES_LINES}`,
       Comments of the texts stay in the script, unless a text is too long with them for the bench.
 
       ${BOARD_AND_PROGRAM}`,
-    options: { folder: OF_FOLDER },
+    options: { folder: FOLDER_OPTION },
     examples: [["mcs4 script board.toml calculator.asm '22/7=' > quotient.txt", "makes a script that divides"]],
     status: ["0: the lines are printed.", "1: an error, printed on standard error with its line.", WRONG_ARGUMENTS],
   },
@@ -487,7 +487,7 @@ ${SERVES_LINES}`,
 
       For each test that failed, standard error has a line with file and line. Below \`not ok\`, the results show the lamps, the registers
       and the last instructions.`,
-    options: { folder: OF_FOLDER },
+    options: { folder: FOLDER_OPTION },
     examples: [
       ["mcs4 test board.toml program.asm program.test", "runs the tests of one text"],
       ["mcs4 test -C examples/calculator", "runs the tests of a project"],
@@ -569,7 +569,7 @@ ${SERVES_LINES}`,
 // --- mcs4 itself ---
 
 /** The usage lines of mcs4, each with its effect. */
-export const MCS4_FORMS = [
+export const MCS4_USAGE = [
   ["mcs4 new FILE", "begins a session in FILE, and serves lines"],
   ["mcs4 open FILE", "continues the session in FILE"],
   ["mcs4 COMMAND ..", "runs a command of the workbench"],
@@ -621,7 +621,7 @@ export const MANUAL_SECTIONS = {
 };
 export const FILES_OF_MCS4 = ["mcs4.toml", "names the files of the project in its folder"];
 export const MANUAL_IS = "The manual, docs/MANUAL.md in the folder that `mcs4 version` shows.";
-export const TITLE_OF_PAGES = "The bench Fethsaim";
+export const MANUAL_TITLE = "The bench Fethsaim";
 /** @type {(word: string, meant: string[]) => string} */
 export const noOption = (word, meant) => `there is no option ${word}${didYouMean(meant, "")}`;
 /** @type {(value: string, option: string) => string} */
@@ -690,7 +690,7 @@ export const noFolderToWrite = (name) => `cannot write ${name}: its folder does 
 
 // --- wave ---
 
-export const NO_NAMES_OF_SOUND = "--wav writes the sound of a line; it needs no --names";
+export const SOUND_NEEDS_NO_NAMES = "--wav writes the sound of a line; it needs no --names";
 export const NO_WAV = "is not a WAV file";
 /** @type {(board: string) => string} */
 export const otherBoard = (board) => `the session has another board than ${board}`;
@@ -730,7 +730,7 @@ export const NO_PROJECT = "is not a project";
 /** @type {(folder: string) => string} */
 export const isNoFolder = (folder) => `${folder} exists and is not a folder`;
 /** @type {(name: string) => string} */
-export const isThere = (name) => `${name} already exists; name another folder, or move it away`;
+export const alreadyExists = (name) => `${name} already exists; name another folder, or move it away`;
 
 // --- rom ---
 
@@ -738,7 +738,7 @@ export const LOAD_ASK_OR_SAVE = "load, ask or save is missing";
 /** @type {(word: string) => string} */
 export const noRomAction = (word) => `'${word}' is not load, ask or save`;
 /** @type {(action: string, form: string) => string} */
-export const noFormOf = (action, form) => `rom ${action} takes no --${form}`;
+export const unsupportedFormat = (action, form) => `rom ${action} takes no --${form}`;
 export const ADDRESS_RANGE = "ADDRESS is 0 to 4095, decimal or with 0x";
 export const NUMBERS_OF_RANGE = "FIRST and COUNT are numbers, decimal or with 0x";
 export const RANGE = "FIRST is 0 to 4095, COUNT is at least 1, and 4096 is the address after the last one";
@@ -822,7 +822,7 @@ export const logIsShorter = (session, records, commands, count) => (records === 
   : `the log of ${session} has ${records} of its ${commands} commands, so it cannot go back by ${count}; `
     + "the earlier ones are in a snapshot");
 /** @type {(session: string, wanted: number, opened: string) => string} */
-export const wouldBeOther = (session, wanted, opened) => `${session} would not be session ${wanted} but ${opened}; nothing was changed`;
+export const wouldDiffer = (session, wanted, opened) => `${session} would not be session ${wanted} but ${opened}; nothing was changed`;
 
 // --- temporary.mjs ---
 /** @type {(place: string) => string} */
@@ -854,4 +854,4 @@ export const jobEnded = (status) => `a job ended with status ${status}`;
 /** @type {(name: string) => string} */
 export const noReport = (name) => `${name} is not a report of mcs4 explore (--report)`;
 /** @type {(name: string, first: string) => string} */
-export const ofOtherTexts = (name, first) => `${name} has another board, program or properties than ${first}`;
+export const differentTexts = (name, first) => `${name} has another board, program or properties than ${first}`;

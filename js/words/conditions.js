@@ -10,7 +10,7 @@ export const noLamp = (name, there) => (
   `the board has no lamp ${name}; ${there ? `it has: ${there}` : "its text names no lamps (`# lamp 0: NAME ..`)"}`);
 export const LAMPS_FORM = "write `lamps PATTERN`, or `lamps NAME ..`, or `lamps none`";
 /** @type {(wanted: number, count: number) => string} */
-export const otherPattern = (wanted, count) => `a pattern of ${wanted} lamps; the board has ${count}`;
+export const wrongPatternLength = (wanted, count) => `a pattern of ${wanted} lamps; the board has ${count}`;
 /** @type {(names: string) => string} */
 export const litLamps = (names) => `; lit: ${names}`;
 export const LAMP_FORM = "write `lamp NAME on` or `lamp NAME off`";
@@ -41,12 +41,12 @@ export const holds = (place, most, word) => `${place} holds 0 to ${most}, not ${
 // --- conditions/condition_language.js ---
 export const NO_CONDITION = "a condition is missing";
 /** @type {(what: string, is: string, want: string, isMany: boolean, isNot: boolean) => string} */
-export const hasToBe = (what, is, want, isMany, isNot) => (
+export const mustBe = (what, is, want, isMany, isNot) => (
   `${what} ${isMany ? "are" : "is"} ${is || "dark"}, but must ${isNot ? "not " : ""}be ${want}`);
 /** @type {(count: number, most: number) => string} */
 export const tooManyPlaces = (count, most) => `it reads ${count} places; at most ${most} are allowed`;
 export const AT_FORM = "write `at LABEL`";
-export const LIT_BY_TURNS = "the digits are multiplexed, so no instant shows a number: `display` is only for the lines of a test";
+export const DIGITS_ARE_MULTIPLEXED = "the digits are multiplexed, so no instant shows a number: `display` is only for the lines of a test";
 export const LINE_BY_LINE = "printed text arrives line by line: `printed` is only for the lines of a test";
 /** @type {(what: string) => string} */
 export const onlyInTests = (what) => `no run changes ${what}, and no trace shows it: it is only for the lines of a test`;
@@ -56,7 +56,7 @@ export const noTraceShows = (place) => `no run changes ${place}, and no trace sh
 // --- conditions/scanner.js ---
 export const NO_END_OF_TEXT = "the closing quotation mark is missing";
 /** @type {(word: string) => string} */
-export const noSign = (word) => `${word} has no meaning in a condition`;
+export const unknownSign = (word) => `${word} has no meaning in a condition`;
 /** @type {(text: string) => string} */
 export const noNumeral = (text) => `${text} is not a number; numbers are 10, 0xA or 0b1010`;
 
@@ -77,7 +77,7 @@ export const noValue = (condition) => `${condition}: this is a condition, but a 
 /** @type {(word: string) => string} */
 export const missingBefore = (word) => `a value is missing before ${word}`;
 /** @type {(sign: string) => string} */
-export const missingBehind = (sign) => `a value is missing after ${sign}`;
+export const missingAfter = (sign) => `a value is missing after ${sign}`;
 export const SPACED_FORM = "write ram.BANK.SRC or st.BANK.REGISTER.NUMBER";
 export const KEY_FORM = "write `key NAME down` or `key NAME up`";
 
@@ -136,7 +136,7 @@ export const cannotBeSet = (place) => (
 /** @type {(text: string, value: number) => string} */
 export const valueIs = (text, value) => `${text} (${value})`;
 /** @type {(text: string) => string} */
-export const holdsAndMayNot = (text) => `${text} holds, but must not`;
+export const holdsButMustNot = (text) => `${text} holds, but must not`;
 
 // --- debug/soft_breakpoints.js, waves/trigger.js, adapter/expression_values.js ---
 /** @type {(fault: string, column: number) => string} */

@@ -2,11 +2,12 @@
 
 // --- debug/breakpoint_keeper.js ---
 /** @type {(most: number) => string} */
-export const tooManyOn = (most) => `${most} breakpoints are on, the most that the bench has. This one is off: disable another one first.`;
+export const tooManyEnabled = (most) => (
+  `${most} breakpoints are on, the most that the bench has. This one is off: disable another one first.`);
 /** @type {(why: string) => string} */
 export const untilThen = (why) => `${why} Until then this breakpoint stops nothing.`;
 /** @type {(most: number) => string} */
-export const mostBreakpoints = (most) => `There can be at most ${most} breakpoints: remove one first.`;
+export const tooManyBreakpoints = (most) => `There can be at most ${most} breakpoints: remove one first.`;
 
 // --- debug/breakpoints.js ---
 /** @type {(line: number, next: number) => string} */
@@ -76,11 +77,11 @@ export const KINDS = /** @type {Record<import("../core/debug/common_mistakes.js"
   bytes: "bytes that no line of the source put there",
   source: "an SRC that still points elsewhere",
 });
-export const RUNS_ON = "execution left the program";
+export const LEFT_PROGRAM = "execution left the program";
 /** @type {(address: string) => string} */
-export const returnGoes = (address) => `a BBL without a call: it goes to ${address}, which is after no JMS`;
+export const returnWithoutCall = (address) => `a BBL without a call: it goes to ${address}, which is after no JMS`;
 /** @type {(address: string) => string} */
-export const wayBackLost = (address) => `4th nested JMS: return address ${address} was overwritten`;
+export const returnAddressLost = (address) => `4th nested JMS: return address ${address} was overwritten`;
 
 // --- debug/value_words.js ---
 /** @type {(bank: number, character: string) => string} */
@@ -103,7 +104,7 @@ export const statusAt = (bank, chip, register, character) => (
 /** @type {(value: string, binary: string) => string} */
 export const bySource = (value, binary) => `${value}, ${binary}; by SRC it selects `;
 /** @type {(words: string) => string} */
-export const comesNext = (words) => `${words}, and comes next`;
+export const isNext = (words) => `${words}, and comes next`;
 
 // --- debug/watched.js ---
 /** @type {(out: string, read: string) => string} */

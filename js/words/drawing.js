@@ -57,38 +57,38 @@ export const listOf = (names) => names.join(", ").replace(/, ([^,]*)$/, " and $1
 
 // --- drawing/adding.js ---
 /** @type {(most: number) => string} */
-export const mostRoms = (most) => `A board has at most ${most} ROMs.`;
+export const maxRoms = (most) => `A board has at most ${most} ROMs.`;
 /** @type {(banks: number, chips: number) => string} */
-export const mostRams = (banks, chips) => `A board has at most ${banks} banks of ${chips} RAM chips.`;
+export const maxRams = (banks, chips) => `A board has at most ${banks} banks of ${chips} RAM chips.`;
 export const AT_TEST = "what is at TEST";
 export const THE_BOARD = "the board";
 /** @type {(part: string) => string} */
 export const thePart = (part) => `the ${part}`;
 export const THE_BUZZER = "the buzzer";
 /** @type {(most: number) => string} */
-export const mostChains = (most) => `A board has at most ${most} chains.`;
+export const maxChains = (most) => `A board has at most ${most} chains.`;
 export const ONE_MATRIX = "A board has one key matrix: give it more rows and columns.";
 export const NO_KEYS = "The board has no keys.";
 /** @type {(most: number) => string} */
-export const mostRows = (most) => `A key matrix has at most ${most} rows.`;
-export const LEAST_ROWS = "A key matrix has at least one row; or delete the keys.";
+export const maxRows = (most) => `A key matrix has at most ${most} rows.`;
+export const MIN_ROWS = "A key matrix has at least one row; or delete the keys.";
 /** @type {(chain: number) => string} */
 export const noBitForRow = (chain) => `Chain ${chain} has no bit for another row: give it another chip.`;
 /** @type {(most: number) => string} */
-export const mostColumns = (most) => `A key matrix has at most ${most} columns.`;
+export const maxColumns = (most) => `A key matrix has at most ${most} columns.`;
 /** @type {(most: number, count: number) => string} */
-export const mostLamps = (most, count) => `A board has at most ${most} lamps; it has ${count}.`;
+export const maxLamps = (most, count) => `A board has at most ${most} lamps; it has ${count}.`;
 export const ONE_BUZZER = "A board has one buzzer: delete that one first.";
-export const LEAST_DIGITS = "A display has a whole number of digits, at least 1.";
+export const MIN_DIGITS = "A display has a whole number of digits, at least 1.";
 /** @type {(most: number) => string} */
-export const mostScanned = (most) => `A multiplexed display has 1 to ${most} digits.`;
+export const maxMultiplexed = (most) => `A multiplexed display has 1 to ${most} digits.`;
 /** @type {(place: string) => string} */
 export const buzzerIsAt = (place) => `The buzzer is at ${place}: give it another line first.`;
 /** @type {(line: string) => string} */
 export const printerIsAt = (line) => `The printer is at ${line}: give it other lines first, in Board.`;
 /** @type {(most: number) => string} */
-export const mostChips = (most) => `A chain has at most ${most} chips.`;
-export const LEAST_CHIPS = "A chain has at least one chip; or delete the chain.";
+export const maxChips = (most) => `A chain has at most ${most} chips.`;
+export const MIN_CHIPS = "A chain has at least one chip; or delete the chain.";
 /** @type {(bit: string) => string} */
 export const inUse = (bit) => `${bit} is in use: wire what is there to another line first.`;
 

@@ -23,7 +23,7 @@ export const noName = (name) => `no line defines the name ${name}`;
 /** @type {(name: string, line: number) => string} */
 export const definedTwice = (name, line) => `the name ${name} is also defined in line ${line}`;
 /** @type {(text: string) => string} */
-export const hangsUponItself = (text) => `the value of \`${text}\` depends on itself`;
+export const dependsOnItself = (text) => `the value of \`${text}\` depends on itself`;
 /** @type {(text: string, is: number, from: number, to: number) => string} */
 export const outOfRange = (text, is, from, to) => `\`${text}\` is ${is}; it must be ${from} to ${to}`;
 /** @type {(text: string, number: number) => string} */
@@ -31,7 +31,7 @@ export const oddPair = (text, number) => (
   `a pair begins at an even register, 0 to 14, and \`${text}\` does not; if it is the number of a pair, write ${number}P`);
 /** @type {(text: string) => string} */
 export const noPair = (text) => `\`${text}\` is not a pair; pairs are 0P to 7P, or 0<, 2< to 14< by their first register`;
-export const NC_OF_WHOM = "NC means no condition (0) for Intel, and no carry (10) for AS: write 0 or 10";
+export const NC_IS_AMBIGUOUS = "NC means no condition (0) for Intel, and no carry (10) for AS: write 0 or 10";
 /** @type {(word: string) => string} */
 export const of4040 = (word) => `${word} is an instruction of the 4040`;
 export const NO_PROGRAM_RAM = "WPM writes program RAM, which a board here does not have";

@@ -23,7 +23,7 @@ export const FIRST_ROW = "row 0 comes first";
 export const counts = (rows) => `counts ${rows === 1 ? "1 row" : `${rows} rows`}`;
 export const ONE_ENTERS = "a single 1 enters the chain";
 /** @type {(bit: number) => string} */
-export const goesTo = (bit) => `it moves on to bit ${bit}`;
+export const movesTo = (bit) => `it moves on to bit ${bit}`;
 /** @type {(column: number) => string} */
 export const columnInCarry = (column) => `column ${column} is in the carry`;
 export const NEXT_ROW = "the 1 drives the next row";

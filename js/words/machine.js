@@ -2,11 +2,11 @@
 
 // --- machine/breakpoint_marks.js ---
 /** @type {(condition: string) => string} */
-export const whereHolds = (condition) => ` if ${condition}`;
+export const ifCondition = (condition) => ` if ${condition}`;
 /** @type {(from: number) => string} */
 export const fromHit = (from) => ` from hit ${from} on`;
 /** @type {(details: string) => string} */
-export const breakpointThat = (details) => `breakpoint${details && ` ${details}`}`;
+export const breakpointWith = (details) => `breakpoint${details && ` ${details}`}`;
 /** @type {(note: string) => string} */
 export const logs = (note) => `: logs "${note}" and continues`;
 /** @type {(words: string, fault: string) => string} */
@@ -29,19 +29,19 @@ export const REMOVES_IT = "removes it";
 export const moreNotes = (count) => `${count} more`;
 
 // --- machine/breakpoint_row.js ---
-export const WORDS_OF_BREAKPOINT = "Breakpoint";
+export const BREAKPOINT_FIELDS = "Breakpoint";
 export const CONDITION = "Condition";
 /** @type {(fault: string) => string} */
 export const stopsEachTime = (fault) => `It stops every time, because of an error: ${fault}.`;
-export const STOPS_WHERE = "stops if this is true, as in: R5 >= 8 and cy = 1, count = 9 or lamp 3 on, display 42";
-export const SUCH_AS_CONDITION = "such as r9 = 9";
+export const CONDITION_HINT = "stops if this is true, as in: R5 >= 8 and cy = 1, count = 9 or lamp 3 on, display 42";
+export const CONDITION_EXAMPLE = "such as r9 = 9";
 export const HIT_COUNT = "Hit count";
 export const STOPS_FROM_HIT = "stops from this hit on";
-export const SUCH_AS_NOTE = "such as R4 is {r4}";
+export const NOTE_EXAMPLE = "such as R4 is {r4}";
 export const LOG_MESSAGE = "Log message";
-export const LOGGED = "is logged instead of a stop; {r9}, {lamps} give values";
+export const LOG_MESSAGE_HINT = "is logged instead of a stop; {r9}, {lamps} give values";
 export const APPLY = "Apply";
-export const LEAVE = "Cancel";
+export const CANCEL = "Cancel";
 
 // --- machine/breakpoints_controller.js ---
 export const LINE = "Line";
@@ -97,7 +97,7 @@ export const manyChanged = (reach, count, often, last, how) => `${reach} ${count
 
 // --- machine/heat_view.js ---
 /** @type {(most: string) => string} */
-export const howManyCycles = (most) => `Enter a number of cycles, from 1 to ${most}.`;
+export const cycleCountHint = (most) => `Enter a number of cycles, from 1 to ${most}.`;
 export const SEARCHING_PAST = "Searching the past.";
 /** @type {(how: string) => string} */
 export const changedHow = (how) => `changed ${how}`;
@@ -108,14 +108,14 @@ export const insideBreakpoint = (address) => (
   `breakpoint at ${address}, inside this instruction: a run that gets here does not stop; click to clear it`);
 
 // --- machine/machine_view.js ---
-export const OWED_STAYS = "No line can set the pending cycle; a step or a run changes it.";
-export const PORTS_STAY = "No line can set a port: a program writes its latch by WRR, and keys and wires determine what it reads.";
+export const PENDING_CYCLE_IS_READ_ONLY = "No line can set the pending cycle; a step or a run changes it.";
+export const PORTS_ARE_READ_ONLY = "No line can set a port: a program writes its latch by WRR, and keys and wires determine what it reads.";
 export const LINES_3_TO_0 = "lines 3 to 0";
 export const PORTS_OF_ROMS = "Ports of the ROMs";
 export const SRC_OF_ROMS = "SRC, ROMs";
 
 // --- machine/ram_view.js ---
-export const RAM_PORTS_STAY = "No line can set the output of a RAM chip's port: a program does, by WMP.";
+export const RAM_PORTS_ARE_READ_ONLY = "No line can set the output of a RAM chip's port: a program does, by WMP.";
 /** @type {(bank: number, chip: number, register: number) => string} */
 export const registerOfChip = (bank, chip, register) => `bank ${bank}, chip ${chip}, register ${register}`;
 export const NO_RAM = "This board has no RAM.";
@@ -131,7 +131,7 @@ export const statusTitle = (register, character) => `${register}, status charact
 export const portTitle = (bank, chip) => `bank ${bank}, chip ${chip}: what its output port holds`;
 
 // --- machine/returns.js ---
-export const LEFT_OVER = "stale";
+export const STALE_RETURN = "stale";
 export const NO_CALL_WAITS = "No call is waiting for a BBL with this address.";
 /** @type {(line: number) => string} */
 export const callInLine = (line) => `call in line ${line}`;
@@ -172,7 +172,7 @@ export const STOP_AT_THIS = " Break on this";
 
 // --- machine/watched_view.js ---
 /** @type {(most: number) => string} */
-export const mostWatched = (most) => `At most ${most}.`;
+export const maxWatched = (most) => `At most ${most}.`;
 /** @type {(name: string) => string} */
 export const stopWatching = (name) => `stop showing ${name}`;
 export const WHEN_PAUSED = "seen when paused";

@@ -72,13 +72,13 @@ export const sourceOf = (name) => `${name}: source`;
 export const boardOf = (name) => `${name}: board`;
 
 // --- recovery.js ---
-export const STOPPED = "Paused.";
+export const PAUSED = "Paused.";
 export const WORKER_RESTARTED = "The bench's worker stopped and was restarted. The session is unchanged.";
 /** @type {(why: string) => string} */
 export const cannotRestart = (why) => `The bench has stopped and could not be restarted: ${why}. Save the session to a file.`;
 
 // --- compose_session.js ---
-export const TAKE_FROM_ROM = "Disassemble ROM";
+export const DISASSEMBLE_ROM = "Disassemble ROM";
 
 // --- compose_texts.js ---
 export const RUNNING_TESTS = "Running the tests.";

@@ -23,7 +23,7 @@ export const sourceHere = (place, line, text) => `${place}, line ${line}: ${text
 export const returnTo = (place) => `  ret ${place}`;
 /** @type {(chip: string, out: string) => string} */
 export const portOf = (chip, out) => `${chip} out ${out}`;
-export const PAPER = "--- printout -----------";
+export const PRINTOUT_TITLE = "--- printout -----------";
 /** @type {(test: string, hasMoreRam: boolean) => string} */
 export const keyLine = (test, hasMoreRam) => (
   `space pause/run  Enter step  Tab break  ^T ${test}  ^R reset  ^D end${hasMoreRam ? "  arrows RAM" : ""}`);

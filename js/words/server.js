@@ -2,9 +2,9 @@
 
 // --- server/beside_language.js ---
 /** @type {(file: string) => string} */
-export const nothingBeside = (file) => `there is no ${file} here, so this text is not checked; mcs4.toml can name a board and a program`;
+export const neighbourMissing = (file) => `there is no ${file} here, so this text is not checked; mcs4.toml can name a board and a program`;
 /** @type {(file: string, line: number) => string} */
-export const besideIsWrong = (file, line) => `${file} has an error${line > 0 ? ` in line ${line}` : ""}, so this text is not checked`;
+export const neighbourHasError = (file, line) => `${file} has an error${line > 0 ? ` in line ${line}` : ""}, so this text is not checked`;
 
 // --- server/board_language.js ---
 export const NO_BOARD_NAMES = "A board's text has no names that can be changed here.";
@@ -17,7 +17,7 @@ export const bitOfChain = (bit, chain) => `bit ${bit} of chain ${chain}`;
 /** @type {(line: string, chip: string, bank: string) => string} */
 export const lineOfRam = (line, chip, bank) => `line ${line} of the port of RAM chip ${chip} in bank ${bank}`;
 /** @type {(isChain: boolean, line: number) => string} */
-export const standsIn = (isChain, line) => `; its ${isChain ? "chain" : "chip"} is in line ${line}`;
+export const definedIn = (isChain, line) => `; its ${isChain ? "chain" : "chip"} is in line ${line}`;
 
 // --- server/connection.js ---
 /** @type {(bytes: number) => string} */

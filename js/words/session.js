@@ -11,7 +11,7 @@ export const notDeleted = (name, why) => `The session "${name}" was not deleted:
 export const notRestored = (name, why) => `The session "${name}" was not restored: ${why}.`;
 
 // --- session/current_session.js ---
-export const STOPPED = "Paused.";
+export const PAUSED = "Paused.";
 /** @type {(name: string) => string} */
 export const titleOfPage = (name) => `${name} - Fethsaim`;
 /** @type {(why: string) => string} */
@@ -60,9 +60,9 @@ export const DELETE = "Delete";
 export const deleteNamed = (name) => `delete ${name}`;
 /** @type {(name: string) => string} */
 export const chooseNamed = (name) => `select ${name}`;
-export const BRING_BACK = "Restore";
+export const RESTORE = "Restore";
 /** @type {(name: string) => string} */
-export const bringBackNamed = (name) => `restore ${name}`;
+export const restoreNamed = (name) => `restore ${name}`;
 /** @type {(cycles: string) => string} */
 export const withCycles = (cycles) => `, ${cycles} cycles`;
 
@@ -97,7 +97,7 @@ export const PROPERTIES_TEXT = "the properties' text";
 /** @type {(what: string, size: string, most: string) => string} */
 export const textTooLong = (what, size, most) => `${what} has ${size} characters; at most ${most} are accepted`;
 /** @type {(line: number, wanted: string) => string} */
-export const hasToBe = (line, wanted) => `line ${line} of the project must be ${wanted}`;
+export const lineMustBe = (line, wanted) => `line ${line} of the project must be ${wanted}`;
 /** @type {(word: string) => string} */
 export const noEnd = (word) => `the text after \`${word}\` has no end, a line with only a dot`;
 export const NO_PROJECT = "not a project of Fethsaim";
@@ -157,7 +157,7 @@ export const noProjectSaved = (why) => (
 export const KEPT_HERE = "They are saved in this browser only. Download a copy to be safe. "
   + "Examples are saved once you change something.";
 export const PROMISED = " The browser has promised to keep them even when space is short.";
-export const KEPT_NOWHERE = "This browser stores nothing for this page: save a session to a file before you leave.";
+export const NOT_SAVED_ANYWHERE = "This browser stores nothing for this page: save a session to a file before you leave.";
 /** @type {(name: string, isKept: boolean) => string} */
 export const sessionLeft = (name, isKept) => (
   `"${name}" ${isKept ? "is saved" : "stays until this page is closed"}.`);
@@ -170,7 +170,8 @@ export const namesNothing = (hash) => (
 /** @type {(names: string) => string} */
 export const deleted = (names) => `Deleted ${names}.`;
 /** @type {(name: string) => string} */
-export const notByItself = (name) => `The session "${name}" was not opened automatically: the last time, opening it did not finish.`;
+export const notOpenedAutomatically = (name) => (
+  `The session "${name}" was not opened automatically: the last time, opening it did not finish.`);
 export const OPEN_IT = "Open it";
 export const DELETE_IT = "Delete it";
 
@@ -193,8 +194,8 @@ export const ALWAYS_HELD = ["the name", "the board", "the source"];
 export const THE_TESTS = "the tests";
 export const THE_PROPERTIES = "the properties";
 /** @type {(parts: string, last: string) => string} */
-export const itHolds = (parts, last) => `It holds ${parts} and ${last}, not the state of the machine.`;
-export const OF_A_FILE = " This page was opened from a file, so the link works only on this machine. Others append the part that "
+export const linkContains = (parts, last) => `It holds ${parts} and ${last}, not the state of the machine.`;
+export const LINK_FROM_FILE = " This page was opened from a file, so the link works only on this machine. Others append the part that "
   + "begins with # to the address of their own page.";
 export const LONG = "Some messaging programs cut a link of more than 8,000 characters; a project file is safer.";
 /** @type {(why: string) => string} */
@@ -211,7 +212,7 @@ export const SAVE_PROJECT = "Save a project";
 export const LEAVE_IT = "Leave it";
 export const THE_LINK = "The link";
 export const COPY_LINK = "Copy this link";
-export const COPY_BY_HAND = "The browser does not let the page copy. Copy the link manually.";
+export const COPY_MANUALLY = "The browser does not let the page copy. Copy the link manually.";
 /** @type {(name: string) => string} */
 export const openFromLink = (name) => `Open "${name}" from a link?`;
 export const OPEN_AS_NEW = "Open it as a new session";
@@ -232,7 +233,7 @@ export const BECOMES_SESSION = "It becomes a separate session, and the current o
 export const CHANGED_ELSEWHERE = "another tab has changed or deleted this session";
 export const STORE_SILENT = "the browser's store does not answer";
 export const OLDER_STORE = "another tab uses an older form of the page's store";
-export const NO_WORD = "for an unknown reason";
+export const UNKNOWN_REASON = "for an unknown reason";
 export const NO_SPACE = "the browser has no more space for this page";
 /** @type {(name: string) => string} */
 export const storeFailed = (name) => `the browser's store failed (${name})`;
@@ -243,7 +244,7 @@ export const WHICH_TEXT = {
   board: "The board's text", program: "The source", tests: "The text of tests", properties: "The text of properties",
 };
 /** The end of a message about a text that was opened: the tab that it is in, and its use. */
-export const BESIDE = {
+export const OPENED_IN = {
   tests: "is in Tests. Run tests runs it on the current Board and Source.",
   properties: "is in Properties. Search looks for counterexamples, on the current Board and Source.",
 };
@@ -256,7 +257,7 @@ export const BOARD_AND_SOURCE = "Board and Source";
 export const textIsIn = (name, where, what, then) => `${name} is in ${where}. ${what}${then}.`;
 export const THEN_ASSEMBLE = ", then Assemble and run";
 export const SAME_AS_ROM = "The source is already the same as ROM.";
-export const TAKEN_FROM_ROM = "The source was disassembled from ROM.";
+export const DISASSEMBLED = "The source was disassembled from ROM.";
 export const REPLACE_SOURCE = "Replace the source?";
 /** @type {(old: string, found: string) => string} */
 export const sizesOfSources = (old, found) => `The source has ${old}. The disassembly of ROM has ${found}, without comments and names.`;

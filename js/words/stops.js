@@ -176,7 +176,7 @@ export function wordsOfHalt(goal, cycles, where) {
  * @param {boolean} ran whether the machine ran to the goal; otherwise the past was searched for it
  * @param {string} where
  */
-export function wordsOfBroken(goal, ran, where) {
+export function wordsOfInterrupted(goal, ran, where) {
   const what = `${wordsOfGoal(goal)} was ${ran ? "not reached" : "searched for, and nothing was done"}`;
   return `Paused at ${where}: ${what}, because the page was reloaded or another session was shown.`;
 }

@@ -18,7 +18,7 @@ export const oneDirectionOnly = (lines, areMany) => `only one way: ${areMany ? "
 
 // --- testing/last_instructions.js ---
 /** @type {(row: string) => string} */
-export const comesNext = (row) => `${row}comes next`;
+export const isNext = (row) => `${row}comes next`;
 
 // --- testing/last_passed.js ---
 /** @type {(cycles: number) => string} */
@@ -78,7 +78,7 @@ export const norKey = (digit) => `, nor ${digit}`;
 /** @type {(cycles: number, why: string, message: string) => string} */
 export const runStoppedAt = (cycles, why, message) => `the run stopped after ${cycles} cycles ${why}; ${message}`;
 /** @type {(cycles: number, message: string, passed: string) => string} */
-export const didNotCome = (cycles, message, passed) => `it did not become true within ${cycles} cycles: ${message}${passed}`;
+export const notReached = (cycles, message, passed) => `it did not become true within ${cycles} cycles: ${message}${passed}`;
 
 // --- testing/test_text.js ---
 /** @type {(word: string) => string} */

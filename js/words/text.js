@@ -294,7 +294,7 @@ export const TAB_INDENTS = "Tab indents. Escape and then Tab leaves the text.";
 export const otherQuote = (character) => `${character} is not the ASCII quotation mark "`;
 export const OTHER_BLANK = "a non-breaking space (U+00A0); write a plain space";
 /** @type {(code: string) => string} */
-export const unseen = (code) => `an invisible character (U+${code}); delete it`;
+export const invisibleCharacter = (code) => `an invisible character (U+${code}); delete it`;
 export const CONTROL_CHARACTER = "a control character; only tabs and printable ASCII characters can be sent";
 /** @type {(character: string) => string} */
 export const otherCharacter = (character) => `${character} is not an ASCII character; it can be only in comments`;

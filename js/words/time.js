@@ -35,22 +35,22 @@ export const BETWEEN_MARKS = "Between the marks ";
 
 // --- time/history_view.js ---
 /** @type {(most: string) => string} */
-export const giveCount = (most) => `Nothing was done: give a number of instructions, 1 to ${most}.`;
-export const GIVE_CHANGE = "Nothing was done: enter a place such as r5, lamp 3 or rom0.2, or a condition such as r5 > 8.";
+export const enterCount = (most) => `Nothing was done: give a number of instructions, 1 to ${most}.`;
+export const ENTER_CHANGE = "Nothing was done: enter a place such as r5, lamp 3 or rom0.2, or a condition such as r5 > 8.";
 /** @type {(fault: string) => string} an error for the status bar, with a few examples instead of all places */
-export const cannotBeSought = (fault) => `Nothing was done: ${fault.replace(PLACES_ARE, SUCH_PLACES)}.`;
+export const cannotSearchFor = (fault) => `Nothing was done: ${fault.replace(PLACES_ARE, SUCH_PLACES)}.`;
 const SUCH_PLACES = "enter something such as r5, lamp 3 or rom0.2";
 
 // --- time/running.js ---
 /** @type {(rate: string) => string} */
 export const cyclesASecond = (rate) => `${rate} cycles a second`;
 /** @type {(name: string, errors: number) => string} by the name of the session, and the number of its breakpoints with errors */
-export const timeRuns = (name, errors) => `Running "${name}". F5 pauses it.${errors === 0 ? "" : errorsIn(errors)}`;
+export const isRunning = (name, errors) => `Running "${name}". F5 pauses it.${errors === 0 ? "" : errorsIn(errors)}`;
 /** @type {(errors: number) => string} */
 const errorsIn = (errors) => (
   ` ${errors === 1 ? "A breakpoint has an error: it stops" : `${errors} breakpoints have errors: they stop`} at each arrival.`);
 /** @type {(time: string, isHidden: boolean) => string} */
-export const timeStood = (time, isHidden) => (
+export const wasPausedFor = (time, isHidden) => (
   `Running. Paused for ${time} while ${isHidden ? "the page was hidden" : "the tab was busy"}.`);
 /** @type {(answer: string, why: string) => string} */
 export const stoppedBy = (answer, why) => `Paused: ${answer}: ${why}.`;
@@ -61,6 +61,6 @@ export const ONE_A_SECOND = "an instruction a second";
 export const FULL_SPEED = "full speed";
 
 // --- time/travel.js ---
-export const LOOKING_FOR_GOAL = "Searching for the goal.";
+export const SEARCHING_GOAL = "Searching for the goal.";
 export const REPEATING_PAST = "Repeating the past on a copy.";
 export const GOING_FORWARD = "Going forward again.";

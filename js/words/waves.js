@@ -12,7 +12,7 @@ export const ENDS = {
   lost: "It ended because the bench was restarted.",
 };
 /** @type {(cycle: string) => string} */
-export const triggerCame = (cycle) => ` The trigger was at cycle ${cycle}.`;
+export const triggerWasAt = (cycle) => ` The trigger was at cycle ${cycle}.`;
 /** @type {(what: string, trigger: string) => string} */
 export const recorded = (what, trigger) => `Recorded ${what}.${trigger}`;
 /** @type {(what: string, end: string, trigger: string) => string} */
@@ -30,7 +30,7 @@ export const RECORD = "Record";
 /** @type {(least: number, most: string) => string} */
 export const howManyCycles = (least, most) => `Enter a number of cycles, from ${least} to ${most}.`;
 /** @type {(most: string) => string} */
-export const mostAfter = (most) => `${most} cycles are kept: at most that many can follow the trigger.`;
+export const maxAfter = (most) => `${most} cycles are kept: at most that many can follow the trigger.`;
 /** @type {(fault: string) => string} */
 export const triggerFault = (fault) => `The trigger is not understood: ${fault}.`;
 export const STOP_RECORDING = "Stop recording";
@@ -157,7 +157,7 @@ export const NOTHING_BEFORE = "Nothing was recorded: no cycle was done since the
 /** @type {(cycles: string, time: string) => string} */
 export const recordedSpan = (cycles, time) => `${cycles} recorded, ${time}.`;
 /** @type {(text: string) => string} */
-export const thenNoInstruction = (text) => `${text} A code that is not an instruction follows.`;
+export const codeFollows = (text) => `${text} A code that is not an instruction follows.`;
 /** @type {(text: string) => string} */
 export const noFurtherBack = (text) => `${text} The remembered past reaches no further back.`;
 

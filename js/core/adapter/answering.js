@@ -52,12 +52,12 @@ export class QueryHandlers {
   // --- the source ---
 
   get programName() {
-    return this.launched.program || say.WHAT_IS_IN_ROM;
+    return this.launched.program || say.ROM_CONTENTS;
   }
 
   get source() {
     const { program } = this.launched;
-    if (program === "") return { name: "ROM", sourceReference: ROM_SOURCE, origin: say.MADE_OF_ROM };
+    if (program === "") return { name: "ROM", sourceReference: ROM_SOURCE, origin: say.DISASSEMBLED_FROM_ROM };
     return { name: program.replace(/^.*[\\/]/, ""), path: program };
   }
 

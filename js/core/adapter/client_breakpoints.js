@@ -46,7 +46,7 @@ function firstHitOf(text) {
   if (trimmed === "") return { from: 1, words: "" };
   const found = HIT_CONDITION.exec(trimmed);
   const from = found ? Number(found[1]) + (trimmed.startsWith(">") && !trimmed.startsWith(">=") ? 1 : 0) : 0;
-  return from >= 1 ? { from, words: "" } : { from: 1, words: say.HITS_WORDS };
+  return from >= 1 ? { from, words: "" } : { from: 1, words: say.HIT_COUNT_FORM };
 }
 
 /**
@@ -192,7 +192,7 @@ export class ClientBreakpoints {
     const faults = new Map();
     const merged = [...this.merged().values()];
     const isTooMany = (/** @type {number} */ at) => at >= MOST_ON;
-    merged.forEach((each, at) => isTooMany(at) && faults.set(each, say.mostOn(MOST_ON)));
+    merged.forEach((each, at) => isTooMany(at) && faults.set(each, say.tooManyEnabled(MOST_ON)));
     const hits = new Map([...this.byId].map(([id, { address }]) => [address, (session.breakpoints.get(id) || { hits: 0 }).hits]));
     session.breakpoints = new BreakpointList();
     this.byId.clear();

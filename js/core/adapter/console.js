@@ -128,7 +128,7 @@ export class Console {
       queue.press(key);
       queue.release(key);
     }
-    return answerWith(this.machine.isMoving ? "" : say.keysWait(keys.length));
+    return answerWith(this.machine.isMoving ? "" : say.keysArePending(keys.length));
   }
 
   // --- moves ---
@@ -139,7 +139,7 @@ export class Console {
    * @returns {LineResult}
    */
   moveTo(word, rest) {
-    if (this.machine.isMoving) fail(say.TIME_RUNS);
+    if (this.machine.isMoving) fail(say.MACHINE_IS_RUNNING);
     const target = rest.join(" ");
     /** @type {(act: () => void) => LineResult} */
     const move = (act) => ({ words: "", changes: false, move: act });
@@ -180,7 +180,7 @@ export class Console {
     if (words) fail(words);
     const kinds = readInputs(lines).map(({ kind }) => kind);
     if (kinds.length > MAX_INPUTS) fail(say.tooManyLines(MAX_INPUTS));
-    if (this.machine.isMoving && kinds.some((kind) => RUNS.has(kind))) fail(say.TIME_RUNS);
+    if (this.machine.isMoving && kinds.some((kind) => RUNS.has(kind))) fail(say.MACHINE_IS_RUNNING);
     if (kinds.every(isQuery)) return answerWith(this.session.debugger.session.ask(lines).join("\n"));
     const done = await this.runBenchLines(lines, mayContinue);
     if (kinds.some((kind) => BREAKS.has(kind))) this.calls.breaksChanged();

@@ -70,7 +70,7 @@ const CAPABILITIES = {
   supportsClipboardContext: true,
   completionTriggerCharacters: [" ", "@", "."],
   exceptionBreakpointFilters: Object.entries(KINDS).map(([filter, label]) => (
-    { filter, label, default: false, supportsCondition: true, conditionDescription: say.CONDITION_OF_FAULT })),
+    { filter, label, default: false, supportsCondition: true, conditionDescription: say.EXCEPTION_CONDITION_HINT })),
 };
 
 export class DebugAdapter {

@@ -132,7 +132,7 @@ export class Machine {
    * @param {string} [title] for people
    */
   beginMove(act, acceptsWork, title = say.RUNNING) {
-    if (this.isMoving) fail(say.TIME_RUNS_ALREADY);
+    if (this.isMoving) fail(say.MACHINE_RUNS_ALREADY);
     this.isMoving = true;
     this.mustPause = false;
     this.acceptsWork = acceptsWork;

@@ -60,7 +60,7 @@ export async function sessionOfTest(engine, texts, { name, file }, pause) {
   const goesOn = () => pause().then(() => true);
   const options = { only: { name, source: file }, ran: (/** @type {TestSession} */ session) => sessions.push(session) };
   const { faults: [fault], outcomes } = await runTests(engine, texts, goesOn, options);
-  if (fault) throw new AdapterError(say.testsHaveFault(fault.file || fault.text, fault.line, fault.words || ""), true);
+  if (fault) throw new AdapterError(say.testsHaveError(fault.file || fault.text, fault.line, fault.words || ""), true);
   const outcome = outcomes.pop();
   const run = sessions.pop();
   if (!outcome) throw new AdapterError(say.noSuchTest(name, file), true);

@@ -259,7 +259,7 @@ function checkRom(session, engine, { program, session: file }, words) {
   const fault = differenceWords(session);
   if (fault === "") return;
   const difference = say.notInRomOf(lastPart(program), lastPart(file), fault);
-  throw new AdapterError(say.loadPuts(difference), true);
+  throw new AdapterError(say.loadHint(difference), true);
 }
 
 /**

@@ -105,7 +105,7 @@ function requestedPlace(args, session, addressOf) {
 export function readMemory(args, session, addressOf) {
   const { range: { begin, bytes }, from } = requestedPlace(args, session, addressOf);
   const count = needNumber(args, "count");
-  if (count < 0) fail(say.COUNT_IS);
+  if (count < 0) fail(say.COUNT_RANGE);
   const address = referenceOf(begin + from);
   if (from < 0 || from >= bytes.length) return { address, unreadableBytes: count };
   const read = bytes.subarray(from, Math.min(bytes.length, from + count));

@@ -247,7 +247,7 @@ export class Scopes {
    */
   async set(reference, name, value, base) {
     const found = (this.variables(reference) || []).find((each) => each.name === name);
-    if (!found) throw new Error(say.noneHere(name));
+    if (!found) throw new Error(say.notFoundHere(name));
     if (found.place === "") throw new Error(say.nothingSets(name));
     await setPlace(this.session, found.place, value);
     const now = (this.variables(reference, base) || []).find((each) => each.name === name);

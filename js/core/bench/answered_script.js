@@ -85,7 +85,7 @@ class AnswerMatcher {
     const messageAt = (/** @type {number} */ index) => say.noAnswer(index + 1, answers[index], line, input.line);
     const [word, count] = first.split(" ");
     if (!canBeginAnswer(input, first)) this.words = messageAt(at);
-    else if (word === "ok" && Number(count) !== this.commands + 1) this.words = say.otherCountOfCommands(messageAt(at), this.commands);
+    else if (word === "ok" && Number(count) !== this.commands + 1) this.words = say.wrongCommandCount(messageAt(at), this.commands);
     if (this.words !== "") return "";
     if (word === "ok") this.commands += 1;
     const end = at + completeLength(input, answers, at);
@@ -111,5 +111,5 @@ export function answeredScript(script, answers) {
   const matcher = new AnswerMatcher(answers);
   const answered = inputs.map(({ input, at }) => ({ input, at, answer: matcher.take(input, at) }));
   const { words, isOver, at } = matcher;
-  return { inputs: answered, words: words || (isOver ? "" : say.comesAfterLast(at + 1, answers[at])) };
+  return { inputs: answered, words: words || (isOver ? "" : say.afterLastAnswer(at + 1, answers[at])) };
 }

@@ -111,5 +111,5 @@ export async function begunScript(engine, state, script, yieldToMessages) {
   const begun = await serveScript(engine, script.split("\n").slice(0, lines).map((line) => `${line}\n`).join(""), yieldToMessages);
   const expected = engine.ask(begun.state, QUERIES).answers;
   const differing = differences(splitState(actual), splitState(expected));
-  return { lines, words: differing.length > 0 ? say.someDiffer(commands) : "", differing };
+  return { lines, words: differing.length > 0 ? say.answersDiffer(commands) : "", differing };
 }

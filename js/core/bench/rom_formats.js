@@ -21,10 +21,10 @@ const END_TYPES = ["7", "8", "9"];
 function storeSRecord(record, image) {
   if (!/^S\d([0-9A-F]{2}){4,}$/i.test(record)) throw new NotARecord(say.S_RECORD_FORM);
   const [count, ...bytes] = (record.slice(2).match(/../g) || []).map((digits) => parseInt(digits, 16));
-  if (bytes.length !== count) throw new NotARecord(say.otherCount(count, bytes.length));
+  if (bytes.length !== count) throw new NotARecord(say.wrongByteCount(count, bytes.length));
   const expected = 0xff - (bytes.slice(0, -1).reduce((sum, byte) => sum + byte, count) & 0xff);
   const checksum = bytes[bytes.length - 1];
-  if (checksum !== expected) throw new NotAnImage(say.otherSum(hex(checksum, 2), hex(expected, 2)));
+  if (checksum !== expected) throw new NotAnImage(say.wrongChecksum(hex(checksum, 2), hex(expected, 2)));
   const size = ADDRESS_SIZES.get(record[1]);
   if (size === undefined) return END_TYPES.includes(record[1]);
   if (bytes.length < size + 1) throw new NotAnImage(say.SHORT_RECORD);

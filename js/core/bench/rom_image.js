@@ -41,7 +41,7 @@ export class ImageBytes {
     const from = address + this.offset;
     if (from + data.length > ADDRESSES) throw new NotAnImage(say.PAST_LAST);
     for (let at = 0; at < data.length; at++) {
-      if (this.bytes[from + at] !== NO_BYTE) throw new NotAnImage(say.secondTime(hex(from + at, 3)));
+      if (this.bytes[from + at] !== NO_BYTE) throw new NotAnImage(say.duplicateAddress(hex(from + at, 3)));
       this.bytes[from + at] = data[at];
     }
   }
@@ -89,10 +89,10 @@ function readRecord(text) {
   if (!/^:([0-9A-F]{2}){5,}$/i.test(text)) throw new NotARecord(say.RECORD_FORM);
   const bytes = (text.slice(1).match(/../g) || []).map((digits) => parseInt(digits, 16));
   const [count, high, low, type] = bytes;
-  if (bytes.length !== count + 5) throw new NotARecord(say.otherCount(count, bytes.length - 5));
+  if (bytes.length !== count + 5) throw new NotARecord(say.wrongByteCount(count, bytes.length - 5));
   const expected = -bytes.slice(0, -1).reduce((sum, byte) => sum + byte, 0) & 0xff;
   if (bytes[count + 4] !== expected) {
-    throw new NotAnImage(say.otherSum(hex(bytes[count + 4], 2), hex(expected, 2)));
+    throw new NotAnImage(say.wrongChecksum(hex(bytes[count + 4], 2), hex(expected, 2)));
   }
   return { address: high * 256 + low, type, data: bytes.slice(4, -1) };
 }
@@ -110,8 +110,8 @@ function storeRecord({ address, type, data }, image) {
   const size = DATA_SIZES.get(type);
   if (type === DATA_TYPE) image.put(address, data);
   else if (size === undefined) throw new NotAnImage(say.noType(hex(type, 2)));
-  else if (data.length !== size) throw new NotAnImage(say.otherSize(hex(type, 2), size));
-  else if (BASE_TYPES.includes(type) && data.some((byte) => byte !== 0)) throw new NotAnImage(say.beyondAll(type));
+  else if (data.length !== size) throw new NotAnImage(say.wrongRecordSize(hex(type, 2), size));
+  else if (BASE_TYPES.includes(type) && data.some((byte) => byte !== 0)) throw new NotAnImage(say.addressPastLast(type));
 }
 
 /**

@@ -169,7 +169,7 @@ function linesOfPort(chip) {
  * @param {TestPin | null} test
  */
 function drawProcessor(column, test) {
-  const says = [say.DOES_PROCESSOR,
+  const says = [say.PROCESSOR_ROLE,
     test ? say.testIsAt(test.kind, nameOf(test)) : say.TEST_IS_ONLY_INPUT];
   const pin = { id: "TEST", line: "", label: "TEST", number: TEST_NUMBER };
   return column.add({ id: "processor", kind: "processor", title: "4004", says }, [], [pin]);
@@ -191,7 +191,7 @@ function nameOf({ name }) {
 function drawTest(column, test) {
   const name = nameOf(test);
   const title = name.length > MAX_TITLE_LENGTH ? `${name.slice(0, MAX_TITLE_LENGTH - 1)}…` : name;
-  const says = [say.putsTest(test.kind, name, test.level)];
+  const says = [say.drivesTest(test.kind, name, test.level)];
   return column.add({ id: "test", kind: "test", title, says }, [], [{ id: "test", line: "", label: test.kind }]);
 }
 

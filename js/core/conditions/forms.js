@@ -34,7 +34,7 @@ function meaningOfForm({ what, want, isMany = false, measure, matches, remark, a
     matches: (values, beside) => matches(measure(values, beside), beside),
     explain: (values, beside, isNot) => {
       const is = measure(values, beside);
-      return say.hasToBe(what, is, want + (remark ? remark(is) : ""), isMany, isNot);
+      return say.mustBe(what, is, want + (remark ? remark(is) : ""), isMany, isNot);
     },
   };
 }
@@ -76,7 +76,7 @@ export function lampsMeaning(words, names, looked) {
     const wanted = new Set(words.join(" ") === "none" ? [] : words.map((name) => lampNumberOf(name, names)));
     want = upTo(count).map((at) => (wanted.has(at) ? "*" : isOfDisplay(at, names) ? "?" : ".")).join("");
   }
-  if (want.length !== count) fail(say.otherPattern(want.length, count));
+  if (want.length !== count) fail(say.wrongPatternLength(want.length, count));
   const place = looked.at("lamps");
   /** @type {(is: string) => string} */
   const remark = (is) => {
@@ -105,7 +105,7 @@ export function displayMeaning(words, names, looked) {
   const wordsOf = ({ number, names: lit }) => (lit === "" || number === want ? number : `${number} ${lit}`);
   const matches = (/** @type {string} */ is) => is === want;
   if (hasScannedDisplay(face)) {
-    looked.need("seen", say.LIT_BY_TURNS);
+    looked.need("seen", say.DIGITS_ARE_MULTIPLEXED);
     const seen = new SeenText(face, board.lamps.length);
     return meaningOfForm({ what: "display", want, matches, measure: (_, beside) => wordsOf(seen.read(beside.seen)) });
   }

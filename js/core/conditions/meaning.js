@@ -48,7 +48,7 @@ function comparedMeaning(value, sign, wanted) {
     explain: (values, _, isNot) => {
       const number = wanted.read(values);
       const than = wanted.isConstant ? String(number) : say.valueIs(wanted.name, number);
-      return say.hasToBe(value.name, String(value.read(values)), sign === "=" ? than : `${sign} ${than}`, false, isNot);
+      return say.mustBe(value.name, String(value.read(values)), sign === "=" ? than : `${sign} ${than}`, false, isNot);
     },
   };
 }
@@ -105,7 +105,7 @@ function holdsMeaning({ place, values, text, column }, names, looked) {
   return {
     address: -1,
     matches: (given) => all.every((value, at) => value.read(given) === wanted[at].read(given)),
-    explain: (given, _, isNot) => say.hasToBe(all[0].name, joined(all, given), joined(wanted, given), false, isNot),
+    explain: (given, _, isNot) => say.mustBe(all[0].name, joined(all, given), joined(wanted, given), false, isNot),
   };
 }
 
@@ -134,7 +134,7 @@ function panelMeaning({ what, name, isOn }, names, looked) {
   return {
     address: -1,
     matches: (values) => value.read(values) === Number(isOn),
-    explain: (values, _, isNot) => say.hasToBe(`${what} ${name}`, words[value.read(values)], words[Number(isOn)], false, isNot),
+    explain: (values, _, isNot) => say.mustBe(`${what} ${name}`, words[value.read(values)], words[Number(isOn)], false, isNot),
   };
 }
 
@@ -150,7 +150,7 @@ function notMeaning(meaning, text) {
     matches: (values, beside) => !meaning.matches(values, beside),
     explain: (values, beside, isNot) => (text === "" ? meaning.explain(values, beside, !isNot)
       : isNot ? meaning.explain(values, beside, false)
-      : say.holdsAndMayNot(text)),
+      : say.holdsButMustNot(text)),
   };
 }
 
@@ -169,7 +169,7 @@ function joinedMeaning(by, parts, text) {
       isAnd ? parts.every((part) => part.matches(values, beside)) : parts.some((part) => part.matches(values, beside))
     ),
     explain: (values, beside, isNot) => {
-      if (isNot) return say.holdsAndMayNot(text);
+      if (isNot) return say.holdsButMustNot(text);
       const failing = parts.filter(({ matches }) => !matches(values, beside)).map(({ explain }) => explain(values, beside, false));
       return isAnd ? failing[0] : failing.join("; ");
     },

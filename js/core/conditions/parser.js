@@ -258,7 +258,7 @@ class Parser {
    * @param {string} sign the operator
    */
   requireMore(sign) {
-    if (this.scanner.peek().kind === "end") fail(say.missingBehind(sign), this.lastColumn);
+    if (this.scanner.peek().kind === "end") fail(say.missingAfter(sign), this.lastColumn);
   }
 
   /**

@@ -100,7 +100,7 @@ export class Scanner {
     const number = this.take(NUMBER);
     if (!number) {
       const [rest] = /** @type {RegExpExecArray} */ (this.take(RAW));
-      return fail(rest.startsWith('"') ? say.NO_END_OF_TEXT : say.noSign(rest), column);
+      return fail(rest.startsWith('"') ? say.NO_END_OF_TEXT : say.unknownSign(rest), column);
     }
     if (Number.isNaN(numeralOf(number[0]))) fail(say.noNumeral(number[0]), column);
     return made("number", number[0]);

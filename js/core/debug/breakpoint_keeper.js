@@ -26,7 +26,7 @@ import * as say from "../../words/debug.js";
  * @property {(fault: unknown) => void} failed Reports an error that `set` threw.
  */
 
-const TOO_MANY = say.tooManyOn(MOST_ON);
+const TOO_MANY = say.tooManyEnabled(MOST_ON);
 /** The maximum number of sessions whose lists are kept. */
 const MAX_LISTS = 30;
 
@@ -247,7 +247,7 @@ export class BreakpointKeeper {
    */
   add(some) {
     if (this.list.all.length >= MAX_BREAKPOINTS) {
-      this.calls.showMessage(say.mostBreakpoints(MAX_BREAKPOINTS));
+      this.calls.showMessage(say.tooManyBreakpoints(MAX_BREAKPOINTS));
       return;
     }
     const isFull = this.list.countOn >= MOST_ON;

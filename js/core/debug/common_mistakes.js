@@ -232,13 +232,13 @@ export class CommonMistakes {
    */
   faultOf(codes, address, values) {
     const code = codes[address];
-    if (this.isOutsideProgram(address)) return { kind: "bytes", words: say.RUNS_ON };
+    if (this.isOutsideProgram(address)) return { kind: "bytes", words: say.LEFT_PROGRAM };
     if (!isCall(code) && !isReturn(code)) return null;
     const returns = values[2].split(",").map((each) => parseInt(each, 16));
     const [newest, , oldest] = returns.map((each) => hex(each, 3));
     const live = areLive(returns, returns.map((each) => hex(codes[callBefore(each)], 2)), this.map);
-    if (isReturn(code)) return live[0] ? null : { kind: "return", words: say.returnGoes(newest) };
-    return live[2] ? { kind: "calls", words: say.wayBackLost(oldest) } : null;
+    if (isReturn(code)) return live[0] ? null : { kind: "return", words: say.returnWithoutCall(newest) };
+    return live[2] ? { kind: "calls", words: say.returnAddressLost(oldest) } : null;
   }
 
   /**

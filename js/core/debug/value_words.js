@@ -189,5 +189,5 @@ export function valuesAt(text, at, standing, { nameOf, doesOf }) {
   const name = nameOf(word.text);
   if (!name) return [];
   if (!name.isLabel) return numberPieces(name.words, name.value, parts, standing);
-  return [standing.registers.counter === hex(name.value, 3) ? say.comesNext(name.words) : name.words];
+  return [standing.registers.counter === hex(name.value, 3) ? say.isNext(name.words) : name.words];
 }

@@ -37,7 +37,7 @@ function freeNumber(taken, most) {
  */
 export function addRom(sketch, port) {
   const chip = freeNumber(sketch.board.roms.map((rom) => Number(rom.chip)), MAX_PARTS.rom);
-  if (chip === undefined) throw new ActRefusal(say.mostRoms(MAX_PARTS.rom));
+  if (chip === undefined) throw new ActRefusal(say.maxRoms(MAX_PARTS.rom));
   sketch.edit(addPart(sketch.draft, "rom", { chip, port }));
   return `rom ${chip}`;
 }
@@ -55,7 +55,7 @@ export function addRam(sketch) {
     return `ram ${open.bank}.${open.chips}`;
   }
   const bank = freeNumber(banks.map((each) => each.bank), MAX_PARTS.ram);
-  if (bank === undefined) throw new ActRefusal(say.mostRams(MAX_PARTS.ram, most));
+  if (bank === undefined) throw new ActRefusal(say.maxRams(MAX_PARTS.ram, most));
   sketch.edit(addPart(sketch.draft, "ram", { bank, chips: 1 }));
   return `ram ${bank}.0`;
 }
@@ -135,7 +135,7 @@ function freeForLamps(board) {
  */
 export function addChain(sketch, chips = 1) {
   const at = sketch.board.chains.length;
-  if (at >= MAX_PARTS.chain) throw new ActRefusal(say.mostChains(MAX_PARTS.chain));
+  if (at >= MAX_PARTS.chain) throw new ActRefusal(say.maxChains(MAX_PARTS.chain));
   const [clock, data] = needLines(sketch, 2, freeOutputs, () => addRom(sketch, OUTPUTS));
   sketch.edit(addPart(sketch.draft, "chain", { clock, data, chips }));
   return `chain ${at}`;
@@ -189,8 +189,8 @@ export function setRows(sketch, rows) {
   const { matrix, chains } = sketch.board;
   if (!matrix) throw new ActRefusal(say.NO_KEYS);
   const { from, to } = RANGES["keys.rows"];
-  if (rows > to) throw new ActRefusal(say.mostRows(to));
-  if (rows < from) throw new ActRefusal(say.LEAST_ROWS);
+  if (rows > to) throw new ActRefusal(say.maxRows(to));
+  if (rows < from) throw new ActRefusal(say.MIN_ROWS);
   if (matrix.first + rows > BITS_PER_CHIP * chains[matrix.chain].chips) {
     throw new ActRefusal(say.noBitForRow(matrix.chain));
   }
@@ -205,7 +205,7 @@ export function setRows(sketch, rows) {
 export function addColumn(sketch) {
   const { matrix } = sketch.board;
   if (!matrix) throw new ActRefusal(say.NO_KEYS);
-  if (matrix.columns.length >= MAX_COLUMNS) throw new ActRefusal(say.mostColumns(MAX_COLUMNS));
+  if (matrix.columns.length >= MAX_COLUMNS) throw new ActRefusal(say.maxColumns(MAX_COLUMNS));
   const [line] = needLines(sketch, 1, freeInputs, () => addRom(sketch, INPUTS));
   const { draft } = sketch;
   sketch.edit(appendElement(draft, draft.keyOf(draft.entry("keys", 0), "columns").value, written(line)));
@@ -218,7 +218,7 @@ export function addColumn(sketch) {
  * @param {number} count
  */
 function needRoom({ board }, count) {
-  if (board.lamps.length + count > MAX_PARTS.lamp) throw new ActRefusal(say.mostLamps(MAX_PARTS.lamp, board.lamps.length));
+  if (board.lamps.length + count > MAX_PARTS.lamp) throw new ActRefusal(say.maxLamps(MAX_PARTS.lamp, board.lamps.length));
 }
 
 /**
@@ -268,7 +268,7 @@ export function addBuzzer(sketch, line = "") {
  * @param {number} digits
  */
 export function addDisplay(sketch, kind, digits) {
-  if (!Number.isInteger(digits) || digits < 1) throw new ActRefusal(say.LEAST_DIGITS);
+  if (!Number.isInteger(digits) || digits < 1) throw new ActRefusal(say.MIN_DIGITS);
   needRoom(sketch, digits * LINES_PER_DIGIT[kind]);
   needRom(sketch);
   const at = sketch.board.lamps.length;
@@ -289,7 +289,7 @@ export function addDisplay(sketch, kind, digits) {
  */
 export function addScanned(sketch, digits) {
   const most = limit("scanned");
-  if (!Number.isInteger(digits) || digits < 1 || digits > most) throw new ActRefusal(say.mostScanned(most));
+  if (!Number.isInteger(digits) || digits < 1 || digits > most) throw new ActRefusal(say.maxMultiplexed(most));
   const count = LINES_PER_DIGIT.segments + digits;
   needRoom(sketch, count);
   needRom(sketch);
@@ -350,8 +350,8 @@ export function requireOutputs({ text }, goes) {
  */
 export function setChips(sketch, chain, chips) {
   const { from, to } = RANGES["chain.chips"];
-  if (chips > to) throw new ActRefusal(say.mostChips(to));
-  if (chips < from) throw new ActRefusal(say.LEAST_CHIPS);
+  if (chips > to) throw new ActRefusal(say.maxChips(to));
+  if (chips < from) throw new ActRefusal(say.MIN_CHIPS);
   /** @type {(line: string) => boolean} */
   const isBeyond = (line) => line.startsWith(`chain${chain}.`) && bitOf(line).bit >= BITS_PER_CHIP * chips;
   requireOutputs(sketch, isBeyond);

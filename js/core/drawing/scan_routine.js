@@ -84,7 +84,7 @@ function shiftToFirstRow(first, labels) {
   const [turn, shift] = [labels.of("first"), labels.of("shift")];
   /** @type {Line[]} */
   const counters = [
-    ["", ["LDM", String((REGISTER_VALUES - (first % REGISTER_VALUES)) % REGISTER_VALUES)]], ["", ["XCH", "R8"], say.goesTo(first)],
+    ["", ["LDM", String((REGISTER_VALUES - (first % REGISTER_VALUES)) % REGISTER_VALUES)]], ["", ["XCH", "R8"], say.movesTo(first)],
   ];
   if (rounds > 1) counters.push(["", ["LDM", String(REGISTER_VALUES - rounds)]], ["", ["XCH", "R9"]]);
   /** @type {Line[]} */

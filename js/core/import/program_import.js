@@ -298,7 +298,7 @@ class ProgramImport {
   operandText(text, { from = 0, to, modulus = 0, isNumber = false }) {
     const { value, isKnown, fault } = this.valueOf(text, this.address);
     if (fault) throw new LineFault(fault);
-    if (!isKnown) throw new LineFault(say.hangsUponItself(text));
+    if (!isKnown) throw new LineFault(say.dependsOnItself(text));
     // A negative number becomes its two's complement.
     const number = modulus > 0 && value < 0 && value >= -modulus / 2 ? value + modulus : value;
     if (!(number >= from && number <= to)) throw new LineFault(say.outOfRange(text, number, from, to));
@@ -336,7 +336,7 @@ class ProgramImport {
     if (this.definedAt.has(word)) return this.operandText(text, { to: NIBBLE - 1 });
     const known = CONDITIONS.get(word);
     if (known !== undefined) return String(known);
-    if (word === "NC" && !this.isForAs) throw new LineFault(say.NC_OF_WHOM);
+    if (word === "NC" && !this.isForAs) throw new LineFault(say.NC_IS_AMBIGUOUS);
     if (!/^N?[ZCT]+$/.test(word)) return this.operandText(text, { to: NIBBLE - 1 });
     const letters = new Set(word.replace(/^N/, ""));
     return String([...letters].reduce((sum, letter) => sum + CONDITION_BITS[letter], word.startsWith("N") ? INVERTED : 0));

@@ -18,7 +18,7 @@ const NEVER = "\u25CB";
  * @param {Pick<Breakpoint, "condition" | "from" | "note">} breakpoint
  */
 export function detailsOfBreakpoint({ condition, from, note }) {
-  const when = condition.trim() ? say.whereHolds(condition.trim()) : "";
+  const when = condition.trim() ? say.ifCondition(condition.trim()) : "";
   const since = from > 1 ? say.fromHit(from) : "";
   return `${when}${since}${note.trim() && say.logs(note.trim())}`.replace(/^:? /, "");
 }
@@ -28,7 +28,7 @@ export function detailsOfBreakpoint({ condition, from, note }) {
  * @param {Pick<Breakpoint, "condition" | "from" | "note">} breakpoint
  */
 export function wordsOfBreakpoint(breakpoint) {
-  return say.breakpointThat(detailsOfBreakpoint(breakpoint));
+  return say.breakpointWith(detailsOfBreakpoint(breakpoint));
 }
 
 /**

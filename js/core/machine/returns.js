@@ -58,7 +58,7 @@ export function noteOfCounter(address, map) {
  * @returns {Note}
  */
 export function noteOfReturn(address, isLive, map) {
-  if (!isLive) return { isLive, words: say.LEFT_OVER, title: say.NO_CALL_WAITS };
+  if (!isLive) return { isLive, words: say.STALE_RETURN, title: say.NO_CALL_WAITS };
   const line = map ? map.lineOf(callBefore(address)) : 0;
   if (!map || line === 0) return { isLive, words: "", title: "" };
   return { isLive, words: joinWords([map.nameOf(address), say.callInLine(line)]), title: map.sources[line - 1].trim() };

@@ -229,7 +229,7 @@ export class Screen {
     if (!printing || !face.printer) return [];
     const lines = printoutLines(printed, face.printer.words).map(escaped);
     const count = Math.max(MIN_PRINTOUT_ROWS, room);
-    const head = count > MIN_PRINTOUT_ROWS ? [say.PAPER] : [];
+    const head = count > MIN_PRINTOUT_ROWS ? [say.PRINTOUT_TITLE] : [];
     const last = lines.slice(-(count - head.length));
     return [...head, ...last, ...Array(count - head.length - last.length).fill("")];
   }

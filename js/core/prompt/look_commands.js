@@ -6,7 +6,7 @@ import { commandOf, helpOf } from "./prompt_commands.js";
 import { formattedValue } from "./formats.js";
 import * as looks from "./looks.js";
 import { addressIn, countIn, instructionIn, refuse } from "./words_of_line.js";
-import { MADE_OF_ROM } from "../../words/adapter.js";
+import { DISASSEMBLED_FROM_ROM } from "../../words/adapter.js";
 import * as say from "../../words/prompt.js";
 import { stoppedAt } from "../../words/stops.js";
 
@@ -163,7 +163,7 @@ export class LookCommands {
       watches: () => breakpoints.watches,
       display: () => this.displays.map((expression, at) => `${at + 1}: ${expression}`).join("\n") || say.NOTHING_DISPLAYED,
       names: () => looks.nameLines(session),
-      source: () => say.linesOf(launched.program || MADE_OF_ROM, looks.linesOfSource(session)),
+      source: () => say.linesOf(launched.program || DISASSEMBLED_FROM_ROM, looks.linesOfSource(session)),
       session: () => (launched.writer ? say.SESSION_FILE : say.IN_MEMORY),
       line: (place) => looks.lineText(session, instructionIn(place, session)),
       symbol: (place) => {

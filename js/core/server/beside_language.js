@@ -89,11 +89,11 @@ export class DependentLanguage {
   dependencyError({ board, program }) {
     const missing = [board, program].find(({ text }) => text === null);
     const note = (/** @type {string} */ words) => ({ number: 0, line: 1, from: 0, to: 0, words });
-    if (missing) return note(say.nothingBeside(fileNameOf(missing.uri)));
+    if (missing) return note(say.neighbourMissing(fileNameOf(missing.uri)));
     const { faults } = this.prepareTexts({ boardText: board.text || "", programText: program.text || "" });
     if (faults.length === 0) return null;
     const [{ text, line }] = faults;
-    return note(say.besideIsWrong(fileNameOf(text === "board" ? board.uri : program.uri), line));
+    return note(say.neighbourHasError(fileNameOf(text === "board" ? board.uri : program.uri), line));
   }
 
   /**

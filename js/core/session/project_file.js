@@ -153,7 +153,7 @@ export class Lines {
    * @returns {NotAProject}
    */
   fault(wanted) {
-    return new NotAProject(say.hasToBe(this.at + 1, wanted));
+    return new NotAProject(say.lineMustBe(this.at + 1, wanted));
   }
 
   /**

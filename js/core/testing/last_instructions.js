@@ -56,6 +56,6 @@ export function lastInstructions(session, { board, map }) {
     engine.serve(file, line === "run" ? runLines(left) : `${line}\n`, file);
     elapsed += left;
   });
-  const last = [...lines.slice(-MAX_INSTRUCTIONS), say.comesNext(trace.next(session.file, elapsed))];
+  const last = [...lines.slice(-MAX_INSTRUCTIONS), say.isNext(trace.next(session.file, elapsed))];
   return last.flatMap((each) => each.split("\n"));
 }

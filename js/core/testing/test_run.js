@@ -263,7 +263,7 @@ export class TestRun {
     const { holds, message } = session.check(condition);
     if (holds) return "";
     if (stop === "code") return say.runStoppedAt(session.elapsed - begun, this.wordsOfCode(session), message);
-    return say.didNotCome(within, message, wordsOfPassed(session, this.prepared.names.map, condition));
+    return say.notReached(within, message, wordsOfPassed(session, this.prepared.names.map, condition));
   }
 
   /**

@@ -131,7 +131,7 @@ function wordsOfCharacter(character) {
   if (character === "\u00a0") return say.OTHER_BLANK;
   if (/[\p{Cf}\p{Zs}\p{Zl}\p{Zp}\p{Cc}]/u.test(character) && character >= "\u0080") {
     const code = (character.codePointAt(0) || 0).toString(16).toUpperCase().padStart(4, "0");
-    return say.unseen(code);
+    return say.invisibleCharacter(code);
   }
   if (character < " " || character === "\u007f") return say.CONTROL_CHARACTER;
   return say.otherCharacter(character);

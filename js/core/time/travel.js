@@ -51,7 +51,7 @@ export class Travel {
     await this.calls.stand();
     if (goal.kind === "when") await this.bench.call("takeNames", [this.calls.texts()]);
     this.calls.aim(goal);
-    const result = await this.calls.change(say.LOOKING_FOR_GOAL, (ways) => this.bench.call("goOn", [goal], ways));
+    const result = await this.calls.change(say.SEARCHING_GOAL, (ways) => this.bench.call("goOn", [goal], ways));
     this.calls.aim(null);
     if (!result) return;
     const { cycles, isReached, end, id, returns } = result.found;

@@ -57,7 +57,7 @@ export class LiveWaves {
   get words() {
     const { waves, triggered, over } = this;
     const { trigger } = this.choice;
-    const triggerText = triggered < 0 ? "" : say.triggerCame(grouped(triggered));
+    const triggerText = triggered < 0 ? "" : say.triggerWasAt(grouped(triggered));
     if (over === "trigger") return say.recorded(this.kept, triggerText);
     if (over !== "") return say.recordedUntil(this.kept || say.NOTHING, say.ENDS[over] || over, triggerText);
     if (triggered >= 0) return say.recordsAfter(triggerText);

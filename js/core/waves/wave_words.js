@@ -81,7 +81,7 @@ export function spokenText(moment, waves, line) {
 export function recordedText({ span, isStuck }, wanted, isBefore) {
   if (span === 0 && isBefore) return say.NOTHING_BEFORE;
   const recorded = say.recordedSpan(cyclesText(span), timeOfCycles(span));
-  if (isStuck) return say.thenNoInstruction(recorded);
+  if (isStuck) return say.codeFollows(recorded);
   return span < wanted ? say.noFurtherBack(recorded) : recorded;
 }
 

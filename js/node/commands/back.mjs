@@ -83,7 +83,7 @@ async function goBack(session, count) {
   const shorter = Uint8Array.from(bytes);
   shorter[place] = 0;
   const { opened } = engine.ask(engine.stateOf(shorter), "seq\n");
-  if (opened !== `session ${commands - count}`) throw new CommandError(say.wouldBeOther(session, commands - count, opened));
+  if (opened !== `session ${commands - count}`) throw new CommandError(say.wouldDiffer(session, commands - count, opened));
   endLog(session, place);
   return opened;
 }

@@ -27,7 +27,7 @@ function chosenFormat(action, values) {
   const given = ACTION_FORMATS.load.filter((form) => values[form]);
   if (given.length > 1) throw new UsageError(say.excludeEachOther(`--${given[0]}`, `--${given[1]}`));
   const [form = null] = given;
-  if (form && !ACTION_FORMATS[action].includes(form)) throw new UsageError(say.noFormOf(action, form));
+  if (form && !ACTION_FORMATS[action].includes(form)) throw new UsageError(say.unsupportedFormat(action, form));
   return form;
 }
 

@@ -162,7 +162,7 @@ async function writeWav(opened, cycles, word, name) {
 export async function run(values, words) {
   const { lines: isList, wav } = values;
   if (isList && wav !== undefined) throw new UsageError(say.excludeEachOther("--lines", "--wav"));
-  if (wav !== undefined && values.names !== undefined) throw new UsageError(say.NO_NAMES_OF_SOUND);
+  if (wav !== undefined && values.names !== undefined) throw new UsageError(say.SOUND_NEEDS_NO_NAMES);
   checkArguments(words, isList ? ["SESSION"] : ["SESSION", "CYCLES"], isList ? 1 : wav === undefined ? Infinity : 3);
   const [session, word, ...lines] = words;
   const cycles = isList ? 0 : parseCount("CYCLES", word, MAX_CYCLES);

@@ -29,7 +29,7 @@ function isEmptyBoard({ roms, banks, chains, lamps }) {
   return [roms, banks, chains, lamps].every((parts) => parts.length === 0);
 }
 
-const AS_SEEN = say.asSeen(EYE_MS);
+const AS_SEEN = say.averagedBrightness(EYE_MS);
 
 /** The maximum length of a legend in large letters. */
 const MAX_LARGE_LEGEND = 4;

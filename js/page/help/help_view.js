@@ -82,6 +82,6 @@ export class HelpView {
     this.sections.replaceChildren(...found.map(({ title, tables }) => (
       element("details", { open: wanted !== "" }, element("summary", {}, title), ...tables.map((table) => tableOf(table, title))))));
     const count = found.reduce((sum, { tables }) => sum + tables.reduce((rows, table) => rows + table.rows.length, 0), 0);
-    this.status.set(wanted === "" ? "" : say.rowsHaveIt(count));
+    this.status.set(wanted === "" ? "" : say.rowsFound(count));
   }
 }

@@ -46,16 +46,16 @@ export class BreakpointRow {
     /** @type {Breakpoint | null} the edited breakpoint, in its initial state */
     this.edited = null;
     const parts = {
-      condition: makeField(say.CONDITION, { "placeholder": say.SUCH_AS_CONDITION, "aria-description": say.STOPS_WHERE }),
+      condition: makeField(say.CONDITION, { "placeholder": say.CONDITION_EXAMPLE, "aria-description": say.CONDITION_HINT }),
       from: makeField(say.HIT_COUNT, { "size": 6, "inputMode": "numeric", "aria-description": say.STOPS_FROM_HIT }),
-      note: makeField(say.LOG_MESSAGE, { "placeholder": say.SUCH_AS_NOTE, "aria-description": say.LOGGED }),
+      note: makeField(say.LOG_MESSAGE, { "placeholder": say.NOTE_EXAMPLE, "aria-description": say.LOG_MESSAGE_HINT }),
     };
     this.fields = { condition: parts.condition.field, from: parts.from.field, note: parts.note.field };
     this.status = new Cell(element("p", { className: "fault", role: "alert" }));
-    this.node = element("form", { "className": "breakpoint-row", "aria-label": say.WORDS_OF_BREAKPOINT },
+    this.node = element("form", { "className": "breakpoint-row", "aria-label": say.BREAKPOINT_FIELDS },
       ...Object.values(parts).map(({ label }) => label), element("div", { className: "bar" },
         element("button", { type: "submit", title: "Enter" }, say.APPLY),
-        buttonOf(say.LEAVE, () => this.cancel(), { title: "Escape" })), this.status.node);
+        buttonOf(say.CANCEL, () => this.cancel(), { title: "Escape" })), this.status.node);
     this.listen();
   }
 

@@ -79,7 +79,7 @@ export class HeatView {
     this.cycles.setAttribute("aria-invalid", String(cycles === 0));
     if (cycles === 0) {
       this.clear();
-      this.showStatus(say.howManyCycles(MAX_CYCLES.toLocaleString("en")));
+      this.showStatus(say.cycleCountHint(MAX_CYCLES.toLocaleString("en")));
     }
     return cycles;
   }

@@ -62,7 +62,7 @@ export class RegistersView {
       const value = element("button", { type: "button", id: `value-${name}` });
       value.setAttribute("aria-labelledby", `${title.id} ${value.id}`);
       this.cells.set(name, new Cell(value));
-      if (name === "owed") this.editor.refuse(value, say.OWED_STAYS);
+      if (name === "owed") this.editor.refuse(value, say.PENDING_CYCLE_IS_READ_ONLY);
       else this.editor.offer(value, { place: name.toLowerCase(), name, digits: DIGITS.get(name) || 1 });
       return element("div", {}, title, element("dd", {}, value));
     }));
@@ -115,7 +115,7 @@ export class PortsView {
     this.sources = element("dl", { className: "cells" });
     this.sourceCells.clear();
     this.roms = board.roms.map(() => cells(2));
-    for (const cell of this.roms.flat()) this.editor.refuse(cell.node, say.PORTS_STAY);
+    for (const cell of this.roms.flat()) this.editor.refuse(cell.node, say.PORTS_ARE_READ_ONLY);
     this.chains = board.chains.map((chain) => {
       const bits = upTo(chain.chips * 10).map(() => new Cell(element("i")));
       const ones = bits.map(({ node }) => new Switch((isOne) => node.classList.toggle("one", isOne)));

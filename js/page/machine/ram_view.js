@@ -177,7 +177,7 @@ export class RamView {
    */
   drawPort(bank, chip) {
     const cell = new Cell(element("span", { title: say.portTitle(bank, chip) }));
-    this.editor.refuse(cell.node, say.RAM_PORTS_STAY);
+    this.editor.refuse(cell.node, say.RAM_PORTS_ARE_READ_ONLY);
     this.ports.set(`${bank}.${chip}`, cell);
     return element("p", { className: "port" }, say.PORT, cell.node);
   }

@@ -48,7 +48,7 @@ export class WatchedView {
     const written = field("watched-field");
     const { watched, fault } = readWatched(written.value, this.calls.names());
     const isFull = this.all.length >= MAX_WATCHED;
-    this.status.textContent = isFull ? say.mostWatched(MAX_WATCHED) : fault;
+    this.status.textContent = isFull ? say.maxWatched(MAX_WATCHED) : fault;
     written.setAttribute("aria-invalid", String(this.status.textContent !== ""));
     if (!watched || isFull) return;
     written.value = "";

@@ -1,7 +1,7 @@
 // The session that is shown: replaces it, saves it, and displays its name.
 
 import { field, block } from "../ui/dom.js";
-import { wordsOfBroken } from "../../words/stops.js";
+import { wordsOfInterrupted } from "../../words/stops.js";
 import { NO_CYCLES } from "../../core/time/cycles.js";
 import { addressOf } from "./address.js";
 import { KeptSession } from "./kept_session.js";
@@ -82,7 +82,7 @@ export class CurrentSession {
     await this.showParts();
     await this.keep();
     if (this.willRun) calls.run();
-    else calls.halted(goal ? wordsOfBroken(goal, runs, calls.where()) : say.STOPPED);
+    else calls.halted(goal ? wordsOfInterrupted(goal, runs, calls.where()) : say.PAUSED);
     this.willRun = false;
     await this.remember();
   }
@@ -123,7 +123,7 @@ export class CurrentSession {
     try {
       return await this.callOpen(record);
     } catch (fault) {
-      if (this.session) this.calls.halted(say.STOPPED);
+      if (this.session) this.calls.halted(say.PAUSED);
       throw fault;
     }
   }

@@ -96,7 +96,7 @@ export class KeptList {
 
   /** @param {SessionRecord} record */
   deletedLine(record) {
-    const back = this.calls.button(say.BRING_BACK, say.bringBackNamed(record.name), async () => {
+    const back = this.calls.button(say.RESTORE, say.restoreNamed(record.name), async () => {
       await this.calls.bringBack([record]);
       this.giveFocus(0);
     });

@@ -93,7 +93,7 @@ export class SessionsController {
       openFile: (file) => manager.openFile(file),
       openFolder: (read) => manager.openFolder(read),
       rename: (name) => calls.rename(name),
-      keptWhere: () => (this.store.keeps ? say.KEPT_HERE + (this.persistence.isPromised ? say.PROMISED : "") : say.KEPT_NOWHERE),
+      keptWhere: () => (this.store.keeps ? say.KEPT_HERE + (this.persistence.isPromised ? say.PROMISED : "") : say.NOT_SAVED_ANYWHERE),
     });
   }
 
@@ -210,7 +210,7 @@ export class SessionsController {
     const release = await this.locks.take(record.id);
     if (!release) return;
     release();
-    const words = say.notByItself(shortName(record.name));
+    const words = say.notOpenedAutomatically(shortName(record.name));
     const remove = () => this.remove([record]);
     this.notice.show(words, "unended", { word: say.OPEN_IT, act: () => this.open(record.id) }, { word: say.DELETE_IT, act: remove });
   }

@@ -36,7 +36,7 @@ import * as say from "../../words/session.js";
  */
 function contentsOf({ testText, propertiesText }) {
   const held = [...say.ALWAYS_HELD, ...(testText ? [say.THE_TESTS] : []), ...(propertiesText ? [say.THE_PROPERTIES] : [])];
-  return say.itHolds(held.slice(0, -1).join(", "), held[held.length - 1]);
+  return say.linkContains(held.slice(0, -1).join(", "), held[held.length - 1]);
 }
 
 export class Sharing {
@@ -70,7 +70,7 @@ export class Sharing {
       await this.offerFile(size);
       return;
     }
-    const messages = [`${contentsOf(texts)}${location.protocol === "file:" ? say.OF_A_FILE : ""}`];
+    const messages = [`${contentsOf(texts)}${location.protocol === "file:" ? say.LINK_FROM_FILE : ""}`];
     if (address.length > SAFE_LINK) messages.push(say.LONG);
     try {
       await navigator.clipboard.writeText(address);
@@ -101,7 +101,7 @@ export class Sharing {
     area.setAttribute("aria-label", say.THE_LINK);
     const answer = this.ask.ask({
       title: say.COPY_LINK,
-      words: [say.COPY_BY_HAND, area, ...messages],
+      words: [say.COPY_MANUALLY, area, ...messages],
       accept: "",
       refuse: say.CLOSE,
     });

@@ -172,7 +172,7 @@ export class Store {
  */
 export function wordsOfStoreFault(error) {
   if (error instanceof NotKept) return error.message;
-  const name = error instanceof DOMException || error instanceof Error ? error.name : say.NO_WORD;
+  const name = error instanceof DOMException || error instanceof Error ? error.name : say.UNKNOWN_REASON;
   if (name === "QuotaExceededError") return say.NO_SPACE;
   return say.storeFailed(name);
 }

@@ -138,7 +138,7 @@ export class TextsController {
   takeSingle(where, name, text) {
     const replaced = this.put(where, text);
     this.calls.took(where, "");
-    this.showReplaced(replaced, `${name} ${say.BESIDE[where]}`);
+    this.showReplaced(replaced, `${name} ${say.OPENED_IN[where]}`);
   }
 
   /**
@@ -161,7 +161,7 @@ export class TextsController {
       if (found === old) {
         this.notice.show(say.SAME_AS_ROM, "refusal");
       } else if (old.trim() === "" || (await this.confirmReplacing(old, found))) {
-        if (this.isShown(session)) this.replace("program", found, say.TAKEN_FROM_ROM);
+        if (this.isShown(session)) this.replace("program", found, say.DISASSEMBLED);
       }
     } catch (fault) {
       this.calls.failed(fault);

@@ -93,7 +93,7 @@ export class HistoryView {
     const count = parseCount(this.count.value, MAX_INSTRUCTIONS);
     this.count.setAttribute("aria-invalid", String(count === 0));
     if (count > 0) this.calls.goOn({ kind: "count", count });
-    else this.calls.showMessage(say.giveCount(MAX_INSTRUCTIONS.toLocaleString("en")));
+    else this.calls.showMessage(say.enterCount(MAX_INSTRUCTIONS.toLocaleString("en")));
   }
 
   /** @param {(goal: NonNullable<ReturnType<typeof goalOfText>["goal"]>) => void} act */
@@ -102,6 +102,6 @@ export class HistoryView {
     const { goal, fault } = text.trim() === "" ? { goal: null, fault: "" } : goalOfText(text, this.calls.names());
     this.place.setAttribute("aria-invalid", String(goal === null));
     if (goal) act(goal);
-    else this.calls.showMessage(fault === "" ? say.GIVE_CHANGE : say.cannotBeSought(fault.slice(0, MAX_MESSAGE_LENGTH)));
+    else this.calls.showMessage(fault === "" ? say.ENTER_CHANGE : say.cannotSearchFor(fault.slice(0, MAX_MESSAGE_LENGTH)));
   }
 }

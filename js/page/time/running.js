@@ -123,7 +123,7 @@ export class Running {
     calls.began();
     if (!goal) bench.call("drop", []).catch(calls.failed);
     this.showRunning(true);
-    this.showMessage(goal ? wordsOfMove(goal) : say.timeRuns(current.name, calls.unreadable()));
+    this.showMessage(goal ? wordsOfMove(goal) : say.isRunning(current.name, calls.unreadable()));
     this.clock.start();
     this.beginRate();
     bench.isRunning = this.clock.isFull;
@@ -193,9 +193,9 @@ export class Running {
    */
   stoodStill(time, wasHidden) {
     this.beginRate();
-    const words = say.timeStood(wordsOfTime(time), wasHidden);
+    const words = say.wasPausedFor(wordsOfTime(time), wasHidden);
     this.showMessage(words);
-    setTimeout(() => this.status.text === words && this.showMessage(say.timeRuns(this.current.name, this.calls.unreadable())),
+    setTimeout(() => this.status.text === words && this.showMessage(say.isRunning(this.current.name, this.calls.unreadable())),
       MESSAGE_TIME);
   }
 

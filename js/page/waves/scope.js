@@ -185,7 +185,7 @@ export class Scope {
     const behind = most < 0 || trigger === "" ? 0 : this.cyclesIn("behind", 0);
     if (most < 0 || behind < 0) return null;
     field("behind").setAttribute("aria-invalid", String(behind > most));
-    if (behind > most) this.status.set(say.mostAfter(most.toLocaleString("en")));
+    if (behind > most) this.status.set(say.maxAfter(most.toLocaleString("en")));
     return behind > most ? null : { most, behind, trigger, stopsTime: byId("stops-time", HTMLInputElement).checked };
   }
 
