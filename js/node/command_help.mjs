@@ -5,7 +5,7 @@ import { COMMANDS } from "./commands/table.mjs";
 
 const WIDTH = 79;
 const INDENT = "  ";
-const DEEP = INDENT.repeat(3);
+const DEEP_INDENT = INDENT.repeat(3);
 
 /** @type {(text: string, first?: string, others?: string) => string} */
 const folded = (text, first = "", others = first) => foldedTo(text, WIDTH, first, others);
@@ -52,10 +52,10 @@ export function optionRows(name) {
 }
 
 /** @type {(head: string, rows: string[][]) => string} a headed list of words, each with its description */
-const listed = (head, rows) => `${head}\n${rows.map(([word, does]) => `${INDENT}${word}\n${folded(does, DEEP)}`).join("\n")}`;
+const listed = (head, rows) => `${head}\n${rows.map(([word, does]) => `${INDENT}${word}\n${folded(does, DEEP_INDENT)}`).join("\n")}`;
 
 /** @type {(head: string, lines: string[]) => string} */
-const itemized = (head, lines) => `${head}\n${lines.map((line) => folded(line, INDENT, DEEP)).join("\n")}`;
+const itemized = (head, lines) => `${head}\n${lines.map((line) => folded(line, INDENT, DEEP_INDENT)).join("\n")}`;
 
 /**
  * Returns the help of a command.

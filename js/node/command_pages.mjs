@@ -12,7 +12,7 @@ const PLAIN = "\\fR";
 // --- manual pages ---
 
 /** @type {Record<string, string>} */
-const ROFF = { "\\": "\\e", "-": "\\-", "`": "\\(ga", "^": "\\(ha", "~": "\\(ti", "'": "\\(aq" };
+const ROFF_ESCAPES = { "\\": "\\e", "-": "\\-", "`": "\\(ga", "^": "\\(ha", "~": "\\(ti", "'": "\\(aq" };
 
 /**
  * Escapes a text for roff; text between back quotes becomes bold.
@@ -20,7 +20,7 @@ const ROFF = { "\\": "\\e", "-": "\\-", "`": "\\(ga", "^": "\\(ha", "~": "\\(ti"
  */
 function roff(text) {
   const parts = text.replace(/\s+/g, " ").trim().split("`");
-  const plain = parts.map((part) => part.replace(/[\\\-`^~']/g, (sign) => ROFF[sign]));
+  const plain = parts.map((part) => part.replace(/[\\\-`^~']/g, (sign) => ROFF_ESCAPES[sign]));
   const line = plain.map((part, at) => (at % 2 === 1 ? `${BOLD}${part}${PLAIN}` : part)).join("");
   return line.startsWith(".") ? `\\&${line}` : line;
 }

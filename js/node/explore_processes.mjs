@@ -26,12 +26,12 @@ import { readUserText, writeUserFile } from "./user_files.mjs";
  */
 
 /** The milliseconds of search between two checks of the clock and of signals. */
-const SLICE = 50;
+const SLICE_TIME = 50;
 /** The maximum size of a test file and of a report, in bytes. */
 const MAX_TESTS = 1048576;
 const MAX_REPORT = 16777216;
 /** The environment variable that names the settings file of a job. */
-const JOB = "MCS4_EXPLORE_JOB";
+const JOB_VARIABLE = "MCS4_EXPLORE_JOB";
 
 let isStopped = false;
 
@@ -114,7 +114,7 @@ class Exploration {
     const usageAtStart = process.cpuUsage();
     const end = performance.now() + 1000 * seconds;
     while (performance.now() < end && !isStopped && !run.isDone) {
-      const found = await run.goOn(SLICE);
+      const found = await run.goOn(SLICE_TIME);
       if (run.fault && !isStopped) throw new CommandError(`${names.properties}:${campaign.properties[run.modelled].line}: ${run.fault}`);
       if (found) this.show(campaign.properties[found.property], found.found);
       await yieldToMessages();
@@ -136,7 +136,7 @@ class Exploration {
     const report = join(settings.folder, `report.${seed}`);
     const name = join(settings.folder, `job.${seed}`);
     writeFileSync(name, JSON.stringify({ ...settings, seed, report }));
-    return { status: await runAgain({ ...process.env, [JOB]: name }), report };
+    return { status: await runAgain({ ...process.env, [JOB_VARIABLE]: name }), report };
   }
 
   /** Runs all jobs in parallel; returns the joined report. */
@@ -196,7 +196,7 @@ export async function exploreTexts(settings) {
 
 /** Returns the settings of this process if another process started it as a job; otherwise null. */
 export function jobSettings() {
-  const name = process.env[JOB];
+  const name = process.env[JOB_VARIABLE];
   return name ? JSON.parse(readUserText(name, 2 * MAX_REPORT)) : null;
 }
 

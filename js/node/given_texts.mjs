@@ -9,7 +9,7 @@ export const MAX_SCRIPT = 16777216;
 export const MAX_ANSWERS = 67108864;
 export const MAX_TEXT_BYTES = 1048576;
 export const STANDARD_INPUT = 0;
-const MARK = Buffer.from([0xEF, 0xBB, 0xBF]);
+const UTF8_MARK = Buffer.from([0xEF, 0xBB, 0xBF]);
 /** @type {Record<string, string>} the encodings by their byte order marks in hex; PowerShell writes UTF-16 */
 const UTF_16 = { fffe: "utf-16le", feff: "utf-16be" };
 
@@ -29,8 +29,8 @@ function decoded(bytes) {
   try {
     return { text: new TextDecoder("utf-8", { fatal: true }).decode(bytes), encoding: "utf8" };
   } catch {
-    const isMarked = bytes.subarray(0, MARK.length).equals(MARK);
-    return { text: bytes.toString("latin1", isMarked ? MARK.length : 0), encoding: "latin1" };
+    const isMarked = bytes.subarray(0, UTF8_MARK.length).equals(UTF8_MARK);
+    return { text: bytes.toString("latin1", isMarked ? UTF8_MARK.length : 0), encoding: "latin1" };
   }
 }
 

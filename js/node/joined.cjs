@@ -16,7 +16,7 @@ const FOLDER = join(TOP, "shipped/commands");
 const IS_WINDOWS = process.platform === "win32";
 const OWNER_ALONE = 0o700;
 const OWNER_ALONE_FILE = 0o600;
-const OTHERS = 0o077;
+const ACCESS_BY_OTHERS = 0o077;
 /** Files that changed within this time, in milliseconds, are not stored: a clock that ticks by seconds might not show their next change. */
 const RECENT_CHANGE = 3000;
 /** The number of bytes before the compiled code. */
@@ -60,7 +60,7 @@ function cacheFolder() {
     if (!existsSync(folder) && (belongsToUser(cache) || (!existsSync(cache) && belongsToUser(dirname(cache))))) {
       mkdirSync(folder, { recursive: true, mode: OWNER_ALONE });
     }
-    return belongsToUser(folder) && (IS_WINDOWS || (statSync(folder).mode & OTHERS) === 0) ? folder : "";
+    return belongsToUser(folder) && (IS_WINDOWS || (statSync(folder).mode & ACCESS_BY_OTHERS) === 0) ? folder : "";
   } catch {
     return "";
   }

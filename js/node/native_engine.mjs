@@ -36,7 +36,7 @@ const MAX_PROCESSES = 3;
 /** The maximum number of copies that were made without a call of `keep`. */
 const MAX_COPIES = 32;
 /** The bytes that a pipe accepts at least while nobody reads from it. */
-const PIPE_ROOM = 4096;
+const PIPE_CAPACITY = 4096;
 const BUFFER_SIZE = 1 << 16;
 const TOKEN_SIZE = 4;
 export const SESSION_BYTES = 163856;
@@ -74,13 +74,13 @@ function analyse(lines) {
  * @param {string} lines
  */
 function splitForPipe(lines) {
-  if (lines.length <= PIPE_ROOM) return [lines];
+  if (lines.length <= PIPE_CAPACITY) return [lines];
   const pieces = [];
   let piece = "";
   for (let at = 0; at < lines.length;) {
     const end = endOfInputs(lines, at, 1);
     const input = lines.slice(at, end);
-    if (piece !== "" && piece.length + input.length > PIPE_ROOM) {
+    if (piece !== "" && piece.length + input.length > PIPE_CAPACITY) {
       pieces.push(piece);
       piece = "";
     }

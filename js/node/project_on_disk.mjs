@@ -7,7 +7,7 @@ import { leadsOut } from "../words/server.js";
 import { MAX_USER_TEXT, isInside, readUserFile, statOfInput } from "./user_files.mjs";
 
 /** Returns the error of a path that does not name a file in a folder; "" if it does. */
-export function lookInFolder(folder, path) {
+export function pathError(folder, path) {
   const place = join(folder, path);
   if (!existsSync(place)) return `there is no file ${path}`;
   if (statSync(place).isDirectory()) return `${path} is a folder, not a file`;
@@ -24,7 +24,7 @@ export function projectIn(folder) {
   const stat = statOfInput(file);
   if (!stat) throw new ProjectFault(file, "there is no such file; it names the files of a project");
   if (!stat.isFile()) throw new ProjectFault(file, "it is not a file");
-  const project = readProject(readUserFile(file, MAX_USER_TEXT), (path) => lookInFolder(folder, path), file);
+  const project = readProject(readUserFile(file, MAX_USER_TEXT), (path) => pathError(folder, path), file);
   const place = (path) => join(folder, path);
   return {
     ...project,

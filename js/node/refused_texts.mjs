@@ -60,7 +60,7 @@ export function spellingHint(line) {
   return OTHER_SPELLING.test(line.replace(/;.*/, "").toUpperCase()) ? "; mcs4 import takes programs in Intel's and AS's spelling" : "";
 }
 
-/** The messages about some texts, which an engine checks again for details. */
+/** Makes the messages about rejected texts; an engine checks the texts again for details. */
 export class RefusedTexts {
   /**
    * @param {EngineHost} engine

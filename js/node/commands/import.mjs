@@ -8,7 +8,7 @@ import { GivenTexts, MAX_TEXT_BYTES } from "../given_texts.mjs";
 import { rejectedTextsError, startEngine } from "../native_program.mjs";
 import { CommandError, printFile } from "../output.mjs";
 
-const MARK = /^\u00ef\u00bb\u00bf/;
+const UTF8_MARK = /^\u00ef\u00bb\u00bf/;
 
 /**
  * Throws the error for a converted program that the bench rejects. Its lines have the same numbers as those of the source.
@@ -32,7 +32,7 @@ export async function run(values, words) {
   checkArguments(words, ["PROGRAM"]);
   const [name] = words;
   // Latin 1 has one character for each byte, so comments in any encoding keep their bytes.
-  const source = new GivenTexts().read(name, MAX_TEXT_BYTES).toString("latin1").replace(MARK, "").replace(/\r\n?/g, "\n");
+  const source = new GivenTexts().read(name, MAX_TEXT_BYTES).toString("latin1").replace(UTF8_MARK, "").replace(/\r\n?/g, "\n");
   const { text, faults } = importProgram(source);
   if (faults.length > 0) throw new CommandError(faults.map(({ line, words: why }) => `${name}:${line}: ${why}`).join("\n"));
   await tryOnBench(name, source, text);

@@ -25,7 +25,7 @@ import { openProgram } from "../program_on_file.mjs";
 
 const FAILED = 1;
 /** The milliseconds between two frames. */
-const FRAME = 100;
+const FRAME_INTERVAL = 100;
 
 /**
  * Returns the file names of board, session and program, from the arguments or from the project.
@@ -121,7 +121,7 @@ async function runPanel(terminal, panel) {
   for (let next = performance.now(); !panel.isEnded && !terminal.isGone;) {
     await panel.keepTime(performance.now());
     await drawFrame(terminal, panel, screen);
-    next = Math.max(next + FRAME, performance.now());
+    next = Math.max(next + FRAME_INTERVAL, performance.now());
     await handleKeys(terminal, panel, next);
   }
   return terminal.isGone ? FAILED : 0;
