@@ -116,7 +116,7 @@ function answersOf({ groups }, levels, instructions = []) {
     if (place.startsWith("chain")) return levelsOf(place, 10, values).join("");
     return values[place] || digitOf(levelsOf(place, 4, values));
   };
-  const rowOf = ({ asked }, values) => asked.map(({ place }) => ` ${answerOf(place, values)}`).join("");
+  const rowOf = ({ fields }, values) => fields.map(({ place }) => ` ${answerOf(place, values)}`).join("");
   const rows = instructions.map(([cycles, address, changes]) => {
     const before = { ...now };
     Object.assign(now, changes);

@@ -133,7 +133,7 @@ export class StopCommands {
    * @returns {Promise<{ commands: string[], isSilent: boolean, words: string }>}
    */
   async commandsAtStop() {
-    const { ended: { reason, id }, session, breakpoints } = this.prompt;
+    const { lastStop: { reason, id }, session, breakpoints } = this.prompt;
     const here = reason === "breakpoint" ? this.list.get(id) || this.list.atAddress(session.address) : undefined;
     const { isTemporary, commands } = here ? this.actionsOf(here.id) : NO_ACTIONS;
     if (here && isTemporary) await breakpoints.remove(String(here.id));

@@ -58,8 +58,8 @@ class Digit {
    * @param {number} turns the number of turns in a scan: the digit is on in one of them
    */
   shine(seen, turns) {
-    if (seen.whole !== NOT_LIT) {
-      this.set(seen.whole);
+    if (seen.steady !== NOT_LIT) {
+      this.set(seen.steady);
       return;
     }
     this.smeared.set(seen.isSmeared);
