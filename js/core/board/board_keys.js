@@ -20,10 +20,10 @@ const LETTERS = "1234567890qwertyuiopasdfghjklzxcvbnm";
 /**
  * Returns the first free character for a key: from its name, otherwise from `LETTERS`; "" if none is free.
  * @param {string} name
- * @param {Set<string>} taken
+ * @param {Set<string>} used
  */
-function freeLetter(name, taken) {
-  return [...name.toLowerCase(), ...name.toUpperCase(), ...LETTERS].find((letter) => !taken.has(letter)) || "";
+function freeLetter(name, used) {
+  return [...name.toLowerCase(), ...name.toUpperCase(), ...LETTERS].find((letter) => !used.has(letter)) || "";
 }
 
 /**
@@ -34,11 +34,11 @@ function freeLetter(name, taken) {
  */
 export function keysOf(board, face) {
   const keys = [];
-  const taken = new Set([...face.keys.values()].map(({ text }) => text).filter((name) => name.length === 1));
+  const usedLetters = new Set([...face.keys.values()].map(({ text }) => text).filter((name) => name.length === 1));
   /** @type {(legend: string, name: string) => string} */
-  const take = (legend, name) => {
-    const letter = legend.length === 1 ? legend : freeLetter(name, taken);
-    if (letter) taken.add(letter);
+  const takeLetter = (legend, name) => {
+    const letter = legend.length === 1 ? legend : freeLetter(name, usedLetters);
+    if (letter) usedLetters.add(letter);
     return letter;
   };
   for (let row = 0; row < board.rows; row++) {
@@ -47,22 +47,22 @@ export function keysOf(board, face) {
       const named = face.keys.get(textOfKey(key));
       const legend = named ? named.text.replace(/_/g, " ") : `${row}.${column}`;
       const words = say.keyAt(legend, row, column);
-      const letter = legend === "" ? "" : take(legend, named ? named.text : "");
+      const letter = legend === "" ? "" : takeLetter(legend, named ? named.text : "");
       keys.push({ key, legend, words, isNamed: Boolean(named && legend), isSwitch: false, letter });
     }
   }
-  return face.test ? [...keys, testKey(face.test, take)] : keys;
+  return face.test ? [...keys, testKey(face.test, takeLetter)] : keys;
 }
 
 /**
  * Returns the button or switch at the TEST pin.
  * @param {import("./face.js").TestPin} test
- * @param {(legend: string, name: string) => string} take
+ * @param {(legend: string, name: string) => string} takeLetter
  */
-function testKey({ kind, name, level }, take) {
+function testKey({ kind, name, level }, takeLetter) {
   const legend = name.replace(/_/g, " ");
   const words = say.keyAtTest(kind, legend);
-  return { key: pinKey(level), legend, words, isNamed: true, isSwitch: kind === "switch", letter: take(legend, name) };
+  return { key: pinKey(level), legend, words, isNamed: true, isSwitch: kind === "switch", letter: takeLetter(legend, name) };
 }
 
 /**
@@ -75,14 +75,14 @@ const SPECIAL_KEYS = { Enter: "=", Escape: "C", Backspace: "CE", Delete: "CE", "
  * Returns the board's key that a key of the keyboard presses; undefined if it presses none. A letter also presses a key of the other case.
  * @template {BoardKey} Shown
  * @param {Shown[]} keys
- * @param {string} typed the keyboard event's `key`
+ * @param {string} keyboardKey the keyboard event's `key`
  * @returns {Shown | undefined}
  */
-export function keyOfKeyboard(keys, typed) {
-  const letter = typed.length === 1 ? typed : "";
-  const own = keys.find((key) => letter !== "" && key.letter === letter);
-  if (own) return own;
-  const name = SPECIAL_KEYS[typed];
+export function keyOfKeyboard(keys, keyboardKey) {
+  const letter = keyboardKey.length === 1 ? keyboardKey : "";
+  const exact = keys.find((key) => letter !== "" && key.letter === letter);
+  if (exact) return exact;
+  const name = SPECIAL_KEYS[keyboardKey];
   const named = name && keys.find((key) => key.legend === name);
   if (named) return named;
   return keys.find((key) => letter !== "" && key.letter.toLowerCase() === letter.toLowerCase());

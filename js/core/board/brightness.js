@@ -27,18 +27,18 @@ const SEGMENTS = 8;
 
 /**
  * Returns the perceived brightness of a lamp, from 0 to 1, rounded to hundredths.
- * @param {number} part the duty cycle, from 0 to 1
+ * @param {number} duty the duty cycle, from 0 to 1
  */
-export function brightnessOf(part) {
-  return Math.round(100 * Math.min(1, part) ** (1 / GAMMA)) / 100;
+export function brightnessOf(duty) {
+  return Math.round(100 * Math.min(1, duty) ** (1 / GAMMA)) / 100;
 }
 
 /**
  * Returns the level of brightness of a lamp: 0 for dark, otherwise 1 (dim) to `FULL_LEVEL`.
- * @param {number} part the duty cycle
+ * @param {number} duty the duty cycle
  */
-export function levelOf(part) {
-  return LEVELS.filter((least) => part >= least).length;
+export function levelOf(duty) {
+  return LEVELS.filter((minDuty) => duty >= minDuty).length;
 }
 
 /**
@@ -100,23 +100,23 @@ export class SeenDigit {
 
   /**
    * Fades the picture.
-   * @param {number} kept the share of the picture that remains
+   * @param {number} remaining the share of the picture that remains
    */
-  fade(kept) {
+  fade(remaining) {
     this.steady = NOT_LIT;
     for (const [pattern, part] of this.parts) {
-      if (part * kept < MIN_DUTY) this.parts.delete(pattern);
-      else this.parts.set(pattern, part * kept);
+      if (part * remaining < MIN_DUTY) this.parts.delete(pattern);
+      else this.parts.set(pattern, part * remaining);
     }
   }
 
   /**
    * Adds a pattern to the picture.
    * @param {number} pattern
-   * @param {number} part its share
+   * @param {number} share its share
    */
-  add(pattern, part) {
-    this.parts.set(pattern, (this.parts.get(pattern) || 0) + part);
+  add(pattern, share) {
+    this.parts.set(pattern, (this.parts.get(pattern) || 0) + share);
   }
 
   /** The pattern with the largest share; 0 (dark) if there is none. */
@@ -126,8 +126,8 @@ export class SeenDigit {
 
   /** True if the pattern with the largest share has less than half of the picture. */
   get isSmeared() {
-    const all = [...this.parts.values()].reduce((sum, part) => sum + part, 0);
-    return this.longest.part < MIN_ON_DUTY * all;
+    const total = [...this.parts.values()].reduce((sum, part) => sum + part, 0);
+    return this.longest.part < MIN_ON_DUTY * total;
   }
 
   /** The pattern with the largest share, and that share. */
@@ -193,8 +193,8 @@ export class Brightness {
   add(litShares, time) {
     const { cycles } = litShares;
     if (cycles === 0) return;
-    const kept = Math.exp(-time / EYE_MS);
-    this.fade(this.lamps, litShares.lamps, cycles, kept);
+    const remaining = Math.exp(-time / EYE_MS);
+    this.fade(this.lamps, litShares.lamps, cycles, remaining);
     this.stillness.forEach((stillness, at) => {
       stillness.add(litShares.moved[at], cycles, time);
       const { isStill } = stillness;
@@ -203,10 +203,10 @@ export class Brightness {
       if (isStill && isLitNow) this.lamps[at] = 1;
       this.isOn[at] = isStill ? isLitNow : this.lamps[at] >= MIN_ON_DUTY;
     });
-    this.scanned.forEach((parts, at) => this.fade(parts, litShares.scanned[at], cycles, kept));
+    this.scanned.forEach((parts, at) => this.fade(parts, litShares.scanned[at], cycles, remaining));
     litShares.displays.forEach((shown, at) => {
       this.stillDisplays[at].add(shown.moved, cycles, time);
-      this.addDisplay(at, shown, cycles, kept);
+      this.addDisplay(at, shown, cycles, remaining);
     });
   }
 
@@ -215,11 +215,11 @@ export class Brightness {
    * @param {number[]} parts the duty cycles, by lamp
    * @param {number[]} lit the cycles in which each lamp was on
    * @param {number} cycles the length of the period
-   * @param {number} kept the share of the former picture that remains
+   * @param {number} remaining the share of the former picture that remains
    */
-  fade(parts, lit, cycles, kept) {
+  fade(parts, lit, cycles, remaining) {
     for (let at = 0; at < parts.length; at++) {
-      const part = parts[at] * kept + (lit[at] / cycles) * (1 - kept);
+      const part = parts[at] * remaining + (lit[at] / cycles) * (1 - remaining);
       parts[at] = part < MIN_DUTY ? 0 : part;
     }
   }
@@ -229,18 +229,18 @@ export class Brightness {
    * @param {number} at the index of the display
    * @param {ShownDisplay} shown
    * @param {number} cycles the length of the period
-   * @param {number} kept the share of the former picture that remains
+   * @param {number} remaining the share of the former picture that remains
    */
-  addDisplay(at, { patterns, moved, shown }, cycles, kept) {
+  addDisplay(at, { patterns, moved, shown }, cycles, remaining) {
     const isStill = this.stillDisplays[at].isStill && !isScanned(this.displays[at]);
     this.digits[at].forEach((digit, index) => {
       if (isStill) {
         digit.showSteady(patterns[index]);
         return;
       }
-      digit.fade(kept);
-      if (moved) for (const [pattern, its] of shown[index]) digit.add(pattern, (its / cycles) * (1 - kept));
-      else if (patterns[index] !== NOT_LIT) digit.add(patterns[index], 1 - kept);
+      digit.fade(remaining);
+      if (moved) for (const [pattern, time] of shown[index]) digit.add(pattern, (time / cycles) * (1 - remaining));
+      else if (patterns[index] !== NOT_LIT) digit.add(patterns[index], 1 - remaining);
     });
   }
 

@@ -19,10 +19,10 @@ const DIGITS = [..."0123456789"].map(patternOf);
 
 /**
  * Returns the pattern that shows a digit, a minus or a blank; `INVALID_DIGIT` for any other character.
- * @param {string} sign
+ * @param {string} character
  */
-export function patternOf(sign) {
-  const [[pattern] = [INVALID_DIGIT]] = [...CHARACTERS].filter(([, each]) => each === sign);
+export function patternOf(character) {
+  const [[pattern] = [INVALID_DIGIT]] = [...CHARACTERS].filter(([, shown]) => shown === character);
   return pattern;
 }
 
@@ -114,9 +114,9 @@ function directPatterns({ first, rows, columns }, marks) {
  * @param {number[]} patterns
  */
 export function shownNumber(patterns) {
-  const signs = patterns.map((pattern) => {
+  const characters = patterns.map((pattern) => {
     const bits = pattern === NOT_LIT ? 0 : pattern & ~POINT;
     return `${CHARACTERS.get(bits) ?? "?"}${pattern !== NOT_LIT && pattern & POINT ? "." : ""}`;
   });
-  return signs.join("").replace(/\.$/, "").replace(/^ +/, "");
+  return characters.join("").replace(/\.$/, "").replace(/^ +/, "");
 }

@@ -248,13 +248,13 @@ export class Face {
    */
   canBeScanned({ kind, first, rows, columns, by, line }) {
     const [row, column] = kind === "display" ? ["digits", say.A_SEGMENT] : ["rows", say.A_COLUMN];
-    const most = limit("scanned");
-    const isSmall = rows <= most && columns <= most;
+    const max = limit("scanned");
+    const fits = rows <= max && columns <= max;
     const twice = Math.max(first, by);
     const isTwice = twice < Math.min(first + columns, by + rows);
-    if (!isSmall) this.reportError(line, messageOf("too many scanned", row));
+    if (!fits) this.reportError(line, messageOf("too many scanned", row));
     else if (isTwice) this.reportError(line, messageOf("scanned twice", twice, column, row === "digits" ? say.A_DIGIT : say.A_ROW));
-    return isSmall && !isTwice;
+    return fits && !isTwice;
   }
 
   /**

@@ -139,8 +139,8 @@ export function missingParts(face, board) {
   const { buzzer } = face;
   if (buzzer && !hasOutput(board, buzzer.place)) add("buzzer", buzzer.line, "no output line", buzzer.place);
   const { printer } = face;
-  const lacking = printer && linesOfPrinter(printer).find((line) => !hasOutput(board, line));
-  if (printer && lacking) add("printer", printer.line, "no output line", lacking);
+  const missingLine = printer && linesOfPrinter(printer).find((line) => !hasOutput(board, line));
+  if (printer && missingLine) add("printer", printer.line, "no output line", missingLine);
   for (const [place, { line }] of face.ports) if (!hasPlace(board, place)) add("port", line, "port not there", place);
   return sortedByLine(faults);
 }

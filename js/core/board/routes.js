@@ -51,10 +51,10 @@ function levelCurve(from, to) {
  * @returns {Point}
  */
 export function pointAt(curve, part) {
-  const rest = 1 - part;
-  const weights = [rest ** 3, 3 * rest ** 2 * part, 3 * rest * part ** 2, part ** 3];
-  /** @type {(of: (point: Point) => number) => number} */
-  const sum = (of) => curve.reduce((all, point, at) => all + weights[at] * of(point), 0);
+  const opposite = 1 - part;
+  const weights = [opposite ** 3, 3 * opposite ** 2 * part, 3 * opposite * part ** 2, part ** 3];
+  /** @type {(coordinate: (point: Point) => number) => number} */
+  const sum = (coordinate) => curve.reduce((all, point, at) => all + weights[at] * coordinate(point), 0);
   return { x: sum(({ x }) => x), y: sum(({ y }) => y) };
 }
 
@@ -83,9 +83,9 @@ export function isCovered(curve, box) {
  */
 function lanesOf({ from, to }, boxes) {
   /** @type {(lane: number) => number} */
-  const way = (lane) => Math.abs(lane - from.y) + Math.abs(lane - to.y);
+  const lengthBy = (lane) => Math.abs(lane - from.y) + Math.abs(lane - to.y);
   return boxes.flatMap(({ y, height }) => [y - LANE_DISTANCE, y + height + LANE_DISTANCE]).filter((lane) => lane > 0)
-    .sort((one, other) => way(one) - way(other));
+    .sort((one, other) => lengthBy(one) - lengthBy(other));
 }
 
 /**
@@ -97,8 +97,8 @@ function laneAround({ from, to }, between) {
   const lanes = between.flatMap(({ y, height }) => [y - LANE_DISTANCE, y + height + LANE_DISTANCE]);
   const free = lanes.filter((lane) => between.every(({ y, height }) => lane < y || lane > y + height));
   /** @type {(lane: number) => number} */
-  const way = (lane) => Math.abs(lane - from.y) + Math.abs(lane - to.y);
-  return free.reduce((one, other) => (way(other) < way(one) ? other : one));
+  const lengthBy = (lane) => Math.abs(lane - from.y) + Math.abs(lane - to.y);
+  return free.reduce((one, other) => (lengthBy(other) < lengthBy(one) ? other : one));
 }
 
 /**

@@ -51,20 +51,20 @@ class ShownAnswers {
    * @returns {{ text: string, words: string, count: number }} `count` is the number of lines in the answer, 0 if it is not about lamps
    */
   read(answers, at) {
-    const wrong = (/** @type {string} */ words) => ({ text: "", words, count: 1 });
+    const failed = (/** @type {string} */ words) => ({ text: "", words, count: 1 });
     const answer = answers[at];
-    if (REFUSAL.test(answer)) return wrong(say.isRefusal(at + 1, answer));
+    if (REFUSAL.test(answer)) return failed(say.isRefusal(at + 1, answer));
     const [word, marks = ""] = answer.split(" ");
     if (word === "lamps") {
       const words = this.faultOf(marks, at + 1) || (this.isScanned ? say.isInstant(at + 1, this.name) : "");
-      return words === "" ? { text: wholeText(this.text.read(marks)), words, count: 1 } : wrong(words);
+      return words === "" ? { text: wholeText(this.text.read(marks)), words, count: 1 } : failed(words);
     }
     const [, rows, first] = TRACE.exec(answer) || [];
     if (first === undefined) return { text: "", words: "", count: 0 };
     const words = this.faultOf(first, at + 1);
-    if (words !== "") return wrong(words);
+    if (words !== "") return failed(words);
     const count = 1 + Number(rows);
-    if (at + count > answers.length) return wrong(say.ENDS_WITHIN_TRACE);
+    if (at + count > answers.length) return failed(say.ENDS_WITHIN_TRACE);
     return { text: wholeText(this.seen.read(answers.slice(at, at + count))), words: "", count };
   }
 }

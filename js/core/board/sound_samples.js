@@ -18,9 +18,9 @@ export function samplesOf({ cycles, level, edges }) {
 
 /** Collects the samples of frames until there are enough to play. */
 export class SoundPieces {
-  /** @param {number} least the minimum number of samples that are played at once */
-  constructor(least) {
-    this.least = least;
+  /** @param {number} minSamples the minimum number of samples that are played at once */
+  constructor(minSamples) {
+    this.minSamples = minSamples;
     /** @type {Float32Array[]} */
     this.pieces = [];
     this.count = 0;
@@ -39,14 +39,14 @@ export class SoundPieces {
   add(heard) {
     this.pieces.push(samplesOf(heard));
     this.count += heard.cycles;
-    if (this.count < this.least) return null;
-    const all = new Float32Array(this.count);
+    if (this.count < this.minSamples) return null;
+    const joined = new Float32Array(this.count);
     let at = 0;
     for (const piece of this.pieces) {
-      all.set(piece, at);
+      joined.set(piece, at);
       at += piece.length;
     }
     this.forget();
-    return all;
+    return joined;
   }
 }

@@ -84,8 +84,8 @@ class Column {
     const height = TITLE_HEIGHT + Math.max(left.length, right.length, 1) * PIN_STEP;
     this.bottom += height + GAP;
     /** @type {(pinX: number) => (pin: PinToPut, at: number) => Pin} */
-    const put = (pinX) => (pin, at) => ({ ...pin, x: pinX, y: y + TITLE_HEIGHT + at * PIN_STEP + PIN_STEP / 2 });
-    return { ...part, x, y, width, height, pins: [...left.map(put(x)), ...right.map(put(x + width))] };
+    const placePin = (pinX) => (pin, at) => ({ ...pin, x: pinX, y: y + TITLE_HEIGHT + at * PIN_STEP + PIN_STEP / 2 });
+    return { ...part, x, y, width, height, pins: [...left.map(placePin(x)), ...right.map(placePin(x + width))] };
   }
 }
 
@@ -329,26 +329,26 @@ function moveParts(parts, moved) {
 /**
  * Returns the wiring diagram of a board.
  * @param {Board} board
- * @param {Appearance} look
+ * @param {Appearance} appearance
  * @param {Moved} [moved]
  * @returns {Picture}
  */
-export function drawBoard(board, look = { names: [], colours: [], test: null, buzzer: null }, moved = new Map()) {
-  const uses = new Uses(board, look.buzzer);
+export function drawBoard(board, appearance = { names: [], colours: [], test: null, buzzer: null }, moved = new Map()) {
+  const uses = new Uses(board, appearance.buzzer);
   const hasChips = board.roms.length + board.banks.length > 0;
-  const hasFront = board.matrix !== null || board.lamps.length > 0 || Boolean(look.buzzer);
+  const hasFront = board.matrix !== null || board.lamps.length > 0 || Boolean(appearance.buzzer);
   const columns = columnsOf([true, hasChips, board.chains.length > 0, hasFront]);
   const [first, second, third, fourth] = columns;
-  const parts = [drawProcessor(first, look.test)];
-  if (look.test) parts.push(drawTest(first, look.test));
+  const parts = [drawProcessor(first, appearance.test)];
+  if (appearance.test) parts.push(drawTest(first, appearance.test));
   for (const rom of [...board.roms].sort((one, other) => one.chip - other.chip)) parts.push(drawRom(second, rom, uses));
   for (const { bank, chips } of board.banks) {
     for (let chip = 0; chip < chips; chip++) parts.push(drawRam(second, bank, chip, uses));
   }
   board.chains.forEach((chain, at) => parts.push(drawChain(third, chain, at, uses)));
   if (board.matrix) parts.push(drawKeys(fourth, board.matrix));
-  if (board.lamps.length > 0) parts.push(drawLamps(fourth, board.lamps, look));
-  if (look.buzzer) parts.push(drawBuzzer(fourth, look.buzzer));
+  if (board.lamps.length > 0) parts.push(drawLamps(fourth, board.lamps, appearance));
+  if (appearance.buzzer) parts.push(drawBuzzer(fourth, appearance.buzzer));
   moveParts(parts, moved);
   const width = Math.max(...parts.map((part) => part.x + part.width)) + MARGIN;
   const height = Math.max(...parts.map((part) => part.y + part.height)) + GAP;

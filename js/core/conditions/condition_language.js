@@ -143,22 +143,22 @@ export function testConditionOf(whole, names) {
   return conditionOrError(() => {
     const looked = new Looked(true);
     const { text, negation, address, matches, explain } = meaningOfText(whole, names, looked);
-    const { places: all } = looked;
-    const others = all.filter(isStatePlace);
-    const places = all.filter((place) => !isStatePlace(place));
+    const { places: allPlaces } = looked;
+    const statePlaces = allPlaces.filter(isStatePlace);
+    const places = allPlaces.filter((place) => !isStatePlace(place));
     checkCount(places);
     /** @type {(values: string[], beside: Beside) => string[]} returns the values of all places, in their order */
-    const whatIs = (values, beside) => {
+    const allValues = (values, beside) => {
       let at = 0;
-      return all.map((place) => (isStatePlace(place) ? beside[place] : values[at++]));
+      return allPlaces.map((place) => (isStatePlace(place) ? beside[place] : values[at++]));
     };
-    const valuesOf = others.length === 0 ? (/** @type {string[]} */ values) => values : whatIs;
+    const valuesOf = statePlaces.length === 0 ? (/** @type {string[]} */ values) => values : allValues;
     return {
-      text, negation, places, needs: [...looked.needs, ...others], address,
+      text, negation, places, needs: [...looked.needs, ...statePlaces], address,
       holds: (values, beside = DEFAULTS) => matches(valuesOf(values, beside), beside),
       explain: (values, beside = DEFAULTS) => {
-        const given = valuesOf(values, beside);
-        return matches(given, beside) ? "" : explain(given, beside, false);
+        const known = valuesOf(values, beside);
+        return matches(known, beside) ? "" : explain(known, beside, false);
       },
     };
   });
@@ -172,8 +172,8 @@ export function testConditionOf(whole, names) {
  */
 export function tracedConditionOf(text, names) {
   const read = conditionOf(text, names);
-  const other = read.condition ? read.condition.places.find((place) => STATE_PLACES.has(place)) : undefined;
-  return other === undefined ? read : { condition: null, fault: say.noTraceShows(other), column: 0 };
+  const statePlace = read.condition ? read.condition.places.find((place) => STATE_PLACES.has(place)) : undefined;
+  return statePlace === undefined ? read : { condition: null, fault: say.noTraceShows(statePlace), column: 0 };
 }
 
 /**

@@ -94,18 +94,18 @@ function compareMeaning({ sign, left, right }, names, looked) {
 function holdsMeaning({ place, values, text, column }, names, looked) {
   const [first] = values;
   if (values.length === 1) return compareMeaning({ kind: "compare", sign: "=", left: place, right: first, text, column }, names, looked);
-  const all = characterValues(place, values.length, names, looked);
+  const characters = characterValues(place, values.length, names, looked);
   const wanted = values.map((value, at) => {
     const each = valueIn(value, names, looked);
-    checkRange(all[at], value, each);
+    checkRange(characters[at], value, each);
     return each;
   });
   /** @type {(each: Value[], given: string[]) => string} */
   const joined = (each, given) => each.map((value) => value.read(given)).join(" ");
   return {
     address: -1,
-    matches: (given) => all.every((value, at) => value.read(given) === wanted[at].read(given)),
-    explain: (given, _, isNot) => say.mustBe(all[0].name, joined(all, given), joined(wanted, given), false, isNot),
+    matches: (given) => characters.every((value, at) => value.read(given) === wanted[at].read(given)),
+    explain: (given, _, isNot) => say.mustBe(characters[0].name, joined(characters, given), joined(wanted, given), false, isNot),
   };
 }
 
@@ -115,8 +115,8 @@ function holdsMeaning({ place, values, text, column }, names, looked) {
  * @param {Names} names
  * @param {Looked} looked
  */
-function formMeaning({ words: [head, ...rest] }, names, looked) {
-  const words = rest.map(({ text }) => text);
+function formMeaning({ words: [head, ...following] }, names, looked) {
+  const words = following.map(({ text }) => text);
   const form = COMPILERS[head.text];
   return form ? form(words, names, looked) : chainMeaning(head.text, words, names, looked);
 }
@@ -156,13 +156,13 @@ function notMeaning(meaning, text) {
 
 /**
  * Returns the conjunction or disjunction of compiled conditions.
- * @param {"or" | "and"} by
+ * @param {"or" | "and"} operator
  * @param {Meaning[]} parts
  * @param {string} text
  * @returns {Meaning}
  */
-function joinedMeaning(by, parts, text) {
-  const isAnd = by === "and";
+function joinedMeaning(operator, parts, text) {
+  const isAnd = operator === "and";
   return {
     address: -1,
     matches: (values, beside) => (

@@ -110,8 +110,8 @@ export function lampNumberOf(name, { face, board }) {
   const named = face.lampNumbers.get(name);
   if (named !== undefined) return named;
   if (/^\d+$/.test(name) && Number(name) < board.lamps.length) return Number(name);
-  const there = [...face.lampNumbers].sort((one, other) => one[1] - other[1]).map(([each]) => each);
-  return fail(say.noLamp(name, there.join(" ")));
+  const known = [...face.lampNumbers].sort((one, other) => one[1] - other[1]).map(([each]) => each);
+  return fail(say.noLamp(name, known.join(" ")));
 }
 
 /**
@@ -136,8 +136,8 @@ export function lampValue(name, names, looked) {
 export function keyValue(name, { face }, looked) {
   const key = [...keysOf(face), ...(face.test ? [pinOf(face)] : [])].find((each) => each.name === name);
   if (!key) {
-    const there = [...keysOf(face), ...(face.test ? [pinOf(face)] : [])].map((each) => each.name);
-    return fail(say.noKeyOfPanel(name, there.join(" ")));
+    const known = [...keysOf(face), ...(face.test ? [pinOf(face)] : [])].map((each) => each.name);
+    return fail(say.noKeyOfPanel(name, known.join(" ")));
   }
   const [word, ...numbers] = key.down.split(" ");
   if (word === "test") return bitValue(`key ${name}`, looked.at("test"), (answer) => Number(answer === numbers[0]));
@@ -180,8 +180,8 @@ function placeValue(place, { board }, looked) {
   if (probes.length === 0) fail(say.boardLacks(name));
   const most = place.most(board);
   if (most < 0) fail(say.isNoNumber(name));
-  const looks = probes.map((probe) => looked.at(probe));
-  const answersOf = (/** @type {string[]} */ values) => looks.map((at) => values[at]);
+  const indexes = probes.map((probe) => looked.at(probe));
+  const answersOf = (/** @type {string[]} */ values) => indexes.map((at) => values[at]);
   return { name, most, isConstant: false, read: (values) => place.number(answersOf(values)),
     textOf: (values) => place.value(answersOf(values)) };
 }
@@ -322,9 +322,9 @@ export function characterValues({ text, column }, count, names, looked) {
  * @returns {Value}
  */
 function sumValue({ sign, left, right, text }, names, looked) {
-  const [one, other] = [valueIn(left, names, looked), valueIn(right, names, looked)];
-  const isConstant = one.isConstant && other.isConstant;
-  return { name: text, most: Infinity, isConstant, read: (values) => OPERATIONS[sign](one.read(values), other.read(values)) };
+  const [first, second] = [valueIn(left, names, looked), valueIn(right, names, looked)];
+  const isConstant = first.isConstant && second.isConstant;
+  return { name: text, most: Infinity, isConstant, read: (values) => OPERATIONS[sign](first.read(values), second.read(values)) };
 }
 
 /**

@@ -50,26 +50,26 @@ function foundIn(answers, watcher) {
  * @param {Engine} engine
  * @param {Uint8Array} file is not changed
  * @param {Goal} goal
- * @param {(done: number) => Promise<boolean>} goesOn called after each piece with the number of cycles searched; returns whether to
+ * @param {(done: number) => Promise<boolean>} shouldContinue called after each piece with the number of cycles searched; returns whether to
  *   continue. Otherwise `searchGoal` throws `Cancelled`
- * @param {number} most the maximum number of cycles to search
+ * @param {number} maxCycles the maximum number of cycles to search
  * @param {() => Uint8Array} [codes] returns the contents of ROM
  * @returns {Promise<Found>}
  */
-export async function searchGoal(engine, file, goal, goesOn, most, codes) {
+export async function searchGoal(engine, file, goal, shouldContinue, maxCycles, codes) {
   const copy = file.slice();
   const watcher = watcherOf(engine, file, goal, codes);
   if (!watcher) return { cycles: 0, isReached: false, end: endWithout(goal) };
   if (watcher.first) engine.serve(copy, watcher.first, copy);
   const piece = new PieceSize(FIRST_CYCLES, 1, LARGEST_PIECE);
-  for (let done = 0; done < most;) {
-    const cycles = Math.min(piece.size, watcher.most(), most - done);
+  for (let done = 0; done < maxCycles;) {
+    const cycles = Math.min(piece.size, watcher.most(), maxCycles - done);
     const found = piece.measure(() => foundIn(new Answers(engine.serve(copy, pieceLines(watcher, cycles), copy).answers), watcher));
     if (found) return { ...found, cycles: done + found.cycles };
     done += cycles;
-    if (!(await goesOn(done))) throw new Cancelled();
+    if (!(await shouldContinue(done))) throw new Cancelled();
   }
-  return { cycles: most, isReached: false, end: "bound" };
+  return { cycles: maxCycles, isReached: false, end: "bound" };
 }
 
 /**

@@ -199,9 +199,9 @@ export class BreakpointKeeper {
    * @param {number} line
    */
   toggleLine(line) {
-    const own = this.list.atLine(line);
-    if (own) {
-      this.remove(own.id);
+    const existing = this.list.atLine(line);
+    if (existing) {
+      this.remove(existing.id);
       return;
     }
     const instruction = this.map ? instructionOfLine(line, this.map) : { line, address: -1, words: this.wordsOfLater() };
@@ -231,9 +231,9 @@ export class BreakpointKeeper {
    * @param {number} address
    */
   toggleAddress(address) {
-    const own = this.list.atAddress(address);
-    if (own) {
-      this.remove(own.id);
+    const existing = this.list.atAddress(address);
+    if (existing) {
+      this.remove(existing.id);
       return;
     }
     const instruction = this.map ? instructionOfAddress(address, this.map) : { line: 0, address, words: "" };
@@ -306,10 +306,10 @@ export class BreakpointKeeper {
    * @param {boolean} isOn
    */
   switchAll(isOn) {
-    let left = MOST_ON;
+    let room = MOST_ON;
     for (const { id } of [...this.list.all]) {
-      this.list.change(id, { isOn: isOn && left > 0 });
-      left -= 1;
+      this.list.change(id, { isOn: isOn && room > 0 });
+      room -= 1;
     }
     this.saveAndApply();
   }

@@ -47,9 +47,9 @@ export function linesOfBreakpoints(breakpoints) {
 export function breakpointOfLine(line) {
   const found = LINE.exec(line);
   if (!found || (found[1] === undefined && found[2] === undefined)) return null;
-  const [, ofSource = "0", address, off, from = "1", condition, note] = found;
+  const [, sourceLine = "0", address, off, from = "1", condition, note] = found;
   return {
-    line: Number(ofSource), address: address === undefined ? -1 : parseInt(address, 16), isOn: off === undefined,
+    line: Number(sourceLine), address: address === undefined ? -1 : parseInt(address, 16), isOn: off === undefined,
     from: Math.max(1, Number(from)), condition: unquote(condition), note: unquote(note),
   };
 }

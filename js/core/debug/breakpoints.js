@@ -133,10 +133,11 @@ export class BreakpointList {
     if (!known) return false;
     const ids = new Set(known.map(({ id }) => id));
     // A breakpoint that was changed in the meantime keeps the change. A breakpoint without a line belongs to ROM, not to the text.
-    const back = known.filter(({ id, line }) => line > 0 || this.get(id))
+    const restored = known.filter(({ id, line }) => line > 0 || this.get(id))
       .map((each) => ({ ...(this.get(each.id) || each), line: each.line, address: each.address }));
-    const ofRom = this.all.filter(({ id, line, address }) => !ids.has(id) && line === 0 && !back.some((each) => each.address === address));
-    this.all = [...back, ...ofRom];
+    const ofRom = this.all.filter(({ id, line, address }) => (
+      !ids.has(id) && line === 0 && !restored.some((each) => each.address === address)));
+    this.all = [...restored, ...ofRom];
     this.deleted = this.deleted.filter(({ breakpoint }) => !ids.has(breakpoint.id));
     this.sort();
     this.limit();
@@ -169,12 +170,12 @@ export class BreakpointList {
   move(edit) {
     const { first, last, count, isOther } = replacedLines(edit);
     if (isOther) return this.detachAll();
-    const more = count - (last - first + 1);
-    if (more === 0) return false;
+    const shift = count - (last - first + 1);
+    if (shift === 0) return false;
     const isMoved = this.all.some(({ line }) => line >= first);
     this.all = this.all.flatMap((each) => {
       if (each.line < first) return [each];
-      if (each.line > last) return [{ ...each, line: each.line + more }];
+      if (each.line > last) return [{ ...each, line: each.line + shift }];
       // The breakpoint of a replaced line stays on that line number if the replacement has enough lines.
       if (each.line < first + count) return [each];
       this.keepDeleted(each, edit);
@@ -274,16 +275,16 @@ export class BreakpointList {
 
 /**
  * Returns the number of equal lines at the beginning, or at the end, of two texts.
- * @param {string[]} olds the lines of one text
- * @param {string[]} news the lines of the other text
- * @param {number} most the maximum result
+ * @param {string[]} oldLines the lines of one text
+ * @param {string[]} newLines the lines of the other text
+ * @param {number} max the maximum result
  * @param {boolean} isAtEnd
  */
-function countEqualLines(olds, news, most, isAtEnd) {
+function countEqualLines(oldLines, newLines, max, isAtEnd) {
   let count = 0;
   /** @type {(lines: string[]) => string} */
   const next = (lines) => lines[isAtEnd ? lines.length - 1 - count : count];
-  while (count < most && next(olds) === next(news)) count += 1;
+  while (count < max && next(oldLines) === next(newLines)) count += 1;
   return count;
 }
 

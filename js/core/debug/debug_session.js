@@ -9,8 +9,8 @@
 //     await session.into(); await session.back({ kind: "instruction" }); session.forward();
 //     await session.setProgram(text);                                assembles another text; breakpoints move with their lines
 //
-// Nothing here follows real time. `go` runs as fast as possible, in pieces, and calls `goesOn` between them, which returns whether to
-// continue. Nothing is written to disk: `session.file` has the bytes of the session file.
+// Nothing here follows real time. `go` runs as fast as possible, in pieces, and calls `shouldContinue` between them. Nothing is written to
+// disk: `session.file` has the bytes of the session file.
 
 import { readBoard, readRegisters, readRun, refusalOf } from "../bench/answers.js";
 import { Face } from "../board/face.js";
@@ -34,8 +34,8 @@ import * as say from "../../words/debug.js";
  * @typedef {import("./goals.js").Goal} Goal
  * @typedef {{ file?: Uint8Array, board?: string, program?: string }} Opened the contents of a session: the texts of the board and the
  *   program, and the bytes of a session file
- * @typedef {Stop & { words: string, tally: Tally }} Stopped the end of a run; `words` is its description. `why` is "pause" if `goesOn`
- *   ended it, and "lacks" if the board lacks a place
+ * @typedef {Stop & { words: string, tally: Tally }} Stopped the end of a run; `words` is its description. `why` is "pause" if
+ *   `shouldContinue` ended it, and "lacks" if the board lacks a place
  */
 
 /** The cycles of the first piece of a run. */
@@ -53,7 +53,7 @@ export class DebugSession {
    * @param {Opened} opened
    */
   constructor(engine, { file, board = "", program = "" }) {
-    const own = file ? file.slice() : engine.begin();
+    const bytes = file ? file.slice() : engine.begin();
     /** @type {{ word: "wire" | "asm", refusal: Refusal }[]} the texts that the bench rejected, each with its refusal */
     this.refused = [];
     this.boardText = board;
@@ -61,10 +61,10 @@ export class DebugSession {
     /** The maximum number of cycles in a piece of a run. */
     this.largestPiece = LARGEST_PIECE;
     if (!file) {
-      this.sendText(engine, own, "wire", sentText(board, "#"));
-      this.sendText(engine, own, "asm", sentText(program, ";"));
+      this.sendText(engine, bytes, "wire", sentText(board, "#"));
+      this.sendText(engine, bytes, "asm", sentText(program, ";"));
     }
-    this.debugger = new Debugger(new WorkerSession(engine, own));
+    this.debugger = new Debugger(new WorkerSession(engine, bytes));
     this.breakpoints = new BreakpointList();
     /** @type {Map<number, string>} the error messages of breakpoints that cannot be compiled, by id */
     this.faults = new Map();
@@ -135,19 +135,19 @@ export class DebugSession {
   /**
    * Runs up to a goal or an earlier stop; without a goal, up to a stop.
    * @param {Goal | null} [goal]
-   * @param {GoesOn} [goesOn]
+   * @param {GoesOn} [shouldContinue]
    * @returns {Promise<Stopped>}
    */
-  async go(goal = null, goesOn = always) {
+  async go(goal = null, shouldContinue = always) {
     const debug = this.debugger;
     if (!goal) {
       debug.begin();
-      return this.runOn(null, goesOn);
+      return this.runOn(null, shouldContinue);
     }
     debug.names = this.names;
-    const { found, tally } = await debug.goOn(goal, nearOf(goal), goesOn);
+    const { found, tally } = await debug.goOn(goal, nearOf(goal), shouldContinue);
     this.breakpoints.count(tally.hits);
-    if (debug.isMoving) return this.runOn(goal, goesOn);
+    if (debug.isMoving) return this.runOn(goal, shouldContinue);
     const { cycles, isReached, end, id, returns, change } = found;
     return this.stopped(goal, { why: isReached ? "goal" : end, cycles, id, returns, change }, tally);
   }
@@ -155,22 +155,22 @@ export class DebugSession {
   /**
    * Runs for a number of cycles, or up to an earlier stop. `why` is "passed" if no stop was earlier.
    * @param {number} cycles
-   * @param {GoesOn} [goesOn]
+   * @param {GoesOn} [shouldContinue]
    * @returns {Promise<Stopped>}
    */
-  pass(cycles, goesOn = always) {
+  pass(cycles, shouldContinue = always) {
     this.debugger.begin();
-    return this.runOn(null, goesOn, cycles);
+    return this.runOn(null, shouldContinue, cycles);
   }
 
   /**
    * Runs in pieces up to a stop, or up to a maximum number of cycles.
    * @param {Goal | null} goal
-   * @param {GoesOn} goesOn
+   * @param {GoesOn} shouldContinue
    * @param {number} [most] the maximum
    * @returns {Promise<Stopped>}
    */
-  async runOn(goal, goesOn, most = Infinity) {
+  async runOn(goal, shouldContinue, most = Infinity) {
     const debug = this.debugger;
     const piece = new PieceSize(Math.min(FIRST_PIECE, this.largestPiece), 1, this.largestPiece);
     /** @type {Tally} */
@@ -182,7 +182,7 @@ export class DebugSession {
       tally = addTallies(tally, frame.tally);
       if (frame.stop) return this.stopped(goal, frame.stop, tally);
       const isOver = done >= most;
-      if (!isOver && await goesOn(done, frame.tally)) continue;
+      if (!isOver && await shouldContinue(done, frame.tally)) continue;
       debug.stopped();
       const words = wordsOfHalt(goal, done, this.counterWords);
       return { why: isOver ? "passed" : "pause", id: 0, cycles: done, returns: false, words, tally };
@@ -224,11 +224,11 @@ export class DebugSession {
   /**
    * Goes back to a goal in the past.
    * @param {BackGoal} goal
-   * @param {GoesOn} [goesOn]
+   * @param {GoesOn} [shouldContinue]
    */
-  async back(goal, goesOn = always) {
+  async back(goal, shouldContinue = always) {
     this.debugger.names = this.names;
-    const went = await this.debugger.goBack(goal, (done = 0) => goesOn(done));
+    const went = await this.debugger.goBack(goal, (done = 0) => shouldContinue(done));
     return { ...went, words: wordsOfGone(goal, went, this.counterWords, this.breakpoints.get(went.id)) };
   }
 
@@ -242,11 +242,11 @@ export class DebugSession {
    * Serves typed lines. A run among them ends at the first breakpoint that it reaches. `words` is a message if a breakpoint ended the last
    * line, otherwise "".
    * @param {string} lines
-   * @param {(done: number) => Promise<boolean>} [goesOn] called with the number of characters done; returns whether to continue. Otherwise
-   *   no line takes effect
+   * @param {(done: number) => Promise<boolean>} [shouldContinue] called with the number of characters done; returns whether to continue.
+   *   Otherwise no line takes effect
    */
-  async serve(lines, goesOn = always) {
-    const { result, typed: { id, why, change, cut, cycles, tally } } = await this.debugger.serveTyped(lines, goesOn);
+  async serve(lines, shouldContinue = always) {
+    const { result, typed: { id, why, change, cut, cycles, tally } } = await this.debugger.serveTyped(lines, shouldContinue);
     this.breakpoints.count(tally.hits);
     if (id === 0) return { ...result, tally, words: "" };
     const { words } = this.stopped(null, { why, id, cycles, returns: false, change }, tally);

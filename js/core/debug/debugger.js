@@ -4,9 +4,9 @@
 //     const session = new WorkerSession(engine, file);               (debug_session.js does this, and keeps the program's lines, too)
 //     const debug = new Debugger(session);
 //     debug.setBreakpoints([{ id: 1, address: 0x14, condition: "r9 = 9", from: 1, note: "", hits: 0 }], names);
-//     const { found } = await debug.goOn({ kind: "over" }, NEAR_CYCLES, goesOn);
+//     const { found } = await debug.goOn({ kind: "over" }, NEAR_CYCLES, shouldContinue);
 //     while (debug.isMoving) { const { stop } = debug.advance(FRAME_CYCLES); if (stop) .. }    for a goal that is not near
-//     debug.values(["r4", "lamps"]); await debug.goBack({ kind: "instruction" }, goesOn); debug.goForward();
+//     debug.values(["r4", "lamps"]); await debug.goBack({ kind: "instruction" }, shouldContinue); debug.goForward();
 //
 // A move has a goal (goals.js). A near goal is reached at once. For any other goal, `isMoving` is true until `advance` reports a stop or
 // `drop` is called. A breakpoint that always stops is set in the bench (`break`). A breakpoint with a condition, a hit count or a note is
@@ -41,7 +41,7 @@ import { CommonMistakes } from "./common_mistakes.js";
  * @typedef {import("./goals.js").Goal} Goal
  * @typedef {import("./goals.js").Watcher} Watcher
  * @typedef {import("./soft_breakpoints.js").Placed} Placed
- * @typedef {import("./common_mistakes.js").CommonMistake} UsualFault
+ * @typedef {import("./common_mistakes.js").CommonMistake} CommonMistake
  * @typedef {import("../engine/going_back.js").Aim} Aim
  * @typedef {import("../engine/going_back.js").BackGoal} BackGoal
  * @typedef {import("../engine/timeline.js").Present} Present
@@ -60,7 +60,7 @@ import { CommonMistakes } from "./common_mistakes.js";
  *
  * The events since the last report. `hits`: the ids of breakpoints, each with its number of hits. `notes`: the logged notes, and `noted`
  * their number, including those beyond the limit. `usual`: the common mistakes (common_mistakes.js).
- * @typedef {{ hits: [number, number][], notes: Logged[], noted: number, usual: UsualFault[] }} Tally
+ * @typedef {{ hits: [number, number][], notes: Logged[], noted: number, usual: CommonMistake[] }} Tally
  *
  * The result of typed lines. If a breakpoint ended the last line, `id` is its id and `cut` is that line; otherwise they are 0 and "".
  * @typedef {{ id: number, why: string, change: string, cut: string, cycles: number, tally: Tally }} Typed
@@ -114,7 +114,7 @@ export class Debugger {
     this.usual = new CommonMistakes(session);
     /** @type {import("../engine/key_queue.js").PlannedLine[] | null} lines that are done but not yet checked for mistakes */
     this.unlooked = null;
-    /** @type {import("./common_mistakes.js").CommonMistake[]} mistakes found after their lines were done, not yet reported */
+    /** @type {CommonMistake[]} mistakes found after their lines were done, not yet reported */
     this.late = [];
     /** @type {Map<number, number> | null} the ids of the breakpoints that always stop, by address; null before breakpoints are set */
     this.hard = null;
@@ -181,9 +181,9 @@ export class Debugger {
     const { hard } = this;
     if (!hard) return "";
     const before = new Set(this.session.breaks);
-    const gone = [...before].filter((address) => !hard.has(address)).map((address) => `unbreak 0x${hex(address, 3)}\n`);
-    const come = [...hard.keys()].filter((address) => !before.has(address)).map((address) => `break 0x${hex(address, 3)}\n`);
-    return [...gone, ...come].join("");
+    const removed = [...before].filter((address) => !hard.has(address)).map((address) => `unbreak 0x${hex(address, 3)}\n`);
+    const added = [...hard.keys()].filter((address) => !before.has(address)).map((address) => `break 0x${hex(address, 3)}\n`);
+    return [...removed, ...added].join("");
   }
 
   // --- Running time ---
@@ -321,25 +321,25 @@ export class Debugger {
    * Moves to a goal, or to an earlier stop, if it is near. Otherwise only starts the move, which `advance` continues.
    * @param {Goal} wanted
    * @param {number} near the maximum distance in cycles
-   * @param {GoesOn} goesOn
+   * @param {GoesOn} shouldContinue
    * @returns {Promise<Travelled>}
    */
-  async goOn(wanted, near, goesOn) {
+  async goOn(wanted, near, shouldContinue) {
     this.begin();
     const { session } = this;
     const goal = this.readGoal(wanted);
     const codes = () => session.codes;
     const watcher = watcherOf(session.engine, session.file, goal, codes);
     const returns = watcher !== null && watcher.returns;
-    const sought = { ...await searchGoal(session.engine, session.file, goal, goesOn, near, codes), id: 0, returns };
-    if (!watcher) return { found: sought, result: null, tally: NO_TALLY };
-    const seen = await this.seenIn(sought.cycles, goesOn);
-    if (sought.end === "bound" && seen.cycles < 0) {
+    const searched = { ...await searchGoal(session.engine, session.file, goal, shouldContinue, near, codes), id: 0, returns };
+    if (!watcher) return { found: searched, result: null, tally: NO_TALLY };
+    const seen = await this.seenIn(searched.cycles, shouldContinue);
+    if (searched.end === "bound" && seen.cycles < 0) {
       this.watcher = watcher;
-      return { found: sought, result: null, tally: NO_TALLY };
+      return { found: searched, result: null, tally: NO_TALLY };
     }
     const { cycles, id, change } = seen;
-    const found = cycles < 0 ? { ...sought, change: "" } : { cycles, isReached: false, end: seen.why, id, returns, change };
+    const found = cycles < 0 ? { ...searched, change: "" } : { cycles, isReached: false, end: seen.why, id, returns, change };
     const result = await session.serve(runLines(Math.max(1, found.cycles)), async () => true);
     this.arrivals.count(seen);
     if (!found.isReached && found.id === 0) found.id = this.idOfStop(found.end);
@@ -349,9 +349,9 @@ export class Debugger {
   /**
    * Resolves to the hits, notes and first stop of breakpoints in the next cycles. The keys stay in their current states.
    * @param {number} cycles
-   * @param {GoesOn} goesOn
+   * @param {GoesOn} shouldContinue
    */
-  async seenIn(cycles, goesOn) {
+  async seenIn(cycles, shouldContinue) {
     const all = nothingSeen();
     if (this.arrivals.isEmpty) return all;
     const { engine, file } = this.session;
@@ -367,7 +367,7 @@ export class Debugger {
       if (seen.cycles >= 0) return { ...seen, ...all, cycles: done + seen.cycles, id: seen.id, why: seen.why, change: seen.change };
       engine.serve(copy, runLines(piece), copy);
       done += piece;
-      if (done < cycles && !(await goesOn(done))) break;
+      if (done < cycles && !(await shouldContinue(done))) break;
     }
     return all;
   }
@@ -375,16 +375,16 @@ export class Debugger {
   /**
    * Serves typed lines, all of them or none. A run among them ends at the first breakpoint that it reaches.
    * @param {string} lines
-   * @param {(done: number) => Promise<boolean>} goesOn called with the number of characters done; returns whether to continue
+   * @param {(done: number) => Promise<boolean>} shouldContinue called with the number of characters done; returns whether to continue
    * @returns {Promise<{ result: LinesResult & { snapshot: string[] }, typed: Typed }>}
    */
-  async serveTyped(lines, goesOn) {
+  async serveTyped(lines, shouldContinue) {
     const { session, arrivals } = this;
     const before = session.count.total;
     const hits = arrivals.hits;
     try {
-      const { lines: served, runs, ...stop } = await planTyped(session.engine, session.file, arrivals, lines, goesOn);
-      const result = await session.serve(served, goesOn);
+      const { lines: served, runs, ...stop } = await planTyped(session.engine, session.file, arrivals, lines, shouldContinue);
+      const result = await session.serve(served, shouldContinue);
       this.usual.forget();
       const tallies = runs.map(({ seen, done }) => this.tallyOf(seen, null, before + done));
       return { result, typed: { ...stop, cycles: session.count.total - before, tally: tallies.reduce(addTallies, NO_TALLY) } };
@@ -412,15 +412,15 @@ export class Debugger {
   /**
    * Goes back to a goal in the past. The current breakpoints stay: they are not part of the past.
    * @param {BackGoal} goal
-   * @param {(done?: number) => Promise<boolean>} goesOn
+   * @param {(done?: number) => Promise<boolean>} shouldContinue
    * @returns {Promise<WentBack>}
    */
-  async goBack(goal, goesOn) {
+  async goBack(goal, shouldContinue) {
     this.begin();
     const { session } = this;
-    const { moment, present: found, ...report } = await this.aimBack(goal, goesOn);
+    const { moment, present: found, ...report } = await this.aimBack(goal, shouldContinue);
     if (!moment) return { ...report, isDone: false, wires: false, cycles: 0 };
-    const present = found || await session.timeline.at(session.engine, moment, goesOn);
+    const present = found || await session.timeline.at(session.engine, moment, shouldContinue);
     session.timeline.goBack(moment, session);
     return { ...report, ...this.become(present) };
   }
@@ -428,14 +428,14 @@ export class Debugger {
   /**
    * Resolves to the moment of a goal in the past.
    * @param {BackGoal} goal
-   * @param {(done?: number) => Promise<boolean>} goesOn
+   * @param {(done?: number) => Promise<boolean>} shouldContinue
    * @returns {Promise<Aim>}
    */
-  async aimBack(goal, goesOn) {
+  async aimBack(goal, shouldContinue) {
     const { session, watches } = this;
-    if (goal.kind === "call") return lastCall(session, goal.call, goal.returns, goesOn);
-    if (goal.kind === "arrival") return lastArrival(session, this.stopping(), { place: goal.place, watches }, goesOn);
-    return aimBack(session.engine, session, this.readGoal(goal), goesOn);
+    if (goal.kind === "call") return lastCall(session, goal.call, goal.returns, shouldContinue);
+    if (goal.kind === "arrival") return lastArrival(session, this.stopping(), { place: goal.place, watches }, shouldContinue);
+    return aimBack(session.engine, session, this.readGoal(goal), shouldContinue);
   }
 
   /**
@@ -453,14 +453,14 @@ export class Debugger {
    * Finds the last change of a place and does not go there. Resolves to the number of cycles since then, and to the address of the
    * instruction that made the change (-1 if a typed line made it).
    * @param {string} place
-   * @param {(done?: number) => Promise<boolean>} goesOn
+   * @param {(done?: number) => Promise<boolean>} shouldContinue
    * @returns {Promise<LastChange>}
    */
-  async lastChange(place, goesOn) {
+  async lastChange(place, shouldContinue) {
     const { session } = this;
-    const { moment, present, ...report } = await aimBack(session.engine, session, { kind: "change", place }, goesOn);
+    const { moment, present, ...report } = await aimBack(session.engine, session, { kind: "change", place }, shouldContinue);
     if (!moment) return { ...report, isFound: false, cycles: 0, address: -1 };
-    const { file, count } = present || await session.timeline.at(session.engine, moment, goesOn);
+    const { file, count } = present || await session.timeline.at(session.engine, moment, shouldContinue);
     const { counter } = parseCounter(session.engine.ask(file, "regs\n").answers[0]);
     return { ...report, isFound: true, cycles: session.count.total - count.total, address: report.line ? -1 : counter };
   }

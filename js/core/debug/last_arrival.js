@@ -122,17 +122,17 @@ function lastOf(finders) {
  * @param {WorkerSession} session
  * @param {SoftBreakpoint[]} breakpoints that stop
  * @param {Beside} beside
- * @param {GoesOn} goesOn
+ * @param {GoesOn} shouldContinue
  * @returns {Promise<Aim>}
  */
-export async function lastArrival(session, breakpoints, { place, watches }, goesOn) {
+export async function lastArrival(session, breakpoints, { place, watches }, shouldContinue) {
   const { engine, file, timeline } = session;
   const places = [...watchedPlaces(session.ask("watches\n")[0]), ...(place === "" ? [] : [place])];
   const changes = places.map((each) => changeFinder(engine, file, each));
   if (changes.some((each) => each === null)) return aim({ why: "lacks", place });
   const finders = [...changes.flatMap((each) => (each ? [each] : [])), ...(watches ? watches.finders(engine) : [])];
   const all = lastOf([...(breakpoints.length > 0 ? [new LastArrival(session, breakpoints)] : []), ...finders]);
-  const { found, beginning } = await lastInPast(engine, timeline, all, goesOn);
+  const { found, beginning } = await lastInPast(engine, timeline, all, shouldContinue);
   if (found) return found;
   const { end } = timeline;
   const isHere = beginning.segment === end.segment && end.entry === 0;
@@ -144,13 +144,13 @@ export async function lastArrival(session, breakpoints, { place, watches }, goes
  * @param {WorkerSession} session
  * @param {number} call the address of the JMS
  * @param {string[]} returns the return addresses before the JMS, the newest first
- * @param {GoesOn} goesOn
+ * @param {GoesOn} shouldContinue
  * @returns {Promise<Aim>}
  */
-export async function lastCall(session, call, returns, goesOn) {
+export async function lastCall(session, call, returns, shouldContinue) {
   const holds = (/** @type {string[]} */ [answer]) => returns.every((each, at) => answer.split(",")[at] === each);
   const finder = new LastArrival(session, [{ id: 0, address: call, from: 1, hits: 0, places: ["ret"], holds, words: null }]);
-  const { found } = await lastInPast(session.engine, session.timeline, finder, goesOn);
+  const { found } = await lastInPast(session.engine, session.timeline, finder, shouldContinue);
   const back = session.count.total - finder.foundAt - JMS_CYCLES;
   if (!found || back < 0) return aim({ why: "short" });
   const moment = back === 0 ? session.timeline.end : session.timeline.before(back);

@@ -83,13 +83,13 @@ export function softBreakpointOf(placed, names) {
   const readNote = placed.note.trim() === "" ? null : noteOf(placed.note, names);
   const wrong = fault ? inColumn(fault, column) : readNote ? readNote.fault : "";
   if (wrong) return { soft: { id, address, from: 1, hits, places: [], holds: () => true, words: null }, fault: wrong };
-  const own = condition ? condition.places : [];
+  const conditionPlaces = condition ? condition.places : [];
   const note = readNote && readNote.note;
   const soft = {
     id, address, from, hits,
-    places: [...own, ...(note ? note.places : [])],
-    holds: (/** @type {string[]} */ values) => condition === null || condition.holds(values.slice(0, own.length)),
-    words: note ? (/** @type {string[]} */ values) => note.words(values.slice(own.length)) : null,
+    places: [...conditionPlaces, ...(note ? note.places : [])],
+    holds: (/** @type {string[]} */ values) => condition === null || condition.holds(values.slice(0, conditionPlaces.length)),
+    words: note ? (/** @type {string[]} */ values) => note.words(values.slice(conditionPlaces.length)) : null,
   };
   return { soft, fault: "" };
 }

@@ -28,15 +28,15 @@ function cyclesOf(input) {
 }
 
 /**
- * Plans typed lines. Throws `Cancelled` if `goesOn` returns false.
+ * Plans typed lines. Throws `Cancelled` if `shouldContinue` returns false.
  * @param {Engine} engine
  * @param {Uint8Array} file is not changed
  * @param {SoftStops} arrivals receives the hits
  * @param {string} lines
- * @param {(done: number) => Promise<boolean>} goesOn called with the number of characters planned; returns whether to continue
+ * @param {(done: number) => Promise<boolean>} shouldContinue called with the number of characters planned; returns whether to continue
  * @returns {Promise<Planned>}
  */
-export async function planTyped(engine, file, arrivals, lines, goesOn) {
+export async function planTyped(engine, file, arrivals, lines, shouldContinue) {
   /** @type {Planned} */
   const plan = { lines: "", runs: [], id: 0, cut: "", why: "", change: "" };
   if (arrivals.isEmpty || !/\brun\b/.test(lines)) return { ...plan, lines };
@@ -61,7 +61,7 @@ export async function planTyped(engine, file, arrivals, lines, goesOn) {
       const run = readRun(engine.serve(copy, served, copy).answers[0]);
       done += run ? run.cycles : 0;
       waiting = "";
-      if (!(await goesOn(at))) throw new Cancelled();
+      if (!(await shouldContinue(at))) throw new Cancelled();
     }
     plan.lines += served;
   }

@@ -136,16 +136,16 @@ function portPieces(name, standing) {
 /**
  * Describes the values that an instruction uses in addition to its operands.
  * @param {string} name in upper case
- * @param {string} does the description of the instruction
+ * @param {string} description the description of the instruction
  * @param {Parts} parts
  * @param {MachineState} standing
  * @returns {Piece[]}
  */
-function instructionPieces(name, does, parts, standing) {
+function instructionPieces(name, description, parts, standing) {
   const [operand] = parts.operands;
   if (name === "SRC" && operand && PAIR.test(operand.text)) return registerPieces(operand.text, parts, standing);
   const pieces = portPieces(name, standing);
-  if (!ACCUMULATOR_WORD.test(does)) return pieces;
+  if (!ACCUMULATOR_WORD.test(description)) return pieces;
   /** @type {Piece[]} */
   const accumulator = ["acc ", machineValue("acc", "acc", standing), ", cy ", machineValue("cy", "cy", standing)];
   return pieces.length > 0 ? [...pieces, "; ", ...accumulator] : accumulator;
@@ -179,8 +179,8 @@ export function valuesAt(text, at, standing, { nameOf, doesOf }) {
   const parts = partsOf(text);
   if (!word || word.from >= parts.comment) return [];
   const upper = word.text.toUpperCase();
-  const does = doesOf(upper);
-  if (does !== "") return instructionPieces(upper, does, parts, standing);
+  const description = doesOf(upper);
+  if (description !== "") return instructionPieces(upper, description, parts, standing);
   if (REGISTER.test(word.text) || PAIR.test(word.text)) return registerPieces(word.text, parts, standing);
   if (NUMBER.test(word.text)) {
     const value = numberOf(word.text);

@@ -129,12 +129,12 @@ function setPort(sketch, line, as) {
   const { draft, board } = sketch;
   const entry = draft.partByNumber("rom", chip);
   const port = String(draft.keyOf(entry, "port").value.inner);
-  const takers = [...wiringOf(board)].filter(([target, name]) => name === line && target !== BUZZER).map(([target]) => target);
-  const isTurned = (port[3 - at] === "i") !== (as === "i");
-  if (isTurned && takers.length > 0) {
-    throw new ActRefusal(say.takenLine(line, takers.map(nameOfTarget).join(say.AND)));
+  const users = [...wiringOf(board)].filter(([target, name]) => name === line && target !== BUZZER).map(([target]) => target);
+  const changesDirection = (port[3 - at] === "i") !== (as === "i");
+  if (changesDirection && users.length > 0) {
+    throw new ActRefusal(say.takenLine(line, users.map(nameOfTarget).join(say.AND)));
   }
-  requireOutputs(sketch, (each) => isTurned && each === line);
+  requireOutputs(sketch, (each) => changesDirection && each === line);
   sketch.edit([setValue(draft, entry, "port", port.slice(0, 3 - at) + as + port.slice(4 - at))]);
 }
 
@@ -294,8 +294,8 @@ export function actOn(text, act) {
     const [part, words] = perform(sketch, act);
     const fault = newFault(text, sketch.text);
     if (fault) return { ...nothing, refusal: fault };
-    const also = sketch.added.length > 0 ? say.withAlso(say.listOf(sketch.added)) : "";
-    return { edits: sketch.edits, text: sketch.text, part, words: `${words}${also}.`, goneChains: sketch.goneChains, refusal: "" };
+    const alsoAdded = sketch.added.length > 0 ? say.withAlso(say.listOf(sketch.added)) : "";
+    return { edits: sketch.edits, text: sketch.text, part, words: `${words}${alsoAdded}.`, goneChains: sketch.goneChains, refusal: "" };
   } catch (fault) {
     if (!(fault instanceof ActRefusal)) throw fault;
     return { ...nothing, refusal: fault.message };

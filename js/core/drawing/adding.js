@@ -23,11 +23,11 @@ const LINES_PER_DIGIT = { digit: 4, segments: 7 };
 
 /**
  * Returns the lowest unused number; undefined if all are used.
- * @param {number[]} taken the used numbers
- * @param {number} most the count of numbers
+ * @param {number[]} used the used numbers
+ * @param {number} count the count of numbers
  */
-function freeNumber(taken, most) {
-  return upTo(most).find((number) => !taken.includes(number));
+function freeNumber(used, count) {
+  return upTo(count).find((number) => !used.includes(number));
 }
 
 /**
@@ -333,12 +333,12 @@ function bitsOfSegments(sketch, count) {
 /**
  * Throws `ActRefusal` if an action would take away an output line of the buzzer or the printer.
  * @param {Sketch} sketch
- * @param {(line: string) => boolean} goes returns whether a line is not an output after the action
+ * @param {(line: string) => boolean} isLost returns whether a line is not an output after the action
  */
-export function requireOutputs({ text }, goes) {
+export function requireOutputs({ text }, isLost) {
   const { buzzer, printer } = new Face(text);
-  if (buzzer && goes(buzzer.place)) throw new ActRefusal(say.buzzerIsAt(buzzer.place));
-  const line = printer && linesOfPrinter(printer).find(goes);
+  if (buzzer && isLost(buzzer.place)) throw new ActRefusal(say.buzzerIsAt(buzzer.place));
+  const line = printer && linesOfPrinter(printer).find(isLost);
   if (line) throw new ActRefusal(say.printerIsAt(line));
 }
 

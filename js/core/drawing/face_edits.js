@@ -41,11 +41,11 @@ export function wordOf(name) {
  */
 function setInList(draft, kind, lamp, text) {
   const lists = faceLines(draft).filter((line) => line.kind === kind && line.first && !line.last);
-  const own = lists.find((line) => headNumber(line) <= lamp && lamp < headNumber(line) + line.words.length);
-  if (own) {
-    const others = own.words.filter((_, at) => headNumber(own) + at !== lamp);
-    if (text === "" && others.every((word) => word.text === NO_WORD)) return [removeFaceLine(draft, own)];
-    return setWord(own.words[lamp - headNumber(own)], text || NO_WORD);
+  const list = lists.find((line) => headNumber(line) <= lamp && lamp < headNumber(line) + line.words.length);
+  if (list) {
+    const others = list.words.filter((_, at) => headNumber(list) + at !== lamp);
+    if (text === "" && others.every((word) => word.text === NO_WORD)) return [removeFaceLine(draft, list)];
+    return setWord(list.words[lamp - headNumber(list)], text || NO_WORD);
   }
   if (text === "") return [];
   const before = lists.find((line) => headNumber(line) + line.words.length === lamp);
@@ -62,8 +62,8 @@ function setInList(draft, kind, lamp, text) {
 export function nameLamp(draft, lamp, name) {
   const word = wordOf(name);
   const lines = faceLines(draft);
-  const own = lines.find((line) => line.kind === "lamp" && headNumber(line) <= lamp && lamp < headNumber(line) + line.words.length);
-  const old = own && own.words[lamp - headNumber(own)].text;
+  const list = lines.find((line) => line.kind === "lamp" && headNumber(line) <= lamp && lamp < headNumber(line) + line.words.length);
+  const old = list && list.words[lamp - headNumber(list)].text;
   const onGrid = lines.filter(({ kind }) => kind === "grid").flatMap(({ words }) => words)
     .filter(({ text }) => text === old && text !== NO_WORD);
   return [...setInList(draft, "lamp", lamp, word), ...onGrid.flatMap((each) => setWord(each, word || String(lamp)))];
@@ -251,10 +251,10 @@ function renamedPort(text, isLine, newPortOf) {
 /**
  * Removes the names of deleted rows of keys.
  * @param {BoardDraft} draft
- * @param {number} left the number of remaining rows
+ * @param {number} remaining the number of remaining rows
  */
-export function removeRows(draft, left) {
-  return faceLines(draft).filter((line) => line.kind === "row" && headNumber(line) >= left).map((line) => removeFaceLine(draft, line));
+export function removeRows(draft, remaining) {
+  return faceLines(draft).filter((line) => line.kind === "row" && headNumber(line) >= remaining).map((line) => removeFaceLine(draft, line));
 }
 
 /**

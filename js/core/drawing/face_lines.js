@@ -95,17 +95,17 @@ export function setWord(word, text) {
 /**
  * Deletes words of a line, each with the blanks before it.
  * @param {FaceLine} line
- * @param {(at: number) => boolean} goes returns whether to delete the word with an index
+ * @param {(at: number) => boolean} isDeleted returns whether to delete the word with an index
  * @returns {TextEdit[]}
  */
-export function removeWords({ words, first, last }, goes) {
+export function removeWords({ words, first, last }, isDeleted) {
   const head = last || first;
   return words.flatMap(({ from, to }, at) => {
-    if (!goes(at)) return [];
+    if (!isDeleted(at)) return [];
     const before = words[at - 1] ? words[at - 1].to : from;
     // For words at the beginning, the blanks after them are deleted instead: the blank after the colon stays.
     const next = words[at + 1];
-    if (at === 0 || words.slice(0, at).every((_, each) => goes(each))) return [{ from, to: next ? next.from : to, insert: "" }];
+    if (at === 0 || words.slice(0, at).every((_, each) => isDeleted(each))) return [{ from, to: next ? next.from : to, insert: "" }];
     return head ? [{ from: before, to, insert: "" }] : [];
   });
 }

@@ -215,11 +215,11 @@ function lineFields(board, name) {
  */
 function targetFields(board, target) {
   const [kind, number] = splitTarget(target);
-  const canGo = kind === "column" || (kind === "row" && number === board.rows - 1 && number > 0);
+  const canDelete = kind === "column" || (kind === "row" && number === board.rows - 1 && number > 0);
   const name = nameOfTarget(target);
   const title = name.charAt(0).toUpperCase() + name.slice(1);
   const part = kind === "row" || kind === "column" ? "keys" : `chain ${number}`;
-  return { title, part, fields: [lineField(board, target, say.IT_IS)], buttons: canGo ? [deleteButton(target)] : [] };
+  return { title, part, fields: [lineField(board, target, say.IT_IS)], buttons: canDelete ? [deleteButton(target)] : [] };
 }
 
 /**

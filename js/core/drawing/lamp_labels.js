@@ -20,9 +20,9 @@ export function lampLabels(face, count) {
   const labels = lampNames(face, count);
   for (const group of face.groups) {
     if (group.kind !== "display") continue;
-    const own = labelsOf(group);
+    const groupLabels = labelsOf(group);
     lampsOfGroup(group).forEach((lamp, at) => {
-      if (lamp < count) labels[lamp] = labels[lamp] || own[at];
+      if (lamp < count) labels[lamp] = labels[lamp] || groupLabels[at];
     });
   }
   return labels;

@@ -30,9 +30,9 @@ export class Sketch {
    * @param {TextEdit[]} edits
    */
   edit(edits) {
-    const inTurn = toSuccessive(edits);
-    this.edits.push(...inTurn);
-    this.draft = new BoardDraft(edited(this.draft.text, inTurn));
+    const successive = toSuccessive(edits);
+    this.edits.push(...successive);
+    this.draft = new BoardDraft(edited(this.draft.text, successive));
   }
 
   get text() {
