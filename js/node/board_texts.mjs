@@ -18,8 +18,8 @@ export async function boardAndFace(engine, given) {
   const { faults, answers } = wiredBoard(engine, given.text);
   const face = new Face(given.text);
   const board = readBoard(answers);
-  const found = faults.length > 0 ? faults : faultsOfNames(face, board);
-  if (found.length > 0) throw await rejectedTextsError(engine, { board: given }, found);
+  const errors = faults.length > 0 ? faults : faultsOfNames(face, board);
+  if (errors.length > 0) throw await rejectedTextsError(engine, { board: given }, errors);
   return { board, face, answers };
 }
 

@@ -71,9 +71,9 @@ export async function runCommand(command, words, input = "") {
   });
   child.stdin.on("error", () => {});
   child.stdin.end(input);
-  const { status, signal, words: fault } = await ended;
+  const { status, signal, words: startError } = await ended;
   if (isEnding) await waitForever();
-  return { status, signal, stdout: printed[0].text, stderr: printed[1].text || fault };
+  return { status, signal, stdout: printed[0].text, stderr: printed[1].text || startError };
 }
 
 /**

@@ -76,8 +76,8 @@ class Exploration {
   /** Reads the texts; returns the subject of the search, its starting state, and all texts that the result depends on. */
   async begin() {
     const { engine, settings: { texts: { board, program, properties } } } = this;
-    const { prepared, faults: wrong } = prepare(engine, { boardText: board.text, programText: program.text });
-    if (!prepared) throw await rejectedTextsError(engine, { board, program }, wrong);
+    const { prepared, faults: textErrors } = prepare(engine, { boardText: board.text, programText: program.text });
+    if (!prepared) throw await rejectedTextsError(engine, { board, program }, textErrors);
     const subject = subjectOf(engine, board.text, program.text, program.before);
     const { campaign, faults } = readCampaign(properties.text, subject);
     if (faults.length > 0) throw new CommandError(faults.map(({ line, words }) => `${properties.name}:${line}: ${words}`).join("\n"));

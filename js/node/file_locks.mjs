@@ -31,8 +31,8 @@ function holdersOf(name) {
     return Number(inode) === ino ? [{ process: Number(process), device: [major, minor].map((part) => parseInt(part, 16)) }] : [];
   });
   // The device number is joined as by makedev(3). On some file systems the device of a lock differs from the device of the file.
-  const same = locks.filter(({ device: [major, minor] }) => dev === ((major & 0xFFF) * 256) + (minor & 0xFF) + ((minor & 0xFFF00) * 4096));
-  return (same.length > 0 ? same : locks).map(({ process }) => process).filter((process) => process > 0);
+  const matching = locks.filter(({ device: [major, minor] }) => dev === ((major & 0xFFF) * 256) + (minor & 0xFF) + ((minor & 0xFFF00) * 4096));
+  return (matching.length > 0 ? matching : locks).map(({ process }) => process).filter((process) => process > 0);
 }
 
 /**

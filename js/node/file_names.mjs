@@ -28,10 +28,11 @@ function isFolder(name) {
 export function fileNames(begin) {
   const cut = begin.lastIndexOf("/") + 1;
   const [folder, name] = [begin.slice(0, cut), begin.slice(cut)];
-  const place = withoutTilde(folder) || ".";
+  const folderPath = withoutTilde(folder) || ".";
   try {
-    return readdirSync(place).filter((each) => each.startsWith(name) && (name.startsWith(".") || !each.startsWith(".")) && escaped(each) === each)
-      .sort().slice(0, MAX_NAMES).map((each) => `${folder}${each}${isFolder(join(place, each)) ? "/" : ""}`);
+    const isOffered = (file) => file.startsWith(name) && (name.startsWith(".") || !file.startsWith(".")) && escaped(file) === file;
+    return readdirSync(folderPath).filter(isOffered).sort().slice(0, MAX_NAMES)
+      .map((file) => `${folder}${file}${isFolder(join(folderPath, file)) ? "/" : ""}`);
   } catch {
     return [];
   }

@@ -78,11 +78,11 @@ function fileStamps(names) {
 
 /**
  * Writes a file of the cache. Errors are ignored: the next start then computes or compiles again.
- * @param {string} place the path of the file
+ * @param {string} path the path of the file
  * @param {...(string | Uint8Array)} parts
  */
-function writeToCache(place, ...parts) {
-  const temporary = `${place}.${process.pid}`;
+function writeToCache(path, ...parts) {
+  const temporary = `${path}.${process.pid}`;
   try {
     const file = openSync(temporary, "wx", OWNER_ALONE_FILE);
     try {
@@ -91,7 +91,7 @@ function writeToCache(place, ...parts) {
     } finally {
       closeSync(file);
     }
-    renameSync(temporary, place);
+    renameSync(temporary, path);
   } catch {
     rmSync(temporary, { force: true });
   }
@@ -106,12 +106,12 @@ function writeToCache(place, ...parts) {
  */
 function areUnchanged(folder, name, files, sum) {
   if (folder === "") return checksumOfFiles(files) === sum;
-  const place = join(folder, `${TOP.replace(/[/\\:]/g, "%")}.${name}.joined`);
+  const path = join(folder, `${TOP.replace(/[/\\:]/g, "%")}.${name}.joined`);
   const { stamps, hasRecentChange } = fileStamps(files);
   const entry = `${sum}\n${stamps}`;
-  if (existsSync(place) && readFileSync(place, "utf8") === entry) return true;
+  if (existsSync(path) && readFileSync(path, "utf8") === entry) return true;
   if (checksumOfFiles(files) !== sum) return false;
-  if (!hasRecentChange && fileStamps(files).stamps === stamps) writeToCache(place, entry);
+  if (!hasRecentChange && fileStamps(files).stamps === stamps) writeToCache(path, entry);
   return true;
 }
 
@@ -120,13 +120,13 @@ const codeHeader = (sum, kind, length) => `${sum} ${kind} ${length}\n`.padEnd(HE
 
 /**
  * Returns the cached compiled code of the joined file with a checksum, and its kind; undefined if there is none.
- * @param {string} place its path in the cache
+ * @param {string} path its path in the cache
  * @param {string} sum
  * @returns {{ code: Uint8Array, kind: Kind } | undefined}
  */
-function cachedCode(place, sum) {
+function cachedCode(path, sum) {
   try {
-    const bytes = readFileSync(place);
+    const bytes = readFileSync(path);
     const code = bytes.subarray(HEADER_LENGTH);
     const head = bytes.latin1Slice(0, HEADER_LENGTH);
     const kind = KINDS.find((each) => head === codeHeader(sum, each, code.length));
@@ -139,32 +139,32 @@ function cachedCode(place, sum) {
 /**
  * Stores the compiled code of a joined file when the command ends, unless the cache already has code of that kind.
  * @param {Script} script
- * @param {string} place its path in the cache
+ * @param {string} path its path in the cache
  * @param {string} sum
  * @param {Kind | undefined} known the kind of the cached code
  */
-function cacheCode(script, place, sum, known) {
+function cacheCode(script, path, sum, known) {
   process.on("exit", (status) => {
     const isShort = status > MAX_DONE_STATUS || process.argv.some((word) => word === "-h" || word === "--help");
     const kind = isShort ? "asked" : "done";
     if (known === kind) return;
     const code = script.createCachedData();
-    writeToCache(place, codeHeader(sum, kind, code.length), code);
+    writeToCache(path, codeHeader(sum, kind, code.length), code);
   });
 }
 
 /**
  * Runs a joined file; returns its exports. The file is ASCII, so it is not decoded.
  * @param {string} file
- * @param {string} place the path of its compiled code in the cache; "" if there is no cache
+ * @param {string} path the path of its compiled code in the cache; "" if there is no cache
  * @param {string} sum
  */
-function load(file, place, sum) {
+function load(file, path, sum) {
   const source = `(function (require, module, __filename, __dirname) {${readFileSync(file, "latin1")}\n})`;
-  const { code: cachedData, kind = undefined } = (place && cachedCode(place, sum)) || {};
+  const { code: cachedData, kind = undefined } = (path && cachedCode(path, sum)) || {};
   const script = new Script(source, { filename: file, cachedData });
   const known = script.cachedDataRejected ? undefined : kind;
-  if (place !== "" && known !== "done") cacheCode(script, place, sum, known);
+  if (path !== "" && known !== "done") cacheCode(script, path, sum, known);
   const loaded = { exports: {} };
   script.runInThisContext()(require, loaded, file, dirname(file));
   return loaded.exports;

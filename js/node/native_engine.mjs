@@ -16,7 +16,7 @@ import { BenchRefusal } from "../core/bench/faults.js";
 import { endOfInputs, isSeq, opensText, withoutReturn } from "../core/bench/inputs.js";
 import { CommandError } from "./output.mjs";
 import { processes } from "./processes.mjs";
-import { removeFolder, temporaryFolder, temporaryPlace } from "./temporary.mjs";
+import { removeFolder, temporaryFolder, temporaryRoot } from "./temporary.mjs";
 import { TOP } from "./top.mjs";
 
 /**
@@ -125,7 +125,7 @@ printf %s "$program"`;
 class Starter {
   /** @param {string} program its path; "" for the program that ./mcs4 starts, if that is known without comparing sources */
   constructor(program) {
-    this.place = temporaryPlace();
+    this.root = temporaryRoot();
     this.folder = temporaryFolder("mcs4");
     this.free = [...Array(MAX_PROCESSES + 1).keys()];
     const pipes = ["control", ...this.free.flatMap((slot) => [`in${slot}`, `out${slot}`])].map((name) => join(this.folder, name));
@@ -397,13 +397,13 @@ export class NativeEngine {
 
   /** The message that there is no room for a session among the temporary files; "" if there is room. */
   get noRoomMessage() {
-    const { folder, place } = this.starter;
+    const { folder, root } = this.starter;
     const room = join(folder, "room");
     try {
       writeFileSync(room, new Uint8Array(SESSION_BYTES));
       return "";
     } catch {
-      return `${place} has no room for temporary files; make some, or name another place: TMPDIR`;
+      return `${root} has no room for temporary files; make some, or name another place: TMPDIR`;
     } finally {
       rmSync(room, { force: true });
     }

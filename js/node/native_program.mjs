@@ -67,9 +67,9 @@ export function programPath() {
  * system.
  */
 export function proverPath() {
-  const { MCS4_PROVE: named } = process.env;
-  if (named && !existsSync(named)) throw new CommandError(noNamedProver(named));
-  if (named) return named;
+  const { MCS4_PROVE: proverName } = process.env;
+  if (proverName && !existsSync(proverName)) throw new CommandError(noNamedProver(proverName));
+  if (proverName) return proverName;
   const { program, fault, isUnsupported } = runStarter(FIND_PROVER) || noProgram();
   if (program === "" && !isUnsupported) throw new CommandError(noProver(fault));
   return program;

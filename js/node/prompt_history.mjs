@@ -71,8 +71,8 @@ function takeLock(lock) {
     } catch (thrown) {
       if (thrown.code !== "EEXIST") return false;
     }
-    const held = statSync(lock, { throwIfNoEntry: false });
-    if (held && Date.now() - held.mtimeMs > STALE_LOCK_AGE) rmSync(lock, { force: true });
+    const lockStat = statSync(lock, { throwIfNoEntry: false });
+    if (lockStat && Date.now() - lockStat.mtimeMs > STALE_LOCK_AGE) rmSync(lock, { force: true });
     Atomics.wait(new Int32Array(new SharedArrayBuffer(4)), 0, 0, RETRY_INTERVAL);
   }
   return false;

@@ -43,8 +43,8 @@ class Proving {
     const engine = await startEngine();
     if (this.program === "") this.module = (await import("./module_prover.mjs")).moduleProver();
     const { board, program, properties } = this.texts;
-    const { prepared, faults: wrong } = prepare(engine, { boardText: board.text, programText: program.text });
-    if (!prepared) throw await rejectedTextsError(engine, { board, program }, wrong);
+    const { prepared, faults: textErrors } = prepare(engine, { boardText: board.text, programText: program.text });
+    if (!prepared) throw await rejectedTextsError(engine, { board, program }, textErrors);
     const subject = subjectOf(engine, board.text, program.text, program.before);
     const { campaign, faults } = readCampaign(properties.text, subject, false);
     if (faults.length > 0) throw new CommandError(faults.map(({ line, words }) => `${properties.name}:${line}: ${words}`).join("\n"));

@@ -50,8 +50,8 @@ function callsOn(program, terminal) {
 }
 
 /** Ends the program: sends it the rest of the input, waits for its end, and prints its last answers. */
-async function finish(program, rest) {
-  program.child.stdin.write(rest);
+async function finish(program, unserved) {
+  program.child.stdin.write(unserved);
   await program.end();
   print(joinLines(program.lines));
 }
@@ -64,7 +64,7 @@ async function finish(program, rest) {
 export async function servePrompt(word, name) {
   const program = new SessionProgram(word, name, true);
   let signalled = 0;
-  let rest = "";
+  let unserved = "";
   try {
     const [first] = await program.readLines(1);
     print(`${first}\n`);
@@ -74,11 +74,11 @@ export async function servePrompt(word, name) {
       const terminal = new TerminalPrompt(prompt, { output: process.stderr });
       terminal.print(BEGINNING);
       signalled = await terminal.run();
-      rest = signalled === 0 ? prompt.rest : "";
+      unserved = signalled === 0 ? prompt.rest : "";
     }
   } catch (thrown) {
     if (!(thrown instanceof ProgramEnded)) throw thrown;
   }
-  await finish(program, rest);
+  await finish(program, unserved);
   return signalled || program.status;
 }

@@ -13,7 +13,7 @@ process.on("exit", () => {
 });
 
 /** Returns the folder for temporary files: the one that TMPDIR names, or else one in memory if possible. */
-export function temporaryPlace() {
+export function temporaryRoot() {
   if (process.env.TMPDIR) return process.env.TMPDIR;
   try {
     accessSync("/dev/shm", constants.W_OK);
@@ -28,13 +28,13 @@ export function temporaryPlace() {
  * @param {string} name the beginning of its name
  */
 export function temporaryFolder(name) {
-  const place = temporaryPlace();
+  const root = temporaryRoot();
   try {
-    const folder = mkdtempSync(join(place, `${name}.`));
+    const folder = mkdtempSync(join(root, `${name}.`));
     folders.add(folder);
     return folder;
   } catch {
-    throw new CommandError(noFolderIn(place));
+    throw new CommandError(noFolderIn(root));
   }
 }
 

@@ -41,21 +41,21 @@ async function lock(session) {
  */
 function commitOffsets(bytes) {
   const begin = OFFSETS.slots[bytes[OFFSETS.active] % 2] + OFFSETS.log;
-  const places = [];
-  for (let at = begin; at < begin + OFFSETS.logSize && bytes[at] === COMMITTED; at += 3 + bytes[at + 1] * 256 + bytes[at + 2]) places.push(at);
-  return places;
+  const offsets = [];
+  for (let at = begin; at < begin + OFFSETS.logSize && bytes[at] === COMMITTED; at += 3 + bytes[at + 1] * 256 + bytes[at + 2]) offsets.push(at);
+  return offsets;
 }
 
 /**
  * Ends the log of a session file at a record, by clearing the record's commit byte.
  * @param {string} session its file
- * @param {number} place the offset of the commit byte
+ * @param {number} offset of the commit byte
  */
-function endLog(session, place) {
+function endLog(session, offset) {
   try {
     const file = openSync(session, constants.O_RDWR);
     try {
-      writeSync(file, Uint8Array.of(0), 0, 1, place);
+      writeSync(file, Uint8Array.of(0), 0, 1, offset);
       fsyncSync(file);
     } finally {
       closeSync(file);
@@ -76,15 +76,15 @@ async function goBack(session, count) {
   const state = await openSession(engine, texts, session);
   const bytes = engine.bytesOf(state);
   const commands = Number(engine.ask(state, "seq\n").opened.slice("session ".length));
-  const places = commitOffsets(bytes);
-  if (count === 0) return say.howFarBack(commands, places.length);
-  if (count > places.length) throw new CommandError(say.logIsShorter(session, places.length, commands, count));
-  const place = places[places.length - count];
+  const offsets = commitOffsets(bytes);
+  if (count === 0) return say.howFarBack(commands, offsets.length);
+  if (count > offsets.length) throw new CommandError(say.logIsShorter(session, offsets.length, commands, count));
+  const offset = offsets[offsets.length - count];
   const shorter = Uint8Array.from(bytes);
-  shorter[place] = 0;
+  shorter[offset] = 0;
   const { opened } = engine.ask(engine.stateOf(shorter), "seq\n");
   if (opened !== `session ${commands - count}`) throw new CommandError(say.wouldDiffer(session, commands - count, opened));
-  endLog(session, place);
+  endLog(session, offset);
   return opened;
 }
 

@@ -32,8 +32,8 @@ export async function run({ source }, positionals) {
   const answers = texts.answers("cycles");
   const placeOf = source === undefined ? null : await addressDescriber(texts, await startEngine(), source, session);
   const byCounter = placeOf && ((counter) => placeOf(parseInt(counter, 16)));
-  const { runs, sum, words: wrong } = runTimes(answers, first, last, byCounter);
-  if (wrong !== "") throw new CommandError(wrong);
+  const { runs, sum, words: error } = runTimes(answers, first, last, byCounter);
+  if (error !== "") throw new CommandError(error);
   print(joinLines(placeOf ? [...runs, sum] : [sum]));
   return 0;
 }

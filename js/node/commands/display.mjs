@@ -14,12 +14,12 @@ export async function run({ folder }, positionals) {
   checkArguments(words, ["BOARD"], 1, true);
   const [name] = words;
   const texts = new GivenTexts();
-  const given = texts.text(name, "wire");
+  const boardText = texts.text(name, "wire");
   // Standard input is read before the engine starts, so a signal ends the process at once while it waits.
   const answers = texts.answers("display");
-  const { board, face } = await boardAndFace(await startEngine(), given);
-  const { lines, words: wrong } = shownAnswers(face, board, name, answers);
-  if (wrong !== "") throw new CommandError(wrong);
+  const { board, face } = await boardAndFace(await startEngine(), boardText);
+  const { lines, words: error } = shownAnswers(face, board, name, answers);
+  if (error !== "") throw new CommandError(error);
   print(joinLines(lines));
   return 0;
 }

@@ -20,7 +20,7 @@ export async function run({ source }, positionals) {
   const { inputs, words } = answeredScript(script, answers);
   if (words !== "") throw new CommandError(otherAnswers(words));
   const lines = script.split("\n").map((line) => line.replace(/\r$/, ""));
-  const found = new RefusedLines(engine, lines, placeOf).reportLines(inputs, answers[0]);
-  print(joinLines(found));
-  return found.length > 0 ? 1 : 0;
+  const report = new RefusedLines(engine, lines, placeOf).reportLines(inputs, answers[0]);
+  print(joinLines(report));
+  return report.length > 0 ? 1 : 0;
 }

@@ -47,13 +47,13 @@ export async function run({ folder, down, up, "until-stop": session }, positiona
   checkArguments(words, ["BOARD", "KEYS"], 2, true);
   const [boardName, keys] = words;
   const texts = new GivenTexts();
-  const given = texts.text(boardName, "wire");
+  const boardText = texts.text(boardName, "wire");
   if (session !== undefined) {
     texts.read(session, MAX_TEXT_BYTES);
     programPath();
   }
   const engine = await startEngine();
-  const { face } = await boardAndFace(engine, given);
+  const { face } = await boardAndFace(engine, boardText);
   const lines = keyLines(face, boardName, keys, pace);
   if (session !== undefined) return pressOn(session, lines);
   printFile(joinLines(lines), "utf8");

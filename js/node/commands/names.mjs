@@ -14,8 +14,8 @@ export async function run({ folder }, positionals) {
   const texts = new GivenTexts();
   const { text, encoding } = texts.lines();
   const { map } = await assembledProgram(await startEngine(), texts.text(words[0], "asm"));
-  const { lines, line, words: wrong } = replaceNames(text, map);
-  if (wrong !== "") throw new CommandError(inLine(line, wrong));
+  const { lines, line, words: error } = replaceNames(text, map);
+  if (error !== "") throw new CommandError(inLine(line, error));
   printFile(lines === "" || lines.endsWith("\n") ? lines : `${lines}\n`, encoding);
   return 0;
 }

@@ -96,8 +96,8 @@ function ask(words) {
 function bytesInAnswers(answers, { first, count }) {
   // A last line without a line feed is cut off, so it is left out.
   const lines = answers.split("\n").slice(0, -1).map((line) => line.replace(/\r$/, ""));
-  const refused = lines.findIndex((line) => refusalOf(line));
-  if (refused >= 0) throw new CommandError(say.answersRefusal(refused + 1, lines[refused]));
+  const refusedAt = lines.findIndex((line) => refusalOf(line));
+  if (refusedAt >= 0) throw new CommandError(say.answersRefusal(refusedAt + 1, lines[refusedAt]));
   const bytes = bytesOf(lines);
   const missing = bytes.subarray(first, first + count).indexOf(NO_BYTE);
   if (missing >= 0) throw new CommandError(say.noAnswerShows(hex(first + missing, 3)));

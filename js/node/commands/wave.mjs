@@ -49,8 +49,8 @@ async function checkBoard(engine, given, wanted) {
   const { faults, answers } = wiredBoard(engine, given.text);
   if (faults.length > 0) throw await rejectedTextsError(engine, { board: given }, faults);
   if (answers.join() !== wanted.join()) throw new CommandError(say.otherBoard(given.name));
-  const named = faultsOfNames(new Face(given.text), readBoard(answers));
-  if (named.length > 0) throw await rejectedTextsError(engine, { board: given }, named);
+  const nameErrors = faultsOfNames(new Face(given.text), readBoard(answers));
+  if (nameErrors.length > 0) throw await rejectedTextsError(engine, { board: given }, nameErrors);
 }
 
 /**
