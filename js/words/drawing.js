@@ -20,9 +20,9 @@ export const AND = " and ";
 export const ONLY_ONCE = "A board has only one of these.";
 export const COPY_IN_TEXT = "Lamps that belong together can only be copied in the board's text.";
 export const GRID_DIFFERS = "Another lamp would then be at its place in the grid: choose another name.";
-export const TEST_NEEDS_NAME = "What is at TEST needs a name.";
+export const TEST_NEEDS_NAME = "The part at TEST needs a name.";
 export const BUZZER_NEEDS_NAME = "A buzzer needs a name.";
-export const NO_OWN_NAME = "This has no name of its own.";
+export const NO_OWN_NAME = "This part cannot have a name.";
 /** @type {(colour: string, colours: string) => string} */
 export const noColour = (colour, colours) => `${colour} is not a colour; the colours are ${colours}.`;
 /** @type {(digits: string) => string} */
@@ -90,7 +90,7 @@ export const printerIsAt = (line) => `The printer is at ${line}: give it other l
 export const maxChips = (most) => `A chain has at most ${most} chips.`;
 export const MIN_CHIPS = "A chain has at least one chip; or delete the chain.";
 /** @type {(bit: string) => string} */
-export const inUse = (bit) => `${bit} is in use: wire what is there to another line first.`;
+export const inUse = (bit) => `${bit} is in use: wire the part there to another line first.`;
 
 // --- drawing/board_lines.js ---
 /** @type {(kind: string, number: number) => string} */
