@@ -26,6 +26,8 @@ class Driven:
     # The abilities of the driver: several fingers at once, and whether a background tab counts as hidden.
     has_fingers = True
     hides_tabs = True
+    # Whether a page that receives only `pagehide` when it is left can still run its functions.
+    runs_at_pagehide = True
     # The seconds after a scroll in which the page is drawn again.
     settles = 0
 

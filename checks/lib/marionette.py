@@ -27,6 +27,8 @@ def preferences(downloads):
 
 class Firefox(Driven):
     name = "Firefox"
+    # Firefox 153 often runs no function then. It sends `beforeunload` as well, every time.
+    runs_at_pagehide = False
     # With these settings Firefox stores no data of any site.
     blocks_data = {"network.cookie.cookieBehavior": 2}
 

@@ -260,7 +260,7 @@ def hang(browser, address):
 
 def check_left_soon(browser, address, session):
     """Checks that a page that is left within a second does not count as hung, whichever event of its end it gets."""
-    for query in ("", "?deaf=beforeunload", "?deaf=pagehide"):
+    for query in ("", *(["?deaf=beforeunload"] if browser.runs_at_pagehide else []), "?deaf=pagehide"):
         browser.go("about:blank")
         browser.go(address.replace(".html", f".html{query}") + session)
         until_ready(browser)

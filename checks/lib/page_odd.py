@@ -105,7 +105,8 @@ def check_files(browser):
         eventually(browser, f"{what} is opened, asked for or refused in words",
               f"{ASKED.replace('return', 'const asks =')}; {NOTICE.replace('return', 'const text =')}; return asks || text !== ''", True)
         check_alive(browser, what)
-    # If several files are dropped, some are still being read.
+    # The last drop has 60 programs, which the page reads one after another; the text that arrives last closes a dialog that is open by then.
+    browser.until(NOTICE, re.compile(r"^59\.asm is in Source"))
     until_ready(browser)
     browser.script(CLOSE_ALL)
 
