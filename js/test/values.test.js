@@ -109,7 +109,7 @@ test("what a line has changed: an instruction, a call that was stepped over; no 
   const opened = new DebugSession(engine, { board: BOARD, program });
   const { session } = opened.debugger;
   const changes = new LineChanges();
-  const stand = () => changes.stand(standingOf(session), session.count.total, opened.map);
+  const stand = () => changes.addPause(standingOf(session), session.count.total, opened.map);
   stand();
   assert.deepEqual([...changes.lines], []);
   await opened.into();

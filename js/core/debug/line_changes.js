@@ -1,7 +1,7 @@
 // Collects, at each pause, the changes that the last line of the program made in one step: an instruction, or a call that was stepped over.
 //
 //     const changes = new LineChanges();
-//     changes.stand(standing, cycles, map);      at a pause; `cycles` is the cycle count
+//     changes.addPause(standing, cycles, map);   at a pause; `cycles` is the cycle count
 //     changes.lines                              Map { 12 => "acc 5 cy 1" }, the newest line last
 
 import { partsOf } from "../text/assembly.js";
@@ -70,7 +70,7 @@ export class LineChanges {
    * @param {number} cycles the cycle count
    * @param {SourceMap | null} map the map of the program in ROM, null if its text is unknown
    */
-  stand(standing, cycles, map) {
+  addPause(standing, cycles, map) {
     const { before } = this;
     const done = cycles - this.cycles;
     this.before = standing;

@@ -74,7 +74,7 @@ export class SourceValues {
     this.isRunning = this.calls.isRunning();
     if (this.isRunning && wasRunning) return;
     const { standing } = this;
-    if (standing) this.changes.stand(standing, cycles, this.calls.map());
+    if (standing) this.changes.addPause(standing, cycles, this.calls.map());
     this.calls.showLines(standing ? this.changes.lines : new Map());
     this.calls.showWatched();
     this.calls.changed();
