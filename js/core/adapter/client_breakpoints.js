@@ -298,7 +298,7 @@ export class ClientBreakpoints {
       if (condition) usual.conditions.set(mistake, condition);
       return fault ? { verified: false, message: stopsEachTime(inColumn(fault, column)) } : { verified: true };
     });
-    // The debugger checks every instruction only in pieces of CYCLES_OF_CALL.
+    // The debugger checks every instruction only in pieces of MAX_CYCLES_PER_CALL.
     if (session.largestPiece >= MAX_CYCLES_PER_CALL) session.largestPiece = usual.stops.size > 0 ? MAX_CYCLES_PER_CALL : LARGEST_PIECE;
     return answers;
   }

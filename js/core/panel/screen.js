@@ -221,7 +221,7 @@ export class Screen {
   }
 
   /**
-   * Returns the last lines of the printout, at least LEAST_PAPER.
+   * Returns the last lines of the printout, at least MIN_PRINTOUT_ROWS.
    * @param {number} room the free rows
    */
   printoutRows(room) {
