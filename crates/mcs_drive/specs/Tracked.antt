@@ -1,7 +1,7 @@
--- A machine with the calls that are open in it, and the meaning of a property of both that holds
--- for all inputs. The processor keeps three return addresses and not how many of them are in use,
--- so this count is not part of a machine. (Our own choice.)
-use Rattle.std.specs.Prelude.{◌≡◌, ◌+◌, ◌-◌, ℕ, zero, suc, Bool, true, Option, Some, None, unwrap_or, nat_lt, if◌then◌else◌, ◌==◌, not, ◌&&◌, []}
+-- A machine with what is counted beside it, and the meaning of a property of both that holds for all
+-- inputs. The processor keeps three return addresses and not how many of them are in use, so the number
+-- of open calls is not part of a machine; nor is a stopwatch. (Our own choice.)
+use Rattle.std.specs.Prelude.{◌≡◌, ◌<◌, ◌≤◌, ◌+◌, ◌-◌, ℕ, zero, suc, Bool, true, false, Option, Some, None, unwrap_or, nat_lt, nat_le, if◌then◌else◌, ◌==◌, not, ◌&&◌, ◌||◌, []}
 use Rattle.mcs_model.specs.declared.op.Op.{Op}
 use Rattle.mcs_model.specs.declared.op.Op.TheVariants.{Jms, Bbl}
 use Rattle.mcs_model.specs.declared.regs.Regs.{Regs}
@@ -11,17 +11,43 @@ use Rattle.mcs_model.specs.Running.{Machine}
 use Rattle.mcs_drive.specs.Driven.{Levels, FitBoard, driven as driven_machine}
 use Rattle.mcs_drive.specs.Asking.{asks, answer_to}
 
--- a machine, and the number of calls that are open in it
+-- when a stopwatch begins and when it ends, by a machine, the number of its open calls, and what the
+-- stopwatch shows
+pub record Stopwatch : Type 0 where
+  pub begins : Regs → BusState → ℕ → ℕ → Bool
+  pub ends : Regs → BusState → ℕ → ℕ → Bool
+
+-- one that never begins
+abbrev pub no_stopwatch : Stopwatch
+no_stopwatch = record { begins = λ s m calls n. false; ends = λ s m calls n. false }
+
+-- what is counted beside a machine: the calls that are open, and the cycles that a stopwatch shows
+pub record Tracker : Type 0 where
+  pub calls : ℕ
+  pub elapsed : ℕ
+  pub stopwatch : Stopwatch
+
+-- a machine with its tracker
 abbrev pub Tracked : Type 0
-Tracked = Regs × BusState × ℕ
+Tracked = Regs × BusState × Tracker
 
 -- the machine of it
 abbrev pub machine_in : Tracked → Machine
 machine_in s = (s.0, s.1)
 
--- a machine in which no call is open
-abbrev pub without_calls : Machine → Tracked
-without_calls s = (s.0, s.1, 0)
+-- a machine in which no call is open, with a stopwatch at 0
+abbrev pub with_stopwatch : Stopwatch → Machine → Tracked
+with_stopwatch w s = (s.0, s.1, record { calls = 0; elapsed = 0; stopwatch = w })
+
+-- with these levels at the inputs
+abbrev pub under : Levels → Tracked → Tracked
+under l s = (s.0, record s.1 { keys = l.keys; test = l.test }, s.2)
+
+-- with no levels at the inputs
+abbrev pub plain : Tracked → Tracked
+plain s = under (record { keys = []; test = 0 }) s
+
+-- ---- open calls
 
 -- the number of open calls after an instruction, if n are open before: JMS opens one, and BBL
 -- closes one. At most three are open: a fourth takes the return address of the first.
@@ -39,21 +65,39 @@ next_op s m = if s.owed == 1 then None else instruction_at s m
 abbrev pub open_after : Regs → BusState → ℕ → ℕ
 open_after s m n = calls_after (next_op s m) n
 
+-- ---- the stopwatch; it does not see the levels of the inputs
+
+-- the most cycles that it shows
+abbrev pub LONGEST : ℕ
+LONGEST = 16777215
+
+-- true if it begins at a machine, and if it ends there
+abbrev pub begins_at : Tracked → Bool
+begins_at s = s.2.stopwatch.begins s.0 (plain s).1 s.2.calls s.2.elapsed
+
+abbrev pub ends_at : Tracked → Bool
+ends_at s = s.2.stopwatch.ends s.0 (plain s).1 s.2.calls s.2.elapsed
+
+-- what a stopwatch shows after a cycle, by what it shows before, and by whether it begins and ends there:
+-- the cycles since it began; 0 after it ended. It begins again only after it ended.
+abbrev pub shown_after : ℕ → Bool → Bool → ℕ
+shown_after n begins ends =
+    if n == 0 || ends then (if begins then 1 else 0) else if nat_lt n LONGEST then n + 1 else n
+
+abbrev pub elapsed_after : Tracked → ℕ
+elapsed_after s = shown_after s.2.elapsed (begins_at s) (ends_at s)
+
 -- ---- as for machines
 
--- with these levels at the inputs
-abbrev pub under : Levels → Tracked → Tracked
-under l s = (s.0, record s.1 { keys = l.keys; test = l.test }, s.2)
+-- after one cycle: what is counted beside it
+abbrev pub tracker_after : Tracked → Tracker
+tracker_after s = record s.2 { calls = open_after s.0 s.1 s.2.calls; elapsed = elapsed_after s }
 
--- with no levels at the inputs
-abbrev pub plain : Tracked → Tracked
-plain s = under (record { keys = []; test = 0 }) s
-
--- after one cycle; at a code outside the table it stays as it is
+-- after one cycle; at a code outside the table the machine stays as it is
 abbrev pub cycled : Tracked → Tracked
 cycled s =
     let t = unwrap_or (cycle_of s.0 s.1) (machine_in s) in
-    (t.0, t.1, open_after s.0 s.1 s.2)
+    (t.0, t.1, tracker_after s)
 
 -- after k cycles
 abbrev pub after_cycles : ℕ → Tracked → Tracked
@@ -80,3 +124,18 @@ TracksMachine = (f : ℕ → Levels) (k : ℕ) (s : Tracked) → machine_in (dri
 -- the property p holds for all inputs at every moment: an invariant of all runs, AG p
 abbrev pub Holds : (Tracked → Bool) → Tracked → Type 0
 Holds p s = (f : ℕ → Levels) → ((k : ℕ) → FitBoard s.1.board (f k)) → (k : ℕ) → p (driven f k s) ≡ true
+
+-- ---- what a stopwatch shows of a run
+
+-- if a stopwatch never shows more than a limit, then from each moment at which it begins, it ends within
+-- so many cycles
+abbrev pub EndsWithin : Type 0
+EndsWithin =
+    (limit : ℕ) (s : Tracked) → limit < LONGEST → Holds (λ t. nat_le t.2.elapsed limit) s →
+    (f : ℕ → Levels) → ((k : ℕ) → FitBoard s.1.board (f k)) →
+    (k : ℕ) → begins_at (driven f k s) ≡ true →
+    (d : ℕ) × (1 ≤ d) × (d ≤ limit) × (ends_at (driven f (k + d) s) ≡ true)
+
+-- its conditions never change
+abbrev pub KeepsStopwatch : Type 0
+KeepsStopwatch = (f : ℕ → Levels) (k : ℕ) (s : Tracked) → (driven f k s).2.stopwatch ≡ s.2.stopwatch
