@@ -13,7 +13,7 @@ use Rattle.mcs_model.specs.Levels.{clock_levels, chains_clocked, with_rom_ports_
 use Rattle.mcs_model.specs.Effect.{bus_after, cycle_of, effect, instruction_at}
 use Rattle.mcs_model.specs.Running.{Machine}
 use Rattle.mcs_drive.specs.Driven.{Levels, FitBoard}
-use Rattle.mcs_drive.specs.Tracked.{Tracked, machine_in, under, plain, cycled, after_cycles, is_asking, driven, Holds}
+use Rattle.mcs_drive.specs.Tracked.{Stopwatch, Tracked, machine_in, under, plain, cycled, after_cycles, is_asking, driven, Holds}
 use Rattle.mcs_drive.specs.Leading.{Ignores, LeadsTo}
 use Rattle.mcs_drive.proofs.Tracking.{cycle-rest}
 
@@ -45,74 +45,75 @@ cycle-board-when s true o = refl
 cycle-board-when s false None = refl
 cycle-board-when s false (Some op) = bus-board op s.0 s.1
 
-pub cycle-board : (s : Tracked) → (cycled s).1.board ≡ s.1.board
-unfolding cycle_of
-cycle-board s = cycle-board-when (machine_in s) (eqb s.0.owed 1) (instruction_at s.0 s.1)
+module _ (w : Stopwatch) where
+  pub cycle-board : (s : Tracked) → (cycled w s).1.board ≡ s.1.board
+  unfolding cycle_of
+  cycle-board s = cycle-board-when (machine_in s) (eqb s.0.owed 1) (instruction_at s.0 s.1)
 
-pub cycles-board : (k : ℕ) (s : Tracked) → (after_cycles k s).1.board ≡ s.1.board
-cycles-board zero s = refl
-cycles-board (suc k) s = cycle-board (after_cycles k s) ∙ cycles-board k s
+  pub cycles-board : (k : ℕ) (s : Tracked) → (after_cycles w k s).1.board ≡ s.1.board
+  cycles-board zero s = refl
+  cycles-board (suc k) s = cycle-board (after_cycles w k s) ∙ cycles-board k s
 
--- ---- driven runs
+  -- ---- driven w runs
 
-driven-add : (f : ℕ → Levels) (n m : ℕ) (s : Tracked) → driven f (n + m) s ≡ driven (λ i. f (n + i)) m (driven f n s)
-driven-add f n zero s = ap (λ k. driven f k s) (omega arith)
-driven-add f n (suc m) s = (let e : n + suc m ≡ suc (n + m) = omega arith in ap (λ k. driven f k s) e) ∙ ap (λ (t : Tracked). cycled (under (f (n + m)) t)) (driven-add f n m s)
+  driven-add : (f : ℕ → Levels) (n m : ℕ) (s : Tracked) → driven w f (n + m) s ≡ driven w (λ i. f (n + i)) m (driven w f n s)
+  driven-add f n zero s = ap (λ k. driven w f k s) (omega arith)
+  driven-add f n (suc m) s = (let e : n + suc m ≡ suc (n + m) = omega arith in ap (λ k. driven w f k s) e) ∙ ap (λ (t : Tracked). cycled w (under (f (n + m)) t)) (driven-add f n m s)
 
-driven-alike : (f : ℕ → Levels) (k : ℕ) (s t : Tracked) → plain s ≡ plain t → plain (driven f k s) ≡ plain (driven f k t)
-driven-alike f zero s t e = e
-driven-alike f (suc k) s t e = ap (λ (m : Tracked). plain (cycled (under (f k) m))) (driven-alike f k s t e)
+  driven-alike : (f : ℕ → Levels) (k : ℕ) (s t : Tracked) → plain s ≡ plain t → plain (driven w f k s) ≡ plain (driven w f k t)
+  driven-alike f zero s t e = e
+  driven-alike f (suc k) s t e = ap (λ (m : Tracked). plain (cycled w (under (f k) m))) (driven-alike f k s t e)
 
--- a run of which only the first cycle may ask
-pub driven-quiet : (f : ℕ → Levels) (n : ℕ) (a : Tracked) → board_fault_of a.1.board ≡ None → ((i : ℕ) → i < n → is_asking (after_cycles (suc i) (under (f 0) a)) ≡ false) → plain (driven f (suc n) a) ≡ plain (after_cycles (suc n) (under (f 0) a))
-driven-quiet f zero a v quiet = refl
-driven-quiet f (suc n) a v quiet =
-    let b = under (f 0) a in
-    let l = f (suc n) in
-    let ago = driven-quiet f n a v (λ i h. quiet i (omega arith)) in
-    let sound = ap board_fault_of (cycles-board (suc n) b) ∙ v in
-    ap (λ (m : Tracked). plain (cycled (under l m))) ago
-    ∙ ap plain (cycle-rest l (after_cycles (suc n) b) sound (quiet n (omega arith)))
+  -- a run of which only the first cycle may ask
+  pub driven-quiet : (f : ℕ → Levels) (n : ℕ) (a : Tracked) → board_fault_of a.1.board ≡ None → ((i : ℕ) → i < n → is_asking (after_cycles w (suc i) (under (f 0) a)) ≡ false) → plain (driven w f (suc n) a) ≡ plain (after_cycles w (suc n) (under (f 0) a))
+  driven-quiet f zero a v quiet = refl
+  driven-quiet f (suc n) a v quiet =
+      let b = under (f 0) a in
+      let l = f (suc n) in
+      let ago = driven-quiet f n a v (λ i h. quiet i (omega arith)) in
+      let sound = ap board_fault_of (cycles-board (suc n) b) ∙ v in
+      ap (λ (m : Tracked). plain (cycled w (under l m))) ago
+      ∙ ap plain (cycle-rest w l (after_cycles w (suc n) b) sound (quiet n (omega arith)))
 
--- ---- stations
+  -- ---- stations
 
--- at these levels, a leads to one of R
-abbrev pub Leads : (Tracked → Bool) → (Tracked → Type 0) → Tracked → Levels → Type 0
-Leads p R a l = (to : Tracked) × R to × LeadsTo p a to l
+  -- at these levels, a leads to one of R
+  abbrev pub Leads : (Tracked → Bool) → (Tracked → Type 0) → Tracked → Levels → Type 0
+  Leads p R a l = (to : Tracked) × R to × LeadsTo w p a to l
 
--- each of R has p, and leads to one of R at all levels
-pub record Closed (p : Tracked → Bool) (R : Tracked → Type 0) : Type 0 where
-  pub ignores : Ignores p
-  pub sound : (a : Tracked) → R a → board_fault_of a.1.board ≡ None
-  pub well : (a : Tracked) → R a → p a ≡ true
-  pub leads : (a : Tracked) (l : Levels) → R a → FitBoard a.1.board l → Leads p R a l
+  -- each of R has p, and leads to one of R at all levels
+  pub record Closed (p : Tracked → Bool) (R : Tracked → Type 0) : Type 0 where
+    pub ignores : Ignores p
+    pub sound : (a : Tracked) → R a → board_fault_of a.1.board ≡ None
+    pub well : (a : Tracked) → R a → p a ≡ true
+    pub leads : (a : Tracked) (l : Levels) → R a → FitBoard a.1.board l → Leads p R a l
 
-stations-holds : (p : Tracked → Bool) (R : Tracked → Type 0) → Closed p R → (fuel k : ℕ) → k < fuel → (f : ℕ → Levels) (a : Tracked) → R a → ((i : ℕ) → FitBoard a.1.board (f i)) → p (driven f k a) ≡ true
-stations-holds p R c zero k h f a is fit = absurd (omega arith)
-stations-holds p R c (suc fuel) zero h f a is fit = c.well a is
-stations-holds p R c (suc fuel) (suc k) h f a is fit =
-    let to = (c.leads a (f 0) is (fit 0)).0 in
-    let to-is = (c.leads a (f 0) is (fit 0)).1 in
-    let leads = (c.leads a (f 0) is (fit 0)).2 in
-    let b = under (f 0) a in
-    let v = c.sound a is in
-    elim (cases_lt leads.more k) [
-      | inl beyond ↦
-          let n = suc leads.more in
-          let rest = k - leads.more in
-          let g : ℕ → Levels = λ i. f (n + i) in
-          let split : suc k ≡ n + rest = omega arith in
-          let came : plain (driven f n a) ≡ plain to = driven-quiet f leads.more a v leads.quiet ∙ leads.same in
-          let board : a.1.board ≡ to.1.board = sym (cycles-board n b) ∙ ap (λ (m : Tracked). m.1.board) leads.same in
-          ap (λ j. p (driven f j a)) split ∙ ap p (driven-add f n rest a)
-          ∙ c.ignores (driven g rest (driven f n a)) ∙ ap p (driven-alike g rest (driven f n a) to came) ∙ sym (c.ignores (driven g rest to))
-          ∙ stations-holds p R c fuel rest (omega arith) g to to-is (λ i. subst (λ (d : BoardParts). FitBoard d (g i)) board (fit (n + i)))
-      | inr within ↦
-          c.ignores (driven f (suc k) a)
-          ∙ ap p (driven-quiet f k a v (λ i l. leads.quiet i (omega arith)))
-          ∙ sym (c.ignores (after_cycles (suc k) b)) ∙ leads.well k within
-    ]
+  stations-holds : (p : Tracked → Bool) (R : Tracked → Type 0) → Closed p R → (fuel k : ℕ) → k < fuel → (f : ℕ → Levels) (a : Tracked) → R a → ((i : ℕ) → FitBoard a.1.board (f i)) → p (driven w f k a) ≡ true
+  stations-holds p R c zero k h f a is fit = absurd (omega arith)
+  stations-holds p R c (suc fuel) zero h f a is fit = c.well a is
+  stations-holds p R c (suc fuel) (suc k) h f a is fit =
+      let to = (c.leads a (f 0) is (fit 0)).0 in
+      let to-is = (c.leads a (f 0) is (fit 0)).1 in
+      let leads = (c.leads a (f 0) is (fit 0)).2 in
+      let b = under (f 0) a in
+      let v = c.sound a is in
+      elim (cases_lt leads.more k) [
+        | inl beyond ↦
+            let n = suc leads.more in
+            let rest = k - leads.more in
+            let g : ℕ → Levels = λ i. f (n + i) in
+            let split : suc k ≡ n + rest = omega arith in
+            let came : plain (driven w f n a) ≡ plain to = driven-quiet f leads.more a v leads.quiet ∙ leads.same in
+            let board : a.1.board ≡ to.1.board = sym (cycles-board n b) ∙ ap (λ (m : Tracked). m.1.board) leads.same in
+            ap (λ j. p (driven w f j a)) split ∙ ap p (driven-add f n rest a)
+            ∙ c.ignores (driven w g rest (driven w f n a)) ∙ ap p (driven-alike g rest (driven w f n a) to came) ∙ sym (c.ignores (driven w g rest to))
+            ∙ stations-holds p R c fuel rest (omega arith) g to to-is (λ i. subst (λ (d : BoardParts). FitBoard d (g i)) board (fit (n + i)))
+        | inr within ↦
+            c.ignores (driven w f (suc k) a)
+            ∙ ap p (driven-quiet f k a v (λ i l. leads.quiet i (omega arith)))
+            ∙ sym (c.ignores (after_cycles w (suc k) b)) ∙ leads.well k within
+      ]
 
--- whatever the outside does, p holds at every moment from one of R on
-pub closed-holds : (p : Tracked → Bool) (R : Tracked → Type 0) → Closed p R → (a : Tracked) → R a → Holds p a
-closed-holds p R c a is = λ f fit k. stations-holds p R c (suc k) k (omega arith) f a is fit
+  -- whatever the outside does, p holds at every moment from one of R on
+  pub closed-holds : (p : Tracked → Bool) (R : Tracked → Type 0) → Closed p R → (a : Tracked) → R a → Holds w p a
+  closed-holds p R c a is = λ f fit k. stations-holds p R c (suc k) k (omega arith) f a is fit

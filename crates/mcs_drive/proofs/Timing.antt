@@ -2,11 +2,7 @@
 use Rattle.std.proofs.Common.{◌≡◌, ◌<◌, ◌≤◌, ◌+◌, ◌⊎◌, ℕ, zero, suc, inl, inr, Bool, true, false, cond, ◌||◌, nat_lt, nat_le, refl, sym, ap, ◌∙◌, subst, arith, eqb}
 use Rattle.std.proofs.lemmas.Bool.{eqb-false, leb-true, lt-ltb, ne_eqb, or_parts}
 use Rattle.mcs_drive.specs.Driven.{Levels, FitBoard}
-use Rattle.mcs_drive.specs.Tracked.{Tracked, LONGEST, begins_at, ends_at, shown_after, driven, Holds}
-
-pub keeps-stopwatch : (f : ℕ → Levels) (k : ℕ) (s : Tracked) → (driven f k s).2.stopwatch ≡ s.2.stopwatch
-keeps-stopwatch f zero s = refl
-keeps-stopwatch f (suc k) s = keeps-stopwatch f k s
+use Rattle.mcs_drive.specs.Tracked.{Stopwatch, Tracked, LONGEST, begins_at, ends_at, shown_after, driven, Holds}
 
 -- ---- one cycle
 
@@ -31,44 +27,45 @@ counts-on n m begins ends runs few free more =
     let is : shown_after n begins ends ≡ n + 1 = rw (at, below) refl in
     subst (λ (k : ℕ). suc m ≤ k) (sym is) (omega arith)
 
--- ---- a run
+module _ (w : Stopwatch) where
+  -- ---- a run
 
--- it ended within m cycles after cycle k, or shows more than m
-abbrev Runs : (ℕ → Levels) → ℕ → Tracked → ℕ → Type 0
-Runs f k s m =
-    ((d : ℕ) × (1 ≤ d) × (d ≤ m) × (ends_at (driven f (k + d) s) ≡ true))
-    ⊎ (suc m ≤ (driven f (suc (k + m)) s).2.elapsed)
+  -- it ended within m cycles after cycle k, or shows more than m
+  abbrev Runs : (ℕ → Levels) → ℕ → Tracked → ℕ → Type 0
+  Runs f k s m =
+      ((d : ℕ) × (1 ≤ d) × (d ≤ m) × (ends_at w (driven w f (k + d) s) ≡ true))
+      ⊎ (suc m ≤ (driven w f (suc (k + m)) s).2.elapsed)
 
-runs-on : (f : ℕ → Levels) (k m : ℕ) (s : Tracked) (b : Bool) → ends_at (driven f (suc (k + m)) s) ≡ b → suc m ≤ (driven f (suc (k + m)) s).2.elapsed →
-    (driven f (suc (k + m)) s).2.elapsed < LONGEST → Runs f k s (suc m)
-runs-on f k m s true e shows few =
-    let next : k + suc m ≡ suc (k + m) = omega arith in
-    inl (suc m, omega arith, omega arith, ap (λ (n : ℕ). ends_at (driven f n s)) next ∙ e)
-runs-on f k m s false e shows few =
-    let next : suc (k + m) ≡ k + suc m = omega arith in
-    let t = driven f (suc (k + m)) s in
-    inr (subst (λ (n : ℕ). suc (suc m) ≤ (driven f (suc n) s).2.elapsed) next
-    (counts-on t.2.elapsed (suc m) (begins_at t) (ends_at t) (omega arith) few e shows))
+  runs-on : (f : ℕ → Levels) (k m : ℕ) (s : Tracked) (b : Bool) → ends_at w (driven w f (suc (k + m)) s) ≡ b → suc m ≤ (driven w f (suc (k + m)) s).2.elapsed →
+      (driven w f (suc (k + m)) s).2.elapsed < LONGEST → Runs f k s (suc m)
+  runs-on f k m s true e shows few =
+      let next : k + suc m ≡ suc (k + m) = omega arith in
+      inl (suc m, omega arith, omega arith, ap (λ (n : ℕ). ends_at w (driven w f n s)) next ∙ e)
+  runs-on f k m s false e shows few =
+      let next : suc (k + m) ≡ k + suc m = omega arith in
+      let t = driven w f (suc (k + m)) s in
+      inr (subst (λ (n : ℕ). suc (suc m) ≤ (driven w f (suc n) s).2.elapsed) next
+      (counts-on t.2.elapsed (suc m) (begins_at w t) (ends_at w t) (omega arith) few e shows))
 
-runs-to : (limit : ℕ) (s : Tracked) → limit < LONGEST → (f : ℕ → Levels) → ((k : ℕ) → nat_le (driven f k s).2.elapsed limit ≡ true) → (k : ℕ) → begins_at (driven f k s) ≡ true → (m : ℕ) → Runs f k s m
-runs-to limit s few f within k begins zero =
-    let t = driven f k s in
-    let here : k ≡ k + zero = omega arith in
-    inr (subst (λ (n : ℕ). 1 ≤ (driven f (suc n) s).2.elapsed) here
-    (subst (λ b. 1 ≤ shown_after t.2.elapsed b (ends_at t)) (sym begins) (after-begun t.2.elapsed (ends_at t))))
-runs-to limit s few f within k begins (suc m) =
-    elim (runs-to limit s few f within k begins m) [
-      | inl ended ↦ inl (ended.0, ended.1, (let less = ended.2 in omega arith), ended.3)
-      | inr shows ↦
-          let most = leb-true (driven f (suc (k + m)) s).2.elapsed limit (within (suc (k + m))) in
-          runs-on f k m s (ends_at (driven f (suc (k + m)) s)) refl shows (omega arith)
-    ]
+  runs-to : (limit : ℕ) (s : Tracked) → limit < LONGEST → (f : ℕ → Levels) → ((k : ℕ) → nat_le (driven w f k s).2.elapsed limit ≡ true) → (k : ℕ) → begins_at w (driven w f k s) ≡ true → (m : ℕ) → Runs f k s m
+  runs-to limit s few f within k begins zero =
+      let t = driven w f k s in
+      let here : k ≡ k + zero = omega arith in
+      inr (subst (λ (n : ℕ). 1 ≤ (driven w f (suc n) s).2.elapsed) here
+      (subst (λ b. 1 ≤ shown_after t.2.elapsed b (ends_at w t)) (sym begins) (after-begun t.2.elapsed (ends_at w t))))
+  runs-to limit s few f within k begins (suc m) =
+      elim (runs-to limit s few f within k begins m) [
+        | inl ended ↦ inl (ended.0, ended.1, (let less = ended.2 in omega arith), ended.3)
+        | inr shows ↦
+            let most = leb-true (driven w f (suc (k + m)) s).2.elapsed limit (within (suc (k + m))) in
+            runs-on f k m s (ends_at w (driven w f (suc (k + m)) s)) refl shows (omega arith)
+      ]
 
-pub ends-within : (limit : ℕ) (s : Tracked) → limit < LONGEST → Holds (λ t. nat_le t.2.elapsed limit) s →
-    (f : ℕ → Levels) → ((k : ℕ) → FitBoard s.1.board (f k)) → (k : ℕ) → begins_at (driven f k s) ≡ true →
-    (d : ℕ) × (1 ≤ d) × (d ≤ limit) × (ends_at (driven f (k + d) s) ≡ true)
-ends-within limit s few holds f fit k begins =
-    elim (runs-to limit s few f (holds f fit) k begins limit) [
-      | inl ended ↦ ended
-      | inr shows ↦ (let most = leb-true (driven f (suc (k + limit)) s).2.elapsed limit (holds f fit (suc (k + limit))) in absurd (omega arith))
-    ]
+  pub ends-within : (limit : ℕ) (s : Tracked) → limit < LONGEST → Holds w (λ t. nat_le t.2.elapsed limit) s →
+      (f : ℕ → Levels) → ((k : ℕ) → FitBoard s.1.board (f k)) → (k : ℕ) → begins_at w (driven w f k s) ≡ true →
+      (d : ℕ) × (1 ≤ d) × (d ≤ limit) × (ends_at w (driven w f (k + d) s) ≡ true)
+  ends-within limit s few holds f fit k begins =
+      elim (runs-to limit s few f (holds f fit) k begins limit) [
+        | inl ended ↦ ended
+        | inr shows ↦ (let most = leb-true (driven w f (suc (k + limit)) s).2.elapsed limit (holds f fit (suc (k + limit))) in absurd (omega arith))
+      ]

@@ -2,22 +2,22 @@
 use Rattle.std.specs.Prelude.{◌≡◌, ◌<◌, ◌≤◌, ℕ, suc, Bool, true, false, None}
 use Rattle.mcs_model.specs.Boards.{board_fault_of}
 use Rattle.mcs_drive.specs.Driven.{Levels}
-use Rattle.mcs_drive.specs.Tracked.{Tracked, under, plain, after_cycles, is_asking, answer}
+use Rattle.mcs_drive.specs.Tracked.{Stopwatch, Tracked, under, plain, after_cycles, is_asking, answer}
 
 -- a property that does not depend on the inputs
 abbrev pub Ignores : (Tracked → Bool) → Type 0
 Ignores p = (s : Tracked) → p s ≡ p (plain s)
 
--- at these levels, a runs into b, up to levels: after the first cycle it reads no input before b, and
+-- at these levels and with a stopwatch, a runs into b, up to levels: after the first cycle it reads no input before b, and
 -- p holds after each cycle
-pub record LeadsTo (p : Tracked → Bool) (a b : Tracked) (l : Levels) : Type 0 where
+pub record LeadsTo (w : Stopwatch) (p : Tracked → Bool) (a b : Tracked) (l : Levels) : Type 0 where
   pub more : ℕ
-  pub quiet : (i : ℕ) → i < more → is_asking (after_cycles (suc i) (under l a)) ≡ false
-  pub well : (i : ℕ) → i ≤ more → p (after_cycles (suc i) (under l a)) ≡ true
-  pub same : plain (after_cycles (suc more) (under l a)) ≡ plain b
+  pub quiet : (i : ℕ) → i < more → is_asking (after_cycles w (suc i) (under l a)) ≡ false
+  pub well : (i : ℕ) → i ≤ more → p (after_cycles w (suc i) (under l a)) ≡ true
+  pub same : plain (after_cycles w (suc more) (under l a)) ≡ plain b
 
 -- one run shows the result for all levels at which the same is read
 abbrev pub AnswersLead : Type 0
 AnswersLead =
-    (p : Tracked → Bool) (a b : Tracked) (l m : Levels) → Ignores p → board_fault_of a.1.board ≡ None →
-    answer l a ≡ answer m a → LeadsTo p a b m → LeadsTo p a b l
+    (w : Stopwatch) (p : Tracked → Bool) (a b : Tracked) (l m : Levels) → Ignores p → board_fault_of a.1.board ≡ None →
+    answer l a ≡ answer m a → LeadsTo w p a b m → LeadsTo w p a b l

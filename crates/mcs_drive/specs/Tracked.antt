@@ -11,33 +11,22 @@ use Rattle.mcs_model.specs.Running.{Machine}
 use Rattle.mcs_drive.specs.Driven.{Levels, FitBoard, driven as driven_machine}
 use Rattle.mcs_drive.specs.Asking.{asks, answer_to}
 
--- when a stopwatch begins and when it ends, by a machine, the number of its open calls, and what the
--- stopwatch shows
-pub record Stopwatch : Type 0 where
-  pub begins : Regs → BusState → ℕ → ℕ → Bool
-  pub ends : Regs → BusState → ℕ → ℕ → Bool
-
--- one that never begins
-abbrev pub no_stopwatch : Stopwatch
-no_stopwatch = record { begins = λ s m calls n. false; ends = λ s m calls n. false }
-
 -- what is counted beside a machine: the calls that are open, and the cycles that a stopwatch shows
-pub record Tracker : Type 0 where
+pub record Counts : Type 0 where
   pub calls : ℕ
   pub elapsed : ℕ
-  pub stopwatch : Stopwatch
 
--- a machine with its tracker
+-- a machine with its counts
 abbrev pub Tracked : Type 0
-Tracked = Regs × BusState × Tracker
+Tracked = Regs × BusState × Counts
 
 -- the machine of it
 abbrev pub machine_in : Tracked → Machine
 machine_in s = (s.0, s.1)
 
 -- a machine in which no call is open, with a stopwatch at 0
-abbrev pub with_stopwatch : Stopwatch → Machine → Tracked
-with_stopwatch w s = (s.0, s.1, record { calls = 0; elapsed = 0; stopwatch = w })
+abbrev pub without_calls : Machine → Tracked
+without_calls s = (s.0, s.1, record { calls = 0; elapsed = 0 })
 
 -- with these levels at the inputs
 abbrev pub under : Levels → Tracked → Tracked
@@ -65,18 +54,27 @@ next_op s m = if s.owed == 1 then None else instruction_at s m
 abbrev pub open_after : Regs → BusState → ℕ → ℕ
 open_after s m n = calls_after (next_op s m) n
 
--- ---- the stopwatch; it does not see the levels of the inputs
+-- ---- a stopwatch
+
+-- when it begins and when it ends
+pub record Stopwatch : Type 0 where
+  pub begins : Tracked → Bool
+  pub ends : Tracked → Bool
+
+-- one that never begins
+abbrev pub no_stopwatch : Stopwatch
+no_stopwatch = record { begins = λ s. false; ends = λ s. false }
+
+-- true if it begins at a machine, and if it ends there, whatever the levels of the inputs are
+abbrev pub begins_at : Stopwatch → Tracked → Bool
+begins_at w s = w.begins (plain s)
+
+abbrev pub ends_at : Stopwatch → Tracked → Bool
+ends_at w s = w.ends (plain s)
 
 -- the most cycles that it shows
 abbrev pub LONGEST : ℕ
 LONGEST = 16777215
-
--- true if it begins at a machine, and if it ends there
-abbrev pub begins_at : Tracked → Bool
-begins_at s = s.2.stopwatch.begins s.0 (plain s).1 s.2.calls s.2.elapsed
-
-abbrev pub ends_at : Tracked → Bool
-ends_at s = s.2.stopwatch.ends s.0 (plain s).1 s.2.calls s.2.elapsed
 
 -- what a stopwatch shows after a cycle, by what it shows before, and by whether it begins and ends there:
 -- the cycles since it began; 0 after it ended. It begins again only after it ended.
@@ -84,25 +82,25 @@ abbrev pub shown_after : ℕ → Bool → Bool → ℕ
 shown_after n begins ends =
     if n == 0 || ends then (if begins then 1 else 0) else if nat_lt n LONGEST then n + 1 else n
 
-abbrev pub elapsed_after : Tracked → ℕ
-elapsed_after s = shown_after s.2.elapsed (begins_at s) (ends_at s)
+abbrev pub elapsed_after : Stopwatch → Tracked → ℕ
+elapsed_after w s = shown_after s.2.elapsed (begins_at w s) (ends_at w s)
 
 -- ---- as for machines
 
--- after one cycle: what is counted beside it
-abbrev pub tracker_after : Tracked → Tracker
-tracker_after s = record s.2 { calls = open_after s.0 s.1 s.2.calls; elapsed = elapsed_after s }
+-- what is counted after one cycle
+abbrev pub counts_after : Stopwatch → Tracked → Counts
+counts_after w s = record { calls = open_after s.0 s.1 s.2.calls; elapsed = elapsed_after w s }
 
--- after one cycle; at a code outside the table the machine stays as it is
-abbrev pub cycled : Tracked → Tracked
-cycled s =
+-- after one cycle, with this stopwatch; at a code outside the table the machine stays as it is
+abbrev pub cycled : Stopwatch → Tracked → Tracked
+cycled w s =
     let t = unwrap_or (cycle_of s.0 s.1) (machine_in s) in
-    (t.0, t.1, tracker_after s)
+    (t.0, t.1, counts_after w s)
 
 -- after k cycles
-abbrev pub after_cycles : ℕ → Tracked → Tracked
-after_cycles zero s = s
-after_cycles (suc k) s = cycled (after_cycles k s)
+abbrev pub after_cycles : Stopwatch → ℕ → Tracked → Tracked
+after_cycles w zero s = s
+after_cycles w (suc k) s = cycled w (after_cycles w k s)
 
 -- true if the next cycle reads an input
 abbrev pub is_asking : Tracked → Bool
@@ -113,29 +111,25 @@ abbrev pub answer : Levels → Tracked → ℕ
 answer l s = answer_to (instruction_at s.0 s.1) l s.1
 
 -- after k cycles, with the levels f i before cycle i
-abbrev pub driven : (ℕ → Levels) → ℕ → Tracked → Tracked
-driven f zero s = s
-driven f (suc k) s = cycled (under (f k) (driven f k s))
+abbrev pub driven : Stopwatch → (ℕ → Levels) → ℕ → Tracked → Tracked
+driven w f zero s = s
+driven w f (suc k) s = cycled w (under (f k) (driven w f k s))
 
 -- the machine of a tracked run is that of the run
 abbrev pub TracksMachine : Type 0
-TracksMachine = (f : ℕ → Levels) (k : ℕ) (s : Tracked) → machine_in (driven f k s) ≡ driven_machine f k (machine_in s)
+TracksMachine =
+    (w : Stopwatch) (f : ℕ → Levels) (k : ℕ) (s : Tracked) →
+    machine_in (driven w f k s) ≡ driven_machine f k (machine_in s)
 
--- the property p holds for all inputs at every moment: an invariant of all runs, AG p
-abbrev pub Holds : (Tracked → Bool) → Tracked → Type 0
-Holds p s = (f : ℕ → Levels) → ((k : ℕ) → FitBoard s.1.board (f k)) → (k : ℕ) → p (driven f k s) ≡ true
-
--- ---- what a stopwatch shows of a run
+-- with a stopwatch, the property p holds for all inputs at every moment: an invariant of all runs, AG p
+abbrev pub Holds : Stopwatch → (Tracked → Bool) → Tracked → Type 0
+Holds w p s = (f : ℕ → Levels) → ((k : ℕ) → FitBoard s.1.board (f k)) → (k : ℕ) → p (driven w f k s) ≡ true
 
 -- if a stopwatch never shows more than a limit, then from each moment at which it begins, it ends within
--- so many cycles
+-- that many cycles
 abbrev pub EndsWithin : Type 0
 EndsWithin =
-    (limit : ℕ) (s : Tracked) → limit < LONGEST → Holds (λ t. nat_le t.2.elapsed limit) s →
+    (w : Stopwatch) (limit : ℕ) (s : Tracked) → limit < LONGEST → Holds w (λ t. nat_le t.2.elapsed limit) s →
     (f : ℕ → Levels) → ((k : ℕ) → FitBoard s.1.board (f k)) →
-    (k : ℕ) → begins_at (driven f k s) ≡ true →
-    (d : ℕ) × (1 ≤ d) × (d ≤ limit) × (ends_at (driven f (k + d) s) ≡ true)
-
--- its conditions never change
-abbrev pub KeepsStopwatch : Type 0
-KeepsStopwatch = (f : ℕ → Levels) (k : ℕ) (s : Tracked) → (driven f k s).2.stopwatch ≡ s.2.stopwatch
+    (k : ℕ) → begins_at w (driven w f k s) ≡ true →
+    (d : ℕ) × (1 ≤ d) × (d ≤ limit) × (ends_at w (driven w f (k + d) s) ≡ true)

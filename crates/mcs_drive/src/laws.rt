@@ -1,7 +1,7 @@
 //! Laws of the definitions, each as the contract of a function that does nothing.
 ghost use Rattle.mcs_drive.specs.Asking.{AnswersDecide, ChoicesCover, LevelsRest, PulledAtMost};
 ghost use Rattle.mcs_drive.specs.Leading.{AnswersLead};
-ghost use Rattle.mcs_drive.specs.Tracked.{EndsWithin, KeepsStopwatch, TracksMachine};
+ghost use Rattle.mcs_drive.specs.Tracked.{EndsWithin, TracksMachine};
 
 /// Proves that a cycle that reads no input is the same at all levels, and leaves them unchanged.
 pub fn levels_rest()
@@ -28,7 +28,7 @@ pub fn answers_lead()
     ensures { AnswersLead }
 {}
 
-/// Proves that the machine of a run is the same with and without a tracker.
+/// Proves that the machine of a run is the same with and without what is counted beside it.
 pub fn tracks_machine()
     ensures { TracksMachine }
 {}
@@ -36,9 +36,4 @@ pub fn tracks_machine()
 /// Proves that a stopwatch that never shows more than a limit ends within the limit each time that it begins.
 pub fn ends_within()
     ensures { EndsWithin }
-{}
-
-/// Proves that the conditions of a stopwatch never change in a run.
-pub fn keeps_stopwatch()
-    ensures { KeepsStopwatch }
 {}

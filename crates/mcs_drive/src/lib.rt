@@ -4,6 +4,6 @@
 mod laws;
 
 pub use laws::{
-    answers_decide, answers_lead, choices_cover, ends_within, keeps_stopwatch, levels_rest,
-    pulled_at_most, tracks_machine,
+    answers_decide, answers_lead, choices_cover, ends_within, levels_rest, pulled_at_most,
+    tracks_machine,
 };
