@@ -5,9 +5,8 @@ use Rattle.mcs_model.specs.Validity.{IsValidBus, IsValidRegs}
 use Rattle.mcs_drive.specs.Tracked.{Tracked, plain, Holds}
 use Rattle.mcs_search.specs.Rules.{Closure}
 use Rattle.mcs_check.specs.declared.cells.Cell.{Cell}
-use Rattle.mcs_check.specs.declared.conditions.Condition.{Condition}
 use Rattle.mcs_check.specs.Cells.{key_of}
-use Rattle.mcs_check.specs.Conditions.{keeps_to}
+use Rattle.mcs_check.specs.Conditions.{Aimed, keeps_to, stopwatch_in}
 use Rattle.mcs_check.specs.Held.{held}
 use Rattle.mcs_check.specs.Keys.{IsKeyOf, setting_of}
 use Rattle.mcs_check.specs.Searched.{rules_of}
@@ -16,8 +15,8 @@ use Rattle.mcs_check.proofs.Ignoring.{conditions-ignore}
 use Rattle.mcs_check.proofs.Steps.{on-itself}
 
 -- its key stands for it
-pub held-key : (layout : List Cell) (nevers : List (List Condition)) (key : List ℕ) (s m : Tracked) → m ≡ held s → IsValidRegs m.0 → IsValidBus m.1 → keeps_to nevers m ≡ true → key ≡ key_of layout m → IsKeyOf (setting_of m layout nevers) key m
-held-key layout nevers key s m e registers bus well cells = record {
+pub held-key : (layout : List Cell) (aim : Aimed) (key : List ℕ) (s m : Tracked) → m ≡ held s → IsValidRegs m.0 → IsValidBus m.1 → keeps_to aim.nevers m ≡ true → key ≡ key_of layout m → IsKeyOf (setting_of m layout aim) key m
+held-key layout aim key s m e registers bus well cells = record {
   on = on-itself m registers bus
       (subst (λ (x : Tracked). x.1.keys ≡ replicate (key_count x.1.board) 1) (sym e) refl)
       (subst (λ (x : Tracked). x.1.test ≡ 0) (sym e) refl);
@@ -26,7 +25,7 @@ held-key layout nevers key s m e registers bus well cells = record {
 }
 
 -- what was found of it holds of the machine whose keys were put down
-pub held-holds : (layout : List Cell) (nevers : List (List Condition)) (key : List ℕ) (n : ℕ) (s m : Tracked) → m ≡ held s → IsKeyOf (setting_of m layout nevers) key m → Closure (rules_of (setting_of m layout nevers)) key n → Holds (keeps_to nevers) s
-held-holds layout nevers key n s m e is closure =
-    alike-holds (keeps_to nevers) m s (conditions-ignore nevers) (ap plain e)
-    (walker-holds (setting_of m layout nevers) key n m (conditions-ignore nevers) closure is)
+pub held-holds : (layout : List Cell) (aim : Aimed) (key : List ℕ) (n : ℕ) (s m : Tracked) → m ≡ held s → IsKeyOf (setting_of m layout aim) key m → Closure (rules_of (setting_of m layout aim)) key n → Holds (stopwatch_in aim) (keeps_to aim.nevers) s
+held-holds layout aim key n s m e is closure =
+    alike-holds (stopwatch_in aim) (keeps_to aim.nevers) m s (conditions-ignore aim.nevers) (ap plain e)
+    (walker-holds (setting_of m layout aim) key n m (conditions-ignore aim.nevers) closure is)

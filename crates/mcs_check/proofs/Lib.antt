@@ -14,3 +14,4 @@ pub mod Pressing
 pub mod Beginning
 pub mod Scoping
 pub mod Spinning
+pub mod Limiting

@@ -7,8 +7,8 @@ use Rattle.mcs_model.specs.declared.op.Op.TheVariants.{Jcn, Fim, Src, Fin, Inc, 
 use Rattle.mcs_model.specs.Bus.{BusState, fetch_of}
 use Rattle.mcs_model.specs.Effect.{address_beside, after_words, bus_after, cycle_of, effect, instruction_at, is_taken, registers_after, with_word}
 use Rattle.mcs_model.specs.Registers.{pair_of, register_of, with_pair, with_register}
-use Rattle.mcs_drive.specs.Tracked.{Tracked, cycled, machine_in, next_op, open_after}
-use Rattle.mcs_drive.proofs.Tracking.{with_calls}
+use Rattle.mcs_drive.specs.Tracked.{Counts, Stopwatch, Tracked, counts_after, cycled, machine_in, next_op}
+use Rattle.mcs_drive.proofs.Tracking.{with_counts}
 use Rattle.mcs_check.specs.declared.cells.CellList.{CellList}
 use Rattle.mcs_check.specs.declared.cells.CellList.TheVariants.{Characters, StatusCharacters, RamPorts, RomPorts, BankSrcs, Registers, Counters, Chain}
 use Rattle.mcs_check.specs.declared.common_mistakes.Mistakes.{Mistakes}
@@ -72,7 +72,7 @@ three-less false true c x y z f g h e = absurd (cc)
 three-less false false true x y z f g h e = absurd (cc)
 
 calls-less : (asked : Mistakes) (op : Op) (s : Tracked) → errs_in_calls all_mistakes op s ≡ false → errs_in_calls asked op s ≡ false
-calls-less asked op s e = either-asked asked.fourth_call asked.lone_return (is_fourth_call op s.2) (is_lone_return op s.2) e
+calls-less asked op s e = either-asked asked.fourth_call asked.lone_return (is_fourth_call op s.2.calls) (is_lone_return op s.2.calls) e
 
 chips-less : (asked : Mistakes) (op : Op) (s : Tracked) → errs_in_chips all_mistakes op s ≡ false → errs_in_chips asked op s ≡ false
 chips-less asked op s e =
@@ -205,8 +205,8 @@ bus-rests c Wr2 s m rest seen = absurd (both_ways c.chips rest seen)
 bus-rests c Wr3 s m rest seen = absurd (both_ways c.chips rest seen)
 bus-rests c _ s m rest seen = refl
 
-cycle-same-when : (c : Scope) (s : Tracked) (n : ℕ) (b : Bool) (o : Option Op) → cycle_changes c (cond b None o) ≡ false →
-    SameIn c s (with_calls n (unwrap_or (cond b (Some (record s.0 { owed = 0 }, s.1)) (elim o as (λ _. Option (Regs × BusState)) [ Some op ↦ Some (effect op s.0 s.1) | None ↦ None ])) (machine_in s)))
+cycle-same-when : (c : Scope) (s : Tracked) (n : Counts) (b : Bool) (o : Option Op) → cycle_changes c (cond b None o) ≡ false →
+    SameIn c s (with_counts n (unwrap_or (cond b (Some (record s.0 { owed = 0 }, s.1)) (elim o as (λ _. Option (Regs × BusState)) [ Some op ↦ Some (effect op s.0 s.1) | None ↦ None ])) (machine_in s)))
 cycle-same-when c s n true o rest = record { registers = λ r seen. refl; chips = λ seen. refl }
 cycle-same-when c s n false None rest = record { registers = λ r seen. refl; chips = λ seen. refl }
 cycle-same-when c s n false (Some op) rest = record {
@@ -214,9 +214,9 @@ cycle-same-when c s n false (Some op) rest = record {
   chips = λ seen. bus-rests c op s.0 s.1 rest seen;
 }
 
-cycle-same : (c : Scope) (s : Tracked) → cycle_changes c (next_op s.0 s.1) ≡ false → SameIn c s (cycled s)
+cycle-same : (w : Stopwatch) (c : Scope) (s : Tracked) → cycle_changes c (next_op s.0 s.1) ≡ false → SameIn c s (cycled w s)
 unfolding cycle_of
-cycle-same c s rest = cycle-same-when c s (open_after s.0 s.1 s.2) (eqb s.0.owed 1) (instruction_at s.0 s.1) rest
+cycle-same w c s rest = cycle-same-when c s (counts_after w s) (eqb s.0.owed 1) (instruction_at s.0 s.1) rest
 
 -- ---- what is known of the property
 
@@ -225,5 +225,5 @@ pub known-keeps : (c : Scope) (nevers : List (List Condition)) (t : Tracked) →
 known-keeps c nevers t has apart free = keeps-alone c t free nevers has ∙ apart
 
 -- after a cycle that changes nothing in the scope it holds but for mistakes, if it held before
-pub known-next : (c : Scope) (nevers : List (List Condition)) (s t : Tracked) → has_each c nevers ≡ true → cycle_changes c (next_op s.0 s.1) ≡ false → keeps_to nevers s ≡ true → t ≡ cycled s → keeps_apart nevers t ≡ true
-known-next c nevers s t has rest well e = ap (keeps_apart nevers) e ∙ sym (keeps-same c s (cycled s) (cycle-same c s rest) nevers has) ∙ kept-apart nevers s well
+pub known-next : (w : Stopwatch) (c : Scope) (nevers : List (List Condition)) (s t : Tracked) → has_each c nevers ≡ true → cycle_changes c (next_op s.0 s.1) ≡ false → keeps_to nevers s ≡ true → t ≡ cycled w s → keeps_apart nevers t ≡ true
+known-next w c nevers s t has rest well e = ap (keeps_apart nevers) e ∙ sym (keeps-same c s (cycled w s) (cycle-same w c s rest) nevers has) ∙ kept-apart nevers s well

@@ -10,10 +10,10 @@ use Rattle.mcs_model.specs.Effect.{cycle_of, effect, instruction_at}
 use Rattle.mcs_model.specs.Running.{Machine}
 use Rattle.mcs_drive.specs.Driven.{Levels, FitBoard, under as under_machine}
 use Rattle.mcs_drive.specs.Asking.{asks, answer_to, plain as plain_machine}
-use Rattle.mcs_drive.specs.Tracked.{Tracked, machine_in, open_after, under, plain, cycled, after_cycles, is_asking, answer}
+use Rattle.mcs_drive.specs.Tracked.{Counts, Stopwatch, Tracked, counts_after, machine_in, under, plain, cycled, after_cycles, is_asking, answer}
 use Rattle.mcs_drive.specs.Leading.{Ignores, LeadsTo}
 use Rattle.mcs_drive.proofs.Commuting.{at_levels}
-use Rattle.mcs_drive.proofs.Tracking.{with_calls, cycle-rest, answers-decide}
+use Rattle.mcs_drive.proofs.Tracking.{with_counts, cycle-rest, answers-decide}
 use Rattle.mcs_drive.proofs.Stations.{cycle-board}
 use Rattle.mcs_check.specs.Stations.{Begins, CannotRead, LooksAtTest, HasRead, Reaches, has_no_more, port_unpressed}
 use Rattle.mcs_check.proofs.Pulling.{port-lt, port-no-less, port-no-more}
@@ -21,18 +21,18 @@ use Rattle.mcs_drive.proofs.Alike.{behind, run-alike}
 
 -- ---- one cycle
 
-pub nothing-read : (value : ℕ) (s : Tracked) → board_fault_of s.1.board ≡ None → is_asking s ≡ false → HasRead value s (cycled s)
-nothing-read value s v quiet = λ l fit e. ap plain (cycle-rest l s v quiet)
+pub nothing-read : (w : Stopwatch) (value : ℕ) (s : Tracked) → board_fault_of s.1.board ≡ None → is_asking s ≡ false → HasRead w value s (cycled w s)
+nothing-read w value s v quiet = λ l fit e. ap plain (cycle-rest w l s v quiet)
 
 test-answer : (m : Levels) (o : Option Op) (b : BusState) (c w : ℕ) → o ≡ Some (Jcn c w) → eqb (c % 2) 1 ≡ true → answer_to o m b ≡ m.test
 test-answer m o b c w is odd = rw (is, odd) refl
 
 -- TEST was set to the value, and may be set to any level then
-pub test-read : (value : ℕ) (s t : Tracked) → board_fault_of s.1.board ≡ None → Begins LooksAtTest s → plain t ≡ plain (cycled (s.0, record s.1 { test = value }, s.2)) → HasRead value s t
-test-read value s t v begins e = λ l fit same.
+pub test-read : (w : Stopwatch) (value : ℕ) (s t : Tracked) → board_fault_of s.1.board ≡ None → Begins LooksAtTest s → plain t ≡ plain (cycled w (s.0, record s.1 { test = value }, s.2)) → HasRead w value s t
+test-read w value s t v begins e = λ l fit same.
     let m : Levels = record { keys = s.1.keys; test = value } in
     let is : instruction_at s.0 s.1 ≡ Some (Jcn begins.is.condition begins.is.word) = begins.next ∙ ap Some begins.is.is in
-    answers-decide l m s v (same ∙ sym (test-answer m (instruction_at s.0 s.1) s.1 begins.is.condition begins.is.word is begins.is.odd)) ∙ sym e
+    answers-decide w l m s v (same ∙ sym (test-answer m (instruction_at s.0 s.1) s.1 begins.is.condition begins.is.word is begins.is.odd)) ∙ sym e
 
 -- a machine with this accumulator
 abbrev pub with_accumulator : ℕ → Tracked → Tracked
@@ -40,15 +40,15 @@ with_accumulator n s = (record s.0 { acc = n }, s.1, s.2)
 
 port-when : (l : Levels) (s : Machine) (b : Bool) (o : Option Op) → b ≡ false → o ≡ Some Rdr →
     plain_machine (unwrap_or (cond b (Some (record s.0 { owed = 0 }, at_levels l s.1)) (elim o as (λ _. Option (Regs × BusState)) [ Some op ↦ Some (effect op s.0 (at_levels l s.1)) | None ↦ None ])) (under_machine l s))
-    ≡ plain_machine (machine_in (with_accumulator (answer_to o l s.1) (with_calls 0 (unwrap_or (cond b (Some (record s.0 { owed = 0 }, s.1)) (elim o as (λ _. Option (Regs × BusState)) [ Some op ↦ Some (effect op s.0 s.1) | None ↦ None ])) s))))
+    ≡ plain_machine (machine_in (with_accumulator (answer_to o l s.1) (with_counts (record { calls = 0; elapsed = 0 }) (unwrap_or (cond b (Some (record s.0 { owed = 0 }, s.1)) (elim o as (λ _. Option (Regs × BusState)) [ Some op ↦ Some (effect op s.0 s.1) | None ↦ None ])) s))))
 port-when l s b o free is = rw (free, is) refl
 
 -- the accumulator was set to the value afterwards
-pub port-read : (value : ℕ) (s : Tracked) → Begins (λ op. op ≡ Rdr) s → HasRead value s (with_accumulator value (cycled s))
+pub port-read : (w : Stopwatch) (value : ℕ) (s : Tracked) → Begins (λ op. op ≡ Rdr) s → HasRead w value s (with_accumulator value (cycled w s))
 unfolding cycle_of fetch_of
-port-read value s begins = λ l fit same.
-    ap (with_calls (open_after s.0 s.1 s.2)) (port-when l (machine_in s) (eqb s.0.owed 1) (instruction_at s.0 s.1) begins.free (begins.next ∙ ap Some begins.is))
-    ∙ ap (λ n. plain (with_accumulator n (cycled s))) same
+port-read w value s begins = λ l fit same.
+    ap (with_counts (counts_after w s)) (port-when l (machine_in s) (eqb s.0.owed 1) (instruction_at s.0 s.1) begins.free (begins.next ∙ ap Some begins.is))
+    ∙ ap (λ n. plain (with_accumulator n (cycled w s))) same
 
 -- ---- values that cannot be read
 
@@ -102,16 +102,16 @@ asking-plain : (s : Tracked) → is_asking (plain s) ≡ is_asking s
 unfolding fetch_of
 asking-plain s = refl
 
-pub reaches-leads : (p : Tracked → Bool) (a x b : Tracked) (l : Levels) → Ignores p → board_fault_of a.1.board ≡ None → plain (cycled (under l a)) ≡ plain x → Reaches p x b → LeadsTo p a b l
-reaches-leads p a x b l ignores v first reaches =
-    let s = cycled (under l a) in
-    let board : x.1.board ≡ a.1.board = sym (ap (λ (m : Tracked). m.1.board) first) ∙ cycle-board (under l a) in
+pub reaches-leads : (w : Stopwatch) (p : Tracked → Bool) (a x b : Tracked) (l : Levels) → Ignores p → board_fault_of a.1.board ≡ None → plain (cycled w (under l a)) ≡ plain x → Reaches w p x b → LeadsTo w p a b l
+reaches-leads w p a x b l ignores v first reaches =
+    let s = cycled w (under l a) in
+    let board : x.1.board ≡ a.1.board = sym (ap (λ (m : Tracked). m.1.board) first) ∙ cycle-board w (under l a) in
     let sound : board_fault_of x.1.board ≡ None = ap board_fault_of board ∙ v in
-    let alike : (i : ℕ) → i ≤ reaches.cycles → plain (after_cycles (suc i) (under l a)) ≡ plain (after_cycles i x) = λ i h.
-    ap plain (behind i (under l a)) ∙ sym (run-alike i x s sound (sym first) (λ j k. reaches.quiet j (omega arith))) in
+    let alike : (i : ℕ) → i ≤ reaches.cycles → plain (after_cycles w (suc i) (under l a)) ≡ plain (after_cycles w i x) = λ i h.
+    ap plain (behind w i (under l a)) ∙ sym (run-alike w i x s sound (sym first) (λ j k. reaches.quiet j (omega arith))) in
     record {
       more = reaches.cycles;
-      quiet = λ i h. sym (asking-plain (after_cycles (suc i) (under l a))) ∙ ap is_asking (alike i (omega arith)) ∙ asking-plain (after_cycles i x) ∙ reaches.quiet i h;
-      well = λ i h. ignores (after_cycles (suc i) (under l a)) ∙ ap p (alike i h) ∙ sym (ignores (after_cycles i x)) ∙ reaches.well i h;
+      quiet = λ i h. sym (asking-plain (after_cycles w (suc i) (under l a))) ∙ ap is_asking (alike i (omega arith)) ∙ asking-plain (after_cycles w i x) ∙ reaches.quiet i h;
+      well = λ i h. ignores (after_cycles w (suc i) (under l a)) ∙ ap p (alike i h) ∙ sym (ignores (after_cycles w i x)) ∙ reaches.well i h;
       same = alike reaches.cycles (omega arith) ∙ ap plain (sym reaches.at);
     }

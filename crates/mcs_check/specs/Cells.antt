@@ -5,19 +5,20 @@ use Rattle.std.specs.List.{Contains}
 use Rattle.mcs_model.specs.declared.board.BoardParts.{BoardParts}
 use Rattle.mcs_model.specs.declared.regs.Regs.{Regs}
 use Rattle.mcs_model.specs.Boards.{chain_bits, masks_on}
-use Rattle.mcs_drive.specs.Tracked.{Tracked}
+use Rattle.mcs_drive.specs.Tracked.{Counts, Tracked}
 use Rattle.mcs_check.specs.declared.cells.Cell.{Cell}
 use Rattle.mcs_check.specs.declared.cells.CellList.{CellList}
 use Rattle.mcs_check.specs.declared.cells.CellList.TheVariants.{Characters, StatusCharacters, RamPorts, RomPorts, BankSrcs, Registers, Counters, Chain}
 
--- the registers but for the index registers, the SRC byte that the ROMs keep, and how many calls are
--- open; an address in two bytes, the upper one first
-abbrev pub counters_of : Regs → ℕ → ℕ → List ℕ
-counters_of s src calls =
+-- the registers but for the index registers, the SRC byte that the ROMs keep, how many calls are open,
+-- and what the stopwatch shows; an address in two bytes and a time in three, the upper one first
+abbrev pub counters_of : Regs → ℕ → Counts → List ℕ
+counters_of s src t =
     s.acc ∷ s.cy ∷ s.dcl ∷ s.owed ∷ s.pc / 256 ∷ s.pc % 256
     ∷ slice_index s.ret 0 / 256 ∷ slice_index s.ret 0 % 256
     ∷ slice_index s.ret 1 / 256 ∷ slice_index s.ret 1 % 256
-    ∷ slice_index s.ret 2 / 256 ∷ slice_index s.ret 2 % 256 ∷ src ∷ calls ∷ []
+    ∷ slice_index s.ret 2 / 256 ∷ slice_index s.ret 2 % 256 ∷ src ∷ t.calls
+    ∷ t.elapsed / 65536 ∷ t.elapsed / 256 % 256 ∷ t.elapsed % 256 ∷ []
 
 -- the numbers of a list of cells
 abbrev pub list_of : Tracked → CellList → List ℕ
@@ -38,7 +39,7 @@ count_of RamPorts = 32
 count_of RomPorts = 16
 count_of BankSrcs = 8
 count_of Registers = 16
-count_of Counters = 14
+count_of Counters = 17
 count_of (Chain n) = 256
 
 -- whether a board has the chip of cell i of a list; every board has the processor

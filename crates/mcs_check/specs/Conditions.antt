@@ -1,7 +1,9 @@
--- What is never to be: comparisons of what cells hold and mistakes, met all at once. (Our own choice.)
-use Rattle.std.specs.Prelude.{ℕ, ◌%◌, List, [], ◌∷◌, Bool, true, not, ◌&&◌, nat_le, if◌then◌else◌}
+-- Conditions: comparisons of what cells hold and mistakes, met all at once. Some are never to be met;
+-- others begin or end a stopwatch. (Our own choice.)
+use Rattle.std.specs.Prelude.{ℕ, ◌+◌, ◌%◌, List, [], ◌∷◌, Bool, true, not, ◌&&◌, nat_le, if◌then◌else◌}
 use Rattle.mcs_nibble.specs.Bits.{bit_of}
-use Rattle.mcs_drive.specs.Tracked.{Tracked}
+use Rattle.mcs_drive.specs.Tracked.{Stopwatch, Tracked}
+use Rattle.mcs_check.specs.declared.cells.CellList.TheVariants.{Counters}
 use Rattle.mcs_check.specs.declared.conditions.Comparison.{Comparison}
 use Rattle.mcs_check.specs.declared.conditions.Condition.{Condition}
 use Rattle.mcs_check.specs.declared.conditions.Condition.TheVariants.{Compare, Mistaken}
@@ -39,3 +41,23 @@ are_met t (c ∷ cs) = is_met t c && are_met t cs
 abbrev pub keeps_to : List (List Condition) → Tracked → Bool
 keeps_to [] t = true
 keeps_to (cs ∷ nevers) t = not (are_met t cs) && keeps_to nevers t
+
+-- a stopwatch that begins where one of these lists is met as a whole, and ends where one of those is
+abbrev pub stopwatch_of : List (List Condition) → List (List Condition) → Stopwatch
+stopwatch_of begins ends = record { begins = λ s. not (keeps_to begins s); ends = λ s. not (keeps_to ends s) }
+
+-- what a run looks at: the conditions that are never to be met as a whole, and those at which a stopwatch
+-- begins and ends
+pub record Aimed : Type 0 where
+  pub nevers : List (List Condition)
+  pub begins : List (List Condition)
+  pub ends : List (List Condition)
+
+-- its stopwatch
+abbrev pub stopwatch_in : Aimed → Stopwatch
+stopwatch_in a = stopwatch_of a.begins a.ends
+
+-- a comparison of byte i of what a stopwatch shows
+abbrev pub elapsed_byte : ℕ → ℕ → ℕ → Bool → Comparison
+elapsed_byte i low high inside =
+    record { cell = record { list = Counters; index = 14 + i }; part = Whole; low = low; high = high; inside = inside }

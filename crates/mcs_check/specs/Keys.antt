@@ -6,25 +6,24 @@ use Rattle.mcs_model.specs.Bus.{BusState}
 use Rattle.mcs_model.specs.Validity.{IsValidBus, IsValidRegs}
 use Rattle.mcs_drive.specs.Tracked.{Tracked}
 use Rattle.mcs_check.specs.declared.cells.Cell.{Cell}
-use Rattle.mcs_check.specs.declared.conditions.Condition.{Condition}
 use Rattle.mcs_check.specs.Cells.{IsComplete, key_of}
-use Rattle.mcs_check.specs.Conditions.{keeps_to}
+use Rattle.mcs_check.specs.Conditions.{Aimed, keeps_to}
 
--- what stays the same for all machines of a search: the board, the bytes of its ROMs, its layout,
--- and the conditions that are never to be met
+-- what stays the same for all machines of a search: the board, the bytes of its ROMs, its layout, and
+-- the conditions
 pub record Setting : Type 0 where
   pub board : BoardParts
   pub rom : List ℕ
   pub layout : List Cell
-  pub nevers : List (List Condition)
+  pub aim : Aimed
 
 -- that of a machine
-abbrev pub setting_of : Tracked → List Cell → List (List Condition) → Setting
-setting_of s layout nevers = record { board = s.1.board; rom = s.1.rom; layout = layout; nevers = nevers }
+abbrev pub setting_of : Tracked → List Cell → Aimed → Setting
+setting_of s layout aim = record { board = s.1.board; rom = s.1.rom; layout = layout; aim = aim }
 
--- the property: no condition is met
+-- the property: of the conditions that are never to be met none are
 abbrev pub test_of : Setting → Tracked → Bool
-test_of g = keeps_to g.nevers
+test_of g = keeps_to g.aim.nevers
 
 -- a machine on this board and with these ROM bytes, all of whose keys are down, and TEST at 0
 pub record IsOn (b : BoardParts) (bytes : List ℕ) (a : Tracked) : Type 0 where

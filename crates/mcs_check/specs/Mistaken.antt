@@ -82,7 +82,7 @@ is_wrr _ = false
 -- whether an instruction makes one of these mistakes: with calls, with chips, with lines
 abbrev pub errs_in_calls : Mistakes → Op → Tracked → Bool
 errs_in_calls asked op s =
-    (asked.fourth_call && is_fourth_call op s.2) || (asked.lone_return && is_lone_return op s.2)
+    (asked.fourth_call && is_fourth_call op s.2.calls) || (asked.lone_return && is_lone_return op s.2.calls)
 
 abbrev pub errs_in_chips : Mistakes → Op → Tracked → Bool
 errs_in_chips asked op s =

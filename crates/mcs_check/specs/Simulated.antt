@@ -3,7 +3,7 @@ use Rattle.std.specs.Prelude.{◌≡◌, ℕ, List, Bool, true, false, None}
 use Rattle.std.specs.List.{Contains}
 use Rattle.mcs_model.specs.Boards.{board_fault_of}
 use Rattle.mcs_drive.specs.Driven.{Levels, FitBoard}
-use Rattle.mcs_drive.specs.Tracked.{Tracked, under, after_cycles, answer}
+use Rattle.mcs_drive.specs.Tracked.{Stopwatch, Tracked, under, after_cycles, answer}
 use Rattle.mcs_drive.specs.Leading.{LeadsTo}
 use Rattle.mcs_search.specs.Rules.{Rules}
 
@@ -15,12 +15,12 @@ pub record IsStation (p : Tracked → Bool) (a : Tracked) : Type 0 where
 -- the rules of a search whose keys stand for machines. A choice is the value that is read; it leads to
 -- a key if, at all levels at which this value is read, the machine leads to one of that key, p all the
 -- way
-abbrev pub machine_rules : (Tracked → Bool) → (List ℕ → Type 0) → (List ℕ → Tracked → Type 0) → Rules
-machine_rules p is_state is_key_of = record {
+abbrev pub machine_rules : Stopwatch → (Tracked → Bool) → (List ℕ → Type 0) → (List ℕ → Tracked → Type 0) → Rules
+machine_rules w p is_state is_key_of = record {
   is_state = is_state;
   covers = λ key choices. (a : Tracked) → is_key_of key a → (l : Levels) → FitBoard a.1.board l → Contains choices (answer l a);
   leads = λ key c next. (a : Tracked) → is_key_of key a →
-      (b : Tracked) × is_key_of next b × ((l : Levels) → FitBoard a.1.board l → answer l a ≡ c → LeadsTo p a b l);
+      (b : Tracked) × is_key_of next b × ((l : Levels) → FitBoard a.1.board l → answer l a ≡ c → LeadsTo w p a b l);
   fails = λ key c. (a : Tracked) → is_key_of key a →
-      (l : Levels) × FitBoard a.1.board l × ((k : ℕ) × (p (after_cycles k (under l a)) ≡ false));
+      (l : Levels) × FitBoard a.1.board l × ((k : ℕ) × (p (after_cycles w k (under l a)) ≡ false));
 }

@@ -10,7 +10,7 @@ use Rattle.mcs_model.specs.Effect.{address_beside, instruction_at}
 use Rattle.mcs_model.specs.Registers.{register_of, with_register}
 use Rattle.mcs_drive.specs.Driven.{Levels, FitBoard}
 use Rattle.mcs_drive.specs.Asking.{asks}
-use Rattle.mcs_drive.specs.Tracked.{Tracked, under, plain, cycled, after_cycles, is_asking, answer}
+use Rattle.mcs_drive.specs.Tracked.{Counts, Stopwatch, Tracked, under, plain, cycled, after_cycles, is_asking, answer}
 use Rattle.mcs_check.specs.declared.reading.Source.{Source}
 use Rattle.mcs_check.specs.declared.reading.Source.TheVariants.{Nothing, Port, Test}
 
@@ -56,19 +56,26 @@ port_unpressed m =
     elim (masks_on m.board (m.rom_src / 16)) [ Some mask ↦ read_lines (λ k. 0) mask | None ↦ 0 ]
 
 -- one cycle led from s to t, whatever the levels at which this value is read, and but for levels
-abbrev pub HasRead : ℕ → Tracked → Tracked → Type 0
-HasRead value s t =
-    (l : Levels) → FitBoard s.1.board l → answer l s ≡ value → plain (cycled (under l s)) ≡ plain t
+abbrev pub HasRead : Stopwatch → ℕ → Tracked → Tracked → Type 0
+HasRead w value s t =
+    (l : Levels) → FitBoard s.1.board l → answer l s ≡ value → plain (cycled w (under l s)) ≡ plain t
 
 -- a run from s to t, in which no cycle reads of the outside and the property holds at each moment
-pub record Reaches (p : Tracked → Bool) (s t : Tracked) : Type 0 where
+pub record Reaches (w : Stopwatch) (p : Tracked → Bool) (s t : Tracked) : Type 0 where
   pub cycles : ℕ
-  pub quiet : (i : ℕ) → i < cycles → is_asking (after_cycles i s) ≡ false
-  pub well : (i : ℕ) → i ≤ cycles → p (after_cycles i s) ≡ true
-  pub at : t ≡ after_cycles cycles s
+  pub quiet : (i : ℕ) → i < cycles → is_asking (after_cycles w i s) ≡ false
+  pub well : (i : ℕ) → i ≤ cycles → p (after_cycles w i s) ≡ true
+  pub at : t ≡ after_cycles w cycles s
 
--- the next cycle begins an ISZ of register r that jumps to itself, and not for the last time
-pub record Spins (r : ℕ) (s : Tracked) : Type 0 where
+-- a stopwatch is at 0, and never begins
+pub record IsStill (w : Stopwatch) (n : Counts) : Type 0 where
+  pub stands : n.elapsed ≡ 0
+  pub never : (t : Tracked) → w.begins t ≡ false
+
+-- the next cycle begins an ISZ of register r that jumps to itself, and not for the last time; no stopwatch
+-- runs or begins
+pub record Spins (w : Stopwatch) (r : ℕ) (s : Tracked) : Type 0 where
+  pub still : IsStill w s.2
   pub free : s.0.owed ≡ 0
   pub word : ℕ
   pub next : instruction_at s.0 s.1 ≡ Some (Isz r word)
@@ -76,7 +83,7 @@ pub record Spins (r : ℕ) (s : Tracked) : Type 0 where
   pub few : register_of s.0 r < 15
 
 -- all passes of it but the last one lead from s to t
-pub record HasSpun (s t : Tracked) : Type 0 where
+pub record HasSpun (w : Stopwatch) (s t : Tracked) : Type 0 where
   pub register : ℕ
-  pub spins : Spins register s
+  pub spins : Spins w register s
   pub at : t ≡ (with_register s.0 register 15, s.1, s.2)

@@ -21,7 +21,8 @@ pub enum CellList {
     BankSrcs,
     /// The index registers.
     Registers,
-    /// The other registers, addresses in two bytes, the SRC byte that the ROMs keep, and how many calls are open.
+    /// The other registers, addresses in two bytes, the SRC byte that the ROMs keep, how many calls are open, and the
+    /// cycles that the stopwatch shows, in three bytes.
     Counters,
     /// The bits of a shift-register chain.
     Chain(u8),
@@ -55,7 +56,7 @@ impl CellList {
             CellList::RomPorts => 16,
             CellList::BankSrcs => 8,
             CellList::Registers => 16,
-            CellList::Counters => 14,
+            CellList::Counters => 17,
             CellList::Chain(_) => 256,
         }
     }

@@ -1,11 +1,11 @@
 //! Whether conditions are never met by a machine, whatever its keys and its TEST pin do.
 ghost use Rattle.std.specs.Prelude.{◌≤◌, IfOk};
 ghost use Rattle.mcs_search.specs.declared.searching.TheConstants.{MOST};
-ghost use Rattle.mcs_check.specs.Conditions.{keeps_to};
+ghost use Rattle.mcs_check.specs.Conditions.{keeps_to, stopwatch_in};
 ghost use Rattle.mcs_check.specs.Promised.{IsProved};
 
+use crate::aim::Aim;
 use crate::cells::layout_of;
-use crate::conditions::{Never, keeps_to};
 use crate::replica::Replica;
 use crate::walker::Walker;
 use mcs_search::{MOST, Verdict, search_all};
@@ -40,26 +40,26 @@ fn room_in(memory: usize, key_len: usize) -> usize {
 pub fn check_all(
     alloc: Global,
     mut replica: Replica,
-    nevers: Vec<Never>,
+    aim: Aim,
     most: usize,
     memory: usize,
     pause: u32,
 ) -> Result<Outcome, AllocError>
     requires { most ≤ MOST }
-    ensures { IfOk result (IsProved (keeps_to nevers.items) replica) }
+    ensures { IfOk result (IsProved (stopwatch_in aim) (keeps_to aim.nevers) replica) }
 {
     replica.hold();
     let layout = layout_of(alloc, replica.board())?;
     let mut key = vec![in alloc; 0u8; layout.len()]?;
     replica.save(&layout, &mut key);
     replica.show_state_is_valid();
-    if !keeps_to(&replica, &nevers) {
+    if !aim.keeps(&replica) {
         return Ok(Outcome::MayFail(Vec::new(alloc)));
     }
     let mut walker = Walker {
         replica,
         layout,
-        nevers,
+        aim,
         most: pause,
     };
     let limit = most.min(room_in(memory, key.len()));

@@ -1,4 +1,4 @@
-//! What is never to be.
+//! Conditions of a machine at some moment.
 ghost use Rattle.std.specs.Prelude.{◌≡◌};
 ghost use Rattle.mcs_check.specs.Conditions.{are_met, compares, is_inside, is_met, keeps_to, part_of};
 
@@ -106,13 +106,13 @@ fn are_met(replica: &Replica, conditions: &[Condition]) -> bool
     true
 }
 
-/// Conditions that are never to be met all at once. Contracts see their list.
+/// Conditions that are met as a whole if all of them are met at once. Contracts see their list.
 #[derive(Drop)]
-pub struct Never {
+pub struct Conjunction {
     conditions: Vec<Condition>,
 }
 
-impl Model for Never {
+impl Model for Conjunction {
     ghost use Rattle.std.specs.Prelude.{List};
     ghost use Rattle.mcs_check.specs.declared.conditions.Condition.{Condition};
 
@@ -121,12 +121,12 @@ impl Model for Never {
     ghost view = { λ n. n.conditions.items };
 }
 
-impl Never {
+impl Conjunction {
     /// Makes one of conditions.
-    pub fn of(conditions: Vec<Condition>) -> Never
+    pub fn of(conditions: Vec<Condition>) -> Conjunction
         ensures { result ≡ conditions.items }
     {
-        Never { conditions }
+        Conjunction { conditions }
     }
 
     /// Returns the conditions.
@@ -145,7 +145,7 @@ impl Never {
 }
 
 /// Returns whether none of these is met as a whole.
-pub fn keeps_to(replica: &Replica, nevers: &[Never]) -> bool
+pub fn keeps_to(replica: &Replica, nevers: &[Conjunction]) -> bool
     ensures { result ≡ keeps_to nevers.now replica.now }
 {
     for i in 0..nevers.len() {

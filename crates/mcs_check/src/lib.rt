@@ -5,6 +5,7 @@
 //! and the calls that are open in it.
 #![tactic(auto)]
 
+mod aim;
 mod cells;
 mod checking;
 mod common_mistakes;
@@ -16,14 +17,17 @@ mod reading;
 mod replica;
 mod scope;
 mod station;
+mod stopwatch;
 mod walker;
 mod walking;
 
+pub use aim::Aim;
 pub use cells::{Cell, CellList, layout_of};
 pub use checking::{Outcome, check_all};
 pub use common_mistakes::Mistakes;
-pub use conditions::{Comparison, Condition, Never, Part, keeps_to};
+pub use conditions::{Comparison, Condition, Conjunction, Part, keeps_to};
 pub use laws::agreeing_same;
 pub use packing::keys_decide;
 pub use reading::Source;
 pub use replica::Replica;
+pub use stopwatch::{Cycles, add_limit};

@@ -1,23 +1,26 @@
 //! A processor on a rig, whose cells are loaded from a key and saved into one.
 ghost use Rattle.std.specs.Prelude.{◌≡◌, ◌<◌, All, length, IsTrue};
 ghost use Rattle.mcs_model.specs.Validity.{IsValidBus, IsValidRegs};
+ghost use Rattle.mcs_drive.specs.Tracked.{without_calls};
 ghost use Rattle.mcs_check.specs.declared.cells.CellList.TheVariants.{Counters};
 ghost use Rattle.mcs_check.specs.Cells.{list_of, value_at, key_of};
 ghost use Rattle.mcs_check.specs.Keys.{Keeps};
 
 use crate::cells::{Cell, CellList};
+use crate::stopwatch::Cycles;
 use mcs_board::BenchRig;
 use mcs_cpu4004::Cpu;
 use mcs_model::board::Board;
 use mcs_nibble::{Addr, Bit, Nibble};
 use std::marker::Model;
 
-/// A processor on a rig, with the count of its open calls. Contracts see all three.
+/// A processor on a rig, with the count of its open calls and what a stopwatch shows. Contracts see a machine with its counts.
 #[derive(Drop)]
 pub struct Replica {
     pub(crate) cpu: Cpu,
     pub(crate) rig: BenchRig,
     pub(crate) calls: u8,
+    pub(crate) elapsed: Cycles,
 }
 
 impl Model for Replica {
@@ -25,16 +28,17 @@ impl Model for Replica {
 
     ghost Value = { Tracked };
 
-    ghost view = { λ r. (r.cpu, r.rig, r.calls) };
+    ghost view = { λ r. (r.cpu, r.rig, record { calls = r.calls; elapsed = r.elapsed }) };
 }
 
-/// Returns the registers of a processor but for the index registers, the SRC byte that the ROMs of a rig keep, and the count
-/// of open calls.
-fn counters(cpu: &Cpu, rig: &BenchRig, calls: u8) -> [u8; 14]
-    ensures { result ≡ list_of (cpu.now, rig.now, calls) Counters }
+/// Returns the registers of a processor but for the index registers, the SRC byte that the ROMs of a rig keep, the count of
+/// open calls, and what a stopwatch shows.
+fn counters(cpu: &Cpu, rig: &BenchRig, calls: u8, elapsed: Cycles) -> [u8; 17]
+    ensures { result ≡ list_of (cpu.now, rig.now, record { calls = calls; elapsed = elapsed }) Counters }
 {
     let regs = cpu.regs();
     let [first, second, third] = regs.ret;
+    let [high, middle, low] = elapsed.bytes();
     [
         regs.acc.get(),
         regs.cy.get(),
@@ -50,6 +54,9 @@ fn counters(cpu: &Cpu, rig: &BenchRig, calls: u8) -> [u8; 14]
         (third.get() % 256) as u8,
         rig.rom_src(),
         calls,
+        high,
+        middle,
+        low,
     ]
 }
 
@@ -110,11 +117,16 @@ fn registers_are_valid(cpu: &Cpu)
 }
 
 impl Replica {
-    /// Makes one of a processor and a rig, in which no call is open.
+    /// Makes one of a processor and a rig, in which no call is open, with a stopwatch at 0.
     pub fn of(cpu: Cpu, rig: BenchRig) -> Replica
-        ensures { result ≡ (cpu, rig, 0) }
+        ensures { result ≡ without_calls (cpu, rig) }
     {
-        Replica { cpu, rig, calls: 0 }
+        Replica {
+            cpu,
+            rig,
+            calls: 0,
+            elapsed: Cycles::ZERO,
+        }
     }
 
     /// Returns the board.
@@ -146,7 +158,7 @@ impl Replica {
             CellList::BankSrcs => self.rig.ram_src(cell.place() as u8),
             CellList::Registers => self.cpu.regs().r[usize::from(cell.place())].get(),
             CellList::Counters => {
-                counters(&self.cpu, &self.rig, self.calls)[usize::from(cell.place())]
+                counters(&self.cpu, &self.rig, self.calls, self.elapsed)[usize::from(cell.place())]
             }
             CellList::Chain(n) => self.rig.chain_bit(n, cell.place() as u8).get(),
         }
@@ -188,6 +200,8 @@ impl Replica {
                     self.rig.set_rom_src(n);
                 } else if i == 13 {
                     self.calls = n;
+                } else if i > 13 {
+                    self.elapsed = self.elapsed.with_byte(i - 14, n);
                 } else {
                     set_counter(&mut self.cpu, i, n);
                 }

@@ -3,7 +3,7 @@ ghost use Rattle.std.specs.Prelude.{◌≡◌, ◌<◌, ◌+◌, ◌*◌, ◌||�
 ghost use Rattle.mcs_check.specs.Scopes.{changes, has_all, has_cell, has_condition, has_each, has_register};
 
 use crate::cells::{Cell, CellList};
-use crate::conditions::{Condition, Never};
+use crate::conditions::{Condition, Conjunction};
 use mcs_model::op::Op;
 use mcs_nibble::PairNo;
 
@@ -19,7 +19,7 @@ pub(crate) struct Scope {
 }
 
 /// Returns the scope of conditions.
-pub(crate) fn scope_of(nevers: &[Never]) -> Scope {
+pub(crate) fn scope_of(nevers: &[Conjunction]) -> Scope {
     let mut scope = Scope {
         registers: [false; 16],
         chips: false,
@@ -101,7 +101,7 @@ impl Scope {
     }
 
     /// Returns whether what each of these looks at is in it.
-    pub(crate) fn has_each(&self, nevers: &[Never]) -> bool
+    pub(crate) fn has_each(&self, nevers: &[Conjunction]) -> bool
         ensures { result ≡ has_each self.now nevers.now }
     {
         for i in 0..nevers.len() {

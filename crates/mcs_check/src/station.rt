@@ -7,17 +7,17 @@ ghost use Rattle.mcs_model.specs.Registers.{register_of};
 ghost use Rattle.mcs_model.specs.declared.op.Op.TheVariants.{Rdr};
 ghost use Rattle.mcs_drive.specs.Asking.{asks};
 ghost use Rattle.mcs_drive.specs.Tracked.{calls_after, cycled, is_asking, next_op, open_after};
-ghost use Rattle.mcs_check.specs.Conditions.{keeps_to};
+ghost use Rattle.mcs_check.specs.Conditions.{keeps_to, stopwatch_in};
 ghost use Rattle.mcs_check.specs.Keys.{Keeps};
 ghost use Rattle.mcs_check.specs.Scopes.{cycle_changes, errs};
 ghost use Rattle.mcs_check.specs.Stations.{Begins, LooksAtTest, Reads, CannotRead, HasRead, HasSpun, Reaches, Spins, has_no_more, port_unpressed};
 
+use crate::aim::Aim;
 use crate::cells::Cell;
 use crate::common_mistakes::Mistakes;
-use crate::conditions::{Never, keeps_to};
 use crate::reading::{Source, source_of};
 use crate::replica::Replica;
-use crate::scope::{Scope, scope_of};
+use crate::scope::Scope;
 use mcs_model::op::Op;
 use mcs_model::regs::Regs;
 use mcs_nibble::{Addr, Bit, Nibble, RegNo};
@@ -58,7 +58,8 @@ struct Ahead {
     changes: bool,
     /// How many calls are open after it.
     calls: u8,
-    /// The register of an ISZ that it begins, if that jumps to itself, and not for the last time.
+    /// The register of an ISZ that it begins, if that jumps to itself, and not for the last time, and no stopwatch runs or
+    /// begins.
     spins: Option<RegNo>,
 }
 
@@ -117,7 +118,7 @@ impl Replica {
 
     /// Returns how many calls are open after the next cycle.
     fn open_after(&self) -> u8
-        ensures { result ≡ open_after self.now.0 self.now.1 self.now.2 }
+        ensures { result ≡ open_after self.now.0 self.now.1 self.now.2.calls }
     {
         let registers = self.cpu.regs();
         if registers.owed == 1 {
@@ -130,14 +131,14 @@ impl Replica {
     }
 
     /// Returns the register of this instruction at the counter, if it is an ISZ that jumps to itself, and not for the last
-    /// time.
-    fn spins(&self, op: Op) -> Option<RegNo>
+    /// time, and no stopwatch runs or begins.
+    fn spins(&self, aim: &Aim, op: Op) -> Option<RegNo>
         requires { instruction_at self.now.0 self.now.1 ≡ Some op }
-        ensures { IfSome result (λ r. Spins r self.now) }
+        ensures { IfSome result (λ r. Spins (stopwatch_in aim.now) r self.now) }
     {
         match op {
             Op::Isz(r, word) => {
-                if is_pass(&self.cpu.regs(), r, word) {
+                if self.is_still(aim) && is_pass(&self.cpu.regs(), r, word) {
                     Some(r)
                 } else {
                     None
@@ -148,12 +149,12 @@ impl Replica {
     }
 
     /// Returns what is known of the next cycle, and of a scope.
-    fn ahead(&self, scope: &Scope) -> Ahead
+    fn ahead(&self, aim: &Aim, scope: &Scope) -> Ahead
         ensures quiet { result.may_read ≡ false → is_asking self.now ≡ false }
         ensures errs { result.errs ≡ errs scope.now self.now }
         ensures changes { result.changes ≡ cycle_changes scope.now (next_op self.now.0 self.now.1) }
-        ensures calls { result.calls ≡ open_after self.now.0 self.now.1 self.now.2 }
-        ensures spins { IfSome result.spins (λ r. Spins r self.now) }
+        ensures calls { result.calls ≡ open_after self.now.0 self.now.1 self.now.2.calls }
+        ensures spins { IfSome result.spins (λ r. Spins (stopwatch_in aim.now) r self.now) }
     {
         let registers = self.cpu.regs();
         if registers.owed == 1 {
@@ -173,7 +174,7 @@ impl Replica {
                     errs: scope.mistakes && self.makes(&Mistakes::ALL, &op),
                     changes: scope.changes(op),
                     calls,
-                    spins: self.spins(op),
+                    spins: self.spins(aim, op),
                 }
             }
             None => Ahead {
@@ -187,18 +188,20 @@ impl Replica {
     }
 
     /// Runs one cycle, after which so many calls are open.
-    fn cycle(&mut self, calls: u8)
-        requires { calls ≡ open_after self.old.0 self.old.1 self.old.2 }
-        ensures { self.new ≡ cycled self.old }
+    fn cycle(&mut self, aim: &Aim, calls: u8)
+        requires { calls ≡ open_after self.old.0 self.old.1 self.old.2.calls }
+        ensures { self.new ≡ cycled (stopwatch_in aim.now) self.old }
     {
+        let elapsed = self.elapsed_after(aim);
         let _cycle = mcs_board::cycle(&mut self.cpu, &mut self.rig);
         self.calls = calls;
+        self.elapsed = elapsed;
     }
 
     /// Runs all passes of an ISZ that jumps to itself but the last one. Returns the number of their cycles.
-    fn spin(&mut self, r: RegNo) -> u32
-        requires { Spins r self.old }
-        ensures { HasSpun self.old self.new }
+    fn spin(&mut self, aim: &Aim, r: RegNo) -> u32
+        requires { Spins (stopwatch_in aim.now) r self.old }
+        ensures { HasSpun (stopwatch_in aim.now) self.old self.new }
     {
         let passes = 15 - self.cpu.regs().register(r).get();
         self.cpu.set_register(r, Nibble::low_of(15));
@@ -206,17 +209,17 @@ impl Replica {
     }
 
     /// Runs one cycle, or all passes of an ISZ that jumps to itself but the last one, if it may. Returns the number of cycles.
-    fn go_on(&mut self, ahead: &Ahead, may_spin: bool) -> u32
-        requires calls { ahead.now.calls ≡ open_after self.old.0 self.old.1 self.old.2 }
-        requires spins { IfSome ahead.now.spins (λ r. Spins r self.old) }
-        ensures { (self.new ≡ cycled self.old) ⊎ ((may_spin ≡ true) × HasSpun self.old self.new) }
+    fn go_on(&mut self, aim: &Aim, ahead: &Ahead, may_spin: bool) -> u32
+        requires calls { ahead.now.calls ≡ open_after self.old.0 self.old.1 self.old.2.calls }
+        requires spins { IfSome ahead.now.spins (λ r. Spins (stopwatch_in aim.now) r self.old) }
+        ensures { (self.new ≡ cycled (stopwatch_in aim.now) self.old) ⊎ ((may_spin ≡ true) × HasSpun (stopwatch_in aim.now) self.old self.new) }
     {
         if may_spin {
             if let Some(r) = ahead.spins {
-                return self.spin(r);
+                return self.spin(aim, r);
             }
         }
-        self.cycle(ahead.calls);
+        self.cycle(aim, ahead.calls);
         1
     }
 
@@ -263,66 +266,66 @@ impl Replica {
     }
 
     /// Runs the next cycle, an RDR, as if it read this value.
-    fn read_port(&mut self, value: u8)
+    fn read_port(&mut self, aim: &Aim, value: u8)
         requires reads { Begins (λ op. op ≡ Rdr) self.old }
         requires value { value < 16 }
-        ensures read { HasRead value self.old self.new }
+        ensures read { HasRead (stopwatch_in aim.now) value self.old self.new }
         ensures keeps { Keeps self.old.1 self.new.1 }
     {
         let calls = self.open_after();
-        self.cycle(calls);
+        self.cycle(aim, calls);
         self.cpu.set_acc(Nibble::low_of(value));
     }
 
     /// Runs the next cycle, a JCN, with TEST at this level, and sets TEST back.
-    fn read_test(&mut self, value: u8)
+    fn read_test(&mut self, aim: &Aim, value: u8)
         requires reads { Begins LooksAtTest self.old }
         requires value { value < 2 }
-        ensures read { HasRead value self.old self.new }
+        ensures read { HasRead (stopwatch_in aim.now) value self.old self.new }
         ensures keeps { Keeps self.old.1 self.new.1 }
     {
         self.show_state_is_valid();
         let level = self.rig.test_level();
         self.rig.set_test(Bit::low_of(value));
         let calls = self.open_after();
-        self.cycle(calls);
+        self.cycle(aim, calls);
         self.rig.set_test(level);
     }
 
     /// Runs the next cycle, which reads nothing.
-    fn read_nothing(&mut self, value: u8)
+    fn read_nothing(&mut self, aim: &Aim, value: u8)
         requires { is_asking self.old ≡ false }
-        ensures read { HasRead value self.old self.new }
+        ensures read { HasRead (stopwatch_in aim.now) value self.old self.new }
         ensures keeps { Keeps self.old.1 self.new.1 }
     {
         self.show_state_is_valid();
         let calls = self.open_after();
-        self.cycle(calls);
+        self.cycle(aim, calls);
     }
 
     /// Runs the next cycle, which reads this value. Returns whether it can.
-    pub fn read(&mut self, source: Source, value: u8) -> bool
+    pub fn read(&mut self, aim: &Aim, source: Source, value: u8) -> bool
         requires reads { Reads self.old source }
-        ensures read { IsTrue result → HasRead value self.old self.new }
+        ensures read { IsTrue result → HasRead (stopwatch_in aim.now) value self.old self.new }
         ensures keeps { Keeps self.old.1 self.new.1 }
     {
         match source {
             Source::Nothing => {
-                self.read_nothing(value);
+                self.read_nothing(aim, value);
                 true
             }
             Source::Port => {
                 if value >= 16 {
                     return false;
                 }
-                self.read_port(value);
+                self.read_port(aim, value);
                 true
             }
             Source::Test => {
                 if value >= 2 {
                     return false;
                 }
-                self.read_test(value);
+                self.read_test(aim, value);
                 true
             }
         }
@@ -337,37 +340,37 @@ impl Replica {
 
     /// Returns whether the property holds. It is looked at if it is not known to hold but for mistakes, or the next cycle
     /// makes one.
-    fn keeps_on(&self, nevers: &[Never], is_known: bool, changed: bool, errs: bool) -> bool
-        requires { is_known ≡ true → changed ≡ false → errs ≡ false → keeps_to nevers.now self.now ≡ true }
-        ensures { result ≡ true → keeps_to nevers.now self.now ≡ true }
+    fn keeps_on(&self, aim: &Aim, is_known: bool, changed: bool, errs: bool) -> bool
+        requires { is_known ≡ true → changed ≡ false → errs ≡ false → keeps_to aim.now.nevers self.now ≡ true }
+        ensures { result ≡ true → keeps_to aim.now.nevers self.now ≡ true }
     {
-        is_known && !changed && !errs || keeps_to(self, nevers)
+        is_known && !changed && !errs || aim.keeps(self)
     }
 
     /// Runs to where the next cycle reads of the outside, to where the machine is that of a key again, whose counter is at this
     /// address, or for `most` cycles. Returns whether the property holds all the way.
     pub fn go_to_station(
         &mut self,
-        nevers: &[Never],
+        aim: &Aim,
         most: u32,
         layout: &[Cell],
         key: &[u8],
         at: Addr,
     ) -> bool
         requires { length key.now ≡ length layout.now }
-        ensures reaches { IsTrue result → Reaches (keeps_to nevers.now) self.old self.new }
+        ensures reaches { IsTrue result → Reaches (stopwatch_in aim.now) (keeps_to aim.now.nevers) self.old self.new }
         ensures keeps { Keeps self.old.1 self.new.1 }
     {
-        let scope = scope_of(nevers);
-        let has_each = scope.has_each(nevers);
+        let scope = aim.scope();
+        let has_each = aim.is_in(&scope);
         let mut changed = true;
         let mut left = most;
         for _ in 0..most {
             if left == 0 {
-                return keeps_to(self, nevers);
+                return aim.keeps(self);
             }
-            let ahead = self.ahead(&scope);
-            if !self.keeps_on(nevers, has_each, changed, ahead.errs) {
+            let ahead = self.ahead(aim, &scope);
+            if !self.keeps_on(aim, has_each, changed, ahead.errs) {
                 return false;
             }
             if ahead.may_read {
@@ -379,9 +382,9 @@ impl Replica {
             }
             let is_sought = self.counter().get() == at.get();
             let may = may_spin(left, is_sought, has_each, &ahead);
-            left = left.saturating_sub(self.go_on(&ahead, may));
+            left = left.saturating_sub(self.go_on(aim, &ahead, may));
             changed = ahead.changes;
         }
-        keeps_to(self, nevers)
+        aim.keeps(self)
     }
 }

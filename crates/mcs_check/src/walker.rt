@@ -1,20 +1,20 @@
 //! The system that is searched: its states stand for the machines of one board.
 ghost use Rattle.std.specs.Prelude.{◌≡◌};
 
+use crate::aim::Aim;
 use crate::cells::Cell;
-use crate::conditions::Never;
 use crate::replica::Replica;
 use crate::walking::{follow, list_values};
 use mcs_search::System;
 use std::alloc::AllocError;
 use std::marker::Model;
 
-/// Machines of one board, and what is never to be met by them.
+/// Machines of one board, and what is looked at in their runs.
 #[derive(Drop)]
 pub struct Walker {
     pub(crate) replica: Replica,
     pub(crate) layout: Vec<Cell>,
-    pub(crate) nevers: Vec<Never>,
+    pub(crate) aim: Aim,
     pub(crate) most: u32,
 }
 
@@ -26,7 +26,7 @@ impl Model for Walker {
 
     ghost Value = { Setting };
 
-    ghost view = { λ w. record { board = w.replica.1.board; rom = w.replica.1.rom; layout = w.layout.items; nevers = w.nevers.items } };
+    ghost view = { λ w. record { board = w.replica.1.board; rom = w.replica.1.rom; layout = w.layout.items; aim = w.aim } };
 
     ghost invariant = { λ w. (w.replica.1.keys ≡ replicate (key_count w.replica.1.board) 1)
         × (w.replica.1.test ≡ 0) × IsComplete w.replica.1.board w.layout.items };
@@ -51,7 +51,7 @@ impl System for Walker {
         follow(
             &mut self.replica,
             &self.layout,
-            &self.nevers,
+            &self.aim,
             self.most,
             key,
             choice,

@@ -1,16 +1,16 @@
 //! A step of the search, from the machine of a key to the next one.
-ghost use Rattle.std.specs.Prelude.{◌≡◌, ◌<◌, ◌⊎◌, ℕ, List, length, true, replicate, IfSome, OnOk};
+ghost use Rattle.std.specs.Prelude.{◌≡◌, ◌<◌, ◌⊎◌, ℕ, length, true, replicate, IfSome, OnOk};
 ghost use Rattle.std.specs.List.{Contains};
 ghost use Rattle.mcs_model.specs.Boards.{key_count};
 ghost use Rattle.mcs_check.specs.Cells.{IsComplete};
+ghost use Rattle.mcs_check.specs.Conditions.{Aimed};
 ghost use Rattle.mcs_check.specs.Keys.{Keeps, setting_of};
-ghost use Rattle.mcs_check.specs.declared.conditions.Condition.{Condition};
 ghost use Rattle.mcs_check.specs.Searched.{Covers};
 ghost use Rattle.mcs_check.specs.Stations.{CannotRead};
 ghost use Rattle.mcs_check.specs.Walking.{IsState, Leads};
 
+use crate::aim::Aim;
 use crate::cells::Cell;
-use crate::conditions::Never;
 use crate::replica::Replica;
 use std::alloc::AllocError;
 
@@ -52,8 +52,8 @@ pub(crate) fn list_values(
     requires test { replica.old.1.test ≡ 0 }
     requires complete { IsComplete replica.old.1.board layout.now }
     ensures keeps { Keeps replica.old.1 replica.new.1 }
-    ensures covers { OnOk result ((nevers : List (List Condition)) →
-        Covers (setting_of replica.old layout.now nevers) key.now into.new.items) }
+    ensures covers { OnOk result ((aim : Aimed) →
+        Covers (setting_of replica.old layout.now aim) key.now into.new.items) }
 {
     into.clear();
     if key.len() != layout.len() || !replica.load(layout, key) {
@@ -70,7 +70,7 @@ pub(crate) fn list_values(
 pub(crate) fn follow(
     replica: &mut Replica,
     layout: &[Cell],
-    nevers: &[Never],
+    aim: &Aim,
     most: u32,
     key: &[u8],
     value: u8,
@@ -80,12 +80,12 @@ pub(crate) fn follow(
     requires test { replica.old.1.test ≡ 0 }
     requires complete { IsComplete replica.old.1.board layout.now }
     requires into { length into.old ≡ length key.now }
-    requires state { IsState (setting_of replica.old layout.now nevers.now) key.now }
+    requires state { IsState (setting_of replica.old layout.now aim.now) key.now }
     ensures keeps { Keeps replica.old.1 replica.new.1 }
     ensures leads { IfSome result (λ well. well ≡ true →
-        Leads (setting_of replica.old layout.now nevers.now) key.now value into.new) }
+        Leads (setting_of replica.old layout.now aim.now) key.now value into.new) }
     ensures state { IfSome result (λ well. well ≡ true →
-        IsState (setting_of replica.old layout.now nevers.now) into.new) }
+        IsState (setting_of replica.old layout.now aim.now) into.new) }
 {
     if key.len() != layout.len() || !replica.load(layout, key) {
         return None;
@@ -93,10 +93,10 @@ pub(crate) fn follow(
     replica.show_state_is_valid();
     let at = replica.counter();
     let source = replica.source();
-    if !replica.read(source, value) {
+    if !replica.read(aim, source, value) {
         return None;
     }
-    if !replica.go_to_station(nevers, most, layout, key, at) {
+    if !replica.go_to_station(aim, most, layout, key, at) {
         return Some(false);
     }
     replica.show_state_is_valid();

@@ -5,7 +5,6 @@ use Rattle.mcs_search.specs.Verdicts.{IsProved}
 use Rattle.mcs_check.specs.declared.cells.Cell.{Cell}
 use Rattle.mcs_check.specs.Cells.{key_of, value_at}
 use Rattle.mcs_check.specs.Conditions.{keeps_to}
-use Rattle.mcs_check.specs.declared.conditions.Condition.{Condition}
 use Rattle.mcs_check.specs.Keys.{setting_of}
 use Rattle.mcs_check.specs.Searched.{rules_of}
 use Rattle.mcs_check.proofs.Beginning.{held-holds, held-key}
@@ -15,8 +14,8 @@ pub returns-in-Holds : goal.returns-in-Holds
 returns-in-Holds c =
     let m = c.hold.new.self in
     let layout = c.in_ok-layout.layout.items in
-    let nevers = c.args.nevers.items in
-    let key = c.deref-3.result.now in
+    let aim = c.args.aim in
+    let key = c.deref-2.result.now in
     let saved : c.save.new.key ≡ key_of layout m = c.save.ensures ∙ ap (λ (l : List Cell). key_of l m) c.deref.ensures.value in
     let mapped = ap length c.save.ensures ∙ length-map c.deref.result.now (value_at m) in
     let few = c.deref.ensures.len in
@@ -25,8 +24,8 @@ returns-in-Holds c =
     let len : length c.save.new.key ≡ c.in_ok-key.key.len = omega arith in
     let rest = drop (length c.save.new.key) c.in_ok-key.key.items in
     let whole = subst (λ (n : ℕ). take n (c.save.new.key ++ rest) ≡ c.save.new.key) len (take-append_seam c.save.new.key rest) in
-    let cells : key ≡ key_of layout m = c.deref-3.ensures.value ∙ (whole ∙ saved) in
-    let well : keeps_to nevers m ≡ true = ap (λ (n : List (List Condition)). keeps_to n m) (sym c.deref-2.ensures.value) ∙ sym c.keeps_to.ensures ∙ c.if-not-keeps_to.false in
-    let is = held-key layout nevers key c.args.replica m c.hold.ensures c.show_state_is_valid.ensures.registers c.show_state_is_valid.ensures.bus well cells in
-    held-holds layout nevers key c.in-Holds.states c.args.replica m c.hold.ensures is
-    (subst (IsProved (rules_of (setting_of m layout nevers)) key) c.in-Holds.is c.in_ok-states.ensures.proved)
+    let cells : key ≡ key_of layout m = c.deref-2.ensures.value ∙ (whole ∙ saved) in
+    let well : keeps_to aim.nevers m ≡ true = sym c.keeps.ensures ∙ c.if-not-keeps.false in
+    let is = held-key layout aim key c.args.replica m c.hold.ensures c.show_state_is_valid.ensures.registers c.show_state_is_valid.ensures.bus well cells in
+    held-holds layout aim key c.in-Holds.states c.args.replica m c.hold.ensures is
+    (subst (IsProved (rules_of (setting_of m layout aim)) key) c.in-Holds.is c.in_ok-states.ensures.proved)

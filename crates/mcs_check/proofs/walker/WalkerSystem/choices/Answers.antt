@@ -7,6 +7,6 @@ use Rattle.mcs_check.proofs.walker.WalkerSystem.choices.Goals as goal
 pub returns-clause-covers : goal.returns-clause-covers
 returns-clause-covers c =
     let r = c.self.inside.replica in
-    let nevers = c.self.inside.nevers.items in
-    let same = ap (λ (l : List Cell). setting_of r l nevers) c.deref.ensures.value ∙ c.self.view_is in
-    subst (λ (g : Setting). Covers g c.args.key.now c.list_values.new.into.items) same (c.in_ok-list_values.ensures.covers nevers)
+    let aim = c.self.inside.aim in
+    let same = ap (λ (l : List Cell). setting_of r l aim) c.deref.ensures.value ∙ c.self.view_is in
+    subst (λ (g : Setting). Covers g c.args.key.now c.list_values.new.into.items) same (c.in_ok-list_values.ensures.covers aim)

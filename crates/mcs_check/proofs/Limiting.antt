@@ -1,0 +1,102 @@
+-- A limit of a stopwatch, as conditions on its three bytes.
+use Rattle.std.proofs.Common.{◌≡◌, ◌<◌, ◌≤◌, ◌+◌, ◌*◌, ◌/◌, ◌%◌, ◌⊎◌, ◌++◌, ℕ, inl, inr, Bool, true, false, not, ◌&&◌, List, [], ◌∷◌, nat_le, refl, sym, ap, ◌∙◌, arith}
+use Rattle.std.proofs.lemmas.Bool.{cases_order, le-leb, lt-leb}
+use Rattle.mcs_drive.specs.Tracked.{Tracked}
+use Rattle.mcs_check.specs.declared.conditions.Condition.{Condition}
+use Rattle.mcs_check.specs.declared.conditions.Condition.TheVariants.{Compare}
+use Rattle.mcs_check.specs.Conditions.{are_met, elapsed_byte, keeps_to}
+
+and-assoc : (a b c : Bool) → ((a && b) && c) ≡ (a && (b && c))
+and-assoc true b c = refl
+and-assoc false b c = refl
+
+-- the conditions of two lists
+pub keeps-both : (xs ys : List (List Condition)) (s : Tracked) → keeps_to (xs ++ ys) s ≡ (keeps_to xs s && keeps_to ys s)
+keeps-both [] ys s = refl
+keeps-both (x ∷ xs) ys s = ap (λ b. not (are_met s x) && b) (keeps-both xs ys s) ∙ sym (and-assoc (not (are_met s x)) (keeps_to xs s) (keeps_to ys s))
+
+-- three lists more, one after the other
+pub three-more : (xs : List (List Condition)) (a b c : List Condition) → ((xs ++ a ∷ []) ++ b ∷ []) ++ c ∷ [] ≡ xs ++ a ∷ b ∷ c ∷ []
+three-more [] a b c = refl
+three-more (x ∷ xs) a b c = ap (λ (ys : List (List Condition)). x ∷ ys) (three-more xs a b c)
+
+-- ---- the bytes
+
+-- of three bytes, not above those of a limit: what the conditions say, byte by byte
+abbrev in_bytes : ℕ → ℕ → ℕ → ℕ → ℕ → ℕ → Bool
+in_bytes a b c x y z =
+    not (not (nat_le 0 a && nat_le a x) && true)
+    && (not ((nat_le x a && nat_le a x) && (not (nat_le 0 b && nat_le b y) && true))
+    && (not ((nat_le x a && nat_le a x) && ((nat_le y b && nat_le b y) && (not (nat_le 0 c && nat_le c z) && true))) && true))
+
+-- what each comparison of two bytes gives
+record Order (a x : ℕ) (less more : Bool) : Type 0 where
+  below : nat_le a x ≡ less
+  above : nat_le x a ≡ more
+
+order-lt : (a x : ℕ) → a < x → Order a x true false
+order-lt a x h = record { below = le-leb a x (omega arith); above = lt-leb x a h }
+
+order-eq : (a x : ℕ) → a ≡ x → Order a x true true
+order-eq a x h = record { below = le-leb a x (omega arith); above = le-leb x a (omega arith) }
+
+order-gt : (a x : ℕ) → x < a → Order a x false true
+order-gt a x h = record { below = lt-leb a x h; above = le-leb x a (omega arith) }
+
+first-lt : (a b c x y z : ℕ) → Order a x true false → in_bytes a b c x y z ≡ true
+first-lt a b c x y z o = (let z0 = le-leb 0 a (omega arith) in rw (z0, o.below, o.above) refl)
+
+first-gt : (a b c x y z : ℕ) → Order a x false true → in_bytes a b c x y z ≡ false
+first-gt a b c x y z o = (let z0 = le-leb 0 a (omega arith) in rw (z0, o.below) refl)
+
+second-lt : (a b c x y z : ℕ) → Order a x true true → Order b y true false → in_bytes a b c x y z ≡ true
+second-lt a b c x y z o p = (let z0 = le-leb 0 a (omega arith) in let z1 = le-leb 0 b (omega arith) in rw (z0, z1, o.below, o.above, p.below, p.above) refl)
+
+second-gt : (a b c x y z : ℕ) → Order a x true true → Order b y false true → in_bytes a b c x y z ≡ false
+second-gt a b c x y z o p = (let z0 = le-leb 0 a (omega arith) in let z1 = le-leb 0 b (omega arith) in rw (z0, z1, o.below, o.above, p.below) refl)
+
+third-le : (a b c x y z : ℕ) (more : Bool) → Order a x true true → Order b y true true → Order c z true more → in_bytes a b c x y z ≡ true
+third-le a b c x y z more o p q = (let z0 = le-leb 0 a (omega arith) in let z1 = le-leb 0 b (omega arith) in let z2 = le-leb 0 c (omega arith) in rw (z0, z1, z2, o.below, o.above, p.below, p.above, q.below) refl)
+
+third-gt : (a b c x y z : ℕ) → Order a x true true → Order b y true true → Order c z false true → in_bytes a b c x y z ≡ false
+third-gt a b c x y z o p q = (let z0 = le-leb 0 a (omega arith) in let z1 = le-leb 0 b (omega arith) in let z2 = le-leb 0 c (omega arith) in rw (z0, z1, z2, o.below, o.above, p.below, p.above, q.below) refl)
+
+bytes-say : (n m : ℕ) → in_bytes (n / 65536) (n / 256 % 256) (n % 256) (m / 65536) (m / 256 % 256) (m % 256) ≡ nat_le n m
+bytes-say n m =
+    let a = n / 65536 in
+    let b = n / 256 % 256 in
+    let c = n % 256 in
+    let x = m / 65536 in
+    let y = m / 256 % 256 in
+    let z = m % 256 in
+    elim (cases_order a x) [
+      | inr (inl h) ↦ first-lt a b c x y z (order-lt a x h) ∙ sym (le-leb n m (omega arith))
+      | inr (inr h) ↦ first-gt a b c x y z (order-gt a x h) ∙ sym (lt-leb n m (omega arith))
+      | inl e ↦ elim (cases_order b y) [
+        | inr (inl h) ↦ second-lt a b c x y z (order-eq a x e) (order-lt b y h) ∙ sym (le-leb n m (omega arith))
+        | inr (inr h) ↦ second-gt a b c x y z (order-eq a x e) (order-gt b y h) ∙ sym (lt-leb n m (omega arith))
+        | inl f ↦ elim (cases_order c z) [
+          | inr (inl h) ↦ third-le a b c x y z false (order-eq a x e) (order-eq b y f) (order-lt c z h) ∙ sym (le-leb n m (omega arith))
+          | inr (inr h) ↦ third-gt a b c x y z (order-eq a x e) (order-eq b y f) (order-gt c z h) ∙ sym (lt-leb n m (omega arith))
+          | inl g ↦ third-le a b c x y z true (order-eq a x e) (order-eq b y f) (order-eq c z g) ∙ sym (le-leb n m (omega arith))
+        ]
+      ]
+    ]
+
+-- ---- the conditions
+
+-- that it shows more than a limit of these bytes
+abbrev pub beyond : ℕ → ℕ → ℕ → List (List Condition)
+beyond x y z =
+    (Compare (elapsed_byte 0 0 x false) ∷ [])
+    ∷ (Compare (elapsed_byte 0 x x true) ∷ Compare (elapsed_byte 1 0 y false) ∷ [])
+    ∷ (Compare (elapsed_byte 0 x x true) ∷ Compare (elapsed_byte 1 y y true) ∷ Compare (elapsed_byte 2 0 z false) ∷ []) ∷ []
+
+beyond-says : (limit : ℕ) (s : Tracked) → keeps_to (beyond (limit / 65536) (limit / 256 % 256) (limit % 256)) s ≡ nat_le s.2.elapsed limit
+beyond-says limit s = bytes-say s.2.elapsed limit
+
+pub limited : (limit : ℕ) (nevers more : List (List Condition)) (s : Tracked) → more ≡ nevers ++ beyond (limit / 65536) (limit / 256 % 256) (limit % 256) →
+    keeps_to more s ≡ (keeps_to nevers s && nat_le s.2.elapsed limit)
+limited limit nevers more s e =
+    let last = beyond (limit / 65536) (limit / 256 % 256) (limit % 256) in
+    ap (λ (xs : List (List Condition)). keeps_to xs s) e ∙ keeps-both nevers last s ∙ ap (λ b. keeps_to nevers s && b) (beyond-says limit s)

@@ -1,0 +1,171 @@
+//! What a stopwatch beside a machine shows, and its limit.
+ghost use Rattle.std.specs.Prelude.{◌≡◌, ◌==◌, ◌<◌, ◌/◌, ◌%◌, ◌∷◌, ◌&&◌, ◌↔◌, [], false, true, nat_le, IsSome, IfSome, OnOk};
+ghost use Rattle.mcs_drive.specs.Tracked.{Tracked, elapsed_after, shown_after};
+ghost use Rattle.mcs_check.specs.Conditions.{elapsed_byte, keeps_to, stopwatch_in};
+ghost use Rattle.mcs_check.specs.declared.conditions.Condition.TheVariants.{Compare};
+ghost use Rattle.mcs_check.specs.Stations.{IsStill};
+
+use crate::aim::Aim;
+use crate::cells::{Cell, CellList};
+use crate::conditions::{Comparison, Condition, Conjunction, Part};
+use crate::replica::Replica;
+use std::alloc::{AllocError, Global};
+use std::marker::Model;
+
+/// The most cycles that a stopwatch shows.
+const LONGEST: u32 = 16_777_215;
+
+/// A number of cycles, as a stopwatch shows it. Contracts see the number.
+#[derive(Clone, Copy, Debug)]
+pub struct Cycles {
+    cycles: u32,
+}
+
+impl Model for Cycles {
+    ghost use Rattle.std.specs.Prelude.{ℕ, ◌<◌};
+
+    ghost Value = { ℕ };
+
+    ghost view = { λ e. e.cycles };
+
+    ghost invariant = { λ e. e.cycles < 16777216 };
+
+    ghost inverse = { λ v. record { cycles = v } };
+}
+
+impl Cycles {
+    /// No cycle.
+    pub(crate) const ZERO: Cycles = Cycles { cycles: 0 };
+
+    /// Returns a number of cycles, if a stopwatch can show it.
+    pub fn of(cycles: u32) -> Option<Cycles>
+        ensures in_range { IsSome result ↔ (cycles < 16777216) }
+        ensures value { IfSome result (λ n. n ≡ cycles) }
+    {
+        if cycles <= LONGEST {
+            Some(Cycles { cycles })
+        } else {
+            None
+        }
+    }
+
+    /// Returns whether it is 0.
+    fn is_zero(self) -> bool
+        ensures { result ≡ (self == 0) }
+    {
+        self.cycles == 0
+    }
+
+    /// Returns its three bytes, the upper one first.
+    pub(crate) fn bytes(self) -> [u8; 3]
+        ensures { result ≡ self / 65536 ∷ self / 256 % 256 ∷ self % 256 ∷ [] }
+    {
+        [
+            (self.cycles / 65536) as u8,
+            (self.cycles / 256 % 256) as u8,
+            (self.cycles % 256) as u8,
+        ]
+    }
+
+    /// Returns it with another byte: the upper one is byte 0.
+    pub(crate) fn with_byte(self, i: u16, byte: u8) -> Cycles {
+        let mut bytes = self.bytes();
+        bytes[usize::from(i % 3)] = byte;
+        let [high, middle, low] = bytes;
+        Cycles {
+            cycles: u32::from(high) * 65536 + u32::from(middle) * 256 + u32::from(low),
+        }
+    }
+
+    /// Returns what is shown after a cycle, by whether the stopwatch begins and ends before it.
+    fn after(self, begins: bool, ends: bool) -> Cycles
+        ensures { result ≡ shown_after self begins ends }
+    {
+        if self.cycles == 0 || ends {
+            return if begins {
+                Cycles { cycles: 1 }
+            } else {
+                Cycles::ZERO
+            };
+        }
+        if self.cycles < LONGEST {
+            Cycles {
+                cycles: self.cycles + 1,
+            }
+        } else {
+            self
+        }
+    }
+}
+
+/// Returns the condition that a byte of what a stopwatch shows is above a number: the upper one is byte 0.
+fn is_above(i: u16, n: u8) -> Condition
+    requires { i < 3 }
+    ensures { result ≡ Compare (elapsed_byte i 0 n false) }
+{
+    Condition::Compare(Comparison {
+        cell: Cell {
+            list: CellList::Counters,
+            index: 14 + i,
+        },
+        part: Part::Whole,
+        low: 0,
+        high: n,
+        inside: false,
+    })
+}
+
+/// Returns the condition that a byte of what a stopwatch shows is a number.
+fn is_same(i: u16, n: u8) -> Condition
+    requires { i < 3 }
+    ensures { result ≡ Compare (elapsed_byte i n n true) }
+{
+    Condition::Compare(Comparison {
+        cell: Cell {
+            list: CellList::Counters,
+            index: 14 + i,
+        },
+        part: Part::Whole,
+        low: n,
+        high: n,
+        inside: true,
+    })
+}
+
+/// Adds to conditions, never to be met, that a stopwatch shows more than a limit.
+pub fn add_limit(
+    alloc: Global,
+    nevers: &mut Vec<Conjunction>,
+    limit: Cycles,
+) -> Result<(), AllocError>
+    ensures { OnOk result ((s : Tracked) →
+        keeps_to nevers.new.items s ≡ (keeps_to nevers.old.items s && nat_le s.2.elapsed limit)) }
+{
+    let [high, middle, low] = limit.bytes();
+    let above = vec![in alloc; is_above(0, high)]?;
+    nevers.push(Conjunction::of(above))?;
+    let above = vec![in alloc; is_same(0, high), is_above(1, middle)]?;
+    nevers.push(Conjunction::of(above))?;
+    let above = vec![in alloc; is_same(0, high), is_same(1, middle), is_above(2, low)]?;
+    nevers.push(Conjunction::of(above))?;
+    Ok(())
+}
+
+impl Replica {
+    /// Returns whether the stopwatch is at 0 and never begins.
+    pub(crate) fn is_still(&self, aim: &Aim) -> bool
+        ensures { result ≡ true → IsStill (stopwatch_in aim.now) self.now.2 }
+    {
+        self.elapsed.is_zero() && aim.never_begins()
+    }
+
+    /// Returns what the stopwatch shows after the next cycle.
+    pub(crate) fn elapsed_after(&self, aim: &Aim) -> Cycles
+        ensures { result ≡ elapsed_after (stopwatch_in aim.now) self.now }
+    {
+        if self.is_still(aim) {
+            return self.elapsed;
+        }
+        self.elapsed.after(aim.begins(self), aim.ends(self))
+    }
+}
