@@ -42,9 +42,9 @@ no-lone : (op : Op) (calls : ℕ) → FitsCalls op calls → is_lone_return op c
 no-lone (Bbl d) calls fits = let some : 0 < calls = fits in ne_eqb calls 0 (λ e. omega arith)
 no-lone _ calls fits = refl
 
-calls-kept : (asked : Mistakes) (op : Op) (s : Tracked) → FitsCalls op s.2 → errs_in_calls asked op s ≡ false
+calls-kept : (asked : Mistakes) (op : Op) (s : Tracked) → FitsCalls op s.2.calls → errs_in_calls asked op s ≡ false
 calls-kept asked op s fits =
-    or_from _ _ (and_right asked.fourth_call _ (no-fourth op s.2 fits)) (and_right asked.lone_return _ (no-lone op s.2 fits))
+    or_from _ _ (and_right asked.fourth_call _ (no-fourth op s.2.calls fits)) (and_right asked.lone_return _ (no-lone op s.2.calls fits))
 
 -- ---- RAM
 

@@ -194,7 +194,7 @@ src-places b s t byte v o upper bus bank regs first first_value second second_va
           ]
     ]
 
-src-lands : (k : ℕ) (s : Tracked) (m : BusState) (ret : List ℕ) → Fits (Src k) s m ret → Lands s (done (Src k) s) (landing (Src k) s.0.pc ret s.2 m (choice_of (Src k) s))
+src-lands : (k : ℕ) (s : Tracked) (m : BusState) (ret : List ℕ) → Fits (Src k) s m ret → Lands s (done (Src k) s) (landing (Src k) s.0.pc ret s.2.calls m (choice_of (Src k) s))
 unfolding after_src
 src-lands k s m ret fit =
     let small = fit.valid in
@@ -210,7 +210,7 @@ src-lands k s m ret fit =
       ret = fit.ret;
       acc = refl;
       cy = refl;
-      places = src-places b s (done (Src k) s) (v * 16 + w) v (landing (Src k) s.0.pc ret s.2 m (choice_of (Src k) s)) upper refl refl refl refl refl
+      places = src-places b s (done (Src k) s) (v * 16 + w) v (landing (Src k) s.0.pc ret s.2.calls m (choice_of (Src k) s)) upper refl refl refl refl refl
           (ap (λ (p : BoardParts). cond (nat_lt 0 (slice_index p.banks s.0.dcl)) (18 + s.0.dcl) 26) fit.board) refl fit.bank fit.banks;
       registers = fit.registers;
       banks = sent-len b s.1 s.0.dcl (v * 16 + w) ∙ fit.banks;
@@ -219,11 +219,11 @@ src-lands k s m ret fit =
 -- ---- instructions that change no register
 
 simple : (op : Op) (s : Tracked) (m : BusState) (ret : List ℕ) → Fits op s m ret → KeepsSrc s (done op s) →
-    Agrees (done op s) (landing op s.0.pc ret s.2 m (choice_of op s)) →
+    Agrees (done op s) (landing op s.0.pc ret s.2.calls m (choice_of op s)) →
     (registers_after op (after_words op s.0) s.1).r ≡ s.0.r →
-    (landing op s.0.pc ret s.2 m (choice_of op s)).first ≡ 26 → (landing op s.0.pc ret s.2 m (choice_of op s)).second ≡ 26 →
-    Lands s (done op s) (landing op s.0.pc ret s.2 m (choice_of op s))
-simple op s m ret fit src agrees r first second = lands-kept s (done op s) (landing op s.0.pc ret s.2 m (choice_of op s)) fit.registers fit.banks agrees src r first second
+    (landing op s.0.pc ret s.2.calls m (choice_of op s)).first ≡ 26 → (landing op s.0.pc ret s.2.calls m (choice_of op s)).second ≡ 26 →
+    Lands s (done op s) (landing op s.0.pc ret s.2.calls m (choice_of op s))
+simple op s m ret fit src agrees r first second = lands-kept s (done op s) (landing op s.0.pc ret s.2.calls m (choice_of op s)) fit.registers fit.banks agrees src r first second
 
 pub lands : ChoicesLand
 unfolding fetch_of ram_of status_of
@@ -305,7 +305,7 @@ lands (Jin k) s m ret fit =
     refl refl refl
 lands (Jms h b) s m ret fit =
     let few = fit.calls in
-    let opened : calls_after (Some (Jms h b)) s.2 ≡ s.2 + 1 = let lt : nat_lt s.2 3 ≡ true = lt-ltb s.2 3 few in rw lt refl in
+    let opened : calls_after (Some (Jms h b)) s.2.calls ≡ s.2.calls + 1 = let lt : nat_lt s.2.calls 3 ≡ true = lt-ltb s.2.calls 3 few in rw lt refl in
     simple (Jms h b) s m ret fit (record { rom = refl; ram = refl })
     (record {
       pc = refl;
@@ -313,7 +313,7 @@ lands (Jms h b) s m ret fit =
       dcl = refl;
       cy = refl;
       acc = refl;
-      ret = jms-ret s.0.ret ret s.2 ((s.0.pc + 2) % 4096) (calls_after (Some (Jms h b)) s.2) opened fit.ret;
+      ret = jms-ret s.0.ret ret s.2.calls ((s.0.pc + 2) % 4096) (calls_after (Some (Jms h b)) s.2.calls) opened fit.ret;
     })
     refl refl refl
 lands (Bbl d) s m ret fit =
@@ -325,14 +325,14 @@ lands (Bbl d) s m ret fit =
       dcl = refl;
       cy = refl;
       acc = refl;
-      ret = bbl-ret s.0.ret ret s.2 ((s.0.pc + 1) % 4096) fit.ret;
+      ret = bbl-ret s.0.ret ret s.2.calls ((s.0.pc + 1) % 4096) fit.ret;
     })
     refl refl refl
 lands (Fim k b) s m ret fit =
     let small = fit.valid in
     let low : 2 * k < 16 = omega arith in
     let high : 2 * k + 1 < 16 = omega arith in
-    lands-two s (done (Fim k b) s) (landing (Fim k b) s.0.pc ret s.2 m (choice_of (Fim k b) s)) k small fit.registers fit.banks
+    lands-two s (done (Fim k b) s) (landing (Fim k b) s.0.pc ret s.2.calls m (choice_of (Fim k b) s)) k small fit.registers fit.banks
     (record { pc = refl; calls = refl; ret = fit.ret; dcl = refl; cy = refl; acc = refl }) (record { rom = refl; ram = refl })
     (pair-set s.0.r (replicate 16 0) k (b / 16) (b % 16) (b / 16) (b % 16) refl small refl refl) refl refl
 lands (Fin k) s m ret fit =
@@ -343,19 +343,19 @@ lands (Fin k) s m ret fit =
     let byte = slice_index s.1.rom from in
     let other = slice_index m.rom from in
     let same : byte ≡ other = ap (λ (xs : List ℕ). slice_index xs from) (sym fit.rom) in
-    lands-two s (done (Fin k) s) (landing (Fin k) s.0.pc ret s.2 m (choice_of (Fin k) s)) k small fit.registers fit.banks
+    lands-two s (done (Fin k) s) (landing (Fin k) s.0.pc ret s.2.calls m (choice_of (Fin k) s)) k small fit.registers fit.banks
     (record { pc = refl; calls = refl; ret = fit.ret; dcl = refl; cy = refl; acc = refl }) (record { rom = refl; ram = refl })
     (pair-set s.0.r (slice_set (replicate 16 a) 1 b) k (byte / 16) (byte % 16) (other / 16) (other % 16) refl small (ap (λ (x : ℕ). x / 16) same) (ap (λ (x : ℕ). x % 16) same)) refl refl
 lands (Inc r) s m ret fit =
     let small = fit.valid in
     let v = register_of s.0 r in
-    lands-one s (done (Inc r) s) (landing (Inc r) s.0.pc ret s.2 m (choice_of (Inc r) s)) r small fit.registers fit.banks
+    lands-one s (done (Inc r) s) (landing (Inc r) s.0.pc ret s.2.calls m (choice_of (Inc r) s)) r small fit.registers fit.banks
     (record { pc = refl; calls = refl; ret = fit.ret; dcl = refl; cy = refl; acc = refl }) (record { rom = refl; ram = refl })
     (ap (slice_set s.0.r r) (ap (λ (x : ℕ). (x + 1) % 16) (sym (stands v r small)) ∙ sym (put-in v r ((slice_index (replicate 16 v) r + 1) % 16) small))) refl refl
 lands (Xch r) s m ret fit =
     let small = fit.valid in
     let v = register_of s.0 r in
-    lands-one s (done (Xch r) s) (landing (Xch r) s.0.pc ret s.2 m (choice_of (Xch r) s)) r small fit.registers fit.banks
+    lands-one s (done (Xch r) s) (landing (Xch r) s.0.pc ret s.2.calls m (choice_of (Xch r) s)) r small fit.registers fit.banks
     (record { pc = refl; calls = refl; ret = fit.ret; dcl = refl; cy = refl; acc = sym (stands v r small) }) (record { rom = refl; ram = refl })
     (ap (slice_set s.0.r r) (sym (put-in v r s.0.acc small))) refl refl
 lands (Isz r w) s m ret fit =
@@ -368,7 +368,7 @@ lands (Isz r w) s m ret fit =
     let same : n ≡ i = ap (λ (z : ℕ). (z + 1) % 16) (sym (stands v r small)) in
     let e = isz-acc (eqb n 0) (with_register x r n) w in
     let f = isz-acc (eqb i 0) (with_register y r i) w in
-    let o = landing (Isz r w) s.0.pc ret s.2 m (choice_of (Isz r w) s) in
+    let o = landing (Isz r w) s.0.pc ret s.2.calls m (choice_of (Isz r w) s) in
     let value : o.first_value ≡ i = ap (λ (xs : List ℕ). cond (nat_lt r 16) (slice_index xs r) 0) f.3 ∙ put-in v r i small in
     lands-one s (done (Isz r w) s) o r small fit.registers fit.banks
     (record {

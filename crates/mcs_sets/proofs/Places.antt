@@ -96,7 +96,7 @@ two-places s t o i small len bank src srcs r first second =
 -- addresses, accumulator and carry agree
 pub record Agrees (t : Tracked) (o : Landing) : Type 0 where
   pub pc : t.0.pc ≡ o.regs.pc
-  pub calls : t.2 ≡ o.calls
+  pub calls : t.2.calls ≡ o.calls
   pub ret : (k : ℕ) → k < 3 → k < o.calls → slice_index t.0.ret k ≡ slice_index o.regs.ret k
   pub acc : t.0.acc ≡ o.regs.acc
   pub cy : t.0.cy ≡ o.regs.cy

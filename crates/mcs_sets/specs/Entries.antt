@@ -31,7 +31,7 @@ held s k =
 -- a machine is one of those that an entry stands for
 pub record IsIn (e : Entry) (s : Tracked) : Type 0 where
   pub at : s.0.pc ≡ e.at
-  pub calls : s.2 ≡ e.calls
+  pub calls : s.2.calls ≡ e.calls
   pub ret : (k : ℕ) → k < 3 → k < e.calls → slice_index s.0.ret k ≡ slice_index e.ret k
   pub acc : has (accs_of e s.0.cy) s.0.acc ≡ true
   pub places : (k : ℕ) → k < 26 → has (slice_index e.sets k) (held s k) ≡ true

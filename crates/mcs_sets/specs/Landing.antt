@@ -10,7 +10,7 @@ use Rattle.mcs_model.specs.Effect.{after_words, registers_after, bus_after, with
 use Rattle.mcs_model.specs.Levels.{port_of}
 use Rattle.mcs_model.specs.Registers.{register_of}
 use Rattle.mcs_model.specs.Table.{instruction_of}
-use Rattle.mcs_drive.specs.Tracked.{Tracked, calls_after}
+use Rattle.mcs_drive.specs.Tracked.{Tracked, calls_after, elapsed_after, no_stopwatch}
 use Rattle.mcs_sets.specs.declared.entries.Entry.{Entry}
 use Rattle.mcs_sets.specs.declared.landing.Choice.{Choice}
 use Rattle.mcs_sets.specs.declared.landing.Landing.{Landing}
@@ -163,7 +163,11 @@ FitsCalls _ calls = Unit {0}
 
 -- the machine after an instruction
 abbrev pub done : Op → Tracked → Tracked
-done op s = (registers_after op (after_words op s.0) s.1, bus_after op s.0 s.1, calls_after (Some op) s.2)
+done op s = (
+  registers_after op (after_words op s.0) s.1,
+  bus_after op s.0 s.1,
+  record { calls = calls_after (Some op) s.2.calls; elapsed = elapsed_after no_stopwatch s },
+)
 
 -- what a machine chooses
 abbrev pub choice_of : Op → Tracked → Choice
@@ -182,7 +186,7 @@ put o k v =
 -- from s it leads to t
 pub record Lands (s t : Tracked) (o : Landing) : Type 0 where
   pub pc : t.0.pc ≡ o.regs.pc
-  pub calls : t.2 ≡ o.calls
+  pub calls : t.2.calls ≡ o.calls
   pub ret : (k : ℕ) → k < 3 → k < o.calls → slice_index t.0.ret k ≡ slice_index o.regs.ret k
   pub acc : t.0.acc ≡ o.regs.acc
   pub cy : t.0.cy ≡ o.regs.cy
@@ -204,18 +208,18 @@ pub record Takes (source target : Entry) (o : Landing) : Type 0 where
 -- what is known of a machine, and of the bus on which its stand-in is run
 pub record Fits (op : Op) (s : Tracked) (m : BusState) (rets : List ℕ) : Type 0 where
   pub valid : IsValidOp op
-  pub calls : FitsCalls op s.2
+  pub calls : FitsCalls op s.2.calls
   pub registers : length s.0.r ≡ 16
   pub banks : length s.1.ram_src ≡ 8
   pub bank : s.0.dcl < 8
   pub rom : m.rom ≡ s.1.rom
   pub board : m.board ≡ s.1.board
   pub test : s.1.test < 2
-  pub ret : (k : ℕ) → k < 3 → k < s.2 → slice_index s.0.ret k ≡ slice_index rets k
+  pub ret : (k : ℕ) → k < 3 → k < s.2.calls → slice_index s.0.ret k ≡ slice_index rets k
   pub nibbles : (k : ℕ) → k < 16 → slice_index s.0.r k < 16
 
 -- one step: where the choice of a machine leads, there it is after the instruction
 abbrev pub ChoicesLand : Type 0
 ChoicesLand =
     (op : Op) (s : Tracked) (m : BusState) (rets : List ℕ) → Fits op s m rets →
-    Lands s (done op s) (landing op s.0.pc rets s.2 m (choice_of op s))
+    Lands s (done op s) (landing op s.0.pc rets s.2.calls m (choice_of op s))

@@ -1,5 +1,6 @@
 //! Whether a certificate has all that a machine can do.
 ghost use Rattle.std.specs.Prelude.{◌≡◌, ◌<◌, ℕ, IsTrue, length, slice_index, slice_index_or, true};
+ghost use Rattle.mcs_drive.specs.Tracked.{without_calls};
 ghost use Rattle.mcs_sets.specs.declared.entries.Entry.{Entry};
 ghost use Rattle.mcs_sets.specs.Entries.{IsAmong, IsIn, IsPlaced, accs_of, has, held};
 ghost use Rattle.mcs_sets.specs.Following.{Follows, IsOf, StaysAmong};
@@ -57,7 +58,7 @@ fn follows(rig: &mut BenchRig, entries: &[Entry], links: &[usize], entry: &Entry
 /// Returns what a machine holds in a place.
 fn held(cpu: &Cpu, rig: &BenchRig, place: u8) -> u8
     requires { place < 26 }
-    ensures { result ≡ held (cpu.now, rig.now, 0) place }
+    ensures { result ≡ held (without_calls (cpu.now, rig.now)) place }
 {
     let regs = cpu.regs();
     if place == 16 {
@@ -94,14 +95,14 @@ pub(crate) fn entry_of(cpu: &Cpu, rig: &BenchRig) -> Entry {
 /// Returns whether an entry has what a machine holds in a place.
 fn allows(entry: &Entry, cpu: &Cpu, rig: &BenchRig, place: u8) -> bool
     requires { place < 26 }
-    ensures { IsTrue result → has (slice_index entry.now.sets place) (held (cpu.now, rig.now, 0) place) ≡ true }
+    ensures { IsTrue result → has (slice_index entry.now.sets place) (held (without_calls (cpu.now, rig.now)) place) ≡ true }
 {
     has(entry.sets[usize::from(place)], held(cpu, rig, place))
 }
 
 /// Returns whether an entry has what a machine holds in all places.
 fn holds_allowed(entry: &Entry, cpu: &Cpu, rig: &BenchRig) -> bool
-    ensures { IsTrue result → (k : ℕ) → k < 26 → has (slice_index entry.now.sets k) (held (cpu.now, rig.now, 0) k) ≡ true }
+    ensures { IsTrue result → (k : ℕ) → k < 26 → has (slice_index entry.now.sets k) (held (without_calls (cpu.now, rig.now)) k) ≡ true }
 {
     for place in 0..26u8 {
         if !allows(entry, cpu, rig, place) {
@@ -139,7 +140,7 @@ fn allows_flags(entry: &Entry, cpu: &Cpu) -> bool
 
 /// Returns whether a machine in which no call is open is one of those of an entry.
 fn is_in(entry: &Entry, cpu: &Cpu, rig: &BenchRig) -> bool
-    ensures { IsTrue result → IsIn entry.now (cpu.now, rig.now, 0) }
+    ensures { IsTrue result → IsIn entry.now (without_calls (cpu.now, rig.now)) }
 {
     machine_is_sized(cpu, rig);
     if !is_placed(entry, cpu) {
@@ -153,7 +154,7 @@ fn is_in(entry: &Entry, cpu: &Cpu, rig: &BenchRig) -> bool
 
 /// Returns whether a machine in which no call is open is one of those of the first entry.
 fn begins(cpu: &Cpu, rig: &BenchRig, entries: &[Entry]) -> bool
-    ensures { IsTrue result → IsAmong entries.now (cpu.now, rig.now, 0) }
+    ensures { IsTrue result → IsAmong entries.now (without_calls (cpu.now, rig.now)) }
 {
     !entries.is_empty() && is_in(&entries[0], cpu, rig)
 }
@@ -179,7 +180,7 @@ fn follows_at(rig: &mut BenchRig, entries: &[Entry], links: &[usize], i: usize) 
 /// Returns whether a certificate has all that a machine can do in which no call is open: whatever the inputs do, at every moment
 /// it is one of those of the certificate. Its first entry has the machine as it is.
 pub fn has_all(cpu: &Cpu, rig: &mut BenchRig, entries: &[Entry], links: &[usize]) -> bool
-    ensures { IsTrue result → StaysAmong entries.now (cpu.now, rig.old, 0) }
+    ensures { IsTrue result → StaysAmong entries.now (without_calls (cpu.now, rig.old)) }
 {
     rig_is_known(rig);
     if !begins(cpu, rig, entries) {

@@ -1,4 +1,5 @@
 use Rattle.std.proofs.Common.{◌∙◌, slice_index_or, subst, below_more, arith}
+use Rattle.mcs_drive.specs.Tracked.{without_calls}
 use Rattle.mcs_sets.specs.declared.entries.Entry.{Entry}
 use Rattle.mcs_sets.specs.Following.{Follows}
 use Rattle.mcs_sets.proofs.Certified.{follows-moved, steps-suffice}
@@ -24,6 +25,6 @@ returns c = λ _.
     let es = c.args.entries.now in
     let r = c.args.rig.now in
     let end = c.loop-i-test.false in
-    steps-suffice r.board r.rom es (c.args.cpu.now, r, 0)
+    steps-suffice r.board r.rom es (without_calls (c.args.cpu.now, r))
     (λ e there. subst (Follows r.board r.rom es) there.2 (c.loop-i.invariant.follows there.0 e (let inside = there.1 in omega arith)))
     c.rig_is_known.ensures (c.begins.ensures c.if-not-begins.false)
