@@ -3,7 +3,7 @@
 import { writeFileSync } from "node:fs";
 import { join } from "node:path";
 import { Judging } from "../core/prove/judging.js";
-import { MOST_SETS, questionOf, readAnswer } from "../core/prove/question.js";
+import { MOST_SETS, questionText, readAnswer } from "../core/prove/question.js";
 import { readCampaign } from "../core/explore/campaign.js";
 import { grouped } from "../core/explore/report.js";
 import { subjectOf } from "../core/explore/subject.js";
@@ -49,8 +49,8 @@ class Proving {
     const { campaign, faults } = readCampaign(properties.text, subject, false);
     if (faults.length > 0) throw new CommandError(faults.map(({ line, words }) => `${properties.name}:${line}: ${words}`).join("\n"));
     return new Judging(subject, campaign, {
-      ask: (nevers, mistakes) => this.ask(nevers, mistakes, this.limits),
-      askBySets: (nevers, mistakes) => this.ask(nevers, mistakes, { most: 0, sets: MOST_SETS }),
+      ask: (question) => this.ask(question, this.limits),
+      askBySets: (question) => this.ask(question, { most: 0, sets: MOST_SETS }),
       confirms: (found, isGoal) => this.confirms(found, isGoal),
       reason: (answer) => this.reason(answer),
       yieldToMessages,
@@ -70,23 +70,21 @@ class Proving {
   }
 
   /**
-   * Asks the prover a question; returns its output, its errors, and the signal that ended it, if any.
-   * @param {string} question
+   * Sends the text of a question to the prover; returns its output, its errors, and the signal that ended it, if any.
+   * @param {string} text
    */
-  async search(question) {
-    return this.module ? { stdout: this.module(question), stderr: "", signal: null } : runCommand(this.program, [], question);
+  async search(text) {
+    return this.module ? { stdout: this.module(text), stderr: "", signal: null } : runCommand(this.program, [], text);
   }
 
   /**
-   * Asks the prover about conditions that must never hold, and about common mistakes; returns its parsed answer.
-   * @param {import("../core/prove/cells.js").All[]} nevers
-   * @param {string[]} mistakes the names of the mistakes
+   * Asks the prover a question; returns its parsed answer.
+   * @param {import("../core/prove/question.js").Question} question
    * @param {import("../core/prove/question.js").QuestionLimits} limits
    */
-  async ask(nevers, mistakes, limits) {
+  async ask(question, limits) {
     const { board, program } = this.texts;
-    const question = questionOf({ board: board.text, program: program.text }, nevers, mistakes, limits);
-    const { stdout, stderr, signal } = await this.search(question);
+    const { stdout, stderr, signal } = await this.search(questionText({ board: board.text, program: program.text }, question, limits));
     const answer = readAnswer(stdout);
     if (!answer) throw new CommandError(say.proverEnded([stdout.trim(), stderr.trim(), signal].filter(Boolean).join("; ")));
     return answer;

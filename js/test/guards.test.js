@@ -146,7 +146,7 @@ function brokenBy(property, { c, g, acts }) {
   const notify = (event, time, input = "") => {
     const isState = event === "values";
     const opens = isState || event === "down" ? opensAt(time) : [];
-    const when = property.see(memory, event, { time, holds: isState && c[time], opens, input, isDown: 0 });
+    const when = property.see(memory, event, { time, changed: time, address: -1, holds: isState && c[time], opens, input, isDown: 0 });
     if (when >= 0 && (broken < 0 || when < broken)) broken = when;
   };
   let began = 0;
@@ -194,9 +194,9 @@ const READ = {
   "never for": (instants, limit) => {
     let since = -1;
     for (const { time, c, isOpen } of instants) {
-      if (since >= 0 && time - since >= limit) return since + limit;
       if (!(c && isOpen)) since = -1;
       else if (since < 0) since = time;
+      if (since >= 0 && time - since >= limit) return since + limit;
     }
     return -1;
   },

@@ -9,7 +9,7 @@ import { randomFrom } from "../core/explore/walks.js";
 import { counterexampleOf } from "../core/prove/counterexample.js";
 import { comparisonsOf } from "../core/prove/decided.js";
 import { allMistakes, cyclesToMistake } from "../core/prove/mistakes.js";
-import { askedOf, questionOf, readAnswer } from "../core/prove/question.js";
+import { MAX_TIME, askedOf, mistakeQuestion, neverQuestion, questionText, readAnswer } from "../core/prove/question.js";
 import { statusOf, tapHead, tapOfJudged } from "../core/prove/verdicts.js";
 import { runTests } from "../core/testing/test_suite.js";
 import { NoAccount } from "../core/testing/account.js";
@@ -104,6 +104,8 @@ const CONDITIONS = [
   "r5 - r7 = 0", "r5 & 3 = 1", "r5 >= 0",
 ];
 
+const asked = (text) => askedOf(readCampaign(`press A\n${text}`, subject).campaign.properties[0], { from: null }, board);
+
 test("comparisons mean what their condition means", () => {
   const all = [...states()];
   for (const text of CONDITIONS) {
@@ -143,31 +145,75 @@ test("what a display shows is a question about its lamps", () => {
 });
 
 test("conditions that look at inputs, or at too much, are refused with the reason", () => {
-  const wrong = (text) => askedOf(readCampaign(`press A\n${text}`, subject).campaign.properties[0], { from: null }, board);
-  assert.deepEqual(wrong("never rom1 in 3"), { nevers: null, words: "its condition uses rom1, an input" });
-  assert.deepEqual(wrong("never rom1.1 = 1"), { nevers: null, words: "its condition uses rom1.1, an input" });
-  assert.match(wrong("never r0 + r1 + r2 + r3 + r4 = 9").words, /uses too many places/);
-  assert.match(wrong("never r0 = 1 for 1 ms").words, /of the form "never for" cannot be proved yet/);
-  assert.match(wrong("once r0 = 2, never r0 = 1").words, /guard/);
-  assert.equal(wrong("while r0 = 2, never r1 = 1").nevers.length, 1);
+  assert.deepEqual(asked("never rom1 in 3"), { question: null, words: "its condition uses rom1, an input" });
+  assert.deepEqual(asked("never rom1.1 = 1 for 1 ms"), { question: null, words: "its condition uses rom1.1, an input" });
+  assert.match(asked("never r0 + r1 + r2 + r3 + r4 = 9").words, /uses too many places/);
+  assert.match(asked("lamp on on only after press A").words, /of the form "only after" cannot be proved yet/);
+  assert.match(asked("after press A within 1 ms lamp on on").words, /of the form "after press" cannot be proved yet/);
+  assert.match(asked("once r0 = 2, never r0 = 1 for 1 ms").words, /guard/);
+  assert.equal(asked("while r0 = 2, never r1 = 1").question.nevers.length, 1);
+});
+
+const AT_START = ["in counter 3 whole 0 0", "in counter 4 whole 0 0", "in counter 5 whole 0 0"];
+const AT_LOOK = [...AT_START.slice(0, 2), "in counter 5 whole 9 9"];
+const AT_LIT = [...AT_START.slice(0, 2), "in counter 5 whole 22 22"];
+
+test("a time is a question about a stopwatch, with exactly its limit in cycles", () => {
+  const stopwatch = (text) => asked(text).question.stopwatch;
+  const [on, off] = [[["in ramport 0 line0 1 1"]], [["in ramport 0 line0 0 0"]]];
+  assert.deepEqual(stopwatch("never lamp on on for 93"), { begins: on, ends: off, within: 93 });
+  assert.deepEqual(stopwatch("never lamp on on for 1 ms"), { begins: on, ends: off, within: 93 });
+  assert.deepEqual(stopwatch("every 20 @look"), { begins: [AT_START, AT_LOOK], ends: [AT_LOOK], within: 20 });
+  assert.deepEqual(stopwatch("@look to @lit within 7"), { begins: [AT_LOOK], ends: [AT_LIT], within: 7 });
+  assert.deepEqual(stopwatch("@look to @look within 7"), { begins: [AT_LOOK], ends: [AT_LOOK], within: 7 });
+  // A guard is part of the condition.
+  assert.deepEqual(stopwatch("while r5 = 2, never lamp on on for 93").begins, [["in register 5 whole 2 2", "in ramport 0 line0 1 1"]]);
+  assert.equal(stopwatch("while r5 = 2, never lamp on on for 93").ends.length, 3);
+  assert.equal(stopwatch("never lamp on on"), null);
+});
+
+test("a condition for a time is judged between the two cycles of an instruction as after them", () => {
+  const { begins, ends } = asked("never @look for 9").question.stopwatch;
+  assert.deepEqual(begins, [AT_LOOK.slice(1)]);
+  assert.ok(ends.flat().every((comparison) => !comparison.startsWith("in counter 3 ")));
+});
+
+test("a condition that always holds, or never, has both lists, too", () => {
+  const { stopwatch: always } = asked("never r5 >= 0 for 9").question;
+  assert.deepEqual(always, { begins: [[]], ends: [["in register 0 whole 1 0"]], within: 9 });
+  const { stopwatch: never } = asked("never r5 > 15 for 9").question;
+  assert.deepEqual(never, { begins: [["in register 0 whole 1 0"]], ends: [[]], within: 9 });
+});
+
+test("a time that the stopwatch cannot count is refused with the reason", () => {
+  assert.equal(asked(`every ${MAX_TIME} @look`).question.stopwatch.within, MAX_TIME);
+  assert.deepEqual(asked(`every ${MAX_TIME + 1} @look`), { question: null, words: "its time is longer than 16,777,214 cycles" });
+});
+
+test("a stopwatch has its lines after the texts", () => {
+  const stopwatch = { begins: [["in register 1 whole 0 3"], []], ends: [["out counter 1 whole 0 0"]], within: 5 };
+  const lines = questionText({ board: "rom = []\n", program: "NOP" }, { nevers: [], mistakes: [], stopwatch }, { most: 77 }).split("\n");
+  assert.deepEqual(lines.slice(8),
+    ["within 5", "begin", "in register 1 whole 0 3", "begin", "end", "out counter 1 whole 0 0", "prove", ""]);
 });
 
 test("a question has its limits, both texts and what must never be", () => {
   const nevers = [["in register 1 whole 0 3", "out counter 1 whole 0 0"], []];
-  const question = questionOf({ board: "rom = []\n", program: "NOP" }, nevers, [], { most: 77 });
+  const question = questionText({ board: "rom = []\n", program: "NOP" }, neverQuestion(nevers), { most: 77 });
   assert.deepEqual(question.split("\n"), ["most 77", "pause 1000000", "wire", "rom = []", ".", "asm", "NOP", ".", "never",
     "in register 1 whole 0 3", "out counter 1 whole 0 0", "never", "prove", ""]);
 });
 
 test("a question may have a limit of memory, and of sets", () => {
-  const linesWith = (limits) => questionOf({ board: "rom = []\n", program: "NOP" }, [[]], [], limits).split("\n");
+  const linesWith = (limits) => questionText({ board: "rom = []\n", program: "NOP" }, neverQuestion([[]]), limits).split("\n");
   assert.deepEqual(linesWith({ most: 77, memory: 5 }).slice(0, 4), ["most 77", "memory 5", "pause 1000000", "wire"]);
   assert.deepEqual(linesWith({ most: 0, sets: 9 }).slice(0, 4), ["most 0", "sets 9", "pause 1000000", "wire"]);
 });
 
 test("mistakes are one more thing that must never be", () => {
-  const question = questionOf({ board: "rom = []\n", program: "NOP" }, [["in register 1 whole 0 3"]], ["code", "ram"], { most: 77 });
-  assert.deepEqual(question.split("\n").slice(8), ["never", "in register 1 whole 0 3", "never", "mistake code ram", "prove", ""]);
+  const question = { ...mistakeQuestion(["code", "ram"]), nevers: [["in register 1 whole 0 3"]] };
+  const lines = questionText({ board: "rom = []\n", program: "NOP" }, question, { most: 77 }).split("\n");
+  assert.deepEqual(lines.slice(8), ["never", "in register 1 whole 0 3", "never", "mistake code ram", "prove", ""]);
   assert.deepEqual(allMistakes().map(({ word, property: { form } }) => `${word} ${form}`),
     ["code code", "call calls", "return returns", "ram mistake", "rom mistake", "rdr mistake", "wrr mistake"]);
 });

@@ -12,7 +12,8 @@ export const testFails = (line, text, words) => `line ${line} of its tests fails
 
 // --- explore/campaign.js ---
 export const FORMS = "press, test, reset, together, wait, held, apart, from, begin, note, pace, never, always, at, after press, every, "
-  + "reach, model, while, once, or are written as `C only after press K, press K ..` or `@LABEL at most once for each press`";
+  + "reach, model, while, once, or are written as `C only after press K, press K ..`, `@LABEL at most once for each press` or "
+  + "`@LABEL to @LABEL within TIME`";
 /** @type {(word: string) => string} */
 export const labelForm = (word) => `a label is written as @LABEL, not ${word}`;
 export const WAIT_FORM = "write `wait TIME to TIME`, from 1 cycle to 100,000 (1.08 s), as in: wait 1 ms to 20 ms";
@@ -40,6 +41,7 @@ export const GUARD_FORM = "a guard is written as `while CONDITION,`, `once CONDI
   + "`after press KEY within TIME,` before never, always, at, after press or reach";
 /** @type {(most: number) => string} */
 export const mostGuards = (most) => `at most ${most} guards are before a property`;
+export const WITHIN_FORM = "write `@LABEL to @LABEL within TIME`, as in: @scan to @shown within 20 ms";
 export const EVERY_FORM = "write `every TIME @LABEL`, as in: every 20 ms @scan";
 /** @type {(line: string) => string} */
 export const noInstructionIn = (line) => `line ${line} of the program has no instruction`;

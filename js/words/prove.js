@@ -9,6 +9,8 @@ export const looksAtInput = (place) => `its condition uses ${place}, an input`;
 /** @type {(form: string) => string} */
 export const otherForm = (form) => `a property of the form "${form}" cannot be proved yet`;
 export const HAS_GUARDS = "a property with a guard cannot be proved yet";
+/** @type {(most: string) => string} */
+export const timeIsLong = (most) => `its time is longer than ${most} cycles`;
 export const BEGINS_LATER = "a proof begins at power-on, but the text begins elsewhere (from)";
 
 // --- prove/mistakes.js ---

@@ -9,7 +9,7 @@ import { Unreadable, fail } from "../conditions/scanner.js";
 import { TOOL_KEY_DOWN_CYCLES, TOOL_KEY_UP_CYCLES, cyclesOfMs } from "../time/mcs4_time.js";
 import { keysOf, namesOfInputs, pinOf } from "./explored_inputs.js";
 import {
-  GUARDED, afterPress, always, alwaysOn, at, every, guarded, model, never, neverFor, once, onlyAfter, reach, reachAt,
+  GUARDED, afterPress, always, alwaysOn, at, every, guarded, model, never, neverFor, once, onlyAfter, reach, reachAt, within,
 } from "./properties.js";
 import { NO_DISPLAY, boardLacks, inColumn, noLabel } from "../../words/conditions.js";
 import * as say from "../../words/explore.js";
@@ -352,6 +352,7 @@ function guardedLine(reader, text, cut) {
 const MOST_GUARDS = 4;
 const ONLY_AFTER = /^(.+) only after (.+)$/;
 const ONCE = /^(@\S+) at most once for each press$/;
+const WITHIN = /^(@\S+) to (@\S+) within (.+)$/;
 
 /**
  * @param {Reader} reader
@@ -379,6 +380,8 @@ function lineWithoutGuard(reader, text) {
   }
   const label = ONCE.exec(text);
   if (label) return once(text, reader.label(label[1]));
+  const [, start, target, time] = WITHIN.exec(text) || [];
+  if (start) return within(text, reader.label(start), reader.label(target), reader.time(time, say.WITHIN_FORM));
   const [kind, ...words] = text.split(" ");
   if (Object.prototype.hasOwnProperty.call(PROPERTIES, kind)) return PROPERTIES[kind](reader, words.join(" "), text);
   if (!Object.prototype.hasOwnProperty.call(SETTINGS, kind)) fail(say.noForm(kind.slice(0, 30), say.FORMS));

@@ -128,6 +128,7 @@ const JUDGED = {
   "only after": (writer) => writer.expect(writer.words(false)),
   "never for": (writer) => writer.until(writer.words(false), writer.time - writer.property.limit),
   every: (writer) => writer.until(writer.counter(writer.property.address), writer.time - writer.property.limit),
+  within: (writer) => writer.until(writer.counter(writer.property.address), writer.time - writer.property.limit),
   "after press": (writer) => writer.until(writer.words(true), writer.time - writer.property.limit),
   once: (writer) => writer.expect(`not ${writer.counter(writer.property.address)}`),
   reach: (writer) => writer.expect(writer.words(true)),

@@ -2,15 +2,14 @@
 // prover is asked about the properties that it can decide, with a bound on the states that doubles. The rest is searched for.
 
 import { allMistakes } from "../prove/mistakes.js";
-import { askedOf, boundsUpTo, questionOf, readAnswer } from "../prove/question.js";
+import { askedOf, boundsUpTo, jointQuestion, mistakeQuestion, questionText, readAnswer } from "../prove/question.js";
 
 /**
  * @typedef {import("./campaign.js").Campaign} Campaign
  * @typedef {import("./subject.js").Subject} Subject
- * @typedef {import("../prove/cells.js").All} All
  *
- * A question: the numbers of the properties that hold if the answer is positive, and the question to the prover.
- * @typedef {{ properties: number[], nevers: All[], mistakes: string[] }} Question
+ * The numbers of the properties that hold if the answer is positive, and the question to the prover.
+ * @typedef {{ properties: number[], question: import("../prove/question.js").Question }} Asked
  */
 
 /** The bound of the first question, and the most states. */
@@ -31,8 +30,8 @@ export class ProofFirst {
     /** The number of states of each property that is proved; 0 for the others. */
     this.states = campaign.properties.map(() => 0);
     const alone = this.left > 0 ? questionsOf(subject, campaign) : [];
-    const joint = alone.filter(({ properties: [at] }) => !campaign.properties[at].isGoal);
-    /** @type {Question[]} those that are still to be asked; the first one can combine others, which are asked if it does not hold */
+    const joint = alone.filter(({ properties: [at], question }) => !campaign.properties[at].isGoal && !question.stopwatch);
+    /** @type {Asked[]} those that are still to be asked; the first one can combine others, which are asked if it does not hold */
     this.questions = joint.length > 1 ? [joined(joint), ...alone] : alone;
     this.bounds = boundsUpTo(MOST, FIRST);
     /** The number of questions asked with this bound. */
@@ -48,24 +47,23 @@ export class ProofFirst {
 
   /** Asks one question; returns the numbers of the properties that it proves. */
   ask() {
-    const question = this.questions[this.asked];
+    const { properties, question } = this.questions[this.asked];
     const begun = performance.now();
     const answer = this.answerTo(question);
     this.last = performance.now() - begun;
     this.left -= this.last;
     if (answer.kind !== "more") this.questions.splice(this.asked, 1);
     else this.asked += 1;
-    if (answer.kind === "holds") this.close(question.properties, answer.states);
+    if (answer.kind === "holds") this.close(properties, answer.states);
     if (answer.kind === "full" || answer.kind === "lost") this.questions = [];
     if (this.asked >= this.questions.length) this.raise();
-    return answer.kind === "holds" ? question.properties : [];
+    return answer.kind === "holds" ? properties : [];
   }
 
-  /** @param {Question} question */
-  answerTo({ nevers, mistakes }) {
+  /** @param {import("../prove/question.js").Question} question */
+  answerTo(question) {
     const { engine, texts } = this.subject;
-    const limits = { most: this.bounds[0], pause: PAUSE };
-    const answer = engine.prove ? readAnswer(engine.prove(questionOf(texts, nevers, mistakes, limits))) : null;
+    const answer = engine.prove ? readAnswer(engine.prove(questionText(texts, question, { most: this.bounds[0], pause: PAUSE }))) : null;
     return answer || { kind: /** @type {const} */ ("lost") };
   }
 
@@ -92,30 +90,24 @@ export class ProofFirst {
  * Returns the questions of the properties that the prover can decide, one for each.
  * @param {Subject} subject
  * @param {Campaign} campaign
- * @returns {Question[]}
+ * @returns {Asked[]}
  */
 function questionsOf({ names: { board } }, campaign) {
   const words = new Map(allMistakes().map(({ property: { form }, word }) => [form, word]));
-  /** @type {Question[]} */
-  const questions = [];
-  campaign.properties.forEach((property, at) => {
+  return campaign.properties.flatMap((property, at) => {
     const mistake = words.get(property.form);
-    const { nevers } = askedOf(property, campaign, board);
-    if (mistake) questions.push({ properties: [at], nevers: [], mistakes: [mistake] });
-    else if (nevers) questions.push({ properties: [at], nevers, mistakes: [] });
+    const question = mistake ? mistakeQuestion([mistake]) : askedOf(property, campaign, board).question;
+    return question ? [{ properties: [at], question }] : [];
   });
-  return questions;
 }
 
 /**
  * Returns one question for several.
- * @param {Question[]} questions
- * @returns {Question}
+ * @param {Asked[]} questions
+ * @returns {Asked}
  */
 function joined(questions) {
   return {
-    properties: questions.flatMap(({ properties }) => properties),
-    nevers: questions.flatMap(({ nevers }) => nevers),
-    mistakes: questions.flatMap(({ mistakes }) => mistakes),
+    properties: questions.flatMap(({ properties }) => properties), question: jointQuestion(questions.map(({ question }) => question)),
   };
 }

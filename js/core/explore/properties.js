@@ -8,24 +8,26 @@ import * as say from "../../words/explore.js";
  * @typedef {import("../conditions/condition_language.js").Condition} Condition
  * @typedef {import("./explored_inputs.js").Input} Input
  *
- * The events: `values` are the values of the condition's places, now; `label`: the counter reaches the address; `down`: an input goes down;
- * `reset`; `end`: a wait is over; `call` and `return`: of a subroutine.
+ * The events: `values` are the values of the condition's places, now; `label`: the counter reaches an address of the
+ * property; `down`: an input goes down; `reset`; `end`: a wait is over; `call` and `return`: of a subroutine.
  * @typedef {"values" | "label" | "down" | "reset" | "end" | "call" | "return"} Event
- * @typedef {{ time: number, holds: boolean, opens: boolean[], input: string, isDown: number }} Moment cycles from power-on; whether the
- *   condition holds now, and those of the guards; the input that goes down; how many are down
+ * @typedef {{ time: number, changed: number, address: number, holds: boolean, opens: boolean[], input: string, isDown: number }} Moment
+ *   cycles from power-on, and those up to the change of the values, which is the end of the instruction's first cycle; the address that the
+ *   counter reaches; whether the condition holds now, and those of the guards; the input that goes down; how many are down
  *
  * When a property is judged: from a press on, for `limit` cycles or, if that is 0, without an end; once a condition has held; while it
  * holds.
  * @typedef {{ kind: "press" | "once" | "while", key: string, limit: number, condition: Condition | null }} Guard
  *
  * `from` begins a memory; `see` returns the time at which the property is violated, -1 if it is not; `mark` is the part of its memory that
- * makes a state new; `address` is that of its label, -1 without one; `form` is the text for a test.
- * @typedef {{ form: Form, text: string, line: number, condition: Condition | null, address: number, limit: number, isGoal: boolean,
- *   keys: string[], guards: Guard[], from: (time: number, isDown: number) => number[],
+ * makes a state new; `address` is that of its label, -1 without one; `start` is the address from which the counter must reach it;
+ * `form` is the text for a test.
+ * @typedef {{ form: Form, text: string, line: number, condition: Condition | null, address: number, start: number, limit: number,
+ *   isGoal: boolean, keys: string[], guards: Guard[], from: (time: number, isDown: number) => number[],
  *   see: (memory: number[], event: Event, moment: Moment) => number, mark: (memory: number[]) => string,
  *   applies: (memory: number[]) => boolean }} Property
- * @typedef {"never" | "always" | "never for" | "at" | "only after" | "every" | "after press" | "once" | "reach" | "reach at" | "model"
- *   | "code" | "calls" | "returns" | "mistake"} Form
+ * @typedef {"never" | "always" | "never for" | "at" | "only after" | "every" | "within" | "after press" | "once" | "reach" | "reach at"
+ *   | "model" | "code" | "calls" | "returns" | "mistake"} Form
  */
 
 const NOT = -1;
@@ -34,8 +36,8 @@ const DEEPEST = 3;
 
 /** @type {Omit<Property, "form" | "text">} */
 const PLAIN = {
-  line: 0, condition: null, address: NOT, limit: 0, isGoal: false, keys: [], guards: [], from: () => [], see: () => NOT, mark: () => "",
-  applies: () => true,
+  line: 0, condition: null, address: NOT, start: NOT, limit: 0, isGoal: false, keys: [], guards: [], from: () => [], see: () => NOT,
+  mark: () => "", applies: () => true,
 };
 
 /**
@@ -78,7 +80,7 @@ export function always(text, condition) {
 }
 
 /**
- * The condition never holds for this many cycles without a break. It remembers since when it holds.
+ * The condition never holds at all moments from one to another that is this many cycles later. It remembers since when it holds.
  * @param {string} text
  * @param {Condition} condition
  * @param {number} limit
@@ -87,11 +89,12 @@ export function always(text, condition) {
 export function neverFor(text, condition, limit) {
   return {
     ...PLAIN, form: "never for", text, condition, limit, from: () => [NOT],
-    see: (memory, event, { time, holds }) => {
+    see: (memory, event, { time, changed, holds }) => {
       const [since] = memory;
+      const last = event === "values" && !holds ? changed - 1 : time;
       if (event === "reset") memory[0] = NOT;
-      else if (since !== NOT && time - since >= limit) return since + limit;
-      else if (event === "values" && (since === NOT) === holds) memory[0] = holds ? time : NOT;
+      else if (since !== NOT && last - since >= limit) return since + limit;
+      else if (event === "values" && (since === NOT) === holds) memory[0] = holds ? changed : NOT;
       return NOT;
     },
   };
@@ -158,6 +161,39 @@ export function every(text, address, limit) {
     },
   };
 }
+
+/**
+ * Whenever the counter is at one label, it reaches another one within this many cycles. It remembers since when that is awaited, and
+ * whether it ever was.
+ * @param {string} text
+ * @param {number} start
+ * @param {number} address
+ * @param {number} limit
+ * @returns {Property}
+ */
+export function within(text, start, address, limit) {
+  return {
+    ...PLAIN, form: "within", text, start, address, limit, from: () => [NOT, 0], applies: ([, ever]) => ever > 0,
+    see: (memory, event, { time, address: reached }) => {
+      const [since] = memory;
+      if (event === "reset") memory[0] = NOT;
+      else if (since !== NOT && time - since > limit) return since + limit;
+      if (event !== "label") return NOT;
+      if (reached === address) memory[0] = NOT;
+      if (reached === start) {
+        memory[1] = 1;
+        if (memory[0] === NOT) [memory[0]] = [time];
+      }
+      return NOT;
+    },
+  };
+}
+
+/**
+ * Returns the addresses that a property waits for.
+ * @param {Property} property
+ */
+export const addressesOf = ({ address, start }) => [address, start].filter((each) => each >= 0);
 
 /**
  * Once an input went down, the condition holds within this many cycles. It remembers since when that is awaited, and whether it was.
@@ -290,7 +326,7 @@ export function guarded(text, property, guards) {
       const last = Math.min(...guards.map((guard, index) => lastOf(guard, memory[index])));
       // A duration is over if the guard closed before this moment.
       const hasClosed = property.form === "never for" && last < moment.time && last !== NOT;
-      let when = hasClosed ? property.see(inner, "values", { ...moment, time: last + 1, holds: false }) : NOT;
+      let when = hasClosed ? property.see(inner, "values", { ...moment, time: last + 1, changed: last + 1, holds: false }) : NOT;
       guards.forEach((guard, index) => {
         memory[index] = guardAfter(guard, memory[index], event, moment, moment.opens[index] === true);
       });

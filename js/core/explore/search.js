@@ -7,6 +7,7 @@ import { Coverage } from "./search_coverage.js";
 import { KeptFiles } from "./kept_files.js";
 import { Snapshots } from "./read_places.js";
 import { Conditions, PlaceValues, conditionsOf } from "./place_questions.js";
+import { addressesOf } from "./properties.js";
 import { chooseStep, downAfter, downAtFirst, lineOf, linesOf, randomFrom } from "./walks.js";
 import { sinceAfter, sinceAtFirst, upToRandom } from "./walks.js";
 import { Watcher } from "./watching.js";
@@ -231,7 +232,7 @@ export class Search {
    */
   takeSnapshot(file, state, steps) {
     const { campaign, places, ofLabels, stops } = this;
-    const counts = ofLabels.some((at) => !stops.includes(campaign.properties[at].address));
+    const counts = ofLabels.some((at) => addressesOf(campaign.properties[at]).some((address) => !stops.includes(address)));
     const lines = steps.map((step) => (
       `${counts ? `count ${step.wait}\n` : ""}run ${step.wait}\n${lineOf(campaign, step)}${places.lines}`)).join("");
     const values = new PlaceValues(this.subject.engine.ask(file, stops.map((address) => `break ${address}\n`).join("") + lines).answers);
@@ -368,11 +369,12 @@ class ApparentState {
     const { campaign: { properties, inputs }, asked, memories } = this;
     this.down = downAfter(this.down, step);
     const input = step.kind === "down" ? inputs[step.input].name : "";
-    const moment = { time: this.time + step.wait, holds: false, opens: NONE, input, isDown: this.down.length };
-    const isAtLabel = this.ofLabels.some((at) => {
-      const count = (begun.find(({ address }) => address === properties[at].address) || { begun: 0 }).begun;
-      return this.mayBreakAtLabel(properties[at], memories[at], moment, step, count);
-    });
+    const time = this.time + step.wait;
+    const moment = { time, changed: time, address: -1, holds: false, opens: NONE, input, isDown: this.down.length };
+    const countAt = (/** @type {number} */ label) => (begun.find(({ address }) => address === label) || { begun: 0 }).begun;
+    const isAtLabel = this.ofLabels.some((at) => (
+      properties[at].form === "within" ? this.mayBeLate(properties[at], memories[at], moment, step, countAt)
+        : this.mayBreakAtLabel(properties[at], memories[at], moment, step, countAt(properties[at].address))));
     this.time += step.wait;
     return isAtLabel || asked.some((at) => {
       const { see } = properties[at];
@@ -407,6 +409,25 @@ class ApparentState {
     const isCounted = form === "once" || form === "only after";
     for (let times = 0; isCounted && times < count; times++) if (see(memory, "label", moment) >= 0) return true;
     if (step.kind === "down") see(memory, "down", moment);
+    if (step.kind === "reset") see(memory, "reset", moment);
+    return false;
+  }
+
+  /**
+   * Returns whether the counter may have been late at the label that it must reach.
+   * @param {Property} property
+   * @param {number[]} memory
+   * @param {import("./properties.js").Moment} moment at the end of the wait
+   * @param {WalkStep} step
+   * @param {(address: number) => number} countAt how often the counter was at an address
+   */
+  mayBeLate({ start, address, limit, see }, memory, moment, step, countAt) {
+    const isLate = () => memory[0] >= 0 && moment.time - memory[0] > limit;
+    if (isLate()) return true;
+    if (countAt(address) > 0) memory[0] = -1;
+    // It was there first at the beginning of the wait, or later.
+    if (countAt(start) > 0 && memory[0] < 0) memory[0] = this.time;
+    if (isLate()) return true;
     if (step.kind === "reset") see(memory, "reset", moment);
     return false;
   }

@@ -4,6 +4,7 @@
 import { cyclesOf, isCall, isReturn } from "../engine/rom_codes.js";
 import { readTraced } from "../engine/tracing.js";
 import { Conditions, Places, PlaceValues, conditionsOf } from "./place_questions.js";
+import { addressesOf } from "./properties.js";
 import { downAfter, lineOf } from "./walks.js";
 
 /**
@@ -57,7 +58,7 @@ export class Watcher {
    * @returns {{ broken: Broken | null, after: After[] }}
    */
   watch(start, steps, open) {
-    this.labels = new Set(open.map((at) => this.campaign.properties[at].address).filter((address) => address >= 0));
+    this.labels = new Set(open.flatMap((at) => addressesOf(this.campaign.properties[at])));
     const reports = this.ask(start.file, steps, open);
     const memories = start.memories.map((memory) => [...memory]);
     const walk = new Walk(this, memories, open, start);
@@ -156,19 +157,19 @@ class Walk {
   /**
    * @param {Event} event
    * @param {number} time
-   * @param {number} address of a label
-   * @param {string} input
+   * @param {{ address?: number, input?: string, changed?: number }} more the address of a label, the input that goes down, the time of a
+   *   change of values
    */
-  notify(event, time, address = -1, input = "") {
+  notify(event, time, { address = -1, input = "", changed = time } = {}) {
     const { watcher: { campaign: { properties }, conditions, calls }, values } = this;
     const isOfCalls = event === "call" || event === "return";
     for (const at of isOfCalls ? calls : this.open) {
-      const { see, address: own } = properties[at];
-      if (event === "label" && own !== address) continue;
+      const { see, address: own, start } = properties[at];
+      if (event === "label" && own !== address && start !== address) continue;
       const isAsked = event === "values" || event === "label";
       const holds = isAsked && conditions[at].holds(values);
       const opens = isAsked || event === "down" ? conditions[at].opens(values) : NONE;
-      const when = see(this.memories[at], event, { time, holds, opens, input, isDown: this.down.length });
+      const when = see(this.memories[at], event, { time, changed, address, holds, opens, input, isDown: this.down.length });
       if (when >= 0 && this.open.includes(at) && (!this.broken || when < this.broken.time)) this.broken = { property: at, time: when };
     }
   }
@@ -203,7 +204,7 @@ class Walk {
     this.values = from === 0 && values.length === this.values.length ? values
       : [...this.values.slice(0, from), ...values, ...this.values.slice(from + values.length)];
     const time = began + Math.min(end, cycles + cyclesOf(codes[address]));
-    this.notify("values", time);
+    this.notify("values", time, { changed: began + Math.min(end, cycles + 1) });
     if (notifiesCalls) this.notifyCall(address, time);
   }
 
@@ -228,7 +229,7 @@ class Walk {
     let next = 0;
     for (const { cycles, address } of list || []) {
       if (this.broken) return;
-      if (labels.has(address)) this.notify("label", began + cycles, address);
+      if (labels.has(address)) this.notify("label", began + cycles, { address });
       for (; next < changes.length && changes[next].cycles <= cycles; next++) this.notifyChange(changes[next], began, end, false);
       this.notifyCall(address, began + Math.min(end, cycles + cyclesOf(codes[address])));
     }
@@ -246,7 +247,7 @@ class Walk {
   notifyChangeOf(step) {
     const { campaign: { inputs } } = this.watcher;
     this.down = downAfter(this.down, step);
-    if (step.kind === "down") this.notify("down", this.time, -1, inputs[step.input].name);
+    if (step.kind === "down") this.notify("down", this.time, { input: inputs[step.input].name });
     if (step.kind === "reset") {
       this.notify("reset", this.time);
       for (const at of this.watcher.calls) this.watcher.campaign.properties[at].see(this.memories[at], "reset", NOTHING);
@@ -256,4 +257,4 @@ class Walk {
 
 /** @type {boolean[]} */
 const NONE = [];
-const NOTHING = { time: 0, holds: false, opens: NONE, input: "", isDown: 0 };
+const NOTHING = { time: 0, changed: 0, address: -1, holds: false, opens: NONE, input: "", isDown: 0 };

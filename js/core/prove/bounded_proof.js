@@ -8,12 +8,12 @@ import { readExplored } from "../explore/exploring.js";
 import { grouped } from "../explore/report.js";
 import { isConfirmed } from "../testing/confirming.js";
 import { Judging } from "./judging.js";
-import { MOST_SETS, boundsUpTo, questionOf, readAnswer } from "./question.js";
+import { MOST_SETS, boundsUpTo, questionText, readAnswer } from "./question.js";
 import * as say from "../../words/prove.js";
 
 /**
- * @typedef {import("./cells.js").All} All
  * @typedef {import("./question.js").Answer} Answer
+ * @typedef {import("./question.js").Question} Question
  * @typedef {import("../engine/engine.js").Engine} Engine
  * @typedef {import("../explore/exploring.js").ExploredTexts} ExploredTexts
  * @typedef {import("../explore/exploring.js").Readable} Readable
@@ -47,17 +47,16 @@ class Asking {
 
   /**
    * Asks the prover, with increasing bounds.
-   * @param {All[]} nevers
-   * @param {string[]} mistakes their words
+   * @param {Question} question
    * @returns {Promise<Answer>}
    */
-  async ask(nevers, mistakes) {
+  async ask(question) {
     this.searched = 0;
     /** @type {Answer} */
     let answer = { kind: "more" };
     for (const bound of boundsUpTo(this.most)) {
       await this.calls.seen(this.searched);
-      answer = this.askWithin(questionOf(this.texts, nevers, mistakes, { most: bound }));
+      answer = this.askWithin(question, { most: bound });
       if (answer.kind !== "more") break;
       this.searched = bound;
     }
@@ -66,17 +65,19 @@ class Asking {
 
   /**
    * Asks the prover by sets of states.
-   * @param {All[]} nevers
-   * @param {string[]} mistakes their words
+   * @param {Question} question
    */
-  async askBySets(nevers, mistakes) {
+  async askBySets(question) {
     await this.calls.seen(0);
-    return this.askWithin(questionOf(this.texts, nevers, mistakes, { most: 0, sets: MOST_SETS }));
+    return this.askWithin(question, { most: 0, sets: MOST_SETS });
   }
 
-  /** @param {string} question */
-  askWithin(question) {
-    const line = this.engine.prove(question);
+  /**
+   * @param {Question} question
+   * @param {import("./question.js").QuestionLimits} limits
+   */
+  askWithin(question, limits) {
+    const line = this.engine.prove(questionText(this.texts, question, limits));
     const answer = readAnswer(line);
     if (!answer) throw new Error(say.proverEnded(line));
     return answer;
@@ -102,8 +103,8 @@ export function beginProving(engine, texts, most, calls) {
   if (!read) return { proving: null, faults };
   const asking = new Asking(engine, texts, most, calls);
   const proving = new Judging(read.subject, read.campaign, {
-    ask: (nevers, mistakes) => asking.ask(nevers, mistakes),
-    askBySets: (nevers, mistakes) => asking.askBySets(nevers, mistakes),
+    ask: (question) => asking.ask(question),
+    askBySets: (question) => asking.askBySets(question),
     confirms: async ({ isTest, text }, isGoal) => !isTest || isConfirmed(engine, texts, text, isGoal, calls.yieldToMessages),
     reason: (answer) => asking.reason(answer),
     yieldToMessages: calls.yieldToMessages,

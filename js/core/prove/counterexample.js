@@ -3,9 +3,10 @@
 import { readCounter } from "../bench/answers.js";
 import { LONGEST_RUN } from "../engine/key_queue.js";
 import { linesOfFind, testOf } from "../explore/find_test.js";
+import { addressesOf } from "../explore/properties.js";
 import { Shortening } from "../explore/shortening.js";
 import { Watcher } from "../explore/watching.js";
-import { downAtFirst, isSound } from "../explore/walks.js";
+import { downAfter, downAtFirst, isSound, linesOf } from "../explore/walks.js";
 import { cyclesToMistake } from "./mistakes.js";
 import { allInputs, wayOf } from "./way.js";
 
@@ -23,6 +24,10 @@ import { allInputs, wayOf } from "./way.js";
 
 /** The cycles that minimising can use. */
 const PATIENCE = 10e6;
+/** A longer counterexample of a property with labels is not minimised: each try lists its instructions. */
+const MOST_LISTED = 1e6;
+/** Properties whose memory begins at power-on. */
+const REMEMBERED = new Set(["calls", "returns", "never for", "every", "within"]);
 
 /**
  * The campaign in which one property is judged, and all inputs may change at any time.
@@ -72,6 +77,19 @@ function wholeRuns(cycles) {
   return waits;
 }
 
+/**
+ * Returns the steps whose changes come before a time.
+ * @param {WalkStep[]} steps
+ * @param {number} time
+ */
+function stepsBefore(steps, time) {
+  let end = 0;
+  return steps.filter(({ wait }) => {
+    end += wait;
+    return end < time;
+  });
+}
+
 class Replay {
   /**
    * @param {Subject} subject
@@ -88,13 +106,13 @@ class Replay {
     const [{ form }] = this.free.properties;
     /** True if walks receive nothing that breaks the property. */
     this.isUnseen = form === "mistake";
-    /** True if the property's memory begins at power-on. */
-    this.isCounted = form === "calls" || form === "returns";
+    this.isRemembered = REMEMBERED.has(form);
   }
 
   /**
-   * When the property begins to be judged.
+   * Returns the start of a walk.
    * @param {Uint8Array} file
+   * @returns {import("../explore/watching.js").Start}
    */
   start(file) {
     return { file, time: 0, down: this.down, memories: [this.free.properties[0].from(0, this.down.length)] };
@@ -106,17 +124,38 @@ class Replay {
    * @returns {Find | null}
    */
   find(values) {
-    const { subject, free, isCounted } = this;
+    const { subject, free, isRemembered } = this;
     const { steps, time, file, rest } = wayOf(subject, free.inputs, values);
     if (this.isUnseen) {
       const cycles = cyclesToMistake(subject, file, this.mistake, rest);
       return cycles < 0 ? null : { property: 0, steps, time: time + cycles };
     }
-    const watcher = new Watcher(subject, free, null);
     const waits = wholeRuns(Math.max(1, rest)).map((wait) => ({ wait, kind: /** @type {const} */ ("none"), input: -1 }));
-    const { broken } = isCounted ? watcher.watch(this.start(subject.file), [...steps.flatMap(cut), ...waits], [0])
-      : watcher.watch(this.start(file), waits, [0]);
-    return broken && { property: 0, steps, time: broken.time + (isCounted ? 0 : time) };
+    const broken = isRemembered ? this.timeBroken(subject.file, [...steps.flatMap(cut), ...waits]) : this.timeBroken(file, waits);
+    if (broken < 0) return null;
+    return isRemembered ? { property: 0, steps: stepsBefore(steps, broken), time: broken } : { property: 0, steps, time: time + broken };
+  }
+
+  /**
+   * Returns after how many cycles of a walk the property is broken; -1 if it is not. The walk is watched step by step, because a long one
+   * has too many lines.
+   * @param {Uint8Array} begun the file at the start
+   * @param {WalkStep[]} steps
+   */
+  timeBroken(begun, steps) {
+    const { subject: { engine }, free } = this;
+    const watcher = new Watcher(this.subject, free, null);
+    let start = this.start(begun.slice());
+    for (const step of steps) {
+      // Inputs can change together, but a run takes a cycle.
+      const { broken, after: [after] } = step.wait > 0 ? watcher.watch(start, [step], [0])
+        : { broken: null, after: [{ ...start, down: downAfter(start.down, step) }] };
+      if (broken) return broken.time;
+      if (!after) return -1;
+      engine.serve(start.file, linesOf(free, [step]), start.file);
+      start = { ...after, file: start.file };
+    }
+    return -1;
   }
 
   /**
@@ -125,9 +164,10 @@ class Replay {
    * @param {() => Promise<void>} yieldToMessages
    */
   async short(find, yieldToMessages) {
-    const steps = spread(find.steps);
-    if (!steps || this.isUnseen) return find;
     const { subject, free } = this;
+    const steps = spread(find.steps);
+    const isLong = find.time > MOST_LISTED && free.properties.some((property) => addressesOf(property).length > 0);
+    if (!steps || this.isUnseen || isLong) return find;
     return new Shortening(subject, free, this.start(subject.file), { ...find, steps }, PATIENCE, yieldToMessages).shorten();
   }
 

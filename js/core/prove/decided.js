@@ -40,15 +40,16 @@ class Asking {
   /**
    * @param {Condition} condition
    * @param {Board} board
+   * @param {boolean} isTimed
    */
-  constructor(condition, board) {
+  constructor(condition, board, isTimed) {
     this.condition = condition;
     this.board = board;
     this.read = 0;
     /** @type {Map<string, string>} the texts of the fields that are decided, by their names */
     this.decided = new Map();
     const input = (/** @type {string} */ name) => this.textOf(null, name);
-    const owed = () => this.textOf(OWED, OWED.name);
+    const owed = () => (isTimed ? "0" : this.textOf(OWED, OWED.name));
     this.beside = {
       get test() {
         return input("TEST");
@@ -174,11 +175,12 @@ function listsOf(said, wanted) {
 
 /**
  * Returns lists of comparisons of which one holds whole exactly if the condition holds, or does not; throws NotAsked if it depends on
- * inputs or on too much.
+ * inputs or on too much. If it is timed, it holds between the two cycles of an instruction exactly if it holds at the end of the second.
  * @param {Condition} condition
  * @param {boolean} wanted
  * @param {Board} board
+ * @param {boolean} [isTimed]
  */
-export function comparisonsOf(condition, wanted, board) {
-  return listsOf(new Asking(condition, board).ask(), wanted);
+export function comparisonsOf(condition, wanted, board, isTimed = false) {
+  return listsOf(new Asking(condition, board, isTimed).ask(), wanted);
 }

@@ -5,15 +5,15 @@
 import { stepsOf } from "../explore/report.js";
 import { counterexampleOf } from "./counterexample.js";
 import { allMistakes } from "./mistakes.js";
-import { askedOf } from "./question.js";
+import { askedOf, jointQuestion, mistakeQuestion } from "./question.js";
 import * as say from "../../words/prove.js";
 
 /**
- * @typedef {import("./cells.js").All} All
  * @typedef {import("./counterexample.js").Counterexample} Counterexample
  * @typedef {import("./question.js").Answer} Answer
  * @typedef {import("./question.js").NoAnswer} NoAnswer
  * @typedef {import("./question.js").Asked} Asked
+ * @typedef {import("./question.js").Question} Question
  * @typedef {import("./verdicts.js").Judged} Judged
  * @typedef {import("./verdicts.js").Verdict} Verdict
  * @typedef {import("../explore/campaign.js").Campaign} Campaign
@@ -21,9 +21,9 @@ import * as say from "../../words/prove.js";
  * @typedef {import("../explore/subject.js").Subject} Subject
  *
  * @typedef {object} JudgingCalls
- * @property {(nevers: All[], mistakes: string[]) => Promise<Answer>} ask asks the prover about conditions, and mistakes by their words
- * @property {(nevers: All[], mistakes: string[]) => Promise<Answer>} askBySets asks it by sets of states, which is quick, and decides
- *   only that all is well
+ * @property {(question: Question) => Promise<Answer>} ask asks the prover
+ * @property {(question: Question) => Promise<Answer>} askBySets asks it by sets of states, which is quick, and decides only that all is
+ *   well
  * @property {(found: Counterexample, isGoal: boolean) => Promise<boolean>} confirms returns whether the test of a counterexample fails
  *   (of a goal: passes)
  * @property {(answer: NoAnswer) => string} reason returns why such an answer decides nothing
@@ -72,9 +72,10 @@ export class Judging {
     return (at < all.length ? all[at] : mistakes[at - all.length]).property.text;
   }
 
-  /** The properties that are asked about together: they all hold, or one of them fails. */
+  /** The questions that are asked together: all their properties hold, or one of them fails. A question has one stopwatch at most. */
   get joint() {
-    return this.all.flatMap(({ property, asked }) => (property.isGoal || !asked.nevers ? [] : [asked.nevers]));
+    return this.all.flatMap(({ property, asked: { question } }) => (
+      property.isGoal || !question || question.stopwatch ? [] : [question]));
   }
 
   /**
@@ -94,8 +95,8 @@ export class Judging {
    * @returns {Promise<Judged>}
    */
   async judgeProperty({ property, asked }) {
-    if (!asked.nevers) return { property, verdict: { kind: "open", words: asked.words } };
-    return { property, verdict: await this.judge(property, asked.nevers) };
+    if (!asked.question) return { property, verdict: { kind: "open", words: asked.words } };
+    return { property, verdict: await this.judge(property, asked.question) };
   }
 
   /**
@@ -104,34 +105,34 @@ export class Judging {
    * @returns {Promise<Judged>}
    */
   async judgeMistake({ property, word }) {
-    const words = this.mistakes.map((each) => each.word);
-    if (this.count === this.all.length) this.noMistake = await this.provedBySets([], words);
+    const question = mistakeQuestion([word]);
+    const any = mistakeQuestion(this.mistakes.map((each) => each.word));
+    if (this.count === this.all.length) this.noMistake = await this.provedBySets(any);
     if (this.noMistake) return { property, verdict: this.noMistake };
-    if (!this.anyMistake) this.anyMistake = await this.calls.ask([], words);
-    const answer = this.anyMistake.kind === "fails" ? await this.calls.ask([], [word]) : this.anyMistake;
+    if (!this.anyMistake) this.anyMistake = await this.calls.ask(any);
+    const answer = this.anyMistake.kind === "fails" ? await this.calls.ask(question) : this.anyMistake;
     const verdict = await this.verdictOf(property, answer, { ...this.campaign, properties: [property] }, word);
-    return { property, verdict: await this.decided(verdict, [], [word]) };
+    return { property, verdict: await this.decided(verdict, question) };
   }
 
   /**
-   * Returns the verdict that conditions are never met and mistakes never made, if sets of states show it; else null.
-   * @param {All[]} nevers
-   * @param {string[]} mistakes their words
+   * Returns the verdict that conditions are never met and mistakes never made, if sets of states show it; else null. They show no times.
+   * @param {Question} question
    * @returns {Promise<Verdict | null>}
    */
-  async provedBySets(nevers, mistakes) {
-    const answer = await this.calls.askBySets(nevers, mistakes);
+  async provedBySets(question) {
+    if (question.stopwatch) return null;
+    const answer = await this.calls.askBySets(question);
     return answer.kind === "holds" ? { kind: "proved", states: answer.states, bySets: true } : null;
   }
 
   /**
    * Returns the verdict of a search; if it is open, the one by sets of states, if these decide it.
    * @param {Verdict} verdict
-   * @param {All[]} nevers
-   * @param {string[]} mistakes their words
+   * @param {Question} question
    */
-  async decided(verdict, nevers, mistakes) {
-    return (verdict.kind === "open" && await this.provedBySets(nevers, mistakes)) || verdict;
+  async decided(verdict, question) {
+    return (verdict.kind === "open" && await this.provedBySets(question)) || verdict;
   }
 
   /** Judges all properties and mistakes. */
@@ -143,12 +144,12 @@ export class Judging {
 
   /**
    * @param {Property} property
-   * @param {All[]} nevers
+   * @param {Question} question
    * @returns {Promise<Verdict>}
    */
-  async judge(property, nevers) {
-    const verdict = await this.verdictOf(property, await this.answerTo(property, nevers), this.campaign, "");
-    return this.decided(verdict, nevers, []);
+  async judge(property, question) {
+    const verdict = await this.verdictOf(property, await this.answerTo(property, question), this.campaign, "");
+    return this.decided(verdict, question);
   }
 
   /**
@@ -170,15 +171,15 @@ export class Judging {
   }
 
   /**
-   * Asks about a property: together with others first, and then alone if that does not decide it.
+   * Asks about a property: together with others first if possible, and then alone if that does not decide it.
    * @param {Property} property
-   * @param {All[]} nevers
+   * @param {Question} question
    */
-  async answerTo({ isGoal }, nevers) {
-    if (isGoal) return this.calls.ask(nevers, []);
+  async answerTo({ isGoal }, question) {
+    if (isGoal || question.stopwatch) return this.calls.ask(question);
     const { joint } = this;
-    if (!this.together) this.together = await this.calls.ask(joint.flat(), []);
+    if (!this.together) this.together = await this.calls.ask(jointQuestion(joint));
     const { together } = this;
-    return together.kind === "holds" || ENDS.has(together.kind) || joint.length === 1 ? together : this.calls.ask(nevers, []);
+    return together.kind === "holds" || ENDS.has(together.kind) || joint.length === 1 ? together : this.calls.ask(question);
   }
 }

@@ -3,17 +3,27 @@
 
 import { NotAsked, comparisonsOf } from "./decided.js";
 import { isAt } from "./cells.js";
+import { grouped } from "../explore/report.js";
 import { sentText } from "../text/text_fault.js";
 import * as say from "../../words/prove.js";
 
 /**
  * @typedef {import("./cells.js").All} All
+ * @typedef {import("../conditions/condition_language.js").Condition} Condition
  * @typedef {import("../explore/campaign.js").Campaign} Campaign
  * @typedef {import("../explore/properties.js").Property} Property
  * @typedef {import("../bench/answers.js").Board} Board
  *
- * The question of a property: `nevers` are lists of comparisons that must never hold whole; or why nothing is asked.
- * @typedef {{ nevers: All[], words: "" } | { nevers: null, words: string }} Asked
+ * A stopwatch counts cycles. It begins at a moment at which one list of `begins` holds whole, and stops at the next one at which a list of
+ * `ends` does.
+ * @typedef {{ begins: All[], ends: All[], within: number }} Stopwatch
+ *
+ * A question: `nevers` are lists of comparisons that must never hold whole; `mistakes` are the words of mistakes that must never be made;
+ * the stopwatch, null for none, must never run for more than `within` cycles.
+ * @typedef {{ nevers: All[], mistakes: string[], stopwatch: Stopwatch | null }} Question
+ *
+ * The question about a property, or why nothing is asked.
+ * @typedef {{ question: Question, words: "" } | { question: null, words: string }} Asked
  *
  * An answer: all states are valid, and how many there are; the values read on a way to a violation; more states than the bound; the search
  * failed; no memory for more than these states (0: before the first one). A refusal is none of these.
@@ -32,6 +42,12 @@ export const PAUSE = 1000000;
 export const MOST_SETS = 100000;
 /** The bound of the first question. */
 const FIRST = 10000;
+/** The most cycles that a stopwatch may run. */
+export const MAX_TIME = 16777214;
+/** The counter at power-on. */
+const POWER_ON = 0;
+/** Comparisons that never hold. */
+const NEVER_MET = ["in register 0 whole 1 0"];
 
 /**
  * Returns the bounds on the states, each twice the one before it, up to the last one.
@@ -45,23 +61,61 @@ export function boundsUpTo(most, first = FIRST) {
 }
 
 /**
- * The times at which the condition of a form is judged: `nevers` of what must not be.
- * @type {Record<string, (property: Property, board: Board) => All[]>}
+ * Returns the question whether some conditions are ever met.
+ * @param {All[]} nevers
+ * @returns {Question}
+ */
+export const neverQuestion = (nevers) => ({ nevers, mistakes: [], stopwatch: null });
+
+/**
+ * Returns the question whether some mistakes are ever made.
+ * @param {string[]} mistakes their words
+ * @returns {Question}
+ */
+export const mistakeQuestion = (mistakes) => ({ nevers: [], mistakes, stopwatch: null });
+
+/**
+ * Returns one question for several without a stopwatch.
+ * @param {Question[]} questions
+ * @returns {Question}
+ */
+export function jointQuestion(questions) {
+  return { nevers: questions.flatMap(({ nevers }) => nevers), mistakes: questions.flatMap(({ mistakes }) => mistakes), stopwatch: null };
+}
+
+/**
+ * Returns the question whether a stopwatch ever runs for longer than its limit; throws NotAsked if the limit is too long.
+ * @param {All[]} begins
+ * @param {All[]} ends
+ * @param {number} within
+ * @returns {Question}
+ */
+function timeQuestion(begins, ends, within) {
+  if (within > MAX_TIME) throw new NotAsked(say.timeIsLong(grouped(MAX_TIME)));
+  const [someBegins, someEnds] = [begins, ends].map((lists) => (lists.length > 0 ? lists : [NEVER_MET]));
+  return { nevers: [], mistakes: [], stopwatch: { begins: someBegins, ends: someEnds, within } };
+}
+
+/**
+ * The questions about properties, by their forms.
+ * @type {Record<string, (property: Property & { condition: Condition }, board: Board) => Question>}
  */
 const FORMS = {
-  never: ({ condition, address }, board) => (condition ? comparisonsOf(condition, true, board) : [isAt(address)]),
-  always: ({ condition }, board) => (
-    comparisonsOf(/** @type {import("../conditions/condition_language.js").Condition} */ (condition), false, board)
-  ),
+  never: ({ condition, address }, board) => neverQuestion(condition ? comparisonsOf(condition, true, board) : [isAt(address)]),
+  always: ({ condition }, board) => neverQuestion(comparisonsOf(condition, false, board)),
   at: ({ condition, address }, board) => (
-    comparisonsOf(/** @type {import("../conditions/condition_language.js").Condition} */ (condition), false, board)
-      .map((comparisons) => [...isAt(address), ...comparisons])),
-  reach: ({ condition, address }, board) => (condition ? comparisonsOf(condition, true, board) : [isAt(address)]),
-  "reach at": ({ address }) => [isAt(address)],
+    neverQuestion(comparisonsOf(condition, false, board).map((comparisons) => [...isAt(address), ...comparisons]))),
+  reach: ({ condition, address }, board) => neverQuestion(condition ? comparisonsOf(condition, true, board) : [isAt(address)]),
+  "reach at": ({ address }) => neverQuestion([isAt(address)]),
+  "never for": ({ condition, limit }, board) => (
+    timeQuestion(comparisonsOf(condition, true, board, true), comparisonsOf(condition, false, board, true), limit)),
+  // The counter is at 000 at power-on. If it is there again, the stopwatch runs already.
+  every: ({ address, limit }) => timeQuestion([isAt(POWER_ON), isAt(address)], [isAt(address)], limit),
+  within: ({ start, address, limit }) => timeQuestion([isAt(start)], [isAt(address)], limit),
 };
 
 /**
- * Returns the questions of a property to the prover.
+ * Returns the question of a property to the prover.
  * @param {Property} property
  * @param {Campaign} campaign
  * @param {Board} board
@@ -69,30 +123,37 @@ const FORMS = {
  */
 export function askedOf(property, { from }, board) {
   const form = FORMS[property.form];
-  if (!form) return { nevers: null, words: say.otherForm(property.form) };
-  if (property.guards.length > 0) return { nevers: null, words: say.HAS_GUARDS };
-  if (from) return { nevers: null, words: say.BEGINS_LATER };
+  if (!form) return { question: null, words: say.otherForm(property.form) };
+  if (property.guards.length > 0) return { question: null, words: say.HAS_GUARDS };
+  if (from) return { question: null, words: say.BEGINS_LATER };
   try {
-    return { nevers: form(property, board), words: "" };
+    return { question: form(/** @type {Property & { condition: Condition }} */ (property), board), words: "" };
   } catch (thrown) {
     if (!(thrown instanceof NotAsked)) throw thrown;
-    return { nevers: null, words: thrown.message };
+    return { question: null, words: thrown.message };
   }
 }
 
 /**
+ * Returns the lines of conditions, one of which is met if all comparisons of one list hold.
+ * @param {string} word
+ * @param {All[]} lists
+ */
+const linesOf = (word, lists) => lists.flatMap((all) => [word, ...all]);
+
+/**
  * Returns the lines of a question.
  * @param {{ board: string, program: string }} texts
- * @param {All[]} nevers
- * @param {string[]} mistakes their words
+ * @param {Question} question
  * @param {QuestionLimits} limits
  */
-export function questionOf({ board, program }, nevers, mistakes, { most, memory = 0, sets = 0, pause = PAUSE }) {
+export function questionText({ board, program }, { nevers, mistakes, stopwatch }, { most, memory = 0, sets = 0, pause = PAUSE }) {
   const given = Object.entries({ memory, sets }).filter(([, number]) => number > 0);
   const limits = [["most", most], ...given, ["pause", pause]].map((words) => words.join(" "));
   const texts = [`wire\n${sentText(board, "#")}.`, `asm\n${sentText(program, ";")}.`];
-  const made = mistakes.length > 0 ? [["never", ["mistake", ...mistakes].join(" ")]] : [];
-  return `${[...limits, ...texts, ...nevers.map((all) => ["never", ...all]), ...made, ["prove"]].flat().join("\n")}\n`;
+  const made = mistakes.length > 0 ? ["never", ["mistake", ...mistakes].join(" ")] : [];
+  const timed = stopwatch ? [`within ${stopwatch.within}`, ...linesOf("begin", stopwatch.begins), ...linesOf("end", stopwatch.ends)] : [];
+  return `${[...limits, ...texts, ...linesOf("never", nevers), ...made, ...timed, "prove"].join("\n")}\n`;
 }
 
 /** @type {[RegExp, NoAnswer][]} */
