@@ -9,6 +9,7 @@ BEGUN = ["most 9", "pause 9", *BOARD, *PROGRAM]
 NO_LINES = [
     "most", "most x", "most -1", "most 1 2", "most 4000000001", f"most {'9' * 5000}", "most 0x", "most 1.5", "Most 1", "pause", "pause 0", "pause 1000000001",
     "pause 0x", "memory", "memory x", "memory 1000001", "wire", "wire x", "asm", "asm x", ".", "[[rom]]", "never x", "nevermore", "prove it", "proved",
+    "within", "within x", "within -1", "within 1 2", "within 16777215", "begin x", "begins", "end x", "ended",
     "\0", "most 1\0", "\x7f", "x" * 100000, "in register 0 whole 0 0", "out register 0 whole 0 0", "mistake code"]
 # Texts that are not comparisons.
 NO_COMPARISONS = [
@@ -18,6 +19,8 @@ NO_COMPARISONS = [
     "in register 65536 whole 0 0", "in register 4294967296 whole 0 0", "in register -1 whole 0 0", "in register x whole 0 0", "in register 0 line4 0 0",
     "in register 0 line 0 0", "in register 0 0 0 0", "in register 0 whole 256 0", "in register 0 whole 0 256", "in register 0 whole 0 99999999999",
     "in register 0 whole 0x100 0", "in register 0 whole a b", "mistake", "mistake x", "mistake code x", "mistake code,call", "Mistake code", "mistakes code"]
+# A condition that is never met.
+NEVER_BEGUN = ["begin", "in register 0 whole 9 3"]
 # A question, the exit status, and the answer.
 ANSWERS: list[tuple[list[str], int, str]] = [
     ([], 2, "no question"), ([""], 2, "no question"), (["prove"], 2, "no question"), ([*BOARD, "prove"], 2, "no question"),
@@ -36,6 +39,15 @@ ANSWERS: list[tuple[list[str], int, str]] = [
     *(([*BEGUN, "never", f"mistake {kind}", "prove"], 0, "holds 1") for kind in ("code", "call", "return", "ram", "rom", "wrr", "code code")),
     *(([*BEGUN, "never", line, "prove"], 0, "may fail") for line in ("mistake rdr", "mistake wrr code rdr")),
     ([*BEGUN, "never", "mistake rdr", "in register 0 whole 1 1", "prove"], 0, "holds 1"),
+    # A stopwatch has a limit, and conditions that begin and end it; sets of states show no times.
+    *(([*BEGUN, *lines, "prove"], 2, "no question") for lines in (
+        ["within 5"], ["within 5", "begin"], ["within 5", "end"], ["begin", "end"], ["sets 9", "within 5", "begin", "end"])),
+    *(([*BEGUN, "within 5", "begin", "end", line, "prove"], 2, f"wrong line {len(BEGUN) + 4}") for line in NO_COMPARISONS),
+    ([*BEGUN, "within 1", "begin", "end", "prove"], 0, "holds 2"), ([*BEGUN, "within 0", "begin", "end", "prove"], 0, "may fail 0"),
+    ([*BEGUN, "within 0", *NEVER_BEGUN, "end", "prove"], 0, "holds 1"),
+    ([*BEGUN, "within 16777214", "end", "begin", "mistake rdr", "prove"], 0, "holds 1"),
+    ([*BEGUN, "within 0", "within 1", "begin", "end", "prove"], 0, "holds 2"),
+    ([*BEGUN, "never", "within 1", "begin", "end", "prove"], 0, "may fail"),
     (["wire", "x", ".", *PROGRAM, "prove"], 3, "no 20"), (["wire", "[[rim]]", ".", *PROGRAM, "prove"], 3, "no 21"),
     (["wire", "[[rom]]", "chip = 0", ".", *PROGRAM, "prove"], 3, "no 22"),
     (["wire", "[[rom]]", "chip = 16", 'port = "0000"', ".", *PROGRAM, "prove"], 3, "no 23"),

@@ -195,11 +195,24 @@ def never_closed(board: Board) -> None:
     second_search.set_calls(board, max(calls, second_search.calls_of(board)))
 
 
+def restarted(board: Board) -> int:
+    """Begins a stopwatch again although it runs."""
+    stopwatch = second_search.stopwatch_of(board)
+    return 1 if stopwatch and stopwatch.begins(board) else RIGHT_ELAPSED(board)
+
+
+def ended_at_once(board: Board) -> int:
+    """Lets a stopwatch that ends begin only after the next cycle."""
+    stopwatch = second_search.stopwatch_of(board)
+    return 0 if stopwatch and second_search.elapsed_of(board) and stopwatch.ends(board) else RIGHT_ELAPSED(board)
+
+
 RIGHT_SAVED, RIGHT_VALUES, RIGHT_GO_ON = second_search.saved, second_search.values_read, second_search.go_on
 RIGHT_CONDITION, RIGHT_MET, RIGHT_BEGINS = second_search.condition_of, second_search.is_met, second_search.begins
 RIGHT_CYCLE, RIGHT_MISTAKES = second_search.cycle, second_search.mistakes
+RIGHT_ELAPSED, RIGHT_LATE = second_search.elapsed_after, second_search.is_late
 PARTS = ("accumulator", "carry", "counter", "DCL", "owed cycle", "registers", "return addresses", "SRC of the ROMs", "SRC of the banks",
-         "ports of ROMs", "ports of RAM", "chains", "RAM", "open calls")
+         "ports of ROMs", "ports of RAM", "chains", "RAM", "open calls", "elapsed cycles")
 WRONG_SEARCHES: dict[str, Callable[[], AbstractContextManager]] = {
     **{f"a state without its {part}": method(second_search, "saved", without(place)) for place, part in enumerate(PARTS)},
     "a value is left out": method(second_search, "values_read", but_the_largest),
@@ -217,5 +230,11 @@ WRONG_SEARCHES: dict[str, Callable[[], AbstractContextManager]] = {
     "mistakes are looked at at reads": method(second_search, "mistakes", lambda board: RIGHT_MISTAKES(board) if second_search.is_reading(board) else set()),
     "four calls may be open": method(second_search, "OPEN_CALLS", 4),
     "a BBL leaves calls open": method(second_search, "cycle", never_closed),
+    "a stopwatch begins while it runs": method(second_search, "elapsed_after", restarted),
+    "a stopwatch that ends does not begin": method(second_search, "elapsed_after", ended_at_once),
+    "a stopwatch stands while a cycle reads": method(second_search, "elapsed_after", lambda board: (
+        second_search.elapsed_of(board) if second_search.is_reading(board) else RIGHT_ELAPSED(board))),
+    "a limit is a cycle longer": method(second_search, "is_late", lambda board, within: within is not None and RIGHT_LATE(board, within + 1)),
+    "a limit is a cycle shorter": method(second_search, "is_late", lambda board, within: within is not None and RIGHT_LATE(board, within - 1)),
     **{f"no mistake {kind}": method(second_search, "mistakes", lambda board, kind=kind: RIGHT_MISTAKES(board) - {kind}) for kind in second_search.MISTAKES},
 }

@@ -1,9 +1,9 @@
 """A second implementation of mcs4-prove over the board of board4004.py. It searches breadth-first through everything that a machine can do, with any
 keys and any TEST pin, and tests conditions on the way. It shares no code with the program.
 
-A state is everything in a machine except its inputs. There is a state at power-on, before each cycle that reads an input (RDR, or JCN with TEST),
-and after a fixed number of cycles without such a read. The search continues from a state once for each value that the next cycle can read, with
-keys and TEST that give this value. It stops at the next state, or when the machine repeats an earlier state. Conditions are tested after each cycle.
+A state is all that a machine holds but its inputs, and what its stopwatch shows, if it has one. It stands at power-on, then where the next cycle reads an input, RDR or JCN with TEST, or where
+a stretch without such a read is cut after so many cycles. From a state it goes on once for each value that its next cycle can read, at keys and
+TEST that give this value, to the next state, or to where it holds again what it held there; conditions are looked at after each cycle.
 """
 
 from __future__ import annotations
@@ -19,27 +19,37 @@ from board4004 import ADDRESSES, CODES, TWO_WORDS, Board
 Comparison = tuple[str, str, int, str, int, int]
 # The condition that the next cycle makes one of some mistakes: `mistake` and their names.
 Mistakes = tuple[str, ...]
+Row = list[Comparison | Mistakes]
 # The keys that are down, by row and column, and the level of TEST.
 Levels = tuple[frozenset[tuple[int, int]], int]
 Condition = Callable[[Board], bool]
 NO_LEVELS: Levels = (frozenset(), 1)
 
 
+def rows_of(word: str, rows: list[Row]) -> list[str]:
+    """Returns the lines of rows of conditions, each after this word."""
+    return [line for row in rows for line in (word, *(" ".join(map(str, words)) for words in row))]
+
+
 @dataclass
 class Question:
-    """A board and a program, the conditions that must never be met (all conditions of a row at once), the maximum number of states, and the
-    maximum length of a stretch."""
+    """A board and a program; the conditions that are never to be met, all conditions of a row at once; the most states; the cut of a
+    stretch. With `within` there is a stopwatch, which must never show more cycles; a row of `begins` begins it, and one of `ends` ends it."""
 
     board: list[str]
     program: list[str]
-    nevers: list[list[Comparison | Mistakes]] = field(default_factory=list)
+    nevers: list[Row] = field(default_factory=list)
     most: int = 1000000
     pause: int = 1000000
+    begins: list[Row] = field(default_factory=list)
+    ends: list[Row] = field(default_factory=list)
+    within: int | None = None
 
     def lines(self) -> list[str]:
-        """Returns the question in the form that the program reads."""
-        nevers = [line for row in self.nevers for line in ("never", *(" ".join(map(str, words)) for words in row))]
-        return [f"most {self.most}", f"pause {self.pause}", *self.begun(), *nevers, "prove"]
+        """Returns the question as the program reads it."""
+        limits = [] if self.within is None else [f"within {self.within}"]
+        return [f"most {self.most}", f"pause {self.pause}", *limits, *self.begun(), *rows_of("never", self.nevers), *rows_of("begin", self.begins),
+                *rows_of("end", self.ends), "prove"]
 
     def begun(self) -> list[str]:
         """Returns the session lines that set up its board and program."""
@@ -90,8 +100,8 @@ OPEN_CALLS = 3
 # The instructions for a RAM chip: its characters, its status characters, and its port.
 FOR_RAM = {"WRM", "RDM", "ADM", "SBM", "WMP", *(f"{way}{k}" for way in ("WR", "RD") for k in range(4))}
 MISTAKES = ("code", "call", "return", "ram", "rom", "rdr", "wrr")
-# The attribute of a board with the number of its open calls.
-CALLS = "calls"
+# The calls that are open in a board, its stopwatch, and what that shows.
+CALLS, STOPWATCH, ELAPSED = "calls", "stopwatch", "elapsed"
 
 
 def calls_of(board: Board) -> int:
@@ -102,6 +112,37 @@ def calls_of(board: Board) -> int:
 def set_calls(board: Board, calls: int) -> None:
     """Sets the number of open calls."""
     setattr(board, CALLS, calls)
+
+
+@dataclass
+class Stopwatch:
+    """Counts cycles from where it begins to where it ends."""
+
+    begins: Condition
+    ends: Condition
+
+
+def stopwatch_of(board: Board) -> Stopwatch | None:
+    """Returns the stopwatch of a board."""
+    return getattr(board, STOPWATCH, None)
+
+
+def elapsed_of(board: Board) -> int:
+    """Returns the cycles that the stopwatch shows; 0 if it does not run."""
+    return getattr(board, ELAPSED, 0)
+
+
+def set_elapsed(board: Board, cycles: int) -> None:
+    """Sets what the stopwatch shows."""
+    setattr(board, ELAPSED, cycles)
+
+
+def elapsed_after(board: Board) -> int:
+    """Returns what the stopwatch shows after the next cycle."""
+    stopwatch, elapsed = stopwatch_of(board), elapsed_of(board)
+    if not stopwatch:
+        return 0
+    return elapsed + 1 if elapsed and not stopwatch.ends(board) else int(stopwatch.begins(board))
 
 
 def read_by(board: Board, name: str) -> list[int]:
@@ -129,11 +170,15 @@ def mistakes(board: Board) -> set[str]:
 
 
 def cycle(board: Board) -> None:
-    """Does one cycle, which can open or close a call. A fourth call replaces the first one."""
-    name = "" if board.owed else CODES[board.rom[board.pc]][0]
-    change = {"JMS": 1, "BBL": -1}.get(name, 0)
-    set_calls(board, min(max(calls_of(board) + change, 0), OPEN_CALLS))
-    board.cycle()
+    """Does one cycle, which may open a call or close one. A fourth call replaces the first. At a code outside the table only the stopwatch
+    goes on."""
+    elapsed = elapsed_after(board)
+    if board.owed or not board.is_outside():
+        name = "" if board.owed else CODES[board.rom[board.pc]][0]
+        change = {"JMS": 1, "BBL": -1}.get(name, 0)
+        set_calls(board, min(max(calls_of(board) + change, 0), OPEN_CALLS))
+        board.cycle()
+    set_elapsed(board, elapsed)
 
 
 # ---- conditions
@@ -149,9 +194,20 @@ def is_met(board: Board, condition: Comparison | Mistakes) -> bool:
     return (low <= number <= high) == (way == "in")
 
 
-def condition_of(nevers: list[list[Comparison | Mistakes]]) -> Condition:
-    """Returns the function that tests whether a row of conditions is met at once."""
-    return lambda board: any(all(is_met(board, each) for each in row) for row in nevers)
+def condition_of(rows: list[Row]) -> Condition:
+    """Returns the function that tests if a row of conditions is met all at once."""
+    return lambda board: any(all(is_met(board, each) for each in row) for row in rows)
+
+
+def is_late(board: Board, within: int | None) -> bool:
+    """Returns true if the stopwatch shows more than its limit."""
+    return within is not None and elapsed_of(board) > within
+
+
+def fault_of(question: Question) -> Condition:
+    """Returns the function that tests if what is forbidden is met."""
+    is_bad = condition_of(question.nevers)
+    return lambda board: is_bad(board) or is_late(board, question.within)
 
 
 # ---- what a machine reads
@@ -198,18 +254,19 @@ def values_read(board: Board) -> dict[int, Levels]:
 # ---- from state to state
 
 def saved(board: Board) -> tuple:
-    """Returns the whole state of a machine except its inputs, and the number of open calls."""
+    """Returns all that a machine holds except its inputs, the number of open calls, and what the stopwatch shows."""
     chips = board.chips
     return (board.acc, board.cy, board.pc, board.dcl, board.owed, tuple(board.r), tuple(board.ret), chips.rom_src, tuple(chips.bank_src),
             tuple(chips.rom_latch.values()), tuple(chips.ram_latch.values()), tuple(map(tuple, chips.chains)),
-            tuple((bytes(chips.ram[bank]), *map(bytes, chips.status[bank])) for bank in sorted(chips.chips)), calls_of(board))
+            tuple((bytes(chips.ram[bank]), *map(bytes, chips.status[bank])) for bank in sorted(chips.chips)), calls_of(board), elapsed_of(board))
 
 
 def load(board: Board, state: tuple) -> None:
     """Loads a state into a machine."""
     chips = board.chips
-    board.acc, board.cy, board.pc, board.dcl, board.owed, r, ret, chips.rom_src, srcs, roms, rams, chains, banks, calls = state
+    board.acc, board.cy, board.pc, board.dcl, board.owed, r, ret, chips.rom_src, srcs, roms, rams, chains, banks, calls, elapsed = state
     set_calls(board, calls)
+    set_elapsed(board, elapsed)
     board.r, board.ret, chips.bank_src, chips.chains = list(r), list(ret), list(srcs), [list(chain) for chain in chains]
     chips.rom_latch, chips.ram_latch = dict(zip(chips.rom_latch, roms)), dict(zip(chips.ram_latch, rams))
     for bank, (characters, *status) in zip(sorted(chips.chips), banks):
@@ -222,8 +279,8 @@ def go_on(board: Board, levels: Levels, is_bad: Condition, pause: int) -> tuple[
     board.chips.down, board.test = set(levels[0]), levels[1]
     at, state = board.pc, saved(board)
     for cycles in range(1, pause + 2):
-        if not board.owed and board.is_outside():
-            # The state repeats, so nothing changes any more.
+        if not board.owed and board.is_outside() and not stopwatch_of(board):
+            # Nothing changes any more.
             return cycles - 1, False
         cycle(board)
         if is_bad(board):
@@ -240,12 +297,14 @@ def power_on(question: Question) -> Board:
     bench4004.load(board, question.program)
     board.power_on()
     set_calls(board, 0)
+    if question.within is not None:
+        setattr(board, STOPWATCH, Stopwatch(condition_of(question.begins), condition_of(question.ends)))
     return board
 
 
 def search(question: Question) -> Found:
     """Returns the verdict on a question."""
-    board, is_bad = power_on(question), condition_of(question.nevers)
+    board, is_bad = power_on(question), fault_of(question)
     if is_bad(board):
         return Found("may fail", 1)
     if question.most < 1:
@@ -277,16 +336,16 @@ def way_to(came: list[tuple[int, int]], at: int) -> list[int]:
 
 
 def is_met_when_driven(question: Question, chance: random.Random, cycles: int) -> bool:
-    """Returns true if the forbidden conditions are met within a number of cycles, with random keys and TEST before each."""
-    board, is_bad = power_on(question), condition_of(question.nevers)
+    """Returns true if the forbidden conditions are met within a number of cycles, before each of which keys and TEST are put at any
+    levels."""
+    board, is_bad = power_on(question), fault_of(question)
     chips = board.chips
     for _cycle in range(cycles):
         if is_bad(board):
             return True
         chips.down = {(row, column) for row in range(chips.keys["rows"]) for column in range(len(chips.columns)) if chance.random() < 0.1}
         board.test = chance.randrange(2)
-        if board.owed or not board.is_outside():
-            cycle(board)
+        cycle(board)
     return is_bad(board)
 
 
@@ -300,9 +359,8 @@ def commands(levels: Levels, before: Levels) -> list[str]:
 
 
 def replayed(question: Question, way: list[int]) -> tuple[list[str], str]:
-    """Returns the session lines that replay a counterexample up to the cycle that meets the forbidden conditions; or a description of the
-    error."""
-    board, is_bad, before = power_on(question), condition_of(question.nevers), NO_LEVELS
+    """Returns a way as lines of a session, up to the cycle after which it meets the forbidden conditions; or what is wrong with it."""
+    board, is_bad, before = power_on(question), fault_of(question), NO_LEVELS
     lines, bad = [*question.begun(), "reset"], is_bad(board)
     for n, value in enumerate(way):
         values = values_read(board)

@@ -1,23 +1,25 @@
-"""Random questions to mcs4-prove, reproducible by a seed: a random board (seeded_boards.py), a short program that reads keys and TEST in loops,
-and comparisons of values that such a program changes. Some of the comparisons become true, some never. Some questions also ask for mistakes.
+"""Questions to mcs4-prove by a generator, the same from the same number: a seeded board (seeded_boards.py), a short program that reads keys and TEST in
+loops, and comparisons of what such a program changes; some of them are met, some never. Some questions ask for mistakes, too, and a quarter of them
+for a time.
 """
 
 from __future__ import annotations
 
+import dataclasses
 import random
 from collections.abc import Iterator
 
 from assembler import ALONE
 from board4004 import Board
-from second_search import MISTAKES, Comparison, Question, cell, go_on, power_on, values_read
+from second_search import MISTAKES, Comparison, Question, Row, cell, elapsed_of, go_on, power_on, values_read
 from seeded_boards import OUTSIDE, Program, Seeded, Wiring
 
 # Most of the instructions that do nothing with a chip.
 HANDY = ["CLB", "CLC", "IAC", "CMC", "CMA", "RAL", "RAR", "TCC", "DAC", "TCS", "STC", "DAA", "KBP"]
 LENGTHS = {"character": 2048, "status": 512, "ramport": 32, "romport": 16, "banksrc": 8, "register": 16, "counter": 14,
            "chain0": 256, "chain1": 256, "chain2": 256, "chain3": 256}
-# The maximum number of states in a walk that looks for values.
-WALK = 12
+# The most states that a walk for numbers passes, and the walks for a time.
+WALK, WAYS = 12, 8
 
 
 class Asking(Program):
@@ -124,6 +126,48 @@ def comparison(chance: random.Random, wiring: Wiring, boards: list[dict[tuple[st
     return ("in", name, index, "whole", number, min(number + width, 255)) if chance.random() < 0.85 else ("out", name, index, "whole", 0, number)
 
 
+def at_address(seen: dict[tuple[str, int], int]) -> Row:
+    """Returns comparisons that hold between two instructions at the counter that was seen."""
+    return [("in", "counter", 3, "whole", 0, 0), *(("in", "counter", n, "whole", *[seen["counter", n]] * 2) for n in (4, 5))]
+
+
+def opposite(words: Comparison) -> Comparison:
+    """Returns the comparison that holds when another one does not."""
+    return ("out" if words[0] == "in" else "in", *words[1:])
+
+
+def timed(question: Question, chance: random.Random, wiring: Wiring, boards: list[dict[tuple[str, int], int]]) -> None:
+    """Adds a time to a question: how long a condition holds, or from one address to another. Its limit is near the longest time on some ways."""
+    if chance.random() < 0.5:
+        question.nevers = []
+    kind = chance.random()
+    if kind < 0.4:
+        condition = comparison(chance, wiring, boards)
+        question.begins, question.ends = [[condition]], [[opposite(condition)]]
+    elif kind < 0.8:
+        question.begins, question.ends = [at_address(chance.choice(boards))], [at_address(chance.choice(boards))]
+    else:
+        question.begins = [[comparison(chance, wiring, boards)] for _row in range(chance.choice([1, 2]))]
+        question.ends = [[comparison(chance, wiring, boards), *([("mistake", *MISTAKES)] if chance.random() < 0.2 else [])] for _row in range(chance.choice([1, 2]))]
+    question.within = max(0, longest_seen(question, chance) + chance.choice([-1, 0, 0, 0, 1, 3]))
+
+
+def longest_seen(question: Question, chance: random.Random) -> int:
+    """Returns the longest time that the stopwatch of a question shows on some ways."""
+    shown = [0]
+
+    def note(board: Board) -> bool:
+        shown.append(elapsed_of(board))
+        return False
+
+    for _way in range(WAYS):
+        board = power_on(dataclasses.replace(question, within=0))
+        for _n in range(WALK):
+            values = values_read(board)
+            go_on(board, values[chance.choice(sorted(values))], note, min(question.pause, 50))
+    return max(shown)
+
+
 def seeded_question(seed: int, most: int) -> Question:
     """Returns a random question; one in eight has a long program of any instructions."""
     chance = random.Random(seed)
@@ -140,4 +184,6 @@ def seeded_question(seed: int, most: int) -> Question:
     if chance.random() < 0.5:
         asked = ("mistake", *chance.sample(MISTAKES, chance.choice([1, 1, 2, len(MISTAKES)])))
         question.nevers.append([asked, *([comparison(chance, wiring, boards)] if chance.random() < 0.2 else [])])
+    if seed % 4 == 1:
+        timed(question, chance, wiring, boards)
     return question

@@ -109,6 +109,9 @@ test("what is wrong with a text of properties is reported with what there is", (
   assert.match(faultsOf("model ./sum")[0], /names no display/);
   assert.match(faultsOf("lamp on on only after A")[0], /only after press KEY, press KEY/);
   assert.match(faultsOf("after press A lamp on on")[0], /after press KEY within TIME CONDITION/);
+  assert.match(faultsOf("@look to @dark within time")[0], /^1: write `@LABEL to @LABEL within TIME`/);
+  assert.deepEqual(faultsOf("@look to @there within 1 ms"), ["1: the program has no label there"]);
+  assert.match(faultsOf("@look to dark within 1 ms")[0], /^1: no line begins with `@look`/);
   assert.equal(faultsOf("note pc")[0].slice(0, 5), "1: pc");
   assert.deepEqual(faultsOf("note lamps r7 ram.0.0x12 rom1 chain0 ram0.0 src\nnever acc 3 for 5 ms\nalways cy < 1\nat @look r7 0"), []);
 });
@@ -133,6 +136,8 @@ test("each form of a property is found broken, or reached, with a test that says
   assert.match(await testOf(`${keys}after press A within 50 @dark`), /press A\n {2}until @dark within 50\n$/);
   assert.match(await testOf(`${keys}@dark at most once for each press`), /press B\n {2}run \d+\n {2}expect not @dark\n$/);
   assert.match(await testOf(`${keys}every 100 @dark`), /^test every 100 @dark\n {2}until @dark within 100\n$/);
+  assert.match(await testOf(`${keys}@dark to @third within 1`), /press B\n {2}run \d+\n {2}until @third within 1\n$/);
+  assert.match(await testOf(`${keys}@look to @dark within 400`), /^test @look to @dark within 400\n(.*\n)* {2}until @dark within \d+\n$/);
   assert.match(await testOf(`${keys}reach lamp on on and r7 = 0`), /\n {2}expect lamp on on and r7 = 0\n$/);
   assert.match(await testOf(`${keys}reach @dark`), /press B\n {2}run \d+\n {2}expect @dark\n$/);
   assert.match(await testOf(`${keys}reach line 22`), /press B\n {2}run \d+\n {2}expect pc 0x01B\n$/);

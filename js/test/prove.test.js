@@ -259,6 +259,51 @@ test("inputs that the text of properties excludes are known as such", async () =
   assert.equal((await counterexample("press A\nbegin after 1 s\nnever lamp on on", LIGHTS)).found.isAllowed, false);
 });
 
+/** Resolves to whether the test of a counterexample fails. */
+async function fails({ text }, programText = PROGRAM) {
+  const { outcomes } = await runTests(engine, { boardText: BOARD, programText, sources: [{ name: "found", text }] }, async () => true,
+    { Counting: NoAccount });
+  return outcomes[0].failure !== null;
+}
+
+test("what takes too long becomes a test that fails, and nothing that is in time does", async () => {
+  // From `look` to `look` it takes 10 cycles as long as A is up.
+  const up = [0, ...Array(30).fill(1)];
+  const late = [["never lamp on on for 1 ms", LIGHTS, /press A\n {2}run \d+\n {2}until not lamp on on within 93\n$/],
+    ["every 9 @look", up, /\n {2}run 9\n {2}until @look within 9\n$/], ["@look to @look within 9", up, /\n {2}until @look within 9\n$/],
+    ["@look to @lit within 250", up, /\n {2}run 9\n {2}until @lit within 250\n$/],
+    ["every 300 @look", LIGHTS, /press A\n {2}run \d+\n {2}until @look within 300\n$/]];
+  for (const [text, values, wanted] of late) {
+    const { found } = await counterexample(`press A\nwait 1 to 1000\n${text}`, values);
+    assert.ok(found, text);
+    assert.match(found.text, wanted);
+    assert.ok(found.isAllowed && await fails(found), text);
+  }
+  for (const text of ["every 10 @look", "@look to @look within 10", "never lamp on on for 93", "@lit to @look within 9"]) {
+    assert.equal((await counterexample(`press A\n${text}`, up)).found, null, text);
+  }
+});
+
+// A condition is met by one instruction and ended by another one; in between are two cycles more than the first one takes.
+const SPANS = [["r5 > 0", "FIM P2, 0x05", "FIM P2, 0", 4], ["r5 > 0", "INC R5", "FIM P2, 0", 3], ["r5 > 0", "FIM P2, 0x0F", "INC R5", 4],
+  ["cy = 1", "STC", "CLB", 3]];
+
+test("a condition may hold for exactly its time, whatever instruction changes it", async () => {
+  for (const [condition, begin, end, span] of SPANS) {
+    const program = `loop:   ${begin}\n        NOP\n        NOP\n        ${end}\n        JUN loop\n`;
+    const own = subjectOf(engine, BOARD, program);
+    const findOf = (cycles) => counterexampleOf(own, readCampaign(`test\nnever ${condition} for ${cycles}`, own).campaign, 0, [0], async () => {});
+    const found = await findOf(span - 1);
+    assert.ok(found && await fails(found, program), `${begin}, ${end}`);
+    assert.equal(await findOf(span), null, `${begin}, ${end}`);
+  }
+});
+
+test("keys that change together are on the way to what takes too long", async () => {
+  const { found } = await counterexample("press A B C\nnever lamp on on for 20", [0, 13, ...LIGHTS.slice(1)]);
+  assert.ok(found && await fails(found));
+});
+
 // Programs on the board above: after how many cycles the next instruction makes a mistake, by its word; the cycles are those of the table.
 const MAKES = [
   { program: "FIM P1, 0x80\nSRC P1\nWR2", made: { ram: 3 } }, { program: "LDM 1\nDCL\nRDM", made: { ram: 2 } },

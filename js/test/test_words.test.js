@@ -85,6 +85,10 @@ test("the words of properties: what they become, and what the manual says of the
   assert.deepEqual(list("never lamp "), ["red", "green"]);
   assert.deepEqual(list("always lamp red on and lamp g"), ["green"]);
   assert.deepEqual(list("at @sto"), ["@stop"]);
+  assert.deepEqual(list("@stop "), ["to", "at most once for each press", "only after"]);
+  assert.deepEqual(list("@stop to @sto"), ["@stop"]);
+  assert.deepEqual(list("@stop to @stop "), ["within"]);
+  assert.deepEqual(list("@stop only after press "), ["1", "2", "ENTER"]);
   assert.deepEqual(list("# ne"), []);
   assert.equal(helpForProperty(["never lamp red on"], 0, 2, listedForms), "never C: the condition never holds");
   assert.equal(helpForProperty(["never lamps none"], 0, 8, listedForms), "lamps NAME ..: these lamps are lit");

@@ -21,6 +21,9 @@ const CONDITION_START = /^(never|always|reach)$/;
 const TEST_WORDS = new Set(["cycles", "printed", "test", "key"]);
 /** The words that can follow a condition. */
 const CONDITION_END = ["for", "only after"];
+/** The words that can follow a label at the beginning of a line, and those that can follow a second label. */
+const AFTER_LABEL = ["to", "at most once for each press", "only after"];
+const AFTER_TARGET = ["within"];
 
 /**
  * Returns the manual's forms for lines of properties.
@@ -53,7 +56,16 @@ function conditionOf(words) {
 }
 
 /**
- * Returns the words that can follow other words in a line.
+ * Returns the words that can follow other words in a line that begins with a label.
+ * @param {string[]} words
+ */
+function wordsAfterLabel([, second, ...more]) {
+  if (second === undefined) return AFTER_LABEL;
+  return second === "to" && more.length === 1 ? AFTER_TARGET : [];
+}
+
+/**
+ * Returns the words that can follow some words of a line.
  * @param {string[]} before
  * @param {string} begun the word being typed
  * @param {TestNames} names
@@ -66,6 +78,7 @@ function wordsAfter(before, begun, names, { lines, conditions }) {
   if (before.length === 0) return [...fittings(lines.filter(({ word }) => /^[a-z]+$/.test(word))), ...labels];
   const last = before[before.length - 1];
   if (before[0] === "press" || last === "press") return withoutDescription(names.keys);
+  if (before[0].startsWith("@")) return alone(wordsAfterLabel(before));
   const condition = conditionOf(before);
   if (condition) return wordsOfCondition(condition, names, conditions, CONDITION_END);
   return before[0] === "note" ? withoutDescription(["lamps"]) : [];
