@@ -1,11 +1,13 @@
-"""Questions to mcs4-prove about the examples: the nevers in their properties as comparisons, and the expected answers. Also mutants: examples in which
-one instruction is replaced by another one.
+"""Questions to mcs4-prove about the examples: the nevers and the times of their properties as comparisons, what must be answered, and mutants: an
+example with one instruction that is another one.
 """
 
 from __future__ import annotations
 
 import pathlib
 import random
+import re
+from collections.abc import Iterable
 from dataclasses import dataclass
 
 from assembler import assemble
@@ -112,6 +114,81 @@ SHOWN = {
     "three_lamps/three_lamps.props": {0: (0, 1, 2, 4)},
     "traffic_light.props": {0: (0, 1, 2, 3, 4), 1: (0, 1, 2)},
 }
+
+
+# The counter at power-on.
+AT_FIRST = "in counter 3 whole 0 0 & in counter 4 whole 0 0 & in counter 5 whole 0 0"
+
+
+@dataclass
+class Timed:
+    """A line of a file of properties that limits a time: what begins the time, and what ends it, in comparisons; the limit in cycles, and the
+    answer. `longest` is the longest time that there is, -1 if there are too many states to know it."""
+
+    props: str
+    line: str
+    begins: list[str]
+    ends: list[str]
+    limit: int
+    answer: str
+    longest: int = -1
+    most: int = 1000000
+
+    def question(self) -> Question:
+        """Returns the question."""
+        question = question_of(self.props, [], self.most, 1000000)
+        names = assemble(question.program)[2]
+        question.begins, question.ends = ([comparisons_of(row, names) for row in rows] for rows in (self.begins, self.ends))
+        question.within = self.limit
+        return question
+
+
+def lasting(props: str, line: str, condition: str, limit: int, answer: str, longest: int = -1, most: int = 1000000) -> Timed:
+    """Returns the time for which comparisons hold together: it ends when one of them does not."""
+    comparisons = [each.split(" ", 1) for each in condition.split(" & ")]
+    ends = [f"{'out' if word == 'in' else 'in'} {rest}" for word, rest in comparisons]
+    return Timed(props, line, [condition], ends, limit, answer, longest, most)
+
+
+def all_off(name: str, indexes: Iterable[int]) -> str:
+    """Returns the comparisons that hold if these cells of a list are 0."""
+    return " & ".join(f"in {name} {index} whole 0 0" for index in indexes)
+
+
+CLOCK, STACKER, LOCK, PICTURES, THREE = (f"{name}/{name}.props" for name in ("clock", "stacker", "lock", "pictures", "three_lamps"))
+TIMES = [
+    Timed("counter.props", "@count to @open within 53", ["@count"], ["@open"], 53, "too many", most=500),
+    lasting("die.props", "never lamps none for 1 ms", all_off("ramport", [0]), 93, "holds 13", 16),
+    Timed("die.props", "@hold to @hold within 15", ["@hold"], ["@hold"], 15, "holds 13", 15),
+    lasting("lamps.props", "never lamp 0 off and lamp 1 on for 1 ms", "in chain0 0 whole 0 0 & in chain0 1 whole 1 1", 93, "holds 2", 0),
+    lasting("running_light.props", "never lamps none for 1 ms", all_off("chain0", range(10)), 93, "holds 2", 9),
+    Timed("running_light.props", "every 8747 @step", [AT_FIRST, "@step"], ["@step"], 8747, "holds 2", 8747),
+    Timed("stopwatch.props", "every 926 @wait", [AT_FIRST, "@wait"], ["@wait"], 926, "holds 20001", 926),
+    lasting("traffic_light.props", "never lamps none for 1 ms", all_off("ramport", [0, 1]), 93, "holds 375558", 15),
+    Timed("traffic_light.props", "@stop to @light within 8.01 s", ["@stop"], ["@light"], 741667, "holds 375558", 740752),
+    lasting(CLOCK, "never r8 > 2 for 10 ms", "in register 8 whole 3 15", 926, "too many", most=500),
+    lasting(CLOCK, "never r10 > 5 for 10 ms", "in register 10 whole 6 15", 926, "too many", most=500),
+    lasting(CLOCK, "never not ram0.0 out 1 for 8.4 ms", "out ramport 0 whole 1 1", 778, "too many", most=500),
+    lasting(LOCK, "never lamps none for 1 ms", all_off("ramport", [0]), 93, "holds 297693", 9),
+    lasting(LOCK, "never lamp open on for 1.1 s", "in ramport 0 line1 1 1", 101852, "holds 297692", 96131),
+    lasting("music_box/music_box.props", "never lamp sound on for 5 ms", "in romport 0 line0 1 1", 463, "holds 2", 193),
+    lasting(PICTURES, "never r0 < 12 for 5 ms", "in register 0 whole 0 11", 463, "holds 9", 5),
+    Timed(PICTURES, "every 129 @row", [AT_FIRST, "@row"], ["@row"], 129, "holds 9", 129),
+    lasting(STACKER, "never lamps none for 0.3 s", all_off("ramport", range(16)), 27778, "too many", most=500),
+    *(lasting(STACKER, f"never lamp {above} on and lamp {below} off and not ram2.3 out 0 for 1 ms",
+              f"in ramport 13 line{line} 1 1 & in ramport 15 line{line} 0 0 & out ramport 11 whole 0 0", 93, "too many", most=500)
+      for above, below, line in ((52, 60, 3), (53, 61, 2))),
+    lasting(THREE, "never lamps none for 1 ms", all_off("ramport", [0]), 93, "holds 2", 7),
+    Timed(THREE, "every 6 ms @next", [AT_FIRST, "@next"], ["@next"], 556, "holds 2", 538),
+]
+# Lines with a time that are not asked: their conditions need the digits of a display, or several rows, and their programs have too many states.
+NOT_TIMED = {"never display -0 and st.0.0.2 3 for 20 ms", "never not ram.0.8 0 and not ram.0.8 9 for 200 ms"}
+
+
+def times_in(props: str) -> list[str]:
+    """Returns the lines of a file of properties that limit a time, except those of a press."""
+    lines = (EXAMPLE_FILES / props).read_text().splitlines()
+    return [line for line in lines if re.match(r"never .* for \d|every |@\S+ to ", line) and line not in NOT_TIMED]
 
 
 def nevers_in(props: str) -> list[str]:

@@ -61,7 +61,7 @@ def proved_by_tool(browser, folder, mcs4):
 def check_example(browser, folder, mcs4):
     """Checks the stopwatch, which has one state more than the first question may search."""
     choose_example(browser, "stopwatch")
-    properties = [line for line in text_of(browser, "properties").splitlines() if line.startswith("never")]
+    properties = [line for line in text_of(browser, "properties").splitlines() if line.startswith(("never", "every"))]
     proved = proved_by_tool(browser, folder, mcs4)
     verdict("the tool proves its properties, and that no mistake is made", [text for text, _ in proved][: len(properties)], properties)
     verdict("of which there are seven", len(proved) - len(properties), MISTAKES)
@@ -129,21 +129,23 @@ def check_kinds(browser):
     choose_example(browser, "empty bench")
     put(browser, "board", BOARD)
     put(browser, "program", PROGRAM)
-    put(browser, "properties", "test\nnever lamp 1 on\nnever lamp lit on\nreach lamp lit on\nreach lamp 1 on\nevery 1 ms @look\n")
+    put(browser, "properties", "test\nnever lamp 1 on\nnever lamp lit on\nreach lamp lit on\nreach lamp 1 on\nevery 1 ms @look\n"
+        "lamp lit on only after press WALK\n")
     prove_to_end(browser, "it comes to its end")
-    verdict("what came of all is said", browser.script(PROPERTIES_STATUS), f"{1 + MISTAKES} proved, 1 can fail, 1 reached, 1 never reached, 1 not decided.")
+    verdict("what came of all is said", browser.script(PROPERTIES_STATUS), f"{2 + MISTAKES} proved, 1 can fail, 1 reached, 1 never reached, 1 not decided.")
     rows = browser.script(ROWS)
-    verdict("each verdict", rows[:4], [
+    verdict("each verdict", rows[:5], [
         "proved | never lamp 1 on | for all inputs: 32 states", "can fail | never lamp lit on | broken by 1 step, 4 cycles",
-        "reached | reach lamp lit on | reached by 1 step, 4 cycles", "never reached | reach lamp 1 on | for all inputs: 32 states"])
-    verdict("and a form that is not decided", rows[4:5], re.compile(r"^\['not decided \| every 1 ms @look \| a property of the form"))
-    verdict("no mistake is made", [row.split(" | ")[0] for row in rows[5:]], ["proved"] * MISTAKES)
-    verdict("what is proved is lit", browser.script(LIT), 1 + MISTAKES)
+        "reached | reach lamp lit on | reached by 1 step, 4 cycles", "never reached | reach lamp 1 on | for all inputs: 32 states",
+        "proved | every 1 ms @look | for all inputs: 33 states"])
+    verdict("and a form that is not decided", rows[5:6], re.compile(r"^\['not decided \| lamp lit on only after press WALK \| a property of the form"))
+    verdict("no mistake is made", [row.split(" | ")[0] for row in rows[6:]], ["proved"] * MISTAKES)
+    verdict("what is proved is lit", browser.script(LIT), 2 + MISTAKES)
     check_counterexample(browser)
     browser.click("#sessions-button")
     browser.until("return document.getElementById('sessions').open", True)
     browser.click("#kept button[aria-label='open empty bench']")
-    eventually(browser, "back in the session, its verdicts are there", LIT, 1 + MISTAKES)
+    eventually(browser, "back in the session, its verdicts are there", LIT, 2 + MISTAKES)
     prove_to_end(browser, "20 states are soon searched", 20)
     verdict("too many states decide nothing", browser.script(ROWS), re.compile("'not decided . never lamp 1 on . more than 20 states; enter a larger number"))
     browser.click("#clear-finds")

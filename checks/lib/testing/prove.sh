@@ -13,21 +13,35 @@ else
     of_every_program() {
         sed -n 's/^\(not \)\{0,1\}ok [0-9]* - \(no .*\)/\1\2/p'
     }
-    # The die shows only its six faces; two of three lines are proved.
+    # The die shows its six faces alone, and each of them for 15 cycles.
     verdict "$(outcome ./mcs4 prove examples/die.txt examples/die.txt examples/die.props | results)" "$(
         sed -n 's/^never \(not .*\)/ok 1 - never \1 # proved for all inputs (13 states)/p' examples/die.props)
-not ok 2 - never lamps none for 1 ms # TODO not decided: a property of the form \"never for\" cannot be proved yet
-ok 3 - reach lamps ***.*** # reached, 1 step
+ok 2 - never lamps none for 1 ms # proved for all inputs (13 states)
+ok 3 - @hold to @hold within 15 # proved for all inputs (13 states)
+ok 4 - reach lamps ***.*** # reached, 1 step
   message: \"reached by 1 step, 91 cycles\"
-  at: \"examples/die.props:10\"
-ok 4 - no code outside the instruction table # proved for all inputs (22 sets of states)
-ok 5 - no fourth nested call # proved for all inputs (22 sets of states)
-ok 6 - no BBL without a call # proved for all inputs (22 sets of states)
-ok 7 - no RAM that is absent # proved for all inputs (22 sets of states)
-ok 8 - no ROM that is absent # proved for all inputs (22 sets of states)
-ok 9 - no RDR of a port without inputs # proved for all inputs (22 sets of states)
-ok 10 - no WRR to a port without outputs # proved for all inputs (22 sets of states)
-status 3" "the die"
+  at: \"examples/die.props:12\"
+ok 5 - no code outside the instruction table # proved for all inputs (22 sets of states)
+ok 6 - no fourth nested call # proved for all inputs (22 sets of states)
+ok 7 - no BBL without a call # proved for all inputs (22 sets of states)
+ok 8 - no RAM that is absent # proved for all inputs (22 sets of states)
+ok 9 - no ROM that is absent # proved for all inputs (22 sets of states)
+ok 10 - no RDR of a port without inputs # proved for all inputs (22 sets of states)
+ok 11 - no WRR to a port without outputs # proved for all inputs (22 sets of states)
+status 0" "the die"
+    # Each time is exact: a cycle less is too little.
+    printf 'press THROW\n@hold to @hold within %s\nnever lamps none for %s\nevery %s @hold\n' 15 16 16 > "$folder/times.props"
+    verdict "$(outcome ./mcs4 prove examples/die.txt examples/die.txt "$folder/times.props" | remarks)" "proved for all inputs (13 states)
+proved for all inputs (13 states)
+proved for all inputs (13 states)
+status 0" "times of the die"
+    printf 'press THROW\n@hold to @hold within %s\nnever lamps none for %s\nevery %s @hold\n' 14 15 15 > "$folder/times.props"
+    verdict "$(outcome ./mcs4 prove examples/die.txt examples/die.txt "$folder/times.props" > "$folder/out"; remarks "$folder/out")" "broken, 1 step
+broken, 0 steps
+broken, 0 steps
+status 1" "times that are a cycle too short"
+    sed -n 's/^    //p' "$folder/out" > "$folder/found.test"
+    verdict "$(outcome ./mcs4 test examples/die.txt examples/die.txt "$folder/found.test" | grep -c '^not ok')" 3 "their tests"
     grep '^never not' examples/die.props > "$folder/faces.props"
     verdict "$(outcome ./mcs4 prove examples/die.txt examples/die.txt "$folder/faces.props" | remarks)" \
         "proved for all inputs (13 states)

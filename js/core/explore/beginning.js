@@ -17,14 +17,14 @@ import * as say from "../../words/explore.js";
  * @typedef {{ subject: Subject, campaign: Campaign }} Readable
  */
 
-/** The count over consecutive tests: the open calls. */
+/** Counts the calls that are open after consecutive tests. */
 class OpenCalls extends Account {
   begin() {
     this.waiting.key = "";
   }
 
   end() {
-    // They are still open when the next one continues.
+    // The calls of a test are still open when the next test continues.
   }
 }
 
@@ -38,7 +38,7 @@ function saves({ steps }, state) {
 }
 
 /**
- * Returns the tests that lead to a state, in their order; or why there are none, in words.
+ * Returns the tests that lead to a state, in their order, or in words why there are none.
  * @param {Prepared["names"]} names
  * @param {string} testText
  * @param {string} state
@@ -58,7 +58,7 @@ export function testsThatLead(names, testText, state) {
 }
 
 /**
- * Returns the tests up to the state of each from which the next continues.
+ * Returns the tests, each cut after the line that saves the state from which the next one continues.
  * @param {Test[]} tests
  * @param {string} state
  * @returns {Test[]}
@@ -72,7 +72,7 @@ function upToStates(tests, state) {
 }
 
 /**
- * Returns the steps of tests without the lines of states.
+ * Returns the lines of tests, except those that save a state or continue from one.
  * @param {Test[]} tests
  */
 function linesOf(tests) {
@@ -92,18 +92,18 @@ function callsOf(tests, account) {
 }
 
 /**
- * An input, down or up as in a session.
+ * Returns an input that is down or up as in a session.
  * @param {Input} input
- * @param {string} state
+ * @param {string} state the answer to `state`
  * @returns {Input}
  */
-function asItIs(input, state) {
+function inputIn(input, state) {
   const { test, ports } = partsOfState(state);
   return { ...input, isDown: new KeysDown(portsOf(ports).keys).has(input.key, test) };
 }
 
 /**
- * Returns the campaign from its starting state; or why it cannot start, in words.
+ * Returns the campaign from its starting state, or in words why it cannot start.
  * @param {Readable} readable
  * @param {Prepared} prepared
  * @param {string} testText
@@ -127,7 +127,7 @@ export async function begun(readable, prepared, testText) {
   if (!saved) return { readable, words: failed };
   const { file } = saved;
   const [stateAnswer] = subject.engine.ask(file, "state\n").answers;
-  const inputs = campaign.inputs.map((input) => asItIs(input, stateAnswer));
-  const there = { inputs, before: linesOf(leading), calls: callsOf(leading, account) };
-  return { readable: { subject: { ...subject, file }, campaign: { ...campaign, ...there } }, words: "" };
+  const inputs = campaign.inputs.map((input) => inputIn(input, stateAnswer));
+  const start = { inputs, before: linesOf(leading), calls: callsOf(leading, account) };
+  return { readable: { subject: { ...subject, file }, campaign: { ...campaign, ...start } }, words: "" };
 }

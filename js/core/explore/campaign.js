@@ -33,7 +33,7 @@ import { noKey } from "../../words/testing.js";
  */
 
 /**
- * Returns the column in a line of one in the same line with single blanks.
+ * Returns the column in a line for a column in the same line with single blanks.
  * @param {string} whole
  * @param {number} column
  */
@@ -47,9 +47,9 @@ function columnIn(whole, column) {
 }
 
 const MOST_NOTES = 16;
-/** The default for the most keys that are down together. */
+/** The default number of keys that can be down together. */
 const TOGETHER = 2;
-/** The default waits, of 1 and 20 ms, and the pace of `keys`. */
+/** The default waits, 1 and 20 ms, and the default pace of a model's keys. */
 const WAITS = { shortest: cyclesOfMs(1), longest: cyclesOfMs(20) };
 const PACE = { down: TOOL_KEY_DOWN_CYCLES, up: TOOL_KEY_UP_CYCLES };
 
@@ -90,7 +90,7 @@ class Reader {
   }
 
   /**
-   * Returns a condition that is violated, or reached, only while another one holds.
+   * Returns a condition that violates a property, or reaches a goal, only while that of `while` holds.
    * @param {string} text
    */
   met(text) {
@@ -99,7 +99,7 @@ class Reader {
   }
 
   /**
-   * Returns a condition that must hold only while another one does.
+   * Returns a condition that must hold only while that of `while` does.
    * @param {string} text
    */
   due(text) {
@@ -140,7 +140,7 @@ class Reader {
 }
 
 /**
- * Reads two times, with or without a word between them.
+ * Reads two times, with or without `to` between them.
  * @param {string[]} words
  * @param {string} form
  */
@@ -154,7 +154,7 @@ function twoTimes(words, form) {
 
 
 /**
- * The lines for inputs and their timing.
+ * The readers of the lines for inputs and their timing, by their first words.
  * @type {Record<string, (reader: Reader, words: string[]) => void>}
  */
 const SETTINGS = {
@@ -233,11 +233,11 @@ function placesOfNote({ names }, word) {
   return fail(place ? boardLacks(place.name) : say.noTrace(word));
 }
 
-/** Reads `lamp open on for 1.1 s`: the condition, and how long it holds. */
+/** `lamp open on for 1.1 s`: the condition, and the time. */
 const FOR = /^(.*) for (\S+(?: \S+)?)$/;
 
 /**
- * The lines for properties, by their first words.
+ * The readers of the lines for properties, by their first words.
  * @type {Record<string, (reader: Reader, rest: string, text: string) => Property>}
  */
 const PROPERTIES = {
@@ -294,7 +294,7 @@ const PROPERTIES = {
 const GUARD = /^(while|once|after press)\b/;
 
 /**
- * Cuts a line after its first guard, at a comma outside of texts; null if it has none.
+ * Splits a line after its first guard, at a comma outside of quoted texts; returns null if it has none.
  * @param {string} text
  */
 function cutGuard(text) {
@@ -318,7 +318,7 @@ function guardOf(reader, text) {
 }
 
 /**
- * A property with guards before it.
+ * Returns the property of a line with guards.
  * @param {Reader} reader
  * @param {string} text
  * @param {{ guard: string, rest: string } | null} cut
@@ -390,7 +390,7 @@ function lineWithoutGuard(reader, text) {
 }
 
 /**
- * A model is asked about keys.
+ * Returns true if there is no model, or there are keys to ask it about.
  * @param {Reader} reader
  */
 function hasKeysForModel({ command, inputs }) {
@@ -398,7 +398,7 @@ function hasKeysForModel({ command, inputs }) {
 }
 
 /**
- * Without lines for inputs, all inputs of the front panel may change.
+ * Adds all inputs of the front panel if no line names an input, and the default note; returns whether anything may change.
  * @param {Reader} reader
  * @param {string} text
  */

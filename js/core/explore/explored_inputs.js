@@ -1,4 +1,4 @@
-// The inputs of a board that a search can change: keys and TEST, by the names of its face.
+// The inputs of a board that a search can change: keys and TEST, by their names on the front panel.
 
 import { lineOfKey, pinKey } from "../board/key_place.js";
 
@@ -25,7 +25,7 @@ export function inputOf(name, key, [downWords, upWords]) {
 }
 
 /**
- * The keys that have names, in the order of the face.
+ * Returns the keys that have names, in the order of the front panel.
  * @param {Face} face
  * @returns {Input[]}
  */
@@ -35,7 +35,7 @@ export function keysOf(face) {
 }
 
 /**
- * The TEST pin. It is 1 at power-on; without a front panel it is down at 0.
+ * Returns the TEST pin. It is 1 at power-on. Without a front panel it is down at 0.
  * @param {Face} face
  * @returns {Input}
  */

@@ -10,7 +10,7 @@ import { OwnWorker } from "../bench/own_worker.js";
  * @typedef {import("./exploring.js").Progress} Progress
  */
 
-/** The time between two reports, of progress. */
+/** The milliseconds between two reports of progress. */
 const REPORT_TIME = 200;
 
 export class Explorer extends OwnWorker {

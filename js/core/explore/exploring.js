@@ -1,5 +1,4 @@
-// Properties of a program, on the page: reads the text of properties, and searches for counterexamples, piece by piece. The page's
-// worker calls it. It finds the same as mcs4 explore with the same seed.
+// The search for counterexamples in the page's worker, piece by piece. With the same seed it finds what mcs4 explore finds.
 //
 //     const { readable, faults } = await readToExplore(engine, texts);
 //     const exploring = new Exploring(engine, texts, readable, { seed: 1, seconds: 20 }, async () => {});
@@ -24,15 +23,14 @@ import * as say from "../../words/explore.js";
  * @typedef {{ subject: Subject, campaign: Campaign }} Readable
  * @typedef {import("../testing/prepared.js").Prepared} Prepared
  *
- * The progress: the result so far, what was found since the last report, with the session of each counterexample, and whether the search is
- * over.
+ * The progress: the result so far, the counterexamples since the last report, each with its session, and whether the search is over.
  * @typedef {{ report: Report, found: { property: number, file: Uint8Array }[], isDone: boolean }} Progress
  */
 
 /** The milliseconds between two checks of the clock. */
 const SLICE = 50;
 /**
- * A text of properties with its subject, or the errors of any of the texts.
+ * Returns what is read from the texts, or the errors in them.
  * @param {Engine} engine
  * @param {ExploredTexts} texts
  * @param {boolean} [needsInputs] whether it is an error if there are no inputs
@@ -60,7 +58,7 @@ function ofProperties(faults) {
 }
 
 /**
- * Returns the same for the starting state.
+ * Returns a campaign with its subject at the starting state, or the errors in the texts.
  * @param {Engine} engine
  * @param {ExploredTexts} texts
  * @returns {Promise<{ readable: Readable | null, faults: TextFault[] }>}
@@ -79,7 +77,7 @@ export class Exploring {
    * @param {ExploredTexts} texts
    * @param {Readable} readable
    * @param {Asked} asked
-   * @param {() => Promise<void>} yieldToMessages yields to others, while a counterexample is minimised
+   * @param {() => Promise<void>} yieldToMessages yields to messages while a counterexample is minimised
    */
   constructor(engine, texts, { subject, campaign }, { seed, seconds }, yieldToMessages) {
     // A counterexample counts only once its test was seen to fail (that of a goal: to pass).

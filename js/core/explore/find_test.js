@@ -74,7 +74,7 @@ class Writer {
     this.putWait();
   }
 
-  /** The counter when the property is broken. */
+  /** Returns the counter when the property is broken. */
   get counterNow() {
     const { answers } = this.subject.engine.ask(this.file, `${this.linesThere}regs\n`);
     return parseInt(readCounter(answers[answers.length - 1]).counter, 16);
@@ -106,7 +106,7 @@ class Writer {
   }
 
   /**
-   * What must follow within a time that began with a change or before it.
+   * Writes a condition that must be met within a time that began with the last change or before it.
    * @param {string} words
    * @param {number} since
    */
@@ -118,7 +118,7 @@ class Writer {
 }
 
 /**
- * The requirement, by the form of the property.
+ * Writes the requirement that the test ends with, by the form of the property.
  * @type {Record<Property["form"], (writer: Writer) => void>}
  */
 const JUDGED = {

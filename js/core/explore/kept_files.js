@@ -1,4 +1,4 @@
-// Session files that are stored as differences: of each one the words that differ from a first one, because most of a file is the same.
+// Session files, stored as differences: for each file the 32-bit words that differ from those of a first file. Most words are the same.
 
 /** @typedef {{ indexes: Uint32Array, words: Uint32Array }} KeptFile */
 
@@ -27,7 +27,7 @@ export class KeptFiles {
   }
 
   /**
-   * The bytes of a file. They are the same array each time.
+   * Returns the bytes of a file, in an array that the next call overwrites.
    * @param {KeptFile} kept
    */
   file({ indexes, words }) {

@@ -13,7 +13,7 @@ import { runLines } from "../engine/key_queue.js";
  * @typedef {import("./walks.js").Random} Random
  * @typedef {import("./watching.js").Start} Start
  *
- * What the display must show after each chain of keys, or the error of the command.
+ * The text that the display must show after each chain of keys, or the error of the command.
  * @typedef {{ shown: string[], fault: string }} Said
  * @typedef {(chains: string[]) => Said | Promise<Said>} Asked
  *
@@ -96,7 +96,7 @@ export class Model {
   }
 
   /**
-   * Keys are left out, as long as there is a difference.
+   * Leaves out keys, as long as there is a difference.
    * @param {Difference} difference
    */
   async shorten(difference) {
@@ -111,7 +111,7 @@ export class Model {
   }
 
   /**
-   * The test of a difference.
+   * Returns the test of a difference.
    * @param {string} name
    * @param {Difference} difference
    */

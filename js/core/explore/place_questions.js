@@ -16,7 +16,7 @@ export class Places {
   }
 
   /**
-   * The questions about the next cycles.
+   * Returns the queries about the next cycles.
    * @param {number} cycles
    */
   lines(cycles) {
@@ -62,7 +62,7 @@ export class Conditions {
   }
 
   /**
-   * Returns whether those of the guards hold.
+   * Returns whether the conditions of the guards hold.
    * @param {string[]} values
    */
   opens(values) {

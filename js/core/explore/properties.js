@@ -15,8 +15,8 @@ import * as say from "../../words/explore.js";
  *   cycles from power-on, and those up to the change of the values, which is the end of the instruction's first cycle; the address that the
  *   counter reaches; whether the condition holds now, and those of the guards; the input that goes down; how many are down
  *
- * When a property is judged: from a press on, for `limit` cycles or, if that is 0, without an end; once a condition has held; while it
- * holds.
+ * A guard says when a property is judged: from a press on, for `limit` cycles or, if that is 0, for ever; once a condition has held; while
+ * a condition holds.
  * @typedef {{ kind: "press" | "once" | "while", key: string, limit: number, condition: Condition | null }} Guard
  *
  * `from` begins a memory; `see` returns the time at which the property is violated, -1 if it is not; `mark` is the part of its memory that
@@ -30,6 +30,7 @@ import * as say from "../../words/explore.js";
  *   | "model" | "code" | "calls" | "returns" | "mistake"} Form
  */
 
+/** No time: not violated, not since any cycle; and no address. */
 const NOT = -1;
 /** The 4004 keeps three return addresses. */
 const DEEPEST = 3;
@@ -41,7 +42,7 @@ const PLAIN = {
 };
 
 /**
- * A condition that is a lone label follows the counter: it holds whenever the counter reaches it.
+ * Returns the condition of a property, or its address if the condition is a lone label. That holds whenever the counter reaches it.
  * @param {Condition} condition
  * @returns {Pick<Property, "condition" | "address">}
  */
@@ -54,12 +55,12 @@ function lookedAt(condition) {
  * @param {Event} event
  * @param {Moment} moment
  */
-const comes = (event, { holds }) => event === "label" || (event === "values" && holds);
+const isReportedTrue = (event, { holds }) => event === "label" || (event === "values" && holds);
 
 /** @type {Property["see"]} */
-const whereHolds = (_, event, moment) => (comes(event, moment) ? moment.time : NOT);
+const brokenIfTrue = (_, event, moment) => (isReportedTrue(event, moment) ? moment.time : NOT);
 /** @type {Property["see"]} */
-const whereFails = (_, event, { time, holds }) => (event === "values" && !holds ? time : NOT);
+const brokenIfFalse = (_, event, { time, holds }) => (event === "values" && !holds ? time : NOT);
 
 /**
  * @param {string} text
@@ -67,7 +68,7 @@ const whereFails = (_, event, { time, holds }) => (event === "values" && !holds 
  * @returns {Property}
  */
 export function never(text, condition) {
-  return { ...PLAIN, form: "never", text, ...lookedAt(condition), see: whereHolds };
+  return { ...PLAIN, form: "never", text, ...lookedAt(condition), see: brokenIfTrue };
 }
 
 /**
@@ -76,11 +77,12 @@ export function never(text, condition) {
  * @returns {Property}
  */
 export function always(text, condition) {
-  return { ...PLAIN, form: "always", text, condition, see: whereFails };
+  return { ...PLAIN, form: "always", text, condition, see: brokenIfFalse };
 }
 
 /**
- * The condition never holds at all moments from one to another that is this many cycles later. It remembers since when it holds.
+ * Returns the property that a condition never holds for more than this many cycles without interruption. It remembers since when the
+ * condition holds.
  * @param {string} text
  * @param {Condition} condition
  * @param {number} limit
@@ -101,7 +103,7 @@ export function neverFor(text, condition, limit) {
 }
 
 /**
- * The condition holds whenever the counter reaches a label. It remembers whether the counter was there.
+ * Returns the property that a condition holds whenever the counter reaches a label. It remembers whether the counter was there.
  * @param {string} text
  * @param {Condition} condition
  * @param {number} address
@@ -119,8 +121,8 @@ export function at(text, condition, address) {
 }
 
 /**
- * The condition becomes true only after these presses, in this order, since it held last. It remembers how many came, whether it holds, and
- * whether it ever did.
+ * Returns the property that a condition becomes true only after these presses, in this order, since it held last. It remembers the number
+ * of these presses so far, whether the condition holds, and whether it ever did.
  * @param {string} text
  * @param {Condition} condition
  * @param {string[]} keys
@@ -133,7 +135,7 @@ export function onlyAfter(text, condition, keys) {
     see: (memory, event, moment) => {
       if (event === "reset") memory.fill(0, 0, 2);
       else if (event === "down" && moment.input === keys[memory[0]]) memory[0] += 1;
-      else if (comes(event, moment)) {
+      else if (isReportedTrue(event, moment)) {
         if (!memory[1] && memory[0] < keys.length) return moment.time;
         memory[1] = memory[2] = 1;
         // The counter leaves a label at once.
@@ -145,7 +147,8 @@ export function onlyAfter(text, condition, keys) {
 }
 
 /**
- * The counter reaches a label again and again, each time within this many cycles. It remembers when it was there last.
+ * Returns the property that the counter reaches a label again and again, each time within this many cycles. It remembers when the counter
+ * was there last.
  * @param {string} text
  * @param {number} address
  * @param {number} limit
@@ -163,8 +166,8 @@ export function every(text, address, limit) {
 }
 
 /**
- * Whenever the counter is at one label, it reaches another one within this many cycles. It remembers since when that is awaited, and
- * whether it ever was.
+ * Returns the property that the counter reaches one label within this many cycles whenever it was at another. It remembers since when the
+ * counter is awaited, and whether it ever was.
  * @param {string} text
  * @param {number} start
  * @param {number} address
@@ -196,7 +199,8 @@ export function within(text, start, address, limit) {
 export const addressesOf = ({ address, start }) => [address, start].filter((each) => each >= 0);
 
 /**
- * Once an input went down, the condition holds within this many cycles. It remembers since when that is awaited, and whether it was.
+ * Returns the property that a condition holds within this many cycles after an input went down. It remembers since when the condition is
+ * awaited, whether it ever was, and whether it holds.
  * @param {string} text
  * @param {string} key
  * @param {Condition} condition
@@ -211,7 +215,7 @@ export function afterPress(text, key, condition, limit) {
       const [since] = memory;
       const { time, holds, input } = moment;
       if (event === "values") memory[2] = holds ? 1 : 0;
-      if (event === "reset" || (since !== NOT && comes(event, moment) && time <= since + limit)) memory[0] = NOT;
+      if (event === "reset" || (since !== NOT && isReportedTrue(event, moment) && time <= since + limit)) memory[0] = NOT;
       else if (since !== NOT && time > since + limit) return since + limit;
       if (event === "down" && input === key) {
         memory[1] = 1;
@@ -223,7 +227,8 @@ export function afterPress(text, key, condition, limit) {
 }
 
 /**
- * The counter reaches a label at most once for each press. It remembers how many presses are left, and whether the counter was there.
+ * Returns the property that the counter reaches a label at most once for each press. It remembers the number of presses that are left, and
+ * whether the counter was there.
  * @param {string} text
  * @param {number} address
  * @returns {Property}
@@ -245,17 +250,17 @@ export function once(text, address) {
 }
 
 /**
- * A goal: a condition that can become true.
+ * Returns the goal that a condition becomes true.
  * @param {string} text
  * @param {Condition} condition
  * @returns {Property}
  */
 export function reach(text, condition) {
-  return { ...PLAIN, form: "reach", text, condition, isGoal: true, see: whereHolds };
+  return { ...PLAIN, form: "reach", text, condition, isGoal: true, see: brokenIfTrue };
 }
 
 /**
- * A goal: an address that the counter can reach.
+ * Returns the goal that the counter reaches an address.
  * @param {string} text
  * @param {number} address
  * @returns {Property}
@@ -309,7 +314,8 @@ function seeGuarded({ form, see, keys }, memory, event, moment, isOpen) {
 }
 
 /**
- * The same property, judged while all its guards are open. It remembers each guard, whether all were ever open, and its own memory.
+ * Returns a property that is judged only while all guards are open. It remembers each guard, whether all were ever open, and the memory of
+ * the property.
  * @param {string} text
  * @param {Property} property
  * @param {Guard[]} guards
@@ -349,7 +355,7 @@ export function model(text) {
 }
 
 /**
- * The depth of calls, stored in a memory of one number.
+ * Counts the open calls in a memory of one number.
  * @param {number[]} memory
  * @param {Event} event
  */

@@ -14,7 +14,7 @@ import { neverReached, proved } from "../../words/prove.js";
  * A counterexample: its test, its number of steps, its cycles, and the seed that found it.
  * @typedef {{ test: string, steps: number, cycles: number, seed: number }} Found
  *
- * A property in a report: `isSkipped` says that it is a model whose command was not run; `states` are the states of the proof that it holds
+ * A property in a report: `isSkipped` says that it is a model whose command was not run; `applied`, that it was checked; `states` are the states of the proof that it holds
  * for all inputs, otherwise 0; `chains` are the chains of keys for which a model was asked.
  * @typedef {{ text: string, line: number, isGoal: boolean, isSkipped: boolean, applied: boolean, states: number, chains: number,
  *   found: Found | null }} PropertyResult
@@ -44,7 +44,7 @@ function shorterOf(one, other) {
 }
 
 /**
- * Joins reports of one campaign. Returns an empty answer for reports of different ones.
+ * Returns the joined reports of one campaign; null if they are of different campaigns.
  * @param {Report[]} reports
  * @returns {Report | null}
  */
@@ -77,7 +77,7 @@ export function isRight({ isGoal, isSkipped, found }) {
 }
 
 /**
- * Returns the text after a property.
+ * Returns the remark after the text of a property.
  * @param {PropertyResult} property
  * @param {Report} report
  */
@@ -98,7 +98,7 @@ export function lineOfProperty({ line }, { names }) {
 }
 
 /**
- * The lines of a property.
+ * Returns the lines about a property.
  * @param {PropertyResult} property
  * @param {number} at
  * @param {Report} report

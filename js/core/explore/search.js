@@ -136,11 +136,11 @@ export class Search {
     this.walks += 1;
     this.steps += steps.length;
     const file = this.fileOf(state);
-    const { fresh, isSuspect, snapshots } = this.takeSnapshot(file, state, steps);
+    const { fresh, isSuspect, snapshots } = this.examine(file, state, steps);
     const isWhole = isSuspect || this.walks % WATCHED === 1;
     if (fresh.length === 0 && !isWhole) return null;
     const start = { ...state, file };
-    const { broken, after } = isWhole ? this.watcher.watch(start, steps, this.open) : this.goAgain(start, steps, fresh, snapshots);
+    const { broken, after } = isWhole ? this.watcher.watch(start, steps, this.open) : this.repeat(start, steps, fresh, snapshots);
     if (after.length > 0) this.note(after[after.length - 1].memories);
     after.forEach(({ isNew }, at) => {
       if (isNew && !fresh.includes(at)) fresh.push(at);
@@ -151,14 +151,14 @@ export class Search {
   }
 
   /**
-   * Repeats a walk, up to the last new state: the rest was examined already. If that is enough, it is counted; a walk that runs something
-   * for the first time is watched.
+   * Repeats a walk up to its last new state, because the rest was examined already. The walk is counted, if that is enough. It is watched
+   * if it runs something for the first time.
    * @param {import("./watching.js").Start} start
    * @param {WalkStep[]} steps
    * @param {number[]} fresh the steps after which something is new, including those that run something for the first time
    * @param {Snapshot[]} snapshots
    */
-  goAgain(start, steps, fresh, snapshots) {
+  repeat(start, steps, fresh, snapshots) {
     const { campaign: { properties }, open, watcher } = this;
     const part = steps.slice(0, Math.max(...fresh) + 1);
     if (followsFromLooks(properties, open, fresh.map((at) => snapshots[at].holds))) {
@@ -225,12 +225,12 @@ export class Search {
   }
 
   /**
-   * Examines a walk after each of its changes: after which steps something is new, and whether a property seems violated.
+   * Examines a walk after each change; returns the steps after which something is new, and whether a property seems violated.
    * @param {Uint8Array} file
    * @param {State} state
    * @param {WalkStep[]} steps
    */
-  takeSnapshot(file, state, steps) {
+  examine(file, state, steps) {
     const { campaign, places, ofLabels, stops } = this;
     const counts = ofLabels.some((at) => addressesOf(campaign.properties[at]).some((address) => !stops.includes(address)));
     const lines = steps.map((step) => (
@@ -274,7 +274,7 @@ export class Search {
   }
 
   /**
-   * @param {Snapshot} look
+   * @param {Snapshot} snapshot
    * @param {string} marks
    */
   isNew({ notes }, marks) {
@@ -308,7 +308,7 @@ export class Search {
   }
 
   /**
-   * A property is done with: it was broken, or cannot be judged.
+   * Closes a property that was broken or cannot be judged.
    * @param {number} property
    */
   close(property) {
@@ -344,7 +344,7 @@ function stopsAtLabel({ form, guards }) {
 }
 
 /**
- * Returns the state of properties as snapshots alone show it. For labels they show how often the counter was there in a wait, but not when.
+ * The state of properties as snapshots show it. For a label they show how often the counter was there in a wait, but not when.
  */
 class ApparentState {
   /**
@@ -362,7 +362,7 @@ class ApparentState {
 
   /**
    * @param {WalkStep} step
-   * @param {Snapshot} look
+   * @param {Snapshot} snapshot
    * @param {import("../engine/tracing.js").Counted[]} begun how often each address was begun at
    */
   isBroken(step, { holds, opens }, begun) {
@@ -402,7 +402,7 @@ class ApparentState {
       memory[0] = -1;
     }
     if (form === "every") {
-      // It was there last at the begin of a wait, or later.
+      // The counter was there last at the beginning of a wait, or later.
       if (moment.time - memory[0] > limit) return true;
       if (count > 0) memory[0] = this.time;
     }
@@ -425,7 +425,7 @@ class ApparentState {
     const isLate = () => memory[0] >= 0 && moment.time - memory[0] > limit;
     if (isLate()) return true;
     if (countAt(address) > 0) memory[0] = -1;
-    // It was there first at the beginning of the wait, or later.
+    // The counter was there first at the beginning of the wait, or later.
     if (countAt(start) > 0 && memory[0] < 0) memory[0] = this.time;
     if (isLate()) return true;
     if (step.kind === "reset") see(memory, "reset", moment);

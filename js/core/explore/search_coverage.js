@@ -6,7 +6,7 @@ import { ADDRESSES } from "../bench/rom_bytes.js";
 
 const BEGUN = 1;
 const JUMPED = 2;
-const WENT_ON = 4;
+const CONTINUED = 4;
 
 export class Coverage {
   /** @param {string} [text] of another coverage */
@@ -24,7 +24,7 @@ export class Coverage {
   add(counts) {
     let isNew = false;
     for (const { address, begun, jumped } of counts) {
-      const flags = BEGUN | (jumped > 0 ? JUMPED : 0) | (jumped >= 0 && jumped < begun ? WENT_ON : 0);
+      const flags = BEGUN | (jumped > 0 ? JUMPED : 0) | (jumped >= 0 && jumped < begun ? CONTINUED : 0);
       isNew = isNew || (flags & ~this.flags[address]) !== 0;
       this.flags[address] |= flags;
     }
@@ -50,10 +50,10 @@ export class Coverage {
   summary(instructions) {
     const left = instructions.filter(({ address }) => !(this.flags[address] & BEGUN)).map(({ line }) => line);
     const forks = instructions.filter(({ hasWays }) => hasWays);
-    const oneWay = forks.filter(({ address }) => (this.flags[address] & BEGUN) && (this.flags[address] & (JUMPED | WENT_ON)) !== 6)
+    const oneWay = forks.filter(({ address }) => (this.flags[address] & BEGUN) && (this.flags[address] & (JUMPED | CONTINUED)) !== 6)
       .map(({ line }) => line);
     const ways = forks.reduce((sum, { address }) => sum + Number((this.flags[address] & JUMPED) > 0)
-      + Number((this.flags[address] & WENT_ON) > 0), 0);
+      + Number((this.flags[address] & CONTINUED) > 0), 0);
     return { run: instructions.length - left.length, all: instructions.length, ways, allWays: 2 * forks.length, left, oneWay };
   }
 }

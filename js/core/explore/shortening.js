@@ -46,7 +46,7 @@ export class Shortening {
       isShorter = await this.leaveOut();
       isShorter = (await this.leaveOutPairs()) || isShorter;
       isShorter = (await this.wait()) || isShorter;
-      // It needs the most tries, so it comes last.
+      // This needs the most tries, so it comes last.
       isShorter = isShorter || (await this.beginLater());
     }
     return { property: this.property, steps: this.steps, time: this.time };
@@ -69,6 +69,7 @@ export class Shortening {
     return true;
   }
 
+  /** Leaves out steps, first many and then few. */
   async leaveOut() {
     let isShorter = false;
     for (let size = Math.ceil(this.steps.length / 2); size >= 1; size = size > 1 ? Math.ceil(size / 2) : 0) {
@@ -113,7 +114,7 @@ export class Shortening {
     return kept;
   }
 
-  /** A press and its release. */
+  /** Leaves out a press and its release. */
   async leaveOutPairs() {
     for (let at = 0; at < this.steps.length; at++) {
       const { kind, input } = this.steps[at];
@@ -145,6 +146,7 @@ export class Shortening {
     return false;
   }
 
+  /** Makes waits shorter. */
   async wait() {
     let isShorter = false;
     for (let at = 0; at < this.steps.length; at++) {

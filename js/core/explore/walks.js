@@ -12,7 +12,7 @@ import { runLines } from "../engine/key_queue.js";
  */
 
 /**
- * The same numbers from the same seed (mulberry32).
+ * Returns a generator that gives the same numbers for the same seed (mulberry32).
  * @param {number} seed
  * @returns {Random}
  */
@@ -35,15 +35,16 @@ export function upToRandom(random, below) {
 }
 
 /**
- * The inputs that are down at power-on, by their numbers.
+ * Returns the numbers of the inputs that are down at power-on.
  * @param {Campaign} campaign
  */
 export function downAtFirst({ inputs }) {
   return inputs.flatMap(({ isDown }, at) => (isDown ? [at] : []));
 }
 
-/** One of this many waits has the maximum length; the others are of all lengths, short ones as often as long ones. */
+/** The share of waits that have the maximum length. The others have any length, short ones as often as long ones. */
 const LONGEST_SHARE = 0.6;
+/** The share of steps that are power cycles. */
 const RESET_SHARE = 0.02;
 
 /**
@@ -104,7 +105,7 @@ export function sinceAtFirst({ inputs }) {
 }
 
 /**
- * The same after a step.
+ * Returns the same numbers after a step.
  * @param {number[]} since
  * @param {WalkStep} step
  */
@@ -142,7 +143,7 @@ export function isSound(campaign, steps) {
 }
 
 /**
- * Returns the longest time until something changes, so that nothing that is down is held for too long; without end if nothing is down.
+ * Returns the longest wait after which no input was held for too long; Infinity if none is down.
  * @param {Campaign} campaign
  * @param {number[]} down
  * @param {number[]} since
@@ -152,7 +153,7 @@ function longestFrom({ held }, down, since) {
 }
 
 /**
- * The same after steps from power-on.
+ * Returns the longest wait after steps from power-on after which no input was held for too long.
  * @param {Campaign} campaign
  * @param {WalkStep[]} steps
  */
@@ -161,7 +162,7 @@ export function longestAfter(campaign, steps) {
 }
 
 /**
- * The line that makes a step's change; "" for none.
+ * Returns the line that makes a step's change; "" for none.
  * @param {Campaign} campaign
  * @param {WalkStep} step
  */
@@ -171,7 +172,7 @@ export function lineOf({ inputs }, { kind, input }) {
 }
 
 /**
- * The lines of steps.
+ * Returns the lines of steps.
  * @param {Campaign} campaign
  * @param {WalkStep[]} steps
  */

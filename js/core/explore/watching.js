@@ -1,5 +1,5 @@
 // A walk that is watched instruction by instruction: the places of its properties are traced, its instructions are counted, and each
-// property receives the events, in the order of time. All walks that brought something new are watched, and a sample of the others.
+// property receives the events, in the order of time. Walks that show something new are watched, and a sample of the others.
 
 import { cyclesOf, isCall, isReturn } from "../engine/rom_codes.js";
 import { readTraced } from "../engine/tracing.js";
@@ -22,10 +22,10 @@ import { downAfter, lineOf } from "./walks.js";
  * The violation of a property (or a goal that is reached): its number, its time, and how many steps had begun.
  * @typedef {{ property: number, time: number, step: number }} Broken
  *
- * The state after a step: the time, the inputs that are down, the memory of each property, whether it was the first to run something.
+ * The state after a step: the time, the inputs that are down, the memory of each property; `isNew` if it ran something for the first time.
  * @typedef {{ time: number, down: number[], memories: number[][], isNew: boolean }} After
  *
- * The queries about one step.
+ * The answers about one step; `list` has all its instructions if they were queried.
  * @typedef {{ values: string[], changes: Change[], counts: Counted[], ran: string,
  *   list: { cycles: number, address: number }[] | null }} StepReport
  */
@@ -118,8 +118,8 @@ export class Watcher {
   }
 
   /**
-   * If the counter reaches a label of a property, or a call or a return leaves the return addresses unchanged, so that no line shows it,
-   * all instructions are queried.
+   * Returns whether all instructions of a step must be queried: the counter reaches a label of a property; or no line shows a call or a
+   * return, because it leaves the return addresses unchanged.
    * @param {StepReport} report
    * @param {boolean} asksCalls
    */
@@ -219,7 +219,7 @@ class Walk {
   }
 
   /**
-   * Does the same with all instructions: the counter reaches an instruction before that changes anything.
+   * Reports the changes of a step whose instructions are listed. The counter reaches an instruction before that changes anything.
    * @param {StepReport} report
    * @param {number} began
    * @param {number} end

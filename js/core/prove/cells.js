@@ -8,11 +8,11 @@ import { ADDRESSES, PAGE_BYTES } from "../bench/rom_bytes.js";
  *
  * A comparison of a question, and several that hold together.
  * @typedef {string} Comparison
- * @typedef {Comparison[]} All
+ * @typedef {Comparison[]} Comparisons
  *
  * A place, whose values are numbers from 0 up to `count`. `texts` are the texts of `trace` for a number: several if it shows levels of
  * input lines, too. `between` returns the comparisons of the numbers from one to another: a list of which one must hold whole.
- * @typedef {{ name: string, count: number, texts: (number: number) => string[], between: (low: number, high: number) => All[] }} Field
+ * @typedef {{ name: string, count: number, texts: (number: number) => string[], between: (low: number, high: number) => Comparisons[] }} Field
  */
 
 /** Numbers of cells in the list `counter`. */
@@ -46,7 +46,7 @@ function lineField(name, list, index, part = "whole") {
 }
 
 /**
- * The counter, which is stored in two cells.
+ * Returns the field of the counter, which is stored in two cells.
  * @returns {Field}
  */
 function counterField() {
@@ -61,7 +61,7 @@ function counterField() {
 }
 
 /**
- * The port of a ROM: `trace` shows the levels of its input lines as well, and the latch has 0 there.
+ * Returns the field of a ROM's port. `trace` also shows the levels of its input lines, for which the latch has 0.
  * @param {string} name
  * @param {Board["roms"][number]} rom
  * @returns {Field}
@@ -144,9 +144,9 @@ export function fieldOf(place, board) {
 export const OWED = lineField("owed", "counter", COUNTER.owed);
 
 /**
- * The counter is at an address, between two instructions.
+ * Returns the comparisons that hold if the counter is at an address, between two instructions.
  * @param {number} address
- * @returns {All}
+ * @returns {Comparisons}
  */
 export function isAt(address) {
   const [counter] = counterField().between(address, address);

@@ -30,7 +30,7 @@ const MOST_LISTED = 1e6;
 const REMEMBERED = new Set(["calls", "returns", "never for", "every", "within"]);
 
 /**
- * The campaign in which one property is judged, and all inputs may change at any time.
+ * Returns a campaign in which one property is judged, and all inputs may change at any time.
  * @param {Campaign} campaign
  * @param {number} property
  * @param {Input[]} inputs
@@ -44,7 +44,8 @@ function freeCampaign(campaign, property, inputs) {
 }
 
 /**
- * Returns waits that a run accepts if a change follows another one: it comes a cycle later, and the one before a cycle earlier.
+ * Returns steps with waits of a cycle or more, as a run needs them: changes that were made together follow each other, the first ones
+ * earlier. Returns null if there is no time for that.
  * @param {WalkStep[]} steps
  */
 function spread(steps) {
@@ -60,7 +61,7 @@ function spread(steps) {
 }
 
 /**
- * Cuts a wait that is too long for one run.
+ * Splits a step whose wait is too long for one run.
  * @param {WalkStep} step
  * @returns {WalkStep[]}
  */

@@ -6,13 +6,13 @@ import { upTo } from "../bench/numbers.js";
 import * as say from "../../words/prove.js";
 
 /**
- * @typedef {import("./cells.js").All} All
+ * @typedef {import("./cells.js").Comparisons} Comparisons
  * @typedef {import("./cells.js").Field} Field
  * @typedef {import("../bench/answers.js").Board} Board
  * @typedef {import("../conditions/condition_language.js").Condition} Condition
  *
  * The result of a condition: alone, or by the value of a field. Consecutive values with the same result form one range.
- * @typedef {boolean | { field: Field, ranges: { low: number, high: number, said: Said }[] }} Said
+ * @typedef {boolean | { field: Field, ranges: { low: number, high: number, result: Result }[] }} Result
  */
 
 /** The most values that the evaluations of a condition may read, and the most lists of comparisons. */
@@ -23,7 +23,7 @@ const MOST_LISTS = 4000;
 export class NotAsked extends Error {}
 
 /** A field was read whose value is not decided. */
-class Look extends Error {
+class Undecided extends Error {
   /** @param {Field} field */
   constructor(field) {
     super("");
@@ -31,12 +31,12 @@ class Look extends Error {
   }
 }
 
-/** Returns whether two values say the same, as far as that is simple. */
-function areSame(/** @type {Said} */ one, /** @type {Said} */ other) {
+/** Returns true only if two results are the same. */
+function areSame(/** @type {Result} */ one, /** @type {Result} */ other) {
   return typeof one === "boolean" ? one === other : JSON.stringify(one) === JSON.stringify(other);
 }
 
-class Asking {
+class Evaluation {
   /**
    * @param {Condition} condition
    * @param {Board} board
@@ -74,12 +74,12 @@ class Asking {
     this.read += 1;
     if (this.read > MOST_READ) throw new NotAsked(say.LOOKS_AT_TOO_MUCH);
     const text = this.decided.get(field.name);
-    if (text === undefined) throw new Look(field);
+    if (text === undefined) throw new Undecided(field);
     return text;
   }
 
   /**
-   * A text of marks, such as that of all lamps, each of which is a line.
+   * Returns a text of marks, such as that of all lamps: one for each line.
    * @param {string[]} lines
    * @param {[string, string]} marks of 0 and 1
    */
@@ -121,51 +121,51 @@ class Asking {
 
   /**
    * Evaluates the condition for all values of its places.
-   * @returns {Said}
+   * @returns {Result}
    */
-  ask() {
+  evaluate() {
     try {
       return this.holds();
     } catch (thrown) {
-      if (!(thrown instanceof Look)) throw thrown;
-      return this.askAbout(thrown.field);
+      if (!(thrown instanceof Undecided)) throw thrown;
+      return this.evaluateFor(thrown.field);
     }
   }
 
   /**
    * @param {Field} field
-   * @returns {Said}
+   * @returns {Result}
    */
-  askAbout(field) {
-    /** @type {{ low: number, high: number, said: Said }[]} */
+  evaluateFor(field) {
+    /** @type {{ low: number, high: number, result: Result }[]} */
     const ranges = [];
     for (const number of upTo(field.count)) {
       const texts = field.texts(number);
-      const [said, ...others] = texts.map((text) => {
+      const [result, ...others] = texts.map((text) => {
         this.decided.set(field.name, text);
-        return this.ask();
+        return this.evaluate();
       });
-      if (others.some((other) => !areSame(said, other))) throw new NotAsked(say.looksAtInput(field.name));
+      if (others.some((other) => !areSame(result, other))) throw new NotAsked(say.looksAtInput(field.name));
       const last = ranges[ranges.length - 1];
-      if (said === undefined) continue;
-      if (last && last.high === number - 1 && areSame(last.said, said)) last.high = number;
-      else ranges.push({ low: number, high: number, said });
+      if (result === undefined) continue;
+      if (last && last.high === number - 1 && areSame(last.result, result)) last.high = number;
+      else ranges.push({ low: number, high: number, result });
     }
     this.decided.delete(field.name);
-    return ranges.length === 1 ? ranges[0].said : { field, ranges };
+    return ranges.length === 1 ? ranges[0].result : { field, ranges };
   }
 }
 
 /**
  * Returns the lists of comparisons of which one holds whole if the condition has this result.
- * @param {Said} said
+ * @param {Result} result
  * @param {boolean} wanted
- * @returns {All[]}
+ * @returns {Comparisons[]}
  */
-function listsOf(said, wanted) {
-  if (typeof said === "boolean") return said === wanted ? [[]] : [];
-  const { field } = said;
-  const lists = said.ranges.flatMap(({ low, high, said: then }) => {
+function listsOf(result, wanted) {
+  if (typeof result === "boolean") return result === wanted ? [[]] : [];
+  const { field } = result;
+  const lists = result.ranges.flatMap(({ low, high, result: then }) => {
     const rest = listsOf(then, wanted);
     return rest.length === 0 ? [] : field.between(low, high).flatMap((here) => rest.map((more) => [...here, ...more]));
   });
@@ -182,5 +182,5 @@ function listsOf(said, wanted) {
  * @param {boolean} [isTimed]
  */
 export function comparisonsOf(condition, wanted, board, isTimed = false) {
-  return listsOf(new Asking(condition, board, isTimed).ask(), wanted);
+  return listsOf(new Evaluation(condition, board, isTimed).evaluate(), wanted);
 }

@@ -35,7 +35,7 @@ const portOf = ({ roms }, chip) => (roms.find((rom) => Number(rom.chip) === chip
 const lacksRom = (board, address) => portOf(board, address >> 8) === "";
 
 /**
- * How a mistake is recognised before an instruction begins. Other mistakes are recognised by what `explore` watches.
+ * Returns whether the next instruction makes a mistake. The forms of `explore` recognise the others.
  * @type {Partial<Record<keyof typeof say.MISTAKES, (seen: Seen) => boolean>>}
  */
 const MADE = {

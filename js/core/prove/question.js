@@ -8,7 +8,7 @@ import { sentText } from "../text/text_fault.js";
 import * as say from "../../words/prove.js";
 
 /**
- * @typedef {import("./cells.js").All} All
+ * @typedef {import("./cells.js").Comparisons} Comparisons
  * @typedef {import("../conditions/condition_language.js").Condition} Condition
  * @typedef {import("../explore/campaign.js").Campaign} Campaign
  * @typedef {import("../explore/properties.js").Property} Property
@@ -16,11 +16,11 @@ import * as say from "../../words/prove.js";
  *
  * A stopwatch counts cycles. It begins at a moment at which one list of `begins` holds whole, and stops at the next one at which a list of
  * `ends` does.
- * @typedef {{ begins: All[], ends: All[], within: number }} Stopwatch
+ * @typedef {{ begins: Comparisons[], ends: Comparisons[], within: number }} Stopwatch
  *
  * A question: `nevers` are lists of comparisons that must never hold whole; `mistakes` are the words of mistakes that must never be made;
  * the stopwatch, null for none, must never run for more than `within` cycles.
- * @typedef {{ nevers: All[], mistakes: string[], stopwatch: Stopwatch | null }} Question
+ * @typedef {{ nevers: Comparisons[], mistakes: string[], stopwatch: Stopwatch | null }} Question
  *
  * The question about a property, or why nothing is asked.
  * @typedef {{ question: Question, words: "" } | { question: null, words: string }} Asked
@@ -62,7 +62,7 @@ export function boundsUpTo(most, first = FIRST) {
 
 /**
  * Returns the question whether some conditions are ever met.
- * @param {All[]} nevers
+ * @param {Comparisons[]} nevers
  * @returns {Question}
  */
 export const neverQuestion = (nevers) => ({ nevers, mistakes: [], stopwatch: null });
@@ -85,8 +85,8 @@ export function jointQuestion(questions) {
 
 /**
  * Returns the question whether a stopwatch ever runs for longer than its limit; throws NotAsked if the limit is too long.
- * @param {All[]} begins
- * @param {All[]} ends
+ * @param {Comparisons[]} begins
+ * @param {Comparisons[]} ends
  * @param {number} within
  * @returns {Question}
  */
@@ -137,7 +137,7 @@ export function askedOf(property, { from }, board) {
 /**
  * Returns the lines of conditions, one of which is met if all comparisons of one list hold.
  * @param {string} word
- * @param {All[]} lists
+ * @param {Comparisons[]} lists
  */
 const linesOf = (word, lists) => lists.flatMap((all) => [word, ...all]);
 

@@ -8,7 +8,7 @@ import { isSetting } from "../explore/campaign.js";
  */
 
 /**
- * Returns the lines of a text of properties as the text's reader takes them.
+ * Returns the lines of a text of properties, trimmed and with single blanks, as they are read.
  * @param {string} text
  */
 function linesOf(text) {

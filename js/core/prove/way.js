@@ -21,7 +21,7 @@ import { PAUSE } from "./question.js";
 const looksAtTest = (code) => (code & 0xF1) === 0x11;
 
 /**
- * All that can change on a board: each key, by its name if it has one, and the TEST pin.
+ * Returns all inputs of a board: each key, by its name if it has one, and the TEST pin.
  * @param {Subject} subject
  * @returns {Input[]}
  */
@@ -51,7 +51,10 @@ class Way {
     this.asking = upTo(ADDRESSES).filter((address) => this.asksBy(subject.codes[address]));
   }
 
-  /** @param {number} code */
+  /**
+   * Returns whether an instruction reads an input.
+   * @param {number} code
+   */
   asksBy(code) {
     return code === RDR || looksAtTest(code);
   }
@@ -133,7 +136,10 @@ class Way {
     return true;
   }
 
-  /** @param {number} value that the next cycle reads, 0 if it reads nothing */
+  /**
+   * Sets the inputs for the next cycle.
+   * @param {number} value that this cycle reads, 0 if it reads nothing
+   */
   putFor(value) {
     const code = this.asked();
     if (code === RDR) this.putKeys(value);
