@@ -27,20 +27,24 @@ const NO_MISTAKE = "holds 9\n";
 
 /**
  * The module, with a prover of the test's own; `asked` has the questions about properties, as their bounds and the number of their
- * conditions; `mistakes` those about mistakes, as their words; `bySets` the questions by sets of states.
+ * conditions; `times` those about a stopwatch, as their limits; `mistakes` those about mistakes, as their words; `bySets` the questions by sets
+ * of states.
  */
 class Asked extends Engine {
   /**
    * @param {(bound: number, nevers: string[]) => string} answer
    * @param {(words: string[]) => string} answerMistakes
    * @param {(asked: string) => string} answerSets
+   * @param {(within: number) => string} answerTimes
    */
-  constructor(answer, answerMistakes = () => NO_MISTAKE, answerSets = () => "gave up\n") {
+  constructor(answer, answerMistakes = () => NO_MISTAKE, answerSets = () => "gave up\n", answerTimes = () => "holds 7\n") {
     super(new globalThis.WebAssembly.Module(moduleOfPage));
     this.answer = answer;
     this.answerMistakes = answerMistakes;
     this.answerSets = answerSets;
+    this.answerTimes = answerTimes;
     this.asked = [];
+    this.times = [];
     this.mistakes = [];
     this.bySets = [];
   }
@@ -49,6 +53,12 @@ class Asked extends Engine {
     const bound = Number(/^most (\d+)$/m.exec(question)[1]);
     const nevers = question.split("\nnever\n").slice(1);
     const [, words] = /^mistake (.*)$/m.exec(question) || [];
+    const [, within] = /^within (\d+)$/m.exec(question) || [];
+    if (within) {
+      this.times.push(Number(within));
+      assert.ok(nevers.length === 0 && !/^sets /m.test(question));
+      return this.answerTimes(Number(within));
+    }
     if (/^sets \d+$/m.test(question)) {
       this.bySets.push(words || nevers.join());
       return this.answerSets(this.bySets[this.bySets.length - 1]);
@@ -62,8 +72,8 @@ class Asked extends Engine {
   }
 }
 
-async function judged(answer, { most = 50000, answerMistakes, answerSets, ...others } = {}) {
-  const engine = new Asked(answer, answerMistakes, answerSets);
+async function judged(answer, { most = 50000, answerMistakes, answerSets, answerTimes, ...others } = {}) {
+  const engine = new Asked(answer, answerMistakes, answerSets, answerTimes);
   const seen = [];
   const { proving, faults } = beginProving(engine, { ...texts, ...others }, most, {
     seen: async (states) => {
@@ -137,6 +147,17 @@ test("sets of states prove that no mistake is made, and what the search does not
   assert.deepEqual(some.engine.mistakes, [words, words, words, words]);
   assert.deepEqual(kinds(some.made), ["open", "proved", "open", "open", "open", "open", "open"]);
   assert.match(some.made[0].verdict.words, /more than/);
+});
+
+test("a time is asked alone, and never by sets of states", async () => {
+  const propertiesText = "test\nnever lamp 1 on\nnever lamp lit on for 9\nevery 1 ms @look\n@look to @put within 5\n";
+  const { all, engine } = await judged(() => "holds 3\n", { propertiesText, most: 20000, answerSets: () => "holds 5\n",
+    answerTimes: (within) => ({ 9: "may fail 0 0 0\n", 93: "holds 7\n", 5: "too many\n" })[within] });
+  assert.deepEqual(engine.times, [9, 93, 5, 5]);
+  assert.deepEqual(engine.asked, [[10000, 1]]);
+  assert.deepEqual(kinds(all), ["proved", "found", "proved", "open"]);
+  assert.deepEqual(all[2].verdict, { kind: "proved", states: 7, bySets: false });
+  assert.match(all[1].verdict.found.text, /^test never lamp lit on for 9\n {2}press WALK\n {2}run \d+\n {2}until not lamp lit on within 9\n$/);
 });
 
 test("a counterexample has the lines after which one step breaks the property", async () => {
