@@ -8,7 +8,7 @@ use Rattle.mcs_model.specs.Command.{after, machine_of, refusal_of_command}
 use Rattle.mcs_model.specs.Images.{by_address}
 use Rattle.mcs_source.specs.Assembly.{assembly_of_text}
 use Rattle.mcs_wiring.specs.Wiring.{board_of_text}
-use Rattle.mcs_drive.specs.Tracked.{Tracked, without_calls}
+use Rattle.mcs_drive.specs.Tracked.{Stopwatch, Tracked, without_calls}
 use Rattle.mcs_check.specs.declared.checking.Outcome.{Outcome}
 use Rattle.mcs_check.specs.Promised.{IsProved}
 
@@ -17,7 +17,7 @@ abbrev pub wired : BoardParts → BenchState
 wired b = after new_bench_state (Wire b)
 
 -- the machine of a bench after `wire`, `asm` and `reset`, with this board and this image; no call is
--- open
+-- open, and a stopwatch is at 0
 abbrev pub machine_given : BoardParts → List (ℕ × ℕ) → Tracked
 machine_given b image = without_calls (machine_of (after (after (wired b) (Load image)) Reset))
 
@@ -34,11 +34,11 @@ pub record IsGiven (board program : List ℕ) (rig : BusState) : Type 0 where
   pub parts : BoardParts
   pub loaded : List (ℕ × ℕ)
   pub accepted : AreAccepted board program parts loaded
-  pub given : (new_regs, rig, 0) ≡ machine_given parts loaded
+  pub given : without_calls (new_regs, rig) ≡ machine_given parts loaded
 
--- what an outcome promises of the machine of two texts
-pub record IsProvedOf (board program : List ℕ) (p : Tracked → Bool) (outcome : Outcome) : Type 0 where
+-- what an outcome promises of the machine of two texts, with this stopwatch
+pub record IsProvedOf (board program : List ℕ) (w : Stopwatch) (p : Tracked → Bool) (outcome : Outcome) : Type 0 where
   pub parts : BoardParts
   pub loaded : List (ℕ × ℕ)
   pub accepted : AreAccepted board program parts loaded
-  pub proved : IsProved p (machine_given parts loaded) outcome
+  pub proved : IsProved w p (machine_given parts loaded) outcome

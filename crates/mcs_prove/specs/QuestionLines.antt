@@ -16,8 +16,9 @@ use Rattle.mcs_check.specs.declared.conditions.Part.{Part}
 use Rattle.mcs_check.specs.declared.conditions.Part.TheVariants.{Whole, Line}
 use Rattle.mcs_check.specs.Cells.{count_of}
 use Rattle.mcs_prove.specs.declared.lines.QuestionLine.{QuestionLine}
-use Rattle.mcs_prove.specs.declared.lines.QuestionLine.TheVariants.{Blank, Most, Sets, Memory, Pause, Wire, Asm, Never, Met, Prove}
-use Rattle.mcs_prove.specs.declared.lines.TheConstants.{LAST_INDEX, LONGEST_PAUSE, MOST_ENTRIES, MOST_MEMORY}
+use Rattle.mcs_prove.specs.declared.lines.QuestionLine.TheVariants.{Blank, Most, Sets, Memory, Pause, Within, Wire, Asm, Conditions, Met, Prove}
+use Rattle.mcs_prove.specs.declared.lines.Role.TheVariants.{Never, Begin, End}
+use Rattle.mcs_prove.specs.declared.lines.TheConstants.{LAST_INDEX, LONGEST_LIMIT, LONGEST_PAUSE, MOST_ENTRIES, MOST_MEMORY}
 
 -- ---- a comparison: `in ramport 0 line1 1 1`
 
@@ -106,7 +107,13 @@ mistakes_of (word ∷ words) = with_mistakes no_mistakes (word ∷ words)
 
 abbrev pub alone : List (List ℕ × QuestionLine)
 alone =
-    (codes "wire", Wire) ∷ (codes "asm", Asm) ∷ (codes "never", Never) ∷ (codes "prove", Prove) ∷ []
+    (codes "wire", Wire)
+    ∷ (codes "asm", Asm)
+    ∷ (codes "never", Conditions Never)
+    ∷ (codes "begin", Conditions Begin)
+    ∷ (codes "end", Conditions End)
+    ∷ (codes "prove", Prove)
+    ∷ []
 
 -- `pause 1000000`: one cycle at least
 abbrev pub pause_of : ℕ → Option QuestionLine
@@ -118,6 +125,7 @@ with_number name word =
     if bytes_eq name (codes "most") then option_map Most (number_up_to MOST word)
     else if bytes_eq name (codes "sets") then option_map Sets (number_up_to MOST_ENTRIES word)
     else if bytes_eq name (codes "memory") then option_map Memory (number_up_to MOST_MEMORY word)
+    else if bytes_eq name (codes "within") then option_map Within (number_up_to LONGEST_LIMIT word)
     else if bytes_eq name (codes "pause") then number_up_to LONGEST_PAUSE word >>= pause_of
     else None
 

@@ -1,15 +1,18 @@
 -- What is asked by the lines of a question. (Our own choice.)
-use Rattle.std.specs.Prelude.{◌≡◌, ℕ, Bool, true, false, List, [], ◌∷◌, ◌++◌, codes, Option, Some, None, if◌then◌else◌}
+use Rattle.std.specs.Prelude.{◌≡◌, ◌==◌, ◌&&◌, ℕ, Bool, true, false, not, List, [], ◌∷◌, ◌++◌, length, nat_le, codes, Option, Some, None, if◌then◌else◌}
 use Rattle.std.specs.Option.{option_map}
 use Rattle.mcs_model.specs.Options.{◌>>=◌}
 use Rattle.std.specs.Str.{bytes_eq}
 use Rattle.std.specs.Str.Lines.{lines}
 use Rattle.mcs_model.specs.TextLines.{as_line, words_of}
+use Rattle.mcs_drive.specs.Tracked.{Tracked}
 use Rattle.mcs_check.specs.declared.checking.Outcome.{Outcome}
 use Rattle.mcs_check.specs.declared.conditions.Condition.{Condition}
-use Rattle.mcs_check.specs.Conditions.{keeps_to}
+use Rattle.mcs_check.specs.Conditions.{keeps_to, stopwatch_of}
 use Rattle.mcs_prove.specs.declared.lines.QuestionLine.{QuestionLine}
 use Rattle.mcs_prove.specs.declared.lines.QuestionLine.TheVariants as line
+use Rattle.mcs_prove.specs.declared.lines.Role.{Role}
+use Rattle.mcs_prove.specs.declared.lines.Role.TheVariants.{Never, Begin, End}
 use Rattle.mcs_prove.specs.declared.lines.TheConstants.{MOST_MEMORY}
 use Rattle.mcs_prove.specs.declared.question.Section.{Section}
 use Rattle.mcs_prove.specs.declared.question.Section.TheVariants.{Lines, Board, Program}
@@ -17,12 +20,17 @@ use Rattle.mcs_prove.specs.declared.question.TheConstants.{PAUSE}
 use Rattle.mcs_prove.specs.Given.{IsProvedOf}
 use Rattle.mcs_prove.specs.QuestionLines.{line_of}
 
--- what was asked so far: two texts, the conditions that are never met all at once, those of the last
--- `never`, and where the next line belongs
+-- what was asked so far: two texts, the conditions that are never met all at once, those that begin and
+-- end the stopwatch, its limit, those of the last `never`, `begin` or `end`, and where the next line
+-- belongs
 pub record Asked : Type 0 where
   pub board : Option (List ℕ)
   pub program : Option (List ℕ)
   pub nevers : List (List Condition)
+  pub begins : List (List Condition)
+  pub ends : List (List Condition)
+  pub limit : Option ℕ
+  pub role : Role
   pub conditions : Option (List Condition)
   pub most : ℕ
   pub sets : ℕ
@@ -36,6 +44,10 @@ nothing_asked = record {
   board = None;
   program = None;
   nevers = [];
+  begins = [];
+  ends = [];
+  limit = None;
+  role = Never;
   conditions = None;
   most = 0;
   sets = 0;
@@ -45,10 +57,15 @@ nothing_asked = record {
   is_whole = false;
 }
 
--- the conditions of the last `never` are complete
+-- the conditions of the last `never`, `begin` or `end` are complete
+abbrev pub with_conditions : Asked → List Condition → Role → Asked
+with_conditions a cs Never = record a { nevers = a.nevers ++ cs ∷ []; conditions = None }
+with_conditions a cs Begin = record a { begins = a.begins ++ cs ∷ []; conditions = None }
+with_conditions a cs End = record a { ends = a.ends ++ cs ∷ []; conditions = None }
+
 abbrev pub without_conditions : Asked → Option (List Condition) → Asked
 without_conditions a None = a
-without_conditions a (Some cs) = record a { nevers = a.nevers ++ cs ∷ []; conditions = None }
+without_conditions a (Some cs) = with_conditions a cs a.role
 
 abbrev pub ended : Asked → Asked
 ended a = without_conditions a a.conditions
@@ -67,7 +84,7 @@ abbrev pub begin_program : Asked → Option (List ℕ) → Option Asked
 begin_program a None = Some (record a { program = Some []; section = Program })
 begin_program a (Some text) = None
 
--- a condition stands behind a `never`
+-- a condition stands behind a `never`, `begin` or `end`
 abbrev pub with_condition : Asked → Condition → Option (List Condition) → Option Asked
 with_condition a c None = None
 with_condition a c (Some cs) = Some (record a { conditions = Some (cs ++ c ∷ []) })
@@ -79,9 +96,10 @@ after_said a (line.Most n) = Some (record a { most = n })
 after_said a (line.Sets n) = Some (record a { sets = n })
 after_said a (line.Memory n) = Some (record a { memory = n })
 after_said a (line.Pause n) = Some (record a { pause = n })
+after_said a (line.Within n) = Some (record a { limit = Some n })
 after_said a line.Wire = begin_board a a.board
 after_said a line.Asm = begin_program a a.program
-after_said a line.Never = Some (record (ended a) { conditions = Some [] })
+after_said a (line.Conditions role) = Some (record (ended a) { conditions = Some []; role = role })
 after_said a (line.Met c) = with_condition a c a.conditions
 after_said a line.Prove = Some (record (ended a) { is_whole = true })
 
@@ -116,6 +134,26 @@ after_lines a (bytes ∷ rest) = after_line a bytes >>= λ b. after_lines b rest
 abbrev pub asked_by : List ℕ → Option Asked
 asked_by text = after_lines nothing_asked (lines text)
 
+-- ---- what is asked
+
+-- a stopwatch begins, ends and has a limit, and is looked at by search; or there is none
+abbrev pub is_posed_with : Option ℕ → Asked → Bool
+is_posed_with None a = length a.begins == 0 && length a.ends == 0
+is_posed_with (Some limit) a = not (length a.begins == 0) && not (length a.ends == 0) && a.sets == 0
+
+abbrev pub is_posed : Asked → Bool
+is_posed a = is_posed_with a.limit a
+
+-- the stopwatch shows no more than its limit, if there is one
+abbrev pub is_within : Option ℕ → Tracked → Bool
+is_within None s = true
+is_within (Some limit) s = nat_le s.2.elapsed limit
+
+-- the property: of the conditions that are never met all at once none are, and the stopwatch stays within
+-- its limit
+abbrev pub is_kept : List (List Condition) → Option ℕ → Tracked → Bool
+is_kept nevers limit s = keeps_to nevers s && is_within limit s
+
 -- what an outcome promises of the question that a text spells
 pub record IsAnswerTo (text : List ℕ) (outcome : Outcome) : Type 0 where
   pub asked : Asked
@@ -123,6 +161,7 @@ pub record IsAnswerTo (text : List ℕ) (outcome : Outcome) : Type 0 where
   pub program : List ℕ
   pub spells : asked_by text ≡ Some asked
   pub is_whole : asked.is_whole ≡ true
+  pub is_posed : is_posed asked ≡ true
   pub has_board : asked.board ≡ Some board
   pub has_program : asked.program ≡ Some program
-  pub proved : IsProvedOf board program (keeps_to asked.nevers) outcome
+  pub proved : IsProvedOf board program (stopwatch_of asked.begins asked.ends) (is_kept asked.nevers asked.limit) outcome

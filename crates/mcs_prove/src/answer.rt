@@ -5,7 +5,7 @@ ghost use Rattle.mcs_prove.specs.Answers.{IsAnswered, line_of_answer, outcome_li
 ghost use Rattle.mcs_prove.specs.Questions.{IsAnswerTo};
 
 use crate::fault::Refusal;
-use crate::proving::{prove, prove_by_sets};
+use crate::proving::{Goal, prove, prove_by_sets};
 use crate::question::{Question, question_of};
 use mcs_check::Outcome;
 use mcs_model::refusal_numbers;
@@ -105,18 +105,23 @@ fn status_of(found: &Result<Outcome, Refusal>) -> u8
 fn outcome_of(alloc: Global, text: &str) -> Result<Outcome, Refusal>
     ensures { IfOk result (IsAnswerTo text.now) }
 {
+    let question = question_of(alloc, text)?;
+    let is_posed = question.is_posed();
     let Question {
         board,
         program,
         nevers,
+        begins,
+        ends,
+        limit,
         most,
         sets,
         memory,
         pause,
         is_whole,
         ..
-    } = question_of(alloc, text)?;
-    let (Some(board), Some(program), true) = (board, program, is_whole) else {
+    } = question;
+    let (Some(board), Some(program), true, true) = (board, program, is_whole, is_posed) else {
         return Err(Refusal::NotWhole);
     };
     if sets > 0 {
@@ -133,7 +138,12 @@ fn outcome_of(alloc: Global, text: &str) -> Result<Outcome, Refusal>
         alloc,
         board.as_str(),
         program.as_str(),
-        nevers,
+        Goal {
+            nevers,
+            begins,
+            ends,
+            limit,
+        },
         (most as usize).min(MOST),
         memory as usize * MB,
         pause,

@@ -22,8 +22,9 @@ pub enum Refusal {
     /// A line of the question is none: its number, from 1.
     #[error("line {0} of the question is none")]
     Line(usize),
-    /// The question lacks the board's text, the program's text or its end.
-    #[error("the question lacks the board's text, the program's text or its end")]
+    /// The question lacks the board's text, the program's text or its end; or the stopwatch lacks its begin, its end or its
+    /// limit, or is asked for by sets.
+    #[error("the question lacks a text, its end or a part of its stopwatch, or has a stopwatch by sets")]
     NotWhole,
 }
 

@@ -13,4 +13,4 @@ mod question;
 
 pub use answer::{Answer, answer_to};
 pub use fault::Refusal;
-pub use proving::{prove, prove_by_sets};
+pub use proving::{Goal, prove, prove_by_sets};

@@ -9,6 +9,9 @@
 //!     never                       the conditions that follow are never met all at once
 //!     in ramport 0 line1 1 1
 //!     mistake code call           and the next cycle makes one of these mistakes
+//!     begin                       the conditions that follow begin a stopwatch, if met all at once
+//!     end                         the conditions that follow end it, if met all at once
+//!     within 1000                 it never shows more cycles than these
 //!     prove                       ends it: what is cut off before is no question
 ghost use Rattle.std.specs.Prelude.{◌≡◌};
 ghost use Rattle.std.specs.Str.{bytes_eq};
@@ -17,7 +20,7 @@ ghost use Rattle.mcs_model.specs.TextLines.{words_of};
 ghost use Rattle.mcs_model.specs.WordTables.{beside};
 ghost use Rattle.mcs_prove.specs.QuestionLines.{alone, by_words, cell_of, comparison_of, line_of, lists, mistakes_of, no_mistakes, parts, ways, with_comparison, with_mistake, with_mistakes, with_number};
 
-use mcs_check::{Cell, CellList, Comparison, Condition, Mistakes, Part};
+use mcs_check::{Cell, CellList, Comparison, Condition, Cycles, Mistakes, Part};
 use mcs_lines::words::{equals, next_word};
 use mcs_model::numeral::number_within;
 use mcs_search::MOST;
@@ -34,6 +37,20 @@ pub(crate) const MOST_MEMORY: u32 = 1_000_000;
 /// The longest pause without reads that a question may ask for.
 const LONGEST_PAUSE: u32 = 1_000_000_000;
 
+/// The most cycles that a question may ask for: one less than a stopwatch shows.
+const LONGEST_LIMIT: u32 = 16_777_214;
+
+/// What conditions that are met all at once do.
+#[derive(Clone, Copy, Debug)]
+pub(crate) enum Role {
+    /// They never are.
+    Never,
+    /// They begin the stopwatch.
+    Begin,
+    /// They end it.
+    End,
+}
+
 /// What a line of a question says.
 #[derive(Clone, Copy, Debug)]
 pub(crate) enum QuestionLine {
@@ -47,12 +64,14 @@ pub(crate) enum QuestionLine {
     Memory(u32),
     /// The longest pause without reads, in cycles.
     Pause(u32),
+    /// The most cycles that the stopwatch shows.
+    Within(Cycles),
     /// The board's text begins.
     Wire,
     /// The program's text begins.
     Asm,
-    /// The conditions that follow are never met all at once.
-    Never,
+    /// Conditions follow.
+    Conditions(Role),
     /// One of these conditions.
     Met(Condition),
     /// The question is whole.
@@ -225,7 +244,11 @@ fn read_alone(word: &[u8]) -> Option<QuestionLine>
     } else if equals(word, b"asm") {
         Some(QuestionLine::Asm)
     } else if equals(word, b"never") {
-        Some(QuestionLine::Never)
+        Some(QuestionLine::Conditions(Role::Never))
+    } else if equals(word, b"begin") {
+        Some(QuestionLine::Conditions(Role::Begin))
+    } else if equals(word, b"end") {
+        Some(QuestionLine::Conditions(Role::End))
     } else if equals(word, b"prove") {
         Some(QuestionLine::Prove)
     } else {
@@ -245,6 +268,10 @@ fn with_number(name: &[u8], word: &[u8]) -> Option<QuestionLine>
     }
     if equals(name, b"memory") {
         return Some(QuestionLine::Memory(number_within(word, MOST_MEMORY)?));
+    }
+    if equals(name, b"within") {
+        let limit = Cycles::of(number_within(word, LONGEST_LIMIT)?)?;
+        return Some(QuestionLine::Within(limit));
     }
     if equals(name, b"pause") {
         let pause = number_within(word, LONGEST_PAUSE)?;

@@ -5,6 +5,7 @@ ghost use Rattle.mcs_model.specs.ChipWrites.{with_rom_bytes};
 ghost use Rattle.mcs_model.specs.Command.{lacks_rom, refusal_of_command};
 ghost use Rattle.mcs_model.specs.declared.command.Command.TheVariants.{Load};
 ghost use Rattle.mcs_model.specs.BenchState.{new_regs};
+ghost use Rattle.mcs_drive.specs.Tracked.{without_calls};
 ghost use Rattle.mcs_prove.specs.Given.{machine_given, wired};
 
 use mcs_board::{BenchRig, every_board_fits_the_bench};
@@ -41,7 +42,7 @@ pub(crate) fn rig_given(
     ensures accepted { IfOk result (λ made. IfSome made (λ rig.
         refusal_of_command (wired board.now) (Load image.now) ≡ None)) }
     ensures given { IfOk result (λ made. IfSome made (λ rig.
-        (new_regs, rig, 0) ≡ machine_given board.now image.now)) }
+        without_calls (new_regs, rig) ≡ machine_given board.now image.now)) }
 {
     if lacks_a_rom(board, image) {
         return Ok(None);

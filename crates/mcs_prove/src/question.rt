@@ -3,11 +3,11 @@ ghost use Rattle.std.specs.Prelude.{◌≡◌, Some, map, option_map, string_byt
 ghost use Rattle.std.specs.Str.Lines.{lines};
 ghost use Rattle.mcs_model.specs.TextLines.{words_of};
 ghost use Rattle.mcs_prove.specs.declared.question.Section.TheVariants.{Board, Program};
-ghost use Rattle.mcs_prove.specs.Questions.{Asked, after_line, after_line_in, after_said, after_words, asked_by, begin_board, begin_program, ended, nothing_asked, when, with_condition, with_line};
+ghost use Rattle.mcs_prove.specs.Questions.{Asked, after_line, after_line_in, after_said, after_words, asked_by, begin_board, begin_program, ended, is_posed, nothing_asked, when, with_condition, with_line};
 
 use crate::fault::Refusal;
-use crate::lines::{MOST_MEMORY, QuestionLine, line_of};
-use mcs_check::Condition;
+use crate::lines::{MOST_MEMORY, QuestionLine, Role, line_of};
+use mcs_check::{Condition, Cycles};
 use std::alloc::{AllocError, Global};
 use std::marker::Model;
 use std::mem;
@@ -32,11 +32,15 @@ pub(crate) struct Question {
     pub(crate) board: Option<String>,
     pub(crate) program: Option<String>,
     pub(crate) nevers: Vec<Vec<Condition>>,
+    pub(crate) begins: Vec<Vec<Condition>>,
+    pub(crate) ends: Vec<Vec<Condition>>,
+    pub(crate) limit: Option<Cycles>,
     pub(crate) most: u32,
     pub(crate) sets: u32,
     pub(crate) memory: u32,
     pub(crate) pause: u32,
     pub(crate) is_whole: bool,
+    role: Role,
     conditions: Option<Vec<Condition>>,
     section: Section,
 }
@@ -51,6 +55,10 @@ impl Model for Question {
       board = option_map string_bytes q.board;
       program = option_map string_bytes q.program;
       nevers = map (λ n. n.items) q.nevers.items;
+      begins = map (λ n. n.items) q.begins.items;
+      ends = map (λ n. n.items) q.ends.items;
+      limit = q.limit;
+      role = q.role;
       conditions = option_map (λ cs. cs.items) q.conditions;
       most = q.most;
       sets = q.sets;
@@ -82,27 +90,45 @@ impl Question {
             board: None,
             program: None,
             nevers: Vec::new(alloc),
+            begins: Vec::new(alloc),
+            ends: Vec::new(alloc),
+            limit: None,
             most: 0,
             sets: 0,
             memory: MOST_MEMORY,
             pause: PAUSE,
             is_whole: false,
+            role: Role::Never,
             conditions: None,
             section: Section::Lines,
         }
     }
 
-    /// Ends the conditions that are never met all at once.
-    fn end_never(&mut self) -> Result<(), AllocError>
+    /// Returns whether the question has a stopwatch with a limit, to be looked at by search, or none.
+    pub(crate) fn is_posed(&self) -> bool
+        ensures { result ≡ is_posed self.now }
+    {
+        match self.limit {
+            None => self.begins.is_empty() && self.ends.is_empty(),
+            Some(_) => !self.begins.is_empty() && !self.ends.is_empty() && self.sets == 0,
+        }
+    }
+
+    /// Ends the conditions of a line `never`, `begin` or `end`.
+    fn end_conditions(&mut self) -> Result<(), AllocError>
         ensures { OnOk result (self.new ≡ ended self.old) }
     {
         if let Some(conditions) = mem::replace(&mut self.conditions, None) {
-            self.nevers.push(conditions)?;
+            match self.role {
+                Role::Never => self.nevers.push(conditions)?,
+                Role::Begin => self.begins.push(conditions)?,
+                Role::End => self.ends.push(conditions)?,
+            }
         }
         Ok(())
     }
 
-    /// Adds a condition. Returns whether it stands behind a line `never`.
+    /// Adds a condition. Returns whether it stands behind a line `never`, `begin` or `end`.
     fn add_condition(&mut self, condition: Condition) -> Result<bool, AllocError>
         ensures { IfOk result (λ known. when known self.new
             ≡ with_condition self.old condition self.old.conditions) }
@@ -152,13 +178,15 @@ impl Question {
             QuestionLine::Pause(pause) => self.pause = pause,
             QuestionLine::Wire => return Ok(self.begin_board(alloc)),
             QuestionLine::Asm => return Ok(self.begin_program(alloc)),
-            QuestionLine::Never => {
-                self.end_never()?;
+            QuestionLine::Within(limit) => self.limit = Some(limit),
+            QuestionLine::Conditions(role) => {
+                self.end_conditions()?;
                 self.conditions = Some(Vec::new(alloc));
+                self.role = role;
             }
             QuestionLine::Met(condition) => return self.add_condition(condition),
             QuestionLine::Prove => {
-                self.end_never()?;
+                self.end_conditions()?;
                 self.is_whole = true;
             }
         }

@@ -1,6 +1,8 @@
 //! Outcomes of whole checks.
 use crate::boards::{FACES, die};
-use mcs_check::{Cell, CellList, Comparison, Condition, Never, Outcome, Part, check_all};
+use mcs_check::{
+    Aim, Cell, CellList, Comparison, Condition, Conjunction, Outcome, Part, check_all,
+};
 use std::alloc::{AllocError, Global};
 use std::process::Abort;
 
@@ -32,39 +34,35 @@ fn shown(n: u8, inside: bool) -> Condition {
 }
 
 /// Returns the condition, never to be met, that the lamps show no face and are not dark.
-pub(crate) fn no_face(alloc: Global) -> Result<Vec<Never>, AllocError> {
+pub(crate) fn no_face(alloc: Global) -> Result<Aim, AllocError> {
     let mut conditions = Vec::new(alloc);
     conditions.push(shown(0, false))?;
     for face in FACES {
         conditions.push(shown(face, false))?;
     }
     let mut nevers = Vec::new(alloc);
-    nevers.push(Never::of(conditions))?;
-    Ok(nevers)
+    nevers.push(Conjunction::of(conditions))?;
+    Ok(Aim::never(alloc, nevers))
 }
 
 /// Returns the condition, never to be met, that the lamps show this.
-fn lamps_are(alloc: Global, n: u8) -> Result<Vec<Never>, AllocError> {
+fn lamps_are(alloc: Global, n: u8) -> Result<Aim, AllocError> {
     let mut conditions = Vec::new(alloc);
     conditions.push(shown(n, true))?;
     let mut nevers = Vec::new(alloc);
-    nevers.push(Never::of(conditions))?;
-    Ok(nevers)
+    nevers.push(Conjunction::of(conditions))?;
+    Ok(Aim::never(alloc, nevers))
 }
 
 /// Checks the die, in at most `STATES` states.
-pub(crate) fn all_checked(
-    alloc: Global,
-    rt: &impl Abort,
-    nevers: Vec<Never>,
-) -> Result<Outcome, AllocError> {
-    check_all(alloc, die(alloc, rt)?, nevers, STATES, MEMORY, PAUSE)
+pub(crate) fn all_checked(alloc: Global, rt: &impl Abort, aim: Aim) -> Result<Outcome, AllocError> {
+    check_all(alloc, die(alloc, rt)?, aim, STATES, MEMORY, PAUSE)
 }
 
 /// Returns whether lamps that show this may be found.
 fn may_show(alloc: Global, rt: &impl Abort, n: u8) -> bool {
-    let nevers = lamps_are(alloc, n).expect(rt, "memory");
-    match all_checked(alloc, rt, nevers).expect(rt, "memory") {
+    let aim = lamps_are(alloc, n).expect(rt, "memory");
+    match all_checked(alloc, rt, aim).expect(rt, "memory") {
         Outcome::MayFail(_) => true,
         outcome => {
             expect_holds(rt, outcome);
@@ -83,8 +81,8 @@ pub(crate) fn expect_holds(rt: &impl Abort, outcome: Outcome) {
 
 #[test]
 fn faces_alone_are_shown(rt: HostRuntime) {
-    let nevers = no_face(rt.alloc()).expect(&rt, "memory");
-    let outcome = all_checked(rt.alloc(), &rt, nevers).expect(&rt, "memory");
+    let aim = no_face(rt.alloc()).expect(&rt, "memory");
+    let outcome = all_checked(rt.alloc(), &rt, aim).expect(&rt, "memory");
     expect_holds(&rt, outcome);
     for n in 0..16 {
         // the lamps are dark at the beginning
@@ -97,8 +95,8 @@ fn faces_alone_are_shown(rt: HostRuntime) {
 fn no_state_more_than_asked_for(rt: HostRuntime) {
     for most in [0, 1, STATES - 1] {
         let die = die(rt.alloc(), &rt).expect(&rt, "memory");
-        let nevers = no_face(rt.alloc()).expect(&rt, "memory");
-        let outcome = check_all(rt.alloc(), die, nevers, most, MEMORY, PAUSE).expect(&rt, "memory");
+        let aim = no_face(rt.alloc()).expect(&rt, "memory");
+        let outcome = check_all(rt.alloc(), die, aim, most, MEMORY, PAUSE).expect(&rt, "memory");
         assert!(&rt; matches!(outcome, Outcome::TooMany), "{most}");
     }
 }
@@ -107,10 +105,8 @@ fn no_state_more_than_asked_for(rt: HostRuntime) {
 fn no_state_more_than_memory_has_room_for(rt: HostRuntime) {
     for memory in [0, 1, 1_000] {
         let die = die(rt.alloc(), &rt).expect(&rt, "memory");
-        let nevers = no_face(rt.alloc()).expect(&rt, "memory");
-        let outcome = check_all(rt.alloc(), die, nevers, STATES, memory, PAUSE).expect(
-            &rt, "memory",
-        );
+        let aim = no_face(rt.alloc()).expect(&rt, "memory");
+        let outcome = check_all(rt.alloc(), die, aim, STATES, memory, PAUSE).expect(&rt, "memory");
         assert!(&rt; matches!(outcome, Outcome::NoMemory(_)), "{memory}");
     }
 }

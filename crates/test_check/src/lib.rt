@@ -12,3 +12,5 @@ mod mistakes;
 mod refused;
 #[cfg(test)]
 mod sets;
+#[cfg(test)]
+mod times;

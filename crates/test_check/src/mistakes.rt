@@ -1,7 +1,7 @@
 //! Mistakes that a program makes, or does not make.
 use crate::boards::{die, machine};
 use crate::checks::{MEMORY, PAUSE, STATES, expect_holds};
-use mcs_check::{Condition, Mistakes, Never, Outcome, check_all};
+use mcs_check::{Aim, Condition, Conjunction, Mistakes, Outcome, check_all};
 use std::alloc::{AllocError, Global};
 
 /// All mistakes.
@@ -16,21 +16,21 @@ pub(crate) const ALL: Mistakes = Mistakes {
 };
 
 /// Returns the conditions, never to be met, that these mistakes are made.
-fn never(alloc: Global, asked: Mistakes) -> Result<Vec<Never>, AllocError> {
+fn never(alloc: Global, asked: Mistakes) -> Result<Aim, AllocError> {
     let mut conditions = Vec::new(alloc);
     conditions.push(Condition::Mistaken(asked))?;
     let mut nevers = Vec::new(alloc);
-    nevers.push(Never::of(conditions))?;
-    Ok(nevers)
+    nevers.push(Conjunction::of(conditions))?;
+    Ok(Aim::never(alloc, nevers))
 }
 
 #[test]
 fn the_die_makes_none(rt: HostRuntime) {
     let die = die(rt.alloc(), &rt).expect(&rt, "memory");
-    let nevers = never(rt.alloc(), ALL).expect(&rt, "memory");
+    let aim = never(rt.alloc(), ALL).expect(&rt, "memory");
     expect_holds(
         &rt,
-        check_all(rt.alloc(), die, nevers, STATES, MEMORY, PAUSE).expect(&rt, "memory"),
+        check_all(rt.alloc(), die, aim, STATES, MEMORY, PAUSE).expect(&rt, "memory"),
     );
 }
 
@@ -66,8 +66,8 @@ fn each_program_makes_one(rt: HostRuntime) {
     for k in 0..7 {
         for asked in 0..7 {
             let made = machine(rt.alloc(), &rt, &PROGRAMS[k]).expect(&rt, "memory");
-            let nevers = never(rt.alloc(), mistake(asked)).expect(&rt, "memory");
-            let outcome = check_all(rt.alloc(), made, nevers, STATES, MEMORY, 5_000).expect(
+            let aim = never(rt.alloc(), mistake(asked)).expect(&rt, "memory");
+            let outcome = check_all(rt.alloc(), made, aim, STATES, MEMORY, 5_000).expect(
                 &rt, "memory",
             );
             let is_made = matches!(outcome, Outcome::MayFail(_));

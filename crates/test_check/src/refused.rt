@@ -1,12 +1,12 @@
 //! One refused allocation: `checks/allocations` refuses each in turn, the gate none.
 use crate::checks::{STATES, all_checked, expect_holds, no_face};
-use mcs_check::{Never, Outcome};
+use mcs_check::{Aim, Outcome};
 use std::alloc::Global;
 use std::process::Abort;
 
 /// Checks the die. Returns what was refused.
-fn check_once(alloc: Global, rt: &impl Abort, nevers: Vec<Never>) -> &'static str {
-    match all_checked(alloc, rt, nevers) {
+fn check_once(alloc: Global, rt: &impl Abort, aim: Aim) -> &'static str {
+    match all_checked(alloc, rt, aim) {
         Ok(Outcome::NoMemory(states)) => {
             assert!(rt; states <= STATES);
             "a state"
@@ -21,13 +21,13 @@ fn check_once(alloc: Global, rt: &impl Abort, nevers: Vec<Never>) -> &'static st
 
 /// Checks the die, and then once more. Returns what was refused.
 fn run(alloc: Global, rt: &impl Abort) -> &'static str {
-    let Ok(nevers) = no_face(alloc) else {
+    let Ok(aim) = no_face(alloc) else {
         return "the conditions";
     };
-    let refused = check_once(alloc, rt, nevers);
+    let refused = check_once(alloc, rt, aim);
     if refused != "nothing" {
-        let nevers = no_face(alloc).expect(rt, "memory");
-        assert!(rt; check_once(alloc, rt, nevers) == "nothing");
+        let aim = no_face(alloc).expect(rt, "memory");
+        assert!(rt; check_once(alloc, rt, aim) == "nothing");
     }
     refused
 }

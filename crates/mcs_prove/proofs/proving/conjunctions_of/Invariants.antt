@@ -1,5 +1,5 @@
 use Rattle.std.proofs.Common.{◌≡◌, map}
-use Rattle.mcs_prove.proofs.proving.nevers_of.Given as goal
+use Rattle.mcs_prove.proofs.proving.conjunctions_of.Given as goal
 
 abbrev pub invariant-loop-conditions : goal.invariant-loop-conditions
 invariant-loop-conditions l = l.made.items ≡ map (λ n. n.items) l.yielded

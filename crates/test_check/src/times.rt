@@ -1,0 +1,137 @@
+//! Times between addresses, by a stopwatch.
+use crate::boards::machine;
+use crate::checks::MEMORY;
+use mcs_check::{
+    Aim, Cell, CellList, Comparison, Condition, Conjunction, Cycles, Outcome, Part, add_limit,
+    check_all,
+};
+use std::alloc::{AllocError, Global};
+use std::process::Abort;
+
+/// More states than these programs have.
+const MOST: usize = 10_000;
+
+/// The cycles after which a pause without readings is cut: a loop is seen once it was run through after that. The nested
+/// loops are cut where the upper byte of the stopwatch is not 0.
+const PAUSE: u32 = 250_000;
+
+/// FIM P0 0, ISZ R0 2, JUN 0: 2 cycles, 16 times 2 and 2.
+const DELAY: [u8; 6] = [0x20, 0, 0x70, 2, 0x40, 0];
+
+/// The cycles from address 0 to address 0.
+const DELAY_CYCLES: u32 = 36;
+
+/// FIM P0 0, 16 times (JCN TEST 6, NOP, NOP, ISZ R0 2), JUN 0: each of 16 passes takes 4 cycles or 6.
+const BRANCHES: [u8; 10] = [0x20, 0, 0x11, 6, 0, 0, 0x70, 2, 0x40, 0];
+
+/// The most cycles from address 0 to address 0.
+const BRANCHES_CYCLES: u32 = 100;
+
+/// Before each of the 16 readings the pass took one of these many different times: 1, 2, up to 16. With the start that is:
+const BRANCHES_STATES: usize = 137;
+
+/// FIM P0 0, FIM P1 0, and four nested loops by ISZ R0 to R3, JUN 0.
+const NESTED: [u8; 14] = [
+    0x20, 0, 0x22, 0, 0x70, 4, 0x71, 4, 0x72, 4, 0x73, 4, 0x40, 0,
+];
+
+/// 2 + 2, twice 16 + 256 + 4096 + 65536 passes, and 2.
+const NESTED_CYCLES: u32 = 139_814;
+
+/// Returns the condition that a register or a counter byte is a number.
+fn is(index: u16, n: u8) -> Condition {
+    Condition::Compare(Comparison {
+        cell: Cell {
+            list: CellList::Counters,
+            index,
+        },
+        part: Part::Whole,
+        low: n,
+        high: n,
+        inside: true,
+    })
+}
+
+/// Returns the conditions that an instruction begins at an address of page 0.
+fn begins_at(alloc: Global, low: u8) -> Result<Vec<Conjunction>, AllocError> {
+    let mut conditions = Vec::new(alloc);
+    conditions.push(is(3, 0))?;
+    conditions.push(is(4, 0))?;
+    conditions.push(is(5, low))?;
+    let mut lists = Vec::new(alloc);
+    lists.push(Conjunction::of(conditions))?;
+    Ok(lists)
+}
+
+/// Checks that a program goes from one address to another within a limit.
+fn checked(
+    alloc: Global,
+    rt: &impl Abort,
+    program: &[u8],
+    from: u8,
+    to: u8,
+    limit: u32,
+) -> Outcome {
+    let begins = begins_at(alloc, from).expect(rt, "memory");
+    let ends = begins_at(alloc, to).expect(rt, "memory");
+    let machine = machine(alloc, rt, program).expect(rt, "memory");
+    let limit = Cycles::of(limit).expect(rt, "a limit");
+    let mut nevers = Vec::new(alloc);
+    add_limit(alloc, &mut nevers, limit).expect(rt, "memory");
+    let aim = Aim::timed(nevers, begins, ends);
+    check_all(alloc, machine, aim, MOST, MEMORY, PAUSE).expect(rt, "memory")
+}
+
+/// Expects that a program takes these cycles at most from one address to another.
+fn expect_longest(alloc: Global, rt: &impl Abort, program: &[u8], from: u8, to: u8, cycles: u32) {
+    let outcome = checked(alloc, rt, program, from, to, cycles);
+    assert!(rt; matches!(&outcome, Outcome::Holds(_)), "{cycles}");
+    let outcome = checked(alloc, rt, program, from, to, cycles - 1);
+    assert!(rt;
+        matches!(&outcome, Outcome::MayFail(_)),
+        "less than {cycles}"
+    );
+}
+
+#[test]
+fn a_loop_has_its_time(rt: HostRuntime) {
+    expect_longest(rt.alloc(), &rt, &DELAY, 0, 0, DELAY_CYCLES);
+    expect_longest(rt.alloc(), &rt, &DELAY, 0, 4, DELAY_CYCLES - 2);
+    expect_longest(rt.alloc(), &rt, &DELAY, 4, 0, 2);
+}
+
+#[test]
+fn inputs_choose_the_time(rt: HostRuntime) {
+    expect_longest(rt.alloc(), &rt, &BRANCHES, 0, 0, BRANCHES_CYCLES);
+}
+
+#[test]
+fn states_differ_in_time_alone(rt: HostRuntime) {
+    match checked(rt.alloc(), &rt, &BRANCHES, 0, 0, BRANCHES_CYCLES) {
+        Outcome::Holds(states) => assert_eq!(&rt; states, BRANCHES_STATES),
+        _ => panic!(&rt; "another outcome"),
+    }
+}
+
+#[test]
+fn a_long_time_has_three_bytes(rt: HostRuntime) {
+    expect_longest(rt.alloc(), &rt, &NESTED, 0, 0, NESTED_CYCLES);
+}
+
+#[test]
+fn what_never_begins_takes_no_time(rt: HostRuntime) {
+    let outcome = checked(rt.alloc(), &rt, &DELAY, 6, 0, 0);
+    assert!(&rt; matches!(&outcome, Outcome::Holds(_)));
+}
+
+#[test]
+fn what_begins_takes_some_time(rt: HostRuntime) {
+    let outcome = checked(rt.alloc(), &rt, &DELAY, 0, 0, 0);
+    assert!(&rt; matches!(&outcome, Outcome::MayFail(_)));
+}
+
+#[test]
+fn what_never_ends_takes_too_long(rt: HostRuntime) {
+    let outcome = checked(rt.alloc(), &rt, &DELAY, 0, 6, 40_000);
+    assert!(&rt; matches!(&outcome, Outcome::MayFail(_)));
+}
