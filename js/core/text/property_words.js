@@ -78,7 +78,7 @@ function wordsAfter(before, begun, names, { lines, conditions }) {
   if (before.length === 0) return [...fittings(lines.filter(({ word }) => /^[a-z]+$/.test(word))), ...labels];
   const last = before[before.length - 1];
   if (before[0] === "press" || last === "press") return withoutDescription(names.keys);
-  if (before[0].startsWith("@")) return alone(wordsAfterLabel(before));
+  if (before[0].startsWith("@")) return withoutDescription(wordsAfterLabel(before));
   const condition = conditionOf(before);
   if (condition) return wordsOfCondition(condition, names, conditions, CONDITION_END);
   return before[0] === "note" ? withoutDescription(["lamps"]) : [];
