@@ -27,8 +27,8 @@ const NO_MISTAKE = "holds 9\n";
 
 /**
  * The module, with a prover of the test's own; `asked` has the questions about properties, as their bounds and the number of their
- * conditions; `times` those about a stopwatch, as their limits; `mistakes` those about mistakes, as their words; `bySets` the questions by sets
- * of states.
+ * conditions; `times` those about a stopwatch, as their limits; `mistakes` those about mistakes, as their words; `bySets` the questions by
+ * sets of states.
  */
 class Asked extends Engine {
   /**
@@ -157,7 +157,8 @@ test("a time is asked alone, and never by sets of states", async () => {
   assert.deepEqual(engine.asked, [[10000, 1]]);
   assert.deepEqual(kinds(all), ["proved", "found", "proved", "open"]);
   assert.deepEqual(all[2].verdict, { kind: "proved", states: 7, bySets: false });
-  assert.match(all[1].verdict.found.text, /^test never lamp lit on for 9\n {2}press WALK\n {2}run \d+\n {2}until not lamp lit on within 9\n$/);
+  const { text } = all[1].verdict.found;
+  assert.match(text, /^test never lamp lit on for 9\n {2}press WALK\n {2}run \d+\n {2}until not lamp lit on within 9\n$/);
 });
 
 test("a counterexample has the lines after which one step breaks the property", async () => {

@@ -292,7 +292,8 @@ test("a condition may hold for exactly its time, whatever instruction changes it
   for (const [condition, begin, end, span] of SPANS) {
     const program = `loop:   ${begin}\n        NOP\n        NOP\n        ${end}\n        JUN loop\n`;
     const own = subjectOf(engine, BOARD, program);
-    const findOf = (cycles) => counterexampleOf(own, readCampaign(`test\nnever ${condition} for ${cycles}`, own).campaign, 0, [0], async () => {});
+    const campaignFor = (cycles) => readCampaign(`test\nnever ${condition} for ${cycles}`, own).campaign;
+    const findOf = (cycles) => counterexampleOf(own, campaignFor(cycles), 0, [0], async () => {});
     const found = await findOf(span - 1);
     assert.ok(found && await fails(found, program), `${begin}, ${end}`);
     assert.equal(await findOf(span), null, `${begin}, ${end}`);

@@ -240,6 +240,8 @@ export const BYTE_TWICE = "an earlier line has put a byte at this address; check
 // --- text/property_words.js ---
 export const MAY_CHANGE = "Inputs";
 export const MUST_HOLD = "Properties";
+/** The end of a property: the words after its label. */
+export const ONCE_FOR_EACH_PRESS = "at most once for each press";
 export const FIRST_PROPERTIES = "# Properties that hold whatever is pressed, at any time. F1 lists the words; "
   + "Ctrl+Space completes them.\n\n";
 

@@ -14,8 +14,8 @@ import { neverReached, proved } from "../../words/prove.js";
  * A counterexample: its test, its number of steps, its cycles, and the seed that found it.
  * @typedef {{ test: string, steps: number, cycles: number, seed: number }} Found
  *
- * A property in a report: `isSkipped` says that it is a model whose command was not run; `applied`, that it was checked; `states` are the states of the proof that it holds
- * for all inputs, otherwise 0; `chains` are the chains of keys for which a model was asked.
+ * A property in a report: `isSkipped` says that it is a model whose command was not run; `applied`, that it was checked; `states` are the
+ * states of the proof that it holds for all inputs, otherwise 0; `chains` are the chains of keys for which a model was asked.
  * @typedef {{ text: string, line: number, isGoal: boolean, isSkipped: boolean, applied: boolean, states: number, chains: number,
  *   found: Found | null }} PropertyResult
  *

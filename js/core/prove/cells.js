@@ -12,7 +12,8 @@ import { ADDRESSES, PAGE_BYTES } from "../bench/rom_bytes.js";
  *
  * A place, whose values are numbers from 0 up to `count`. `texts` are the texts of `trace` for a number: several if it shows levels of
  * input lines, too. `between` returns the comparisons of the numbers from one to another: a list of which one must hold whole.
- * @typedef {{ name: string, count: number, texts: (number: number) => string[], between: (low: number, high: number) => Comparisons[] }} Field
+ * @typedef {{ name: string, count: number, texts: (number: number) => string[],
+ *   between: (low: number, high: number) => Comparisons[] }} Field
  */
 
 /** Numbers of cells in the list `counter`. */
@@ -21,6 +22,9 @@ const NIBBLES = 16;
 
 /** @type {(list: string, index: number, low: number, high: number, part?: string) => Comparison} */
 const isWithin = (list, index, low, high, part = "whole") => ["in", list, index, part, low, high].join(" ");
+
+/** Comparisons that never hold. */
+export const NEVER_MET = [isWithin("register", 0, 1, 0)];
 
 /**
  * @param {string} name

@@ -2,7 +2,7 @@
 // searches all states that any inputs can lead to.
 
 import { NotAsked, comparisonsOf } from "./decided.js";
-import { isAt } from "./cells.js";
+import { NEVER_MET, isAt } from "./cells.js";
 import { grouped } from "../explore/report.js";
 import { sentText } from "../text/text_fault.js";
 import * as say from "../../words/prove.js";
@@ -46,8 +46,6 @@ const FIRST = 10000;
 export const MAX_TIME = 16777214;
 /** The counter at power-on. */
 const POWER_ON = 0;
-/** Comparisons that never hold. */
-const NEVER_MET = ["in register 0 whole 1 0"];
 
 /**
  * Returns the bounds on the states, each twice the one before it, up to the last one.

@@ -22,7 +22,7 @@ const TEST_WORDS = new Set(["cycles", "printed", "test", "key"]);
 /** The words that can follow a condition. */
 const CONDITION_END = ["for", "only after"];
 /** The words that can follow a label at the beginning of a line, and those that can follow a second label. */
-const AFTER_LABEL = ["to", "at most once for each press", "only after"];
+const AFTER_LABEL = ["to", say.ONCE_FOR_EACH_PRESS, "only after"];
 const AFTER_TARGET = ["within"];
 
 /**
