@@ -116,7 +116,7 @@ async function others(client) {
   await client.ask("workspace/executeCommand", command);
   const { params } = await client.next(({ method }) => method === "window/showMessage");
   verdict([params.type, / passed\.$/.test(params.message)], [3, true], "a test that is run");
-  verdict((await client.ask("workspace/symbol", { query: "begin" })).length > 0, true, "names of the workspace");
+  verdict((await client.ask("workspace/symbol", { query: "several" })).length > 0, true, "names of the workspace");
 }
 
 /** Checks devices and pipes in place of texts: all requests are answered. */
