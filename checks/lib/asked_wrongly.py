@@ -15,7 +15,7 @@ NO_LINES = [
 NO_COMPARISONS = [
     "in", "in register 0 whole 0", "in register 0 whole 0 0 0", "at register 0 whole 0 0", "In register 0 whole 0 0", "in registers 0 whole 0 0",
     "in register 16 whole 0 0", "in character 2048 whole 0 0", "in status 512 whole 0 0", "in ramport 32 whole 0 0", "in romport 16 whole 0 0",
-    "in banksrc 8 whole 0 0", "in counter 14 whole 0 0", "in chain0 256 whole 0 0", "in chain4 0 whole 0 0", "in chain 0 whole 0 0",
+    "in banksrc 8 whole 0 0", "in counter 17 whole 0 0", "in chain0 256 whole 0 0", "in chain4 0 whole 0 0", "in chain 0 whole 0 0",
     "in register 65536 whole 0 0", "in register 4294967296 whole 0 0", "in register -1 whole 0 0", "in register x whole 0 0", "in register 0 line4 0 0",
     "in register 0 line 0 0", "in register 0 0 0 0", "in register 0 whole 256 0", "in register 0 whole 0 256", "in register 0 whole 0 99999999999",
     "in register 0 whole 0x100 0", "in register 0 whole a b", "mistake", "mistake x", "mistake code x", "mistake code,call", "Mistake code", "mistakes code"]

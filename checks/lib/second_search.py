@@ -89,7 +89,8 @@ def cell(board: Board, name: str, index: int) -> int:
         "romport": lambda: chips.rom_latch.get(index, 0),
         "banksrc": lambda: chips.bank_src[index],
         "register": lambda: board.r[index],
-        "counter": lambda: [board.acc, board.cy, board.dcl, board.owed, *addresses(board), chips.rom_src, calls_of(board)][index],
+        "counter": lambda: [board.acc, board.cy, board.dcl, board.owed, *addresses(board), chips.rom_src, calls_of(board),
+                            *elapsed_of(board).to_bytes(3, "big")][index],
     }[name]()
 
 

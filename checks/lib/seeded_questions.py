@@ -149,6 +149,9 @@ def timed(question: Question, chance: random.Random, wiring: Wiring, boards: lis
     else:
         question.begins = [[comparison(chance, wiring, boards)] for _row in range(chance.choice([1, 2]))]
         question.ends = [[comparison(chance, wiring, boards), *([("mistake", *MISTAKES)] if chance.random() < 0.2 else [])] for _row in range(chance.choice([1, 2]))]
+    if chance.random() < 0.15:
+        # What the stopwatch shows itself, in its lowest byte.
+        question.ends.append([("in", "counter", 16, "whole", chance.randrange(1, 6), 255)])
     question.within = max(0, longest_seen(question, chance) + chance.choice([-1, 0, 0, 0, 1, 3]))
 
 

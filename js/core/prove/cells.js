@@ -1,4 +1,4 @@
-// The places in conditions as cells of a machine, in the words of a question to the prover (docs/PROVE.md has its lines).
+// The places in conditions as cells of a machine, in the words of a question to the prover (crates/mcs_prove/src/lines.rt has its lines).
 
 import { hex, upTo } from "../bench/numbers.js";
 import { ADDRESSES, PAGE_BYTES } from "../bench/rom_bytes.js";
