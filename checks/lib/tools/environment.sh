@@ -11,7 +11,7 @@ echo "my rooms" > "$house/room"
 cat mcs4 tools/* tools/lib/*.sh js/node/*.mjs js/node/commands/*.mjs 2> /dev/null | grep -oE '\$\{?[a-z_]+|ENVIRON\["[a-z_]+|env\.[a-z_]+|(^|[ ;{(])[a-z_]+=' |
     sed 's/.*[^a-z_]\([a-z_]\{1,\}\)=$/\1/; s/=$//; s/^\$//; s/^{//; s/^ENVIRON\["//; s/^env\.//; s/^[ ;{(]//' |
     LC_ALL=C sort -u | grep -vxE 'mcs|_' > "$folder/all_names"
-verdict "$(grep -cxE 'built|fault|folder|program|remembered|top' "$folder/all_names")" 6 "names of variables"
+verdict "$(grep -cxE 'built|fault|folder|program|cache|top' "$folder/all_names")" 6 "names of variables"
 # Runs a command with these variables in its environment.
 runs() {
     # shellcheck disable=SC2086
