@@ -2,7 +2,6 @@
 // bench decides whether the resulting text is valid.
 
 import { boardLines } from "../bench/board_form.js";
-import { readBoard } from "../bench/answers.js";
 import { counted } from "../bench/numbers.js";
 import { Face } from "../board/face.js";
 import { BUZZER, bitOf, canWire, nameOfTarget, splitTarget, wiringOf } from "./board_lines.js";
@@ -319,6 +318,3 @@ export function addRefusal(text, part) {
 export function matchesBench(text, answers) {
   return new Sketch(text).draft.isAsBench(answers);
 }
-
-/** @param {string[]} answers to `board` */
-export const boardOfAnswers = readBoard;

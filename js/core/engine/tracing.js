@@ -83,17 +83,6 @@ export class Answers {
     return { row: head[3], lines: this.answers.slice(from, this.at), cycles: Number(head[1]) };
   }
 
-  /**
-   * Parses the next trace without moving on.
-   * @returns {Trace}
-   */
-  seeTrace() {
-    const { at } = this;
-    const trace = this.takeTrace();
-    this.at = at;
-    return trace;
-  }
-
   /** Parses the next answer to `count`: the instructions that begin in a run. */
   takeCounts() {
     return this.takeTrace().lines.map(readCounted);
