@@ -13,7 +13,7 @@ const MOST: usize = 10_000;
 
 /// The cycles after which a pause without readings is cut: a loop is seen once it was run through after that. The nested
 /// loops are cut where the upper byte of the stopwatch is not 0.
-const PAUSE: u32 = 250_000;
+const PAUSE: u32 = 137_000;
 
 /// FIM P0 0, ISZ R0 2, JUN 0: 2 cycles, 16 times 2 and 2.
 const DELAY: [u8; 6] = [0x20, 0, 0x70, 2, 0x40, 0];
@@ -27,18 +27,18 @@ const BRANCHES: [u8; 10] = [0x20, 0, 0x11, 6, 0, 0, 0x70, 2, 0x40, 0];
 /// The most cycles from address 0 to address 0.
 const BRANCHES_CYCLES: u32 = 100;
 
-/// Before each of the 16 readings the pass took one of these many different times: 1, 2, up to 16. With the start that is:
+/// At the readings of pass 1 to 16 there are 1 to 16 different times. With the start that is:
 const BRANCHES_STATES: usize = 137;
 
-/// FIM P0 0, FIM P1 0, and four nested loops by ISZ R0 to R3, JUN 0.
+/// FIM P0 0, FIM P1 8, and four nested loops by ISZ R0 to R3, the last of 8 passes, JUN 0.
 const NESTED: [u8; 14] = [
-    0x20, 0, 0x22, 0, 0x70, 4, 0x71, 4, 0x72, 4, 0x73, 4, 0x40, 0,
+    0x20, 0, 0x22, 8, 0x70, 4, 0x71, 4, 0x72, 4, 0x73, 4, 0x40, 0,
 ];
 
-/// 2 + 2, twice 16 + 256 + 4096 + 65536 passes, and 2.
-const NESTED_CYCLES: u32 = 139_814;
+/// 2 + 2, twice 8 + 128 + 2048 + 32768 passes, and 2.
+const NESTED_CYCLES: u32 = 69_910;
 
-/// Returns the condition that a register or a counter byte is a number.
+/// Returns the condition that a counter is a number.
 fn is(index: u16, n: u8) -> Condition {
     Condition::Compare(Comparison {
         cell: Cell {
