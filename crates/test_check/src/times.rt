@@ -86,7 +86,7 @@ fn checked(
 fn expect_longest(alloc: Global, rt: &impl Abort, program: &[u8], from: u8, to: u8, cycles: u32) {
     let outcome = checked(alloc, rt, program, from, to, cycles);
     assert!(rt; matches!(&outcome, Outcome::Holds(_)), "{cycles}");
-    let outcome = checked(alloc, rt, program, from, to, cycles - 1);
+    let outcome = checked(alloc, rt, program, from, to, cycles.saturating_sub(1));
     assert!(rt;
         matches!(&outcome, Outcome::MayFail(_)),
         "less than {cycles}"
