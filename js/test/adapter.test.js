@@ -274,6 +274,17 @@ test("a client that draws the board receives it once, what changes, and moves ke
   await until(({ event, body }) => event === "boardShown" && body.board);
 });
 
+test("a breakpoint below the last instruction is set when the program gets an instruction there", async () => {
+  const files = { ...FILES };
+  const { begin, ask, move, until } = served(files);
+  await begin();
+  const { breakpoints: [none] } = await ask("setBreakpoints", { source: SOURCE, breakpoints: [{ line: 500 }] });
+  assert.equal(none.verified, false);
+  files["/lock/lock.asm"] = `${FILES["/lock/lock.asm"]}${"\n".repeat(500)} NOP\n`;
+  await move("restart", {});
+  await until(({ event, body }) => event === "breakpoint" && body.breakpoint.id === none.id && body.breakpoint.verified);
+});
+
 test("in real time a cycle takes as long as on a real board", async () => {
   const { adapter, begin, ask, until, stops } = served();
   await begin({ ...LOCK, realTime: true });

@@ -225,7 +225,9 @@ export class ClientBreakpoints {
     const moved = this.wanted.lines.filter((each) => {
       const { line, address, words } = instructionOfLine(Math.max(1, each.line), map);
       const hasMoved = line !== each.line || address !== each.address;
-      Object.assign(each, { line, address, words: address < 0 ? words : each.words });
+      // The message that no instruction follows is no longer true once one does.
+      const keptWords = each.address < 0 ? "" : each.words;
+      Object.assign(each, { line, address, words: address < 0 ? words : keptWords });
       return hasMoved;
     });
     await this.applyBreakpoints();
