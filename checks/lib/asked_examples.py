@@ -1,5 +1,5 @@
-"""Questions to mcs4-prove about the examples: the nevers and the times of their properties as comparisons, what must be answered, and mutants: an
-example with one instruction that is another one.
+"""Questions to mcs4-prove about the examples: the nevers and the times in their properties as comparisons, and the expected answers. Also mutants:
+examples in which one instruction is replaced by another one.
 """
 
 from __future__ import annotations

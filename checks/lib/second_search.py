@@ -1,9 +1,10 @@
 """A second implementation of mcs4-prove over the board of board4004.py. It searches breadth-first through everything that a machine can do, with any
 keys and any TEST pin, and tests conditions on the way. It shares no code with the program.
 
-A state is all that a machine holds but its inputs, and what its stopwatch shows, if it has one. It stands at power-on, then where the next cycle reads an input, RDR or JCN with TEST, or where
-a stretch without such a read is cut after so many cycles. From a state it goes on once for each value that its next cycle can read, at keys and
-TEST that give this value, to the next state, or to where it holds again what it held there; conditions are looked at after each cycle.
+A state is everything in a machine except its inputs, and what its stopwatch shows, if it has one. There is a state at power-on, before each cycle
+that reads an input (RDR, or JCN with TEST), and after a fixed number of cycles without such a read. The search continues from a state once for each
+value that the next cycle can read, with keys and TEST that give this value. It stops at the next state, or when the machine repeats an earlier state.
+Conditions are tested after each cycle.
 """
 
 from __future__ import annotations
@@ -33,8 +34,9 @@ def rows_of(word: str, rows: list[Row]) -> list[str]:
 
 @dataclass
 class Question:
-    """A board and a program; the conditions that are never to be met, all conditions of a row at once; the most states; the cut of a
-    stretch. With `within` there is a stopwatch, which must never show more cycles; a row of `begins` begins it, and one of `ends` ends it."""
+    """A board and a program, the conditions that must never be met (all conditions of a row at once), the maximum number of states, and the
+    maximum length of a stretch. With `within` there is a stopwatch, which must never show more cycles. A row of `begins` begins it, and a row of
+    `ends` ends it."""
 
     board: list[str]
     program: list[str]
@@ -46,7 +48,7 @@ class Question:
     within: int | None = None
 
     def lines(self) -> list[str]:
-        """Returns the question as the program reads it."""
+        """Returns the question in the form that the program reads."""
         limits = [] if self.within is None else [f"within {self.within}"]
         return [f"most {self.most}", f"pause {self.pause}", *limits, *self.begun(), *rows_of("never", self.nevers), *rows_of("begin", self.begins),
                 *rows_of("end", self.ends), "prove"]
@@ -101,7 +103,7 @@ OPEN_CALLS = 3
 # The instructions for a RAM chip: its characters, its status characters, and its port.
 FOR_RAM = {"WRM", "RDM", "ADM", "SBM", "WMP", *(f"{way}{k}" for way in ("WR", "RD") for k in range(4))}
 MISTAKES = ("code", "call", "return", "ram", "rom", "rdr", "wrr")
-# The calls that are open in a board, its stopwatch, and what that shows.
+# The attributes of a board with the number of its open calls, its stopwatch, and what that shows.
 CALLS, STOPWATCH, ELAPSED = "calls", "stopwatch", "elapsed"
 
 
@@ -171,8 +173,8 @@ def mistakes(board: Board) -> set[str]:
 
 
 def cycle(board: Board) -> None:
-    """Does one cycle, which may open a call or close one. A fourth call replaces the first. At a code outside the table only the stopwatch
-    goes on."""
+    """Does one cycle, which can open or close a call. A fourth call replaces the first one. At a code outside the table, only the stopwatch
+    continues."""
     elapsed = elapsed_after(board)
     if board.owed or not board.is_outside():
         name = "" if board.owed else CODES[board.rom[board.pc]][0]
@@ -196,7 +198,7 @@ def is_met(board: Board, condition: Comparison | Mistakes) -> bool:
 
 
 def condition_of(rows: list[Row]) -> Condition:
-    """Returns the function that tests if a row of conditions is met all at once."""
+    """Returns the function that tests whether a row of conditions is met at once."""
     return lambda board: any(all(is_met(board, each) for each in row) for row in rows)
 
 
@@ -206,7 +208,7 @@ def is_late(board: Board, within: int | None) -> bool:
 
 
 def fault_of(question: Question) -> Condition:
-    """Returns the function that tests if what is forbidden is met."""
+    """Returns the function that tests whether the forbidden conditions are met, or the stopwatch is late."""
     is_bad = condition_of(question.nevers)
     return lambda board: is_bad(board) or is_late(board, question.within)
 
@@ -255,7 +257,7 @@ def values_read(board: Board) -> dict[int, Levels]:
 # ---- from state to state
 
 def saved(board: Board) -> tuple:
-    """Returns all that a machine holds except its inputs, the number of open calls, and what the stopwatch shows."""
+    """Returns the whole state of a machine except its inputs, the number of open calls, and what the stopwatch shows."""
     chips = board.chips
     return (board.acc, board.cy, board.pc, board.dcl, board.owed, tuple(board.r), tuple(board.ret), chips.rom_src, tuple(chips.bank_src),
             tuple(chips.rom_latch.values()), tuple(chips.ram_latch.values()), tuple(map(tuple, chips.chains)),
@@ -281,7 +283,7 @@ def go_on(board: Board, levels: Levels, is_bad: Condition, pause: int) -> tuple[
     at, state = board.pc, saved(board)
     for cycles in range(1, pause + 2):
         if not board.owed and board.is_outside() and not stopwatch_of(board):
-            # Nothing changes any more.
+            # The state repeats, so nothing changes any more.
             return cycles - 1, False
         cycle(board)
         if is_bad(board):
@@ -337,8 +339,7 @@ def way_to(came: list[tuple[int, int]], at: int) -> list[int]:
 
 
 def is_met_when_driven(question: Question, chance: random.Random, cycles: int) -> bool:
-    """Returns true if the forbidden conditions are met within a number of cycles, before each of which keys and TEST are put at any
-    levels."""
+    """Returns true if the forbidden conditions are met within a number of cycles, with random keys and TEST before each."""
     board, is_bad = power_on(question), fault_of(question)
     chips = board.chips
     for _cycle in range(cycles):
@@ -360,7 +361,8 @@ def commands(levels: Levels, before: Levels) -> list[str]:
 
 
 def replayed(question: Question, way: list[int]) -> tuple[list[str], str]:
-    """Returns a way as lines of a session, up to the cycle after which it meets the forbidden conditions; or what is wrong with it."""
+    """Returns the session lines that replay a counterexample up to the cycle that meets the forbidden conditions; or a description of the
+    error."""
     board, is_bad, before = power_on(question), fault_of(question), NO_LEVELS
     lines, bad = [*question.begun(), "reset"], is_bad(board)
     for n, value in enumerate(way):

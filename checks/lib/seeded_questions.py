@@ -1,6 +1,6 @@
-"""Questions to mcs4-prove by a generator, the same from the same number: a seeded board (seeded_boards.py), a short program that reads keys and TEST in
-loops, and comparisons of what such a program changes; some of them are met, some never. Some questions ask for mistakes, too, and a quarter of them
-for a time.
+"""Random questions to mcs4-prove, reproducible by a seed: a random board (seeded_boards.py), a short program that reads keys and TEST in loops,
+and comparisons of values that such a program changes. Some of the comparisons become true, some never. Some questions also ask for mistakes, and a
+quarter of them for a time.
 """
 
 from __future__ import annotations
@@ -18,7 +18,7 @@ from seeded_boards import OUTSIDE, Program, Seeded, Wiring
 HANDY = ["CLB", "CLC", "IAC", "CMC", "CMA", "RAL", "RAR", "TCC", "DAC", "TCS", "STC", "DAA", "KBP"]
 LENGTHS = {"character": 2048, "status": 512, "ramport": 32, "romport": 16, "banksrc": 8, "register": 16, "counter": 14,
            "chain0": 256, "chain1": 256, "chain2": 256, "chain3": 256}
-# The most states that a walk for numbers passes, and the walks for a time.
+# The maximum number of states in a walk that looks for values, and the number of walks that look for a time.
 WALK, WAYS = 12, 8
 
 

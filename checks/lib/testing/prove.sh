@@ -13,7 +13,7 @@ else
     of_every_program() {
         sed -n 's/^\(not \)\{0,1\}ok [0-9]* - \(no .*\)/\1\2/p'
     }
-    # The die shows its six faces alone, and each of them for 15 cycles.
+    # The die shows only its six faces, and each of them for 15 cycles.
     verdict "$(outcome ./mcs4 prove examples/die.txt examples/die.txt examples/die.props | results)" "$(
         sed -n 's/^never \(not .*\)/ok 1 - never \1 # proved for all inputs (13 states)/p' examples/die.props)
 ok 2 - never lamps none for 1 ms # proved for all inputs (13 states)
