@@ -13,7 +13,7 @@ use Rattle.mcs_model.specs.Boards.{masks_on}
 use Rattle.mcs_model.specs.TextLines.{line_feed, text_of}
 use Rattle.mcs_wiring.specs.LineNames.{line_name, port_name}
 
--- `key = value`
+-- a line of the form `key = value`
 abbrev pub entry : List ℕ → List ℕ → List ℕ
 entry key value = key ++ (codes " = " ++ value)
 
@@ -23,14 +23,14 @@ quoted_text text = codes "\"" ++ (text ++ codes "\"")
 abbrev pub quoted_name : Line → List ℕ
 quoted_name line = quoted_text (line_name line)
 
--- the lines of a ROM, if the board has it
+-- the lines of text for a ROM, or none if the board lacks it
 abbrev pub rom_lines : ℕ → Option (List LineMask) → List (List ℕ)
 rom_lines chip None = []
 rom_lines chip (Some masks) =
     codes "[[rom]]" ∷ entry (codes "chip") (decimal chip)
     ∷ entry (codes "port") (quoted_text (port_name masks)) ∷ []
 
--- the lines of a bank, if it has chips
+-- the lines of text for a RAM bank, or none if it has no chips
 abbrev pub bank_lines : ℕ → ℕ → List (List ℕ)
 bank_lines bank chips =
     if nat_lt 0 chips
@@ -43,7 +43,7 @@ chain_lines c =
     codes "[[chain]]" ∷ entry (codes "clock") (quoted_name c.clock)
     ∷ entry (codes "data") (quoted_name c.data_in) ∷ entry (codes "chips") (decimal c.chips) ∷ []
 
--- the names of columns between brackets, separated by `, `
+-- the quoted line names of the columns in brackets, separated by `, `
 abbrev pub columns_text : List Line → List ℕ
 columns_text lines = codes "[" ++ (join_by quoted_name (codes ", ") lines ++ codes "]")
 
@@ -56,8 +56,8 @@ matrix_lines m =
 abbrev pub lamp_lines : Line → List (List ℕ)
 lamp_lines line = codes "[[lamp]]" ∷ entry (codes "line") (quoted_name line) ∷ []
 
--- the lines of a board: the ROMs by rising chip, the RAM by rising bank, the chains, the key
--- matrix, the lamps
+-- the lines of a board's text: ROMs by ascending chip number, RAM banks by ascending bank number,
+-- chains, key matrix, lamps
 abbrev pub board_lines : BoardParts → List (List ℕ)
 board_lines b =
     flat_map (λ chip. rom_lines chip (masks_on b chip)) (range_with_len 0 ROMS)
@@ -66,12 +66,12 @@ board_lines b =
     ++ (option_map_or matrix_lines b.keys []
     ++ flat_map lamp_lines b.lamps.items)))
 
--- the text of a board
+-- the text of a board, each line with its line feed
 abbrev pub board_text : BoardParts → List ℕ
 board_text b = text_of (board_lines b)
 
--- the answer to the query `board`: the line `board`, then the lines of the board; its text ends
--- without a line feed
+-- the answer to the query `board`: the line `board`, then the lines of the board's text;
+-- `query_text` has no line feed at its end
 abbrev pub query_lines : BoardParts → List (List ℕ)
 query_lines b = codes "board" ∷ board_lines b
 

@@ -1,4 +1,4 @@
--- The definitions that clauses of private functions cite.
+-- Definitions that the contracts of private functions cite.
 use Rattle.std.specs.Prelude.{if◌then◌else◌, ℕ, ◌≤◌, Bool, List, length, codes, slice_index, Option, Some, None, Result, Ok, Err}
 use Rattle.std.specs.List.{flat_map, range_with_len}
 use Rattle.toml.specs.Data.{Data, Members}
@@ -16,7 +16,7 @@ use Rattle.mcs_wiring.specs.BoardText.{rom_lines, bank_lines}
 use Rattle.mcs_model.specs.TextLines.{text_of}
 use Rattle.mcs_wiring.specs.Wiring.{has_other_key, lacks_key, is_malformed, values_at, column_values, has_double_chip, parts_in}
 
--- true if a value in the place of a section's table has a flaw
+-- true if a section entry has the flaw
 abbrev pub has_flaw : Flaw → Section → Data → Bool
 has_flaw UnknownKey = has_other_key
 has_flaw MissingKey = lacks_key
@@ -30,7 +30,7 @@ pub record IsWithinLimits (ms : Members) : Type 0 where
   pub columns : length (column_values ms) ≤ KEY_COLUMNS
   pub lamps : length (values_at (codes "lamp") ms) ≤ LAMPS
 
--- the texts of the first ROMs of a board, and of its first banks
+-- the text of one ROM, and of the first n ROMs; the same for RAM banks
 abbrev pub rom_text : BoardParts → ℕ → List ℕ
 rom_text b chip = text_of (rom_lines chip (masks_on b chip))
 
@@ -43,13 +43,14 @@ ram_text b bank = text_of (bank_lines bank (slice_index b.banks bank))
 abbrev pub rams_text : BoardParts → ℕ → List ℕ
 rams_text b n = flat_map (ram_text b) (range_with_len 0 n)
 
--- the board of parts, or the refusal for the error in them
+-- the given parts if there is no fault, else the error that corresponds to the fault
 abbrev pub judgement_of : BoardParts → Option BoardFault → Result BoardParts WiringFault
 judgement_of parts None = Ok parts
 judgement_of parts (Some fault) = Err (refusal_of fault)
 
--- the remaining judgement of parts whose numbers are in range, and of a table that has nothing of
--- 21, 22, 23 and 27
+-- `board_of_parts` applies checks 25 and 26 to parts whose numbers are in range.
+-- `board_within_limits` applies checks 24, 25 and 26 to a table that has passed checks 21, 22, 23
+-- and 27.
 abbrev pub board_of_parts : BoardParts → Result BoardParts WiringFault
 board_of_parts parts =
     if lacks_line parts then Err NoSuchLine

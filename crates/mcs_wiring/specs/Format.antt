@@ -1,15 +1,15 @@
--- The format of a board text: its sections, and the keys of their tables (our own choice).
+-- The format of a board text: its sections and the keys of their tables (our own choice).
 use Rattle.std.specs.Prelude.{ℕ, Bool, List, [], ◌∷◌, codes}
 use Rattle.std.specs.List.{list_any}
 use Rattle.std.specs.Str.{bytes_eq}
 use Rattle.mcs_wiring.specs.declared.sections.Section.{Section}
 use Rattle.mcs_wiring.specs.declared.sections.Section.TheVariants.{Rom, Ram, Chain, Keys, Lamp}
 
--- the sections, in the order of a board text
+-- the sections, in the order in which a board text lists them
 abbrev pub sections : List Section
 sections = Rom ∷ Ram ∷ Chain ∷ Keys ∷ Lamp ∷ []
 
--- the key of a section at the top
+-- the top-level key of a section
 abbrev pub section_key : Section → List ℕ
 section_key Rom = codes "rom"
 section_key Ram = codes "ram"
@@ -17,7 +17,7 @@ section_key Chain = codes "chain"
 section_key Keys = codes "keys"
 section_key Lamp = codes "lamp"
 
--- the keys of a section's tables
+-- the keys that a table of the section must have; no other key is allowed
 abbrev pub table_keys : Section → List (List ℕ)
 table_keys Rom = codes "chip" ∷ codes "port" ∷ []
 table_keys Ram = codes "bank" ∷ codes "chips" ∷ []
@@ -25,7 +25,8 @@ table_keys Chain = codes "clock" ∷ codes "data" ∷ codes "chips" ∷ []
 table_keys Keys = codes "chain" ∷ codes "first" ∷ codes "rows" ∷ codes "columns" ∷ []
 table_keys Lamp = codes "line" ∷ []
 
--- true if a key may be at the top; true if a key may be in a table of a section
+-- `is_board_key`: true if a top-level key is known; `is_table_key`: true if a key is known in the
+-- tables of a section
 abbrev pub is_board_key : List ℕ → Bool
 is_board_key key = list_any (λ s. bytes_eq key (section_key s)) sections
 

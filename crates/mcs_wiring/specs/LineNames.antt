@@ -1,5 +1,4 @@
--- The names of the lines of a board in a board text, and the text of the masks of a ROM's port.
--- (Our own choice.)
+-- The names of lines in a board text, and the text for the masks of a ROM port. (Our own choice.)
 use Rattle.std.specs.Prelude.{ℕ, ◌+◌, ◌*◌, ◌-◌, ◌&&◌, not, List, [], ◌∷◌, ◌++◌, length, Option, Some, None, nat_lt, ◌==◌, if◌then◌else◌, codes, take, drop}
 use Rattle.std.specs.List.{position_or_len, before_first, after_first}
 use Rattle.std.specs.Str.{bytes_eq}
@@ -17,8 +16,8 @@ use Rattle.mcs_model.specs.Options.{◌>>=◌}
 abbrev pub below_or_none : ℕ → ℕ → Option ℕ
 below_or_none limit n = if nat_lt n limit then Some n else None
 
--- the number below a limit that one or two decimal digits are, without a leading zero; no number
--- of a line has three digits
+-- the number that one or two decimal digits denote, if it is below the limit. A leading zero is not
+-- allowed. Two digits suffice for every number in a line name.
 abbrev pub number_below : ℕ → List ℕ → Option ℕ
 number_below limit (d ∷ []) = if is_ascii_digit d then below_or_none limit (d - 48) else None
 number_below limit (t ∷ d ∷ []) =
@@ -26,20 +25,20 @@ number_below limit (t ∷ d ∷ []) =
     then below_or_none limit (10 * (t - 48) + (d - 48)) else None
 number_below limit text = None
 
--- ---- lines: `romC.K`, `ramB.C.K`, `chainN.I`
+-- ---- line names: `romC.K`, `ramB.C.K`, `chainN.I`
 
--- the text after a word, if the text begins with the word
+-- the text after a prefix, or none if the text does not begin with the prefix
 abbrev pub rest_after : List ℕ → List ℕ → Option (List ℕ)
 rest_after word text =
     if bytes_eq (take (length word) text) word then Some (drop (length word) text) else None
 
--- the texts before and after the first dot
+-- the texts before and after the first dot, or none if there is no dot
 abbrev pub parts_around_dot : List ℕ → Option (List ℕ × List ℕ)
 parts_around_dot text =
     if nat_lt (position_or_len (λ b. b == 46) text) (length text)
     then Some (before_first (λ b. b == 46) text, after_first (λ b. b == 46) text) else None
 
--- the line that a text after `rom`, after `ram` and after `chain` names
+-- the line denoted by the text after `rom`, `ram` or `chain` in a line name
 abbrev pub rom_line_named : List ℕ → Option Line
 rom_line_named text =
     parts_around_dot text >>= (λ (p : List ℕ × List ℕ).
@@ -60,7 +59,7 @@ chain_line_named text =
     number_below CHAINS p.0 >>= (λ n.
     number_below CHAIN_BITS p.1 >>= (λ i. Some (Chain n i))))
 
--- the line that a text names, if it has the form of a line
+-- the line with the given name, or none if the text is not a line name
 abbrev pub line_named : List ℕ → Option Line
 line_named text =
     elim (rest_after (codes "rom") text) [
@@ -80,7 +79,7 @@ line_name (Chain n i) = codes "chain" ++ (decimal n ++ (codes "." ++ decimal i))
 
 -- ---- ports: four characters, line 3 first
 
--- the masks, line 0 first, that the text of a port represents
+-- the masks, line 0 first, for the text of a port
 abbrev pub masks_named : List ℕ → Option (List LineMask)
 masks_named (c3 ∷ c2 ∷ c1 ∷ c0 ∷ []) =
     mask_of c0 >>= (λ m0.
@@ -89,7 +88,7 @@ masks_named (c3 ∷ c2 ∷ c1 ∷ c0 ∷ []) =
     mask_of c3 >>= (λ m3. Some (m0 ∷ m1 ∷ m2 ∷ m3 ∷ [])))))
 masks_named text = None
 
--- the text of a port with these masks (line 0 first): its four characters, line 3 first
+-- the text of a port, line 3 first, for masks that are listed line 0 first
 abbrev pub port_name : List LineMask → List ℕ
 port_name masks =
     mask_character (mask_at masks 3) ∷ mask_character (mask_at masks 2)

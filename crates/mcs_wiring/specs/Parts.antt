@@ -1,5 +1,6 @@
--- The part of a board text that is wrong, and what is told of a text: that it has a board, or its refusal with that part and the line on
--- which it begins. (Our own choice.)
+-- The part of a board text that has an error, and the report on a text. The report says that the
+-- text is valid, or gives the refusal with that part and the line on which it begins. (Our own
+-- choice.)
 use Rattle.std.specs.Prelude.{ℕ, ◌+◌, ◌-◌, Bool, true, false, not, ◌&&◌, ◌||◌, List, [], ◌∷◌, ◌++◌, length, take, find, codes, Option, Some, None, is_some, is_none, option_map, Result, Ok, Err, nat_lt, nat_le, ◌==◌, if◌then◌else◌}
 use Rattle.std.specs.List.{list_any, list_all, slice_split, range_with_len}
 use Rattle.std.specs.Option.{option_or}
@@ -30,8 +31,9 @@ use Rattle.mcs_wiring.specs.LineNames.{masks_named}
 use Rattle.mcs_wiring.specs.RefusalNumbers.{wiring_fault_number}
 use Rattle.mcs_wiring.specs.Wiring.{keys_of, section_values, values_at, number_at, line_at, has_bad_columns, lacks_array, column_values, roms_of, rams_of, parts_in, board_of_table}
 
--- a key at the top, what stands at the key of a section, or one of its tables by its number from 1 (the key matrix has none); with the
--- key of it that is meant, if one is
+-- A location in a board text: a top-level key, the value at a section's key, or one of the
+-- section's tables. Tables are numbered from 1; the key matrix has no number. The key at fault is
+-- included if there is one.
 pub record Part : Type 0 where
   pub section : Option Section
   pub number : Option ℕ
@@ -47,11 +49,11 @@ abbrev pub table_number : Section → ℕ → Option ℕ
 table_number Keys i = None
 table_number s i = Some (i + 1)
 
--- the table of a section that has this index
+-- the part for the table of a section with index i, from 0
 abbrev pub at_table : Section → ℕ → Option (List ℕ) → Part
 at_table s i key = record { section = Some s; number = table_number s i; key = key }
 
--- ---- 21, 22 and 23: the first table that has the flaw, and the first key of it that is meant
+-- ---- 21, 22 and 23: the first table that has the flaw, and its first key at fault
 
 abbrev pub other_key : Section → Members → Option (List ℕ)
 other_key s ms = find (λ key. not (is_table_key s key)) (keys_of ms)
@@ -59,7 +61,7 @@ other_key s ms = find (λ key. not (is_table_key s key)) (keys_of ms)
 abbrev pub missing_key : Section → Members → Option (List ℕ)
 missing_key s ms = find (λ key. is_none (get_member key ms)) (table_keys s)
 
--- a key, where its value is bad
+-- the key if its value is bad, else the next candidate
 abbrev pub if_bad : Bool → List ℕ → Option (List ℕ) → Option (List ℕ)
 if_bad true key next = Some key
 if_bad false key next = next
@@ -82,7 +84,7 @@ bad_key Keys ms =
     (if_bad (has_bad_columns ms) (codes "columns") None)))
 bad_key Lamp ms = if_bad (is_none (line_at (codes "line") ms)) (codes "line") None
 
--- the key that a flaw of a value means, if the value is a table
+-- the key of a section's table to which the flaw applies
 abbrev pub key_in_table : Flaw → Section → Members → Option (List ℕ)
 key_in_table UnknownKey s ms = other_key s ms
 key_in_table MissingKey s ms = missing_key s ms
@@ -92,7 +94,7 @@ abbrev pub flawed_key : Flaw → Section → Data → Option (List ℕ)
 flawed_key f s (table ms) = key_in_table f s ms
 flawed_key f s d = None
 
--- the first of these values that has a flaw; the first of them has this index
+-- the first of the values that has the flaw, where i is the index of the first value
 abbrev pub flawed_from : Flaw → Section → ℕ → List Data → Option Part
 flawed_from f s i [] = None
 flawed_from f s i (d ∷ ds) =
@@ -101,7 +103,7 @@ flawed_from f s i (d ∷ ds) =
 abbrev pub flawed_in : Flaw → Members → Section → Option Part
 flawed_in f ms s = flawed_from f s 0 (section_values s ms)
 
--- the first of some parts that is there
+-- the first part that `part` finds in the sections, in their order
 abbrev pub first_of : (Section → Option Part) → List Section → Option Part
 first_of part [] = None
 first_of part (s ∷ ss) = option_or (part s) (first_of part ss)
@@ -118,7 +120,7 @@ abbrev pub bad_value : Members → Option Part
 bad_value ms =
     option_or (option_map at_section (find (lacks_array ms) sections)) (flawed BadValue ms)
 
--- ---- 27: the first table too many; of the columns, their key
+-- ---- 27: the first table beyond the limit; for columns, the key `columns`
 
 abbrev pub part_if : Bool → Part → Option Part → Option Part
 part_if true part next = Some part
@@ -132,9 +134,10 @@ too_many ms =
     (part_if (nat_lt KEY_COLUMNS (length (column_values ms))) (at_table Keys 0 (Some (codes "columns")))
     (part_if (nat_lt LAMPS (length (values_at (codes "lamp") ms))) (at_table Lamp LAMPS None) None))))
 
--- ---- 24: the first table whose number an earlier one has
+-- ---- 24: the first table with the same number as an earlier table
 
--- the first of these parts whose number an earlier one or one of `seen` has; the first of them has this index
+-- the index of the first part whose number is in `seen` or belongs to an earlier part, where i is
+-- the index of the first part
 abbrev pub repeated_from : {A : Type 0} → List ℕ → ℕ → List (Numbered A) → Option ℕ
 repeated_from seen i [] = None
 repeated_from seen i (p ∷ ps) =
@@ -149,7 +152,7 @@ double_in roms rams =
 abbrev pub double_chip : Members → Option Part
 double_chip ms = double_in (roms_of ms) (rams_of ms)
 
--- ---- 25 and 26: the first table with a line that is wrong
+-- ---- 25 and 26: the first table with a wrong line
 
 abbrev pub is_wrong : LineFlaw → BoardParts → Line → Bool
 is_wrong Missing b line = not (exists_on b line)
@@ -197,7 +200,7 @@ wrong_direction b =
     option_or (wrong_chain_from NoOutput b 0 b.chains.items)
     (option_or (wrong_column_of NoInput b b.keys) (wrong_lamp_from Input b 0 b.lamps.items))
 
--- the first part for which a refusal holds of a table
+-- the first part of a table to which an error applies
 abbrev pub part_of : WiringFault → Members → Option Part
 part_of fault.UnknownKey ms = unknown_key ms
 part_of fault.MissingKey ms = flawed MissingKey ms
@@ -209,9 +212,9 @@ part_of fault.WrongDirection ms = wrong_direction (parts_in ms)
 part_of fault.BadToml ms = None
 part_of fault.NoMemory ms = None
 
--- ---- the line
+-- ---- the line number
 
--- whether a part is there
+-- true if a table contains the part; the key of a part in a section is not checked
 abbrev pub stands_at : Option Section → Option ℕ → Option (List ℕ) → Members → Bool
 stands_at (Some s) (Some n) key ms = nat_le n (length (values_at (section_key s) ms))
 stands_at (Some s) None key ms = is_some (get_member (section_key s) ms)
@@ -221,22 +224,24 @@ stands_at None n None ms = true
 abbrev pub stands_in : Part → Members → Bool
 stands_in p ms = stands_at p.section p.number p.key ms
 
--- whether a text is TOML that has a part
+-- true if a text is TOML and contains the part
 abbrev pub has_part : Part → List ℕ → Bool
 has_part p text = elim (parse_document text) [ None ↦ false | Some ms ↦ stands_in p ms ]
 
 abbrev pub is_toml : List ℕ → Bool
 is_toml text = is_some (parse_document text)
 
--- the number of the first of these lines with which `holds` is true of the text up to it, after the text before them; the first of them
--- has this number. What follows the last line feed is no line
+-- The number of the first line after which `holds` is true of the text so far. `before` is the text
+-- before the list, and n is the number of its first line. The last item is the text after the last
+-- line feed: it is not tested, and its number is the result if no line qualifies.
 abbrev pub line_from : (List ℕ → Bool) → ℕ → List ℕ → List (List ℕ) → ℕ
 line_from holds n before [] = n
 line_from holds n before (l ∷ []) = n
 line_from holds n before (l ∷ next ∷ ls) =
     if holds (before ++ as_line l) then n else line_from holds (n + 1) (before ++ as_line l) (next ∷ ls)
 
--- the number of the line after the last of these with which `holds` is true of the text up to it; `found` where there is none
+-- the number of the line that follows the last line after which `holds` is true of the text so far,
+-- or `found` if there is no such line
 abbrev pub line_after : (List ℕ → Bool) → ℕ → ℕ → List ℕ → List (List ℕ) → ℕ
 line_after holds n found before [] = found
 line_after holds n found before (l ∷ []) = found
@@ -244,16 +249,18 @@ line_after holds n found before (l ∷ next ∷ ls) =
     line_after holds (n + 1) (if holds (before ++ as_line l) then n + 1 else found)
     (before ++ as_line l) (next ∷ ls)
 
--- the line with which a part is there, and the first with which a text is no longer TOML
+-- the first line after which the text so far contains the part; the line after the longest run of
+-- leading lines that is TOML
 unfoldable pub line_of_part : List ℕ → Part → ℕ
 line_of_part text p = line_from (has_part p) 1 [] (slice_split is_line_feed text)
 
 unfoldable pub line_after_toml : List ℕ → ℕ
 line_after_toml text = line_after is_toml 1 1 [] (slice_split is_line_feed text)
 
--- ---- as it is told
+-- ---- the report
 
--- a key of other bytes than letters, digits, `_` and `-`, as quotes allow it, is told as `?`
+-- true for letters, digits, `_` and `-`. A key that is empty or has other bytes needs quotes in
+-- TOML, and the report shows it as `?`.
 abbrev pub is_bare_byte : ℕ → Bool
 is_bare_byte b =
     is_ascii_digit b || is_ascii_uppercase b || is_ascii_lowercase b || b == 95 || b == 45
@@ -288,7 +295,7 @@ abbrev pub judged_text : List ℕ → Members → Result BoardParts WiringFault 
 judged_text text ms (Ok b) = as_line (codes "wiring valid")
 judged_text text ms (Err f) = refused_text text f (part_of f ms)
 
--- what is told of a text
+-- the report on a board text
 unfoldable pub wiring_text : List ℕ → List ℕ
 wiring_text text = elim (parse_document text) [
   | None ↦ as_line (codes "no 20 line " ++ decimal (line_after_toml text))

@@ -1,4 +1,4 @@
--- The numbers of refusals of a board text (our own choice).
+-- The refusal numbers for board texts (our own choice).
 use Rattle.std.specs.Prelude.{ℕ}
 use Rattle.mcs_model.specs.declared.board.BoardFault.{BoardFault}
 use Rattle.mcs_model.specs.declared.board.BoardFault.TheVariants as board
@@ -17,7 +17,7 @@ wiring_fault_number NoSuchLine = NO_SUCH_LINE
 wiring_fault_number WrongDirection = WRONG_DIRECTION
 wiring_fault_number NoMemory = NO_MEMORY
 
--- the refusal of a board's text for an error in the parts of the board
+-- the error of a board text that corresponds to a fault of the board's parts
 abbrev pub refusal_of : BoardFault → WiringFault
 refusal_of board.BadValue = BadValue
 refusal_of board.NoSuchLine = NoSuchLine

@@ -1,4 +1,4 @@
--- The board that a table describes, or the first refusal that holds of it (our own choice).
+-- The board that a table describes, or the first error that applies to the table (our own choice).
 use Rattle.std.specs.Prelude.{◌≡◌, ◌-◌, ℕ, ℤ, pos, negsuc, Bool, true, false, not, ◌&&◌, ◌||◌, List, [], ◌∷◌, length, Option, Some, None, is_none, Result, Ok, Err, nat_lt, nat_le, ◌==◌, if◌then◌else◌, codes}
 use Rattle.std.specs.List.{list_any, filter_map}
 use Rattle.std.specs.Option.{option_to_list, option_map_or}
@@ -33,7 +33,7 @@ abbrev pub keys_of : Members → List (List ℕ)
 keys_of no_members = []
 keys_of (member key d ms) = key ∷ keys_of ms
 
--- the values of the array at a key; none if there is no array at the key
+-- the elements of the array at a key, or no elements if there is no array
 abbrev pub array_values : Option Data → List Data
 array_values (Some (array ds)) = values_of ds
 array_values d = []
@@ -41,17 +41,17 @@ array_values d = []
 abbrev pub values_at : List ℕ → Members → List Data
 values_at key ms = array_values (get_member key ms)
 
--- the values in the place of a section's tables: at `keys` the one value, else the values of the
--- array
+-- the entries of a section: the value at `keys`, or the elements of the array at the key of another
+-- section. An entry that is not a table is an error of kind 23.
 abbrev pub section_values : Section → Members → List Data
 section_values Keys ms = option_to_list (get_member (codes "keys") ms)
 section_values s ms = values_at (section_key s) ms
 
--- true if p holds of some value in the place of some section's table
+-- true if p holds for an entry of any section
 abbrev pub any_section : (Section → Data → Bool) → Members → Bool
 any_section p ms = list_any (λ s. list_any (p s) (section_values s ms)) sections
 
--- ---- 21: a key that is not known, at the top or in a table in its place
+-- ---- 21: an unknown key, at the top level or in an entry that is a table
 
 abbrev pub has_other_key : Section → Data → Bool
 has_other_key s (table ms) = list_any (λ key. not (is_table_key s key)) (keys_of ms)
@@ -61,7 +61,7 @@ abbrev pub has_unknown_key : Members → Bool
 has_unknown_key ms =
     list_any (λ key. not (is_board_key key)) (keys_of ms) || any_section has_other_key ms
 
--- ---- 22: a table in its place lacks a key
+-- ---- 22: an entry that is a table lacks a key
 
 abbrev pub lacks_one_of : List (List ℕ) → Members → Bool
 lacks_one_of names ms = list_any (λ key. is_none (get_member key ms)) names
@@ -73,9 +73,10 @@ lacks_key s d = false
 abbrev pub has_missing_key : Members → Bool
 has_missing_key ms = any_section lacks_key ms
 
--- ---- 23: a value of another type or form, or a number out of its range
+-- ---- 23: a value of the wrong type or form, or a number out of its range
 
--- a number from `least` to `most`
+-- the integer if it is in the range `least` to `most`; then the integer at a key if it is in that
+-- range
 abbrev pub within_or_none : ℕ → ℕ → ℤ → Option ℕ
 within_or_none least most (pos n) = if nat_le least n && nat_le n most then Some n else None
 within_or_none least most (negsuc n) = None
@@ -89,14 +90,14 @@ line_in d = as_str d >>= line_named
 abbrev pub line_at : List ℕ → Members → Option Line
 line_at key ms = get_member key ms >>= line_in
 
--- a ROM: its chip and its masks
+-- a ROM: its chip number and its masks
 abbrev pub rom_in : Members → Option (Numbered (Option (List LineMask)))
 rom_in ms =
     number_at (codes "chip") 0 (ROMS - 1) ms >>= (λ chip.
     get_member (codes "port") ms >>= as_str >>= masks_named >>= (λ masks.
     Some (record { number = chip; part = Some masks })))
 
--- a bank of RAM, and the count of its chips
+-- a RAM bank: its number and the number of its chips
 abbrev pub ram_in : Members → Option (Numbered ℕ)
 ram_in ms =
     number_at (codes "bank") 0 (BANKS - 1) ms >>= (λ bank.
@@ -110,7 +111,7 @@ chain_in ms =
     number_at (codes "chips") 1 CHAIN_CHIPS ms >>= (λ chips.
     Some (record { clock = clock; data_in = data_in; chips = chips }))))
 
--- a key matrix, except for columns that are no line
+-- a key matrix, without the columns that do not name a line
 abbrev pub matrix_in : Members → Option KeyMatrix
 matrix_in ms =
     number_at (codes "chain") 0 (CHAINS - 1) ms >>= (λ chain.
@@ -123,11 +124,12 @@ matrix_in ms =
       columns = record { items = filter_map line_in (values_at (codes "columns") ms) };
     }))))
 
--- true if a value is no line
+-- true if a value does not name a line
 abbrev pub is_no_line : Data → Bool
 is_no_line d = is_none (line_in d)
 
--- true for no array, an empty one, or one with a value that is no line
+-- true if there are no columns or one of them does not name a line. The list is empty if the value
+-- at `columns` is not an array.
 abbrev pub are_bad_columns : List Data → Bool
 are_bad_columns [] = true
 are_bad_columns (d ∷ ds) = list_any is_no_line (d ∷ ds)
@@ -138,12 +140,12 @@ has_bad_columns ms = are_bad_columns (values_at (codes "columns") ms)
 abbrev pub lamp_in : Members → Option Line
 lamp_in ms = line_at (codes "line") ms
 
--- the part in a table, if the value is a table that has the part
+-- the part that a value describes, if the value is a table from which `read` gets the part
 abbrev pub part_of : {A : Type 0} → (Members → Option A) → Data → Option A
 part_of read d = as_table d >>= read
 
--- True if a value in the place of a section's table does not give its part. It is no table, or
--- lacks a value, or has one of another type or form or out of its range.
+-- True if a section entry does not describe a part of the section's kind. It is not a table, or one
+-- of its values is missing, has the wrong type or form, or is out of range.
 abbrev pub is_malformed : Section → Data → Bool
 is_malformed Rom d = is_none (part_of rom_in d)
 is_malformed Ram d = is_none (part_of ram_in d)
@@ -152,8 +154,9 @@ is_malformed Keys d =
     is_none (part_of matrix_in d) || option_map_or has_bad_columns (as_table d) true
 is_malformed Lamp d = is_none (part_of lamp_in d)
 
--- true if there is a value and it is no array; true if the value at a section's key is no array
--- (not at `keys`, which needs no array). A missing value is no error.
+-- `is_no_array`: true if there is a value and it is not an array. `lacks_array` applies this to the
+-- value at a section's key, except at `keys`, which needs no array. A missing value is not an
+-- error.
 abbrev pub is_no_array : Option Data → Bool
 is_no_array None = false
 is_no_array (Some d) = is_none (as_array d)
@@ -186,7 +189,7 @@ has_too_many ms =
     || nat_lt KEY_COLUMNS (length (column_values ms))
     || nat_lt LAMPS (length (values_at (codes "lamp") ms))
 
--- ---- 24: two ROMs of one chip, or two entries for one bank
+-- ---- 24: two ROMs with the same chip number, or two entries for the same RAM bank
 
 abbrev pub has_double : {A : Type 0} → List (Numbered A) → Bool
 has_double [] = false
@@ -203,12 +206,12 @@ has_double_chip ms = has_double (roms_of ms) || has_double (rams_of ms)
 
 -- ---- the board
 
--- the part of a number, or the value for none
+-- the part with the number n, or `none` if no part has it
 abbrev pub part_at : {A : Type 0} → A → List (Numbered A) → ℕ → A
 part_at none [] n = none
 part_at none (p ∷ ps) n = if p.number == n then p.part else part_at none ps n
 
--- the parts that a table gives
+-- the parts that a table describes
 abbrev pub parts_in : Members → BoardParts
 parts_in ms = record {
   roms = table_of ROMS (part_at None (roms_of ms));
@@ -218,8 +221,9 @@ parts_in ms = record {
   lamps = record { items = filter_map (part_of lamp_in) (values_at (codes "lamp") ms) };
 }
 
--- The board that a table describes, or the first refusal that holds of it. 25: a line, a chain or
--- a row's bit that is not there. 26: a line of the wrong direction.
+-- The board that a table describes, or the first error that applies to the table. Error 25: the
+-- board lacks a line, a chain or the chain bit for a key row. Error 26: a line has the wrong
+-- direction.
 unfoldable pub board_of_table : Members → Result BoardParts WiringFault
 board_of_table ms =
     if has_unknown_key ms then Err UnknownKey
@@ -231,12 +235,12 @@ board_of_table ms =
     else if has_wrong_direction (parts_in ms) then Err WrongDirection
     else Ok (parts_in ms)
 
--- the board of a text: 20 if it is not TOML, else that of its table
+-- the board that a text describes: error 20 if the text is not TOML, else the result for its table
 abbrev pub board_of_text : List ℕ → Result BoardParts WiringFault
 board_of_text text =
     elim (parse_document text) [ None ↦ Err BadToml | Some ms ↦ board_of_table ms ]
 
--- Holds if an answer is the wanted one, or memory was refused.
+-- Holds if the result is the wanted one, or allocation failed.
 abbrev pub ReadsBoard : Result BoardParts WiringFault → Result BoardParts WiringFault → Type 0
 ReadsBoard (Err NoMemory) wanted = Unit {0}
 ReadsBoard (Err fault) wanted = wanted ≡ Err fault

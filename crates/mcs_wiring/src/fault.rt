@@ -1,4 +1,4 @@
-//! The reasons why a text has no board.
+//! The errors that a board text can have.
 ghost use Rattle.std.specs.Prelude.{◌≡◌};
 ghost use Rattle.mcs_wiring.specs.RefusalNumbers.{wiring_fault_number};
 
@@ -6,42 +6,43 @@ use mcs_model::board::BoardFault;
 use mcs_model::refusal_numbers;
 use thiserror::Error;
 
-/// The reason why a text has no board: the first of these that holds of it, in this order, unless
-/// memory was refused.
+/// The error in a text that does not describe a board. It is the first variant, in this order, that
+/// applies to the text, or `NoMemory` if allocation failed.
 #[derive(Clone, Copy, Debug, PartialEq, Eq, Error)]
 pub enum WiringFault {
     /// The text is not TOML.
     #[error("the text is not TOML")]
     BadToml,
-    /// A key that no board has, at the top or in the table of a part.
+    /// An unknown key, at the top level or in the table of a part.
     #[error("no board has this key")]
     UnknownKey,
     /// The table of a part lacks a key.
     #[error("the table of a part lacks a key")]
     MissingKey,
-    /// A value of another type or form, a number out of its range, or a key matrix without columns.
+    /// A value of the wrong type or form, a number out of its range, or a key matrix without
+    /// columns.
     #[error("a value has another type or form, or is out of its range")]
     BadValue,
     /// More parts of one kind than a board can have.
     #[error("the board has too many parts of one kind")]
     TooManyParts,
-    /// Two ROMs of one chip number, or two entries for one bank of RAM.
+    /// Two ROMs with the same chip number, or two entries for the same RAM bank.
     #[error("two parts have one chip number or one bank")]
     DoubleChip,
-    /// A line, a chain or a row's bit that the board lacks.
+    /// The board lacks a line, a chain, or the chain bit for a key row.
     #[error("a line, a chain or a row's bit is not on the board")]
     NoSuchLine,
-    /// A clock or data line that is no output line, a column that is no input line, or a lamp at an
-    /// input line.
+    /// A clock or data line is not an output line, a column is not an input line, or a lamp is at
+    /// an input line.
     #[error("an input line is used as an output line, or an output line as an input line")]
     WrongDirection,
-    /// Memory was refused, so nothing is said of the text.
+    /// Allocation failed. This says nothing about the text.
     #[error("out of memory")]
     NoMemory,
 }
 
 impl WiringFault {
-    /// Returns the number of the refusal.
+    /// Returns the refusal number of the error.
     pub fn number(self) -> u8
         ensures { result ≡ wiring_fault_number self }
     {

@@ -1,4 +1,4 @@
-//! The part of a board text that is wrong.
+//! Locates the part of a board text that has an error.
 ghost use Rattle.std.specs.Prelude.{◌≡◌, ◌<◌, ◌^◌, [], not, find, is_none, length, map, codes, option_and_then, option_map, slice_index, IfSome, Err};
 ghost use Rattle.std.specs.List.{list_any};
 ghost use Rattle.std.specs.Option.{option_copied};
@@ -25,15 +25,15 @@ use mcs_model::limits::{
 use mcs_nibble::LineMask;
 use toml::{Table, Value};
 
-/// A part of a board text: a key at the top, the value at the key of a section, or one of its
-/// tables, with one of the table's keys or without.
+/// A location in a board text: a top-level key, the value at a section's key, or one of the
+/// section's tables. For a table, it can also give one of the table's keys.
 #[derive(Clone, Copy)]
 pub(crate) struct Part<'a> {
-    /// The section.
+    /// The section, or none for a top-level key.
     pub(crate) section: Option<Section>,
-    /// The number of the table, from 1. The key matrix has none.
+    /// The number of the table within its section, from 1. The key matrix has none.
     pub(crate) number: Option<usize>,
-    /// The key.
+    /// The key: the top-level key if there is no section, else a key of the table.
     pub(crate) key: Option<&'a str>,
 }
 
@@ -57,7 +57,7 @@ fn at_section<'a>(section: Section) -> Part<'a>
     }
 }
 
-/// Returns the table of a section that has this index.
+/// Returns the part for the table of a section with the given index, from 0.
 fn at_table<'a>(section: Section, index: usize, key: Option<&'a str>) -> Part<'a>
     requires { index < 2 ^ 63 }
     ensures { part_view result ≡ at_table section index (option_copied key.entry) }
@@ -75,7 +75,7 @@ fn at_table<'a>(section: Section, index: usize, key: Option<&'a str>) -> Part<'a
 
 // ---- 21, 22 and 23
 
-/// Returns the first key of a table that the tables of a section do not have.
+/// Returns the first key of a table that is unknown in a section.
 #[tactic(auto, using(crate::proofs::Seen::keys_seen))]
 fn other_key<'a>(section: Section, table: &'a Table) -> Option<&'a str>
     ensures { option_copied result ≡ other_key section (table_view table.now) }
@@ -88,7 +88,7 @@ fn other_key<'a>(section: Section, table: &'a Table) -> Option<&'a str>
     None
 }
 
-/// Returns the first key of a section's tables that a table lacks.
+/// Returns the first required key of a section that a table lacks.
 fn missing_key<'a>(section: Section, table: &Table) -> Option<&'a str>
     ensures { option_copied result ≡ missing_key section (table_view table.now) }
 {
@@ -152,8 +152,8 @@ fn has_bad_port(table: &Table) -> bool
     }
 }
 
-/// Returns the first key of a section's table whose value has another type or form, or is out of
-/// its range.
+/// Returns the first key of a section's table whose value has the wrong type or form, or is out of
+/// range.
 fn bad_key<'a>(section: Section, table: &Table) -> Option<&'a str>
     ensures { option_copied result ≡ bad_key section (table_view table.now) }
 {
@@ -208,7 +208,7 @@ fn bad_key<'a>(section: Section, table: &Table) -> Option<&'a str>
     None
 }
 
-/// Returns the key of a value that has a flaw.
+/// Returns the key to which the flaw of a value applies, if the value is a table.
 fn flawed_key<'a>(flaw: Flaw, section: Section, value: &'a Value) -> Option<&'a str>
     ensures { option_copied result ≡ flawed_key flaw section (view value.now) }
 {
@@ -222,7 +222,7 @@ fn flawed_key<'a>(flaw: Flaw, section: Section, value: &'a Value) -> Option<&'a 
     }
 }
 
-/// Returns the first of the values of an array that has a flaw.
+/// Returns the part for the first array element that has a flaw.
 #[tactic(auto, using(crate::proofs::PartLists::flawed_step))]
 fn flawed_value<'a>(flaw: Flaw, section: Section, values: &'a [Value]) -> Option<Part<'a>>
     ensures { option_map part_view result ≡ flawed_from flaw section 0 (map view values.now) }
@@ -235,7 +235,7 @@ fn flawed_value<'a>(flaw: Flaw, section: Section, values: &'a [Value]) -> Option
     None
 }
 
-/// Returns the first table of a section that has a flaw.
+/// Returns the part for the first entry of a section that has a flaw.
 fn flawed_in<'a>(flaw: Flaw, table: &'a Table, section: Section) -> Option<Part<'a>>
     ensures { option_map part_view result ≡ flawed_in flaw (table_view table.now) section }
 {
@@ -254,7 +254,7 @@ fn flawed_in<'a>(flaw: Flaw, table: &'a Table, section: Section) -> Option<Part<
     }
 }
 
-/// Returns the first table of the sections that has a flaw.
+/// Returns the part for the first entry that has a flaw, with the sections in their fixed order.
 fn flawed<'a>(flaw: Flaw, table: &'a Table) -> Option<Part<'a>>
     ensures { option_map part_view result ≡ flawed flaw (table_view table.now) }
 {
@@ -273,7 +273,7 @@ fn flawed<'a>(flaw: Flaw, table: &'a Table) -> Option<Part<'a>>
     flawed_in(flaw, table, Section::Lamp)
 }
 
-/// Returns the first key at the top that no board has.
+/// Returns the first unknown top-level key.
 #[tactic(auto, using(crate::proofs::Seen::keys_seen))]
 fn other_board_key(table: &Table) -> Option<&str>
     ensures { option_copied result ≡ find (λ key. not (is_board_key key)) (keys_of (table_view table.now)) }
@@ -295,7 +295,7 @@ fn unknown_key<'a>(table: &'a Table) -> Option<Part<'a>>
     }
 }
 
-/// Returns the first section with another value in the place of its array.
+/// Returns the first section whose key has a value other than the required array.
 fn section_without_array(table: &Table) -> Option<Section>
     ensures { result ≡ find (lacks_array (table_view table.now)) sections }
 {
@@ -317,8 +317,8 @@ fn section_without_array(table: &Table) -> Option<Section>
     None
 }
 
-/// Returns the first section with another value in the place of its array, or else the first table
-/// with a bad value.
+/// Returns the part for the first section whose key has a value other than the required array. If
+/// there is none, returns the part for the first table with a bad value.
 fn bad_value<'a>(table: &'a Table) -> Option<Part<'a>>
     ensures { option_map part_view result ≡ bad_value (table_view table.now) }
 {
@@ -351,7 +351,7 @@ fn too_many<'a>(table: &Table) -> Option<Part<'a>>
     None
 }
 
-/// Returns the index of the first part with the number of an earlier part.
+/// Returns the index of the first part with the same number as an earlier part.
 #[tactic(auto, using(crate::proofs::PartLists::repeated_step))]
 fn repeated<T: Copy>(parts: &[Numbered<T>]) -> Option<usize>
     ensures same { result ≡ repeated_from [] 0 parts.now }
@@ -382,20 +382,20 @@ fn double_chip<'a>(
 
 // ---- 25 and 26
 
-/// An error of a line.
+/// An error in the use of a line.
 #[derive(Clone, Copy)]
 pub(crate) enum LineFlaw {
-    /// The board lacks it.
+    /// The board does not have the line.
     Missing,
-    /// It is no output line of the board.
+    /// The line is not an output line of the board.
     NoOutput,
-    /// It is no input line of the board.
+    /// The line is not an input line of the board.
     NoInput,
-    /// It is an input line of the board.
+    /// The line is an input line of the board.
     Input,
 }
 
-/// Returns the masks of a ROM, if the board has it.
+/// Returns the masks of a ROM's four I/O lines, or none if the board lacks that ROM.
 fn masks_on(parts: &BoardParts, chip: u8) -> Option<[LineMask; 4]>
     ensures { result ≡ masks_on parts.now chip }
 {
@@ -466,7 +466,7 @@ fn is_wrong(flaw: LineFlaw, parts: &BoardParts, line: Line) -> bool
     }
 }
 
-/// Returns the first key of a chain whose line is wrong.
+/// Returns the first key of a chain, `clock` or `data`, whose line has the error.
 fn wrong_key<'a>(flaw: LineFlaw, parts: &BoardParts, chain: ChainPart) -> Option<&'a str>
     ensures { option_copied result ≡ wrong_key flaw parts.now chain }
 {
@@ -479,7 +479,7 @@ fn wrong_key<'a>(flaw: LineFlaw, parts: &BoardParts, chain: ChainPart) -> Option
     None
 }
 
-/// Returns the first chain with a wrong line.
+/// Returns the part for the first chain with a line that has the error.
 #[tactic(auto, using(crate::proofs::PartLists::chain_step))]
 fn wrong_chain<'a>(flaw: LineFlaw, parts: &BoardParts) -> Option<Part<'a>>
     ensures { option_map part_view result ≡ wrong_chain_from flaw parts.now 0 parts.now.chains.items }
@@ -499,7 +499,7 @@ fn has_wrong_line(flaw: LineFlaw, parts: &BoardParts, lines: &[Line]) -> bool
     lines.iter().any(|line| is_wrong(flaw, parts, *line))
 }
 
-/// Returns the key matrix, if one of its columns is wrong.
+/// Returns the part for the key matrix if one of its columns has the error.
 fn wrong_column<'a>(flaw: LineFlaw, parts: &BoardParts) -> Option<Part<'a>>
     ensures { option_map part_view result ≡ wrong_column_of flaw parts.now parts.now.keys }
 {
@@ -512,7 +512,7 @@ fn wrong_column<'a>(flaw: LineFlaw, parts: &BoardParts) -> Option<Part<'a>>
     None
 }
 
-/// Returns the first lamp at a wrong line.
+/// Returns the part for the first lamp whose line has the error.
 #[tactic(auto, using(crate::proofs::PartLists::lamp_step))]
 fn wrong_lamp<'a>(flaw: LineFlaw, parts: &BoardParts) -> Option<Part<'a>>
     ensures { option_map part_view result ≡ wrong_lamp_from flaw parts.now 0 parts.now.lamps.items }
@@ -526,7 +526,8 @@ fn wrong_lamp<'a>(flaw: LineFlaw, parts: &BoardParts) -> Option<Part<'a>>
     None
 }
 
-/// Returns the key matrix, if the board lacks its chain or a bit for a row.
+/// Returns the part for the key matrix if the board lacks its chain or a chain bit for one of its
+/// rows.
 fn lacking_rows<'a>(parts: &BoardParts) -> Option<Part<'a>>
     ensures { option_map part_view result ≡ lacking_rows_of parts.now parts.now.keys }
 {
@@ -569,7 +570,7 @@ fn wrong_direction<'a>(parts: &BoardParts) -> Option<Part<'a>>
     wrong_lamp(LineFlaw::Input, parts)
 }
 
-/// Returns the wrong part for a refusal of the parts together.
+/// Returns the first part with an error that can involve several tables: 24, 25 or 26.
 fn part_within<'a>(fault: WiringFault, table: &Table) -> Option<Part<'a>>
     requires within { IsWithinLimits (table_view table.now) }
     requires kind { IsOfParts fault }
@@ -585,7 +586,7 @@ fn part_within<'a>(fault: WiringFault, table: &Table) -> Option<Part<'a>>
     }
 }
 
-/// Returns the first part of a table for which a refusal holds.
+/// Returns the first part of a table to which an error applies.
 pub(crate) fn part_of<'a>(fault: WiringFault, table: &'a Table) -> Option<Part<'a>>
     requires { board_of_table (table_view table.now) ≡ Err fault }
     ensures { option_map part_view result ≡ part_of fault (table_view table.now) }

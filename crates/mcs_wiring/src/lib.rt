@@ -1,4 +1,4 @@
-//! A board from its text in TOML, and back.
+//! Converts a board from and to its text in TOML.
 #![tactic(auto)]
 
 mod fault;

@@ -1,4 +1,4 @@
-//! The names of lines and ports in a board text.
+//! Parses the names of lines and ports in a board text.
 ghost use Rattle.std.specs.Prelude.{◌≡◌};
 ghost use Rattle.mcs_wiring.specs.LineNames.{number_below, rom_line_named, ram_line_named, chain_line_named, line_named, masks_named};
 
@@ -6,7 +6,7 @@ use mcs_model::board::Line;
 use mcs_model::limits::{BANK_CHIPS, BANKS, CHAIN_BITS, CHAINS, ROMS};
 use mcs_nibble::LineMask;
 
-/// Returns the number below a limit that a text is, in decimal without leading zeros.
+/// Parses one or two decimal digits, without a leading zero, as a number below a limit.
 fn number_below(text: &str, limit: u8) -> Option<u8>
     ensures { result ≡ number_below limit text.now }
 {
@@ -18,7 +18,7 @@ fn number_below(text: &str, limit: u8) -> Option<u8>
     if n < limit { Some(n) } else { None }
 }
 
-/// Returns the line that a text after `rom` names: the chip, a dot and the line.
+/// Parses the text after `rom` in a line name: chip, dot, line.
 fn rom_line_named(text: &str) -> Option<Line>
     ensures { result ≡ rom_line_named text.now }
 {
@@ -28,7 +28,7 @@ fn rom_line_named(text: &str) -> Option<Line>
     Some(Line::Rom(chip, k))
 }
 
-/// Returns the line that a text after `ram` names: the bank, a dot, the chip, a dot and the line.
+/// Parses the text after `ram` in a line name: bank, dot, chip, dot, line.
 fn ram_line_named(text: &str) -> Option<Line>
     ensures { result ≡ ram_line_named text.now }
 {
@@ -40,7 +40,7 @@ fn ram_line_named(text: &str) -> Option<Line>
     Some(Line::Ram(bank, chip, k))
 }
 
-/// Returns the line that a text after `chain` names: the chain, a dot and the bit.
+/// Parses the text after `chain` in a line name: chain, dot, bit.
 fn chain_line_named(text: &str) -> Option<Line>
     ensures { result ≡ chain_line_named text.now }
 {
@@ -50,7 +50,7 @@ fn chain_line_named(text: &str) -> Option<Line>
     Some(Line::Chain(n, i))
 }
 
-/// Returns the line that a text names, if it has the form of a line.
+/// Parses a line name: `rom`, `ram` or `chain`, then numbers separated by dots.
 pub(crate) fn line_named(text: &str) -> Option<Line>
     ensures { result ≡ line_named text.now }
 {
@@ -63,7 +63,7 @@ pub(crate) fn line_named(text: &str) -> Option<Line>
     chain_line_named(text.strip_prefix("chain")?)
 }
 
-/// Returns the masks of a port, line 0 first, that four characters name, line 3 first.
+/// Parses the four characters of a port, line 3 first. Returns the masks, line 0 first.
 pub(crate) fn masks_named(text: &str) -> Option<[LineMask; 4]>
     ensures { result ≡ masks_named text.now }
 {

@@ -1,4 +1,4 @@
-//! The parts in the tables of a board text.
+//! Reads the parts from the tables of a board text.
 ghost use Rattle.std.specs.Prelude.{◌≡◌, ◌≤◌, ◌||◌, codes, map, is_none, length};
 ghost use Rattle.std.specs.List.{filter_map, list_any};
 ghost use Rattle.toml.specs.View.{view, table_view};
@@ -15,7 +15,7 @@ use mcs_model::limits::{
 use mcs_nibble::LineMask;
 use toml::{Table, Value};
 
-/// Returns the ROM that a value gives.
+/// Returns the ROM that a value describes, if it describes one.
 pub(crate) fn rom(value: &Value) -> Option<Numbered<Option<[LineMask; 4]>>>
     ensures { result ≡ part_of rom_in (view value.now) }
 {
@@ -28,7 +28,7 @@ pub(crate) fn rom(value: &Value) -> Option<Numbered<Option<[LineMask; 4]>>>
     })
 }
 
-/// Returns the bank of RAM that a value gives.
+/// Returns the RAM bank that a value describes, if it describes one.
 pub(crate) fn ram(value: &Value) -> Option<Numbered<u8>>
     ensures { result ≡ part_of ram_in (view value.now) }
 {
@@ -41,7 +41,7 @@ pub(crate) fn ram(value: &Value) -> Option<Numbered<u8>>
     })
 }
 
-/// Returns the chain that a value gives.
+/// Returns the chain that a value describes, if it describes one.
 pub(crate) fn chain(value: &Value) -> Option<ChainPart>
     ensures { result ≡ part_of chain_in (view value.now) }
 {
@@ -56,28 +56,29 @@ pub(crate) fn chain(value: &Value) -> Option<ChainPart>
     })
 }
 
-/// Returns the line of the lamp that a value gives.
+/// Returns the line of the lamp that a value describes, if it describes one.
 pub(crate) fn lamp(value: &Value) -> Option<Line>
     ensures { result ≡ part_of lamp_in (view value.now) }
 {
     line_at(value.as_table()?, "line")
 }
 
-/// Returns true if a value is no line.
+/// Returns true if a value does not name a line.
 pub(crate) fn is_no_line(value: &Value) -> bool
     ensures { result ≡ is_no_line (view value.now) }
 {
     line_in(value).is_none()
 }
 
-/// Returns true if some value is no line.
+/// Returns true if at least one of the values does not name a line.
 fn has_no_line(values: &[Value]) -> bool
     ensures { result ≡ list_any (λ v. is_no_line (view v)) values.now }
 {
     values.iter().any(|value| is_no_line(value))
 }
 
-/// Returns true if the columns of a key matrix are no array, none at all, or not all lines.
+/// Returns true if the columns of a key matrix are not an array, are empty, or contain a value that
+/// does not name a line.
 pub(crate) fn has_bad_columns(table: &Table) -> bool
     ensures { result ≡ has_bad_columns (table_view table.now) }
 {
@@ -85,7 +86,7 @@ pub(crate) fn has_bad_columns(table: &Table) -> bool
     columns.is_empty() || has_no_line(columns)
 }
 
-/// Returns true if a number of a key matrix is none, or out of its range.
+/// Returns true if a number of a key matrix is missing, is not an integer, or is out of range.
 pub(crate) fn has_bad_numbers(table: &Table) -> bool
     ensures { result ≡ is_none (matrix_in (table_view table.now)) }
 {
@@ -98,7 +99,7 @@ pub(crate) fn has_bad_numbers(table: &Table) -> bool
     number_at(table, "rows", 1, KEY_ROWS).is_none()
 }
 
-/// Returns the key matrix that a table gives.
+/// Returns the key matrix that a table describes, if it describes one.
 pub(crate) fn matrix(table: &Table) -> Option<KeyMatrix>
     requires { length (values_at (codes "columns") (table_view table.now)) ≤ KEY_COLUMNS }
     ensures { result ≡ matrix_in (table_view table.now) }
@@ -114,7 +115,7 @@ pub(crate) fn matrix(table: &Table) -> Option<KeyMatrix>
     })
 }
 
-/// Returns the lines that values name.
+/// Returns the lines that the values name, without the values that do not name a line.
 fn columns(values: &[Value]) -> ArrayVec<Line, KEY_COLUMNS>
     requires { length values.now ≤ KEY_COLUMNS }
     ensures { result.items ≡ filter_map line_in (map view values.now) }
@@ -128,7 +129,7 @@ fn columns(values: &[Value]) -> ArrayVec<Line, KEY_COLUMNS>
     columns
 }
 
-/// Returns the ROMs that values give.
+/// Returns the ROMs that the values describe, without the values that do not describe one.
 pub(crate) fn roms(values: &[Value]) -> ArrayVec<Numbered<Option<[LineMask; 4]>>, ROMS>
     requires { length values.now ≤ ROMS }
     ensures { result.items ≡ filter_map (part_of rom_in) (map view values.now) }
@@ -142,7 +143,7 @@ pub(crate) fn roms(values: &[Value]) -> ArrayVec<Numbered<Option<[LineMask; 4]>>
     roms
 }
 
-/// Returns the banks of RAM that values give.
+/// Returns the RAM banks that the values describe, without the values that do not describe one.
 pub(crate) fn rams(values: &[Value]) -> ArrayVec<Numbered<u8>, BANKS>
     requires { length values.now ≤ BANKS }
     ensures { result.items ≡ filter_map (part_of ram_in) (map view values.now) }
@@ -156,7 +157,7 @@ pub(crate) fn rams(values: &[Value]) -> ArrayVec<Numbered<u8>, BANKS>
     rams
 }
 
-/// Returns the chains that values give.
+/// Returns the chains that the values describe, without the values that do not describe one.
 pub(crate) fn chains(values: &[Value]) -> ArrayVec<ChainPart, CHAINS>
     requires { length values.now ≤ CHAINS }
     ensures { result.items ≡ filter_map (part_of chain_in) (map view values.now) }
@@ -170,7 +171,8 @@ pub(crate) fn chains(values: &[Value]) -> ArrayVec<ChainPart, CHAINS>
     chains
 }
 
-/// Returns the lines of the lamps that values give.
+/// Returns the lines of the lamps that the values describe, without the values that do not describe
+/// one.
 pub(crate) fn lamps(values: &[Value]) -> ArrayVec<Line, LAMPS>
     requires { length values.now ≤ LAMPS }
     ensures { result.items ≡ filter_map (part_of lamp_in) (map view values.now) }

@@ -1,4 +1,4 @@
-//! The board of a text.
+//! Reads a board from its text.
 ghost use Rattle.std.specs.Prelude.{◌≡◌, ◌==◌, ◌≤◌, ◌||◌, not, false, length, option_and_then, option_map, string_bytes, Err};
 ghost use Rattle.std.specs.List.{list_any};
 ghost use Rattle.std.specs.BTreeMap.{keys};
@@ -22,14 +22,14 @@ use mcs_nibble::LineMask;
 use std::alloc::Global;
 use toml::{Table, Value};
 
-/// Returns true if there is a key at the top that no board has.
+/// Returns true if the table has an unknown top-level key.
 fn has_other_board_key(table: &Table) -> bool
     ensures { result ≡ list_any (λ key. not (is_board_key (string_bytes key))) (keys table.now) }
 {
     table.keys().any(|key| !is_board_key(key.as_str()))
 }
 
-/// Returns true if a table has a key that the tables of a section do not have.
+/// Returns true if a table has a key that is unknown in the section.
 fn has_key_beside(section: Section, table: &Table) -> bool
     ensures { result
         ≡ list_any (λ key. not (is_table_key section (string_bytes key))) (keys table.now) }
@@ -37,8 +37,7 @@ fn has_key_beside(section: Section, table: &Table) -> bool
     table.keys().any(|key| !section.has_key(key.as_str()))
 }
 
-/// Returns true if a value in the place of a section's table is a table with a key that the
-/// section's tables do not have.
+/// Returns true if a section entry is a table with a key that is unknown in the section.
 fn has_other_key(section: Section, value: &Value) -> bool
     ensures { result ≡ has_other_key section (view value.now) }
 {
@@ -48,7 +47,7 @@ fn has_other_key(section: Section, value: &Value) -> bool
     }
 }
 
-/// Returns true if a table lacks a key of a section's tables.
+/// Returns true if a table lacks a required key of the section.
 fn lacks_one_of(section: Section, table: &Table) -> bool
     ensures { result ≡ lacks_one_of (table_keys section) (table_view table.now) }
 {
@@ -66,8 +65,7 @@ fn lacks_one_of(section: Section, table: &Table) -> bool
     }
 }
 
-/// Returns true if a value in the place of a section's table is a table that lacks a key of the
-/// section's tables.
+/// Returns true if a section entry is a table that lacks a required key of the section.
 fn lacks_key(section: Section, value: &Value) -> bool
     ensures { result ≡ lacks_key section (view value.now) }
 {
@@ -77,7 +75,7 @@ fn lacks_key(section: Section, value: &Value) -> bool
     }
 }
 
-/// Returns true if a value is no key matrix.
+/// Returns true if a value does not describe a key matrix.
 fn is_no_matrix(value: &Value) -> bool
     ensures { result ≡ is_malformed Section.Keys (view value.now) }
 {
@@ -87,7 +85,7 @@ fn is_no_matrix(value: &Value) -> bool
     }
 }
 
-/// Returns true if a value in the place of a section's table does not give its part.
+/// Returns true if a section entry does not describe a part of the section's kind.
 fn is_malformed(section: Section, value: &Value) -> bool
     ensures { result ≡ is_malformed section (view value.now) }
 {
@@ -100,7 +98,7 @@ fn is_malformed(section: Section, value: &Value) -> bool
     }
 }
 
-/// Returns true if a value in the place of a section's table has a flaw.
+/// Returns true if a section entry has the flaw.
 pub(crate) fn has_flaw(flaw: Flaw, section: Section, value: &Value) -> bool
     ensures { result ≡ has_flaw flaw section (view value.now) }
 {
@@ -111,14 +109,14 @@ pub(crate) fn has_flaw(flaw: Flaw, section: Section, value: &Value) -> bool
     }
 }
 
-/// Returns true if some value of an array has a flaw.
+/// Returns true if an element of the array has the flaw.
 fn any_flawed(flaw: Flaw, section: Section, values: &[Value]) -> bool
     ensures { result ≡ list_any (λ v. has_flaw flaw section (view v)) values.now }
 {
     values.iter().any(|value| has_flaw(flaw, section, value))
 }
 
-/// Returns true if some value of the array at a section's key has a flaw.
+/// Returns true if an element of the array at a section's key has the flaw.
 fn has_flaw_in_array(flaw: Flaw, table: &Table, section: Section) -> bool
     ensures { result ≡ list_any (has_flaw flaw section)
         (values_at (section_key section) (table_view table.now)) }
@@ -126,7 +124,7 @@ fn has_flaw_in_array(flaw: Flaw, table: &Table, section: Section) -> bool
     any_flawed(flaw, section, values_at(table, section.key()))
 }
 
-/// Returns true if some value in the place of a section's tables has a flaw.
+/// Returns true if an entry of the section has the flaw.
 fn has_flaw_in(flaw: Flaw, table: &Table, section: Section) -> bool
     ensures { result ≡ list_any (has_flaw flaw section)
         (section_values section (table_view table.now)) }
@@ -142,7 +140,7 @@ fn has_flaw_in(flaw: Flaw, table: &Table, section: Section) -> bool
     }
 }
 
-/// Returns true if some section of a table has a flaw.
+/// Returns true if an entry of any section has the flaw.
 fn has_flaw_anywhere(flaw: Flaw, table: &Table) -> bool
     ensures { result ≡ any_section (has_flaw flaw) (table_view table.now) }
 {
@@ -151,21 +149,21 @@ fn has_flaw_anywhere(flaw: Flaw, table: &Table) -> bool
         .any(|section| has_flaw_in(flaw, table, *section))
 }
 
-/// Returns true if a key is not known, at the top or in a table of a section.
+/// Returns true if a key is unknown, at the top level or in a table of a section.
 fn has_unknown_key(table: &Table) -> bool
     ensures { result ≡ has_unknown_key (table_view table.now) }
 {
     has_other_board_key(table) || has_flaw_anywhere(Flaw::UnknownKey, table)
 }
 
-/// Returns true if a table of a section lacks a key.
+/// Returns true if a table of a section lacks a required key.
 fn has_missing_key(table: &Table) -> bool
     ensures { result ≡ has_missing_key (table_view table.now) }
 {
     has_flaw_anywhere(Flaw::MissingKey, table)
 }
 
-/// Returns true if the value at the key of a section that has an array is no array.
+/// Returns true if a section needs an array and its key has another value.
 pub(crate) fn lacks_array(table: &Table, section: Section) -> bool
     ensures { result ≡ lacks_array (table_view table.now) section }
 {
@@ -185,7 +183,7 @@ fn lacks_an_array(table: &Table) -> bool
         .any(|section| lacks_array(table, *section))
 }
 
-/// Returns true if a value is of another type or form, or a number out of its range.
+/// Returns true if a value has the wrong type or form, or a number is out of its range.
 fn has_malformed_value(table: &Table) -> bool
     ensures { result ≡ has_malformed_value (table_view table.now) }
 {
@@ -199,7 +197,8 @@ fn keys_table(table: &Table) -> Option<&Table>
     member(table, "keys")?.as_table()
 }
 
-/// Returns the count of columns of the key matrix; 0 if there is none.
+/// Returns the number of elements in the `columns` array of the key matrix, or 0 if there is no
+/// such array.
 pub(crate) fn column_count(table: &Table) -> usize
     ensures { result ≡ length (column_values (table_view table.now)) }
 {
@@ -228,14 +227,14 @@ fn has_too_many(table: &Table) -> bool
     count_at(table, "lamp") > LAMPS
 }
 
-/// Returns true if some part has a number.
+/// Returns true if a part has the given number.
 pub(crate) fn has_number<T: Copy>(parts: &[Numbered<T>], number: u8) -> bool
     ensures { result ≡ list_any (λ q. q.number == number) parts.now }
 {
     parts.iter().any(|part| part.number == number)
 }
 
-/// Returns true if two parts have one number.
+/// Returns true if two parts have the same number.
 #[tactic(auto, using(crate::proofs::Seen::double_from))]
 fn has_double<T: Copy>(parts: &[Numbered<T>]) -> bool
     ensures { result ≡ has_double parts.now }
@@ -248,7 +247,7 @@ fn has_double<T: Copy>(parts: &[Numbered<T>]) -> bool
     false
 }
 
-/// Returns the part of a number, or the value for none.
+/// Returns the part with the given number, or `none` if no part has it.
 #[tactic(auto, using(crate::proofs::Seen::part_from))]
 fn part_at<T: Copy>(parts: &[Numbered<T>], none: T, number: u8) -> T
     ensures { result ≡ part_at none parts.now number }
@@ -261,7 +260,8 @@ fn part_at<T: Copy>(parts: &[Numbered<T>], none: T, number: u8) -> T
     none
 }
 
-/// Returns the parts by their numbers.
+/// Returns an array with each part at the index equal to its number, and `none` at all other
+/// indices.
 fn placed<T: Copy, const N: usize>(parts: &[Numbered<T>], none: T) -> [T; N]
     requires { N ≤ 256 }
     ensures { result ≡ table_of N (part_at none parts.now) }
@@ -273,7 +273,7 @@ fn placed<T: Copy, const N: usize>(parts: &[Numbered<T>], none: T) -> [T; N]
     placed
 }
 
-/// Returns the key matrix of a table, if it has one.
+/// Returns the key matrix that the table of a board text describes, if it describes one.
 fn matrix_of(table: &Table) -> Option<KeyMatrix>
     requires { length (column_values (table_view table.now)) ≤ KEY_COLUMNS }
     ensures { result ≡ option_and_then matrix_in (keys_table (table_view table.now)) }
@@ -281,7 +281,7 @@ fn matrix_of(table: &Table) -> Option<KeyMatrix>
     matrix(keys_table(table)?)
 }
 
-/// Returns the parts that a table gives.
+/// Returns the parts that a table describes.
 #[tactic(auto, using(crate::proofs::Seen::length_seen))]
 pub(crate) fn parts_in(
     table: &Table,
@@ -302,14 +302,15 @@ pub(crate) fn parts_in(
     }
 }
 
-/// Returns the board of parts, or the error in them.
+/// Returns the board with the given parts, or the first error in them.
 fn board_of_parts(parts: BoardParts) -> Result<Board, WiringFault>
     ensures { result ≡ judgement_of parts (board_fault_of parts) }
 {
     Ok(Board::of(parts)?)
 }
 
-/// Returns the board of a table without too many parts.
+/// Returns the board that a table describes, or error 24, 25 or 26. The table must have passed the
+/// other checks.
 #[tactic(auto, using(crate::proofs::Seen::length_seen))]
 fn board_within_limits(table: &Table) -> Result<Board, WiringFault>
     requires no_bad_value { has_malformed_value (table_view table.now) ≡ false }
@@ -324,7 +325,7 @@ fn board_within_limits(table: &Table) -> Result<Board, WiringFault>
     board_of_parts(parts_in(table, &roms, &rams))
 }
 
-/// Returns the board that a table describes, or the first refusal that holds of it.
+/// Returns the board that a table describes, or the first error that applies to the table.
 #[tactic(auto, using(crate::proofs::Limits::within), unfolding(crate::specs::Wiring::board_of_table))]
 pub(crate) fn board_of_table(table: &Table) -> Result<Board, WiringFault>
     ensures { result ≡ board_of_table (table_view table.now) }
@@ -344,11 +345,11 @@ pub(crate) fn board_of_table(table: &Table) -> Result<Board, WiringFault>
     board_within_limits(table)
 }
 
-/// Returns the board of a text in TOML, or the first refusal that holds of it.
+/// Returns the board that a text in TOML describes, or the first error that applies to the text.
 pub fn board_of(alloc: Global, text: &str) -> Result<Board, WiringFault>
     ensures answers { ReadsBoard result (board_of_text text.now) }
 
-    // A text of blanks and comments alone has a board, whatever the memory.
+    // A text of only blanks and comments never gives `NoMemory`.
     ensures memory { result ≡ Err WiringFault.NoMemory → ¬ IsBlank text.now }
 {
     match toml::table_from_str(alloc, text) {

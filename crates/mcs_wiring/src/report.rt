@@ -1,4 +1,4 @@
-//! The report on a board text: that it is valid, or its refusal with the part that is wrong.
+//! Reports that a board text is valid, or its error and the part that has the error.
 ghost use Rattle.std.specs.Prelude.{◌≡◌, ◌++◌, ◌∷◌, [], ◌<◌, length, codes, string_bytes, Err, IfOk, OnOk, MatchOption};
 ghost use Rattle.std.specs.List.{list_all, slice_split};
 ghost use Rattle.std.specs.Fmt.{decimal};
@@ -17,7 +17,7 @@ use crate::values::{count_at, member};
 use std::alloc::{AllocError, Global};
 use toml::Table;
 
-/// Returns true if a table has a part.
+/// Returns true if a table contains a part. The key of a part in a section is not checked.
 fn stands_in(table: &Table, part: Part<'_>) -> bool
     ensures { result ≡ stands_in (part_view part.entry) (table_view table.now) }
 {
@@ -31,7 +31,7 @@ fn stands_in(table: &Table, part: Part<'_>) -> bool
     }
 }
 
-/// Returns true if a text is TOML that has a part. It fails if memory is refused.
+/// Returns true if a text is TOML and contains a part. Fails if allocation fails.
 fn has_part(alloc: Global, text: &str, part: Part<'_>) -> Result<bool, AllocError>
     ensures { IfOk result (λ has. has ≡ has_part (part_view part.entry) text.now) }
 {
@@ -42,7 +42,7 @@ fn has_part(alloc: Global, text: &str, part: Part<'_>) -> Result<bool, AllocErro
     }
 }
 
-/// Returns true if a text is TOML. It fails if memory is refused.
+/// Returns true if a text is TOML. Fails if allocation fails.
 fn is_toml(alloc: Global, text: &str) -> Result<bool, AllocError>
     ensures { IfOk result (λ is. is ≡ is_toml text.now) }
 {
@@ -53,7 +53,7 @@ fn is_toml(alloc: Global, text: &str) -> Result<bool, AllocError>
     }
 }
 
-/// Returns the first line, and the text after its line feed, if there is one.
+/// Returns the first line and the text after its line feed, or none if there is no line feed.
 fn first_line(text: &str) -> Option<(&str, &str)>
     ensures { MatchOption result (slice_split is_line_feed text.now ≡ text.now ∷ [])
         (λ x. (slice_split is_line_feed text.now ≡ x.0.now ∷ slice_split is_line_feed x.1.now)
@@ -62,7 +62,7 @@ fn first_line(text: &str) -> Option<(&str, &str)>
     text.split_once('\n')
 }
 
-/// Adds a line and its line feed. It fails if memory is refused.
+/// Appends a line and a line feed. Fails if allocation fails.
 fn push_line(text: &mut String, line: &str) -> Result<(), AllocError>
     ensures { OnOk result (string_bytes text.new ≡ string_bytes text.old ++ as_line line.now) }
 {
@@ -71,7 +71,8 @@ fn push_line(text: &mut String, line: &str) -> Result<(), AllocError>
     Ok(())
 }
 
-/// Returns the first line with which a text has a part. It fails if memory is refused.
+/// Returns the number of the first line after which the text so far is TOML that contains the part.
+/// Fails if allocation fails.
 #[tactic(auto, using(crate::proofs::LineSteps::from_step), unfolding(crate::specs::Parts::line_of_part))]
 fn line_of_part(alloc: Global, text: &str, part: Part<'_>) -> Result<usize, AllocError>
     ensures { IfOk result (λ line. line ≡ line_of_part text.now (part_view part.entry)) }
@@ -90,7 +91,8 @@ fn line_of_part(alloc: Global, text: &str, part: Part<'_>) -> Result<usize, Allo
     Ok(number)
 }
 
-/// Returns the line after the longest beginning that is TOML. It fails if memory is refused.
+/// Returns the number of the line after the longest run of leading lines that is TOML. Fails if
+/// allocation fails.
 #[tactic(auto, using(crate::proofs::LineSteps::after_step), unfolding(crate::specs::Parts::line_after_toml))]
 fn line_after_toml(alloc: Global, text: &str) -> Result<usize, AllocError>
     ensures { IfOk result (λ line. line ≡ line_after_toml text.now) }
@@ -110,7 +112,7 @@ fn line_after_toml(alloc: Global, text: &str) -> Result<usize, AllocError>
     Ok(found)
 }
 
-/// Returns true if a key has only letters, digits, `_` and `-`.
+/// Returns true if a key consists only of letters, digits, `_` and `-`.
 fn is_bare(key: &str) -> bool
     ensures { result ≡ list_all is_bare_byte key.now }
 {
@@ -119,7 +121,7 @@ fn is_bare(key: &str) -> bool
     )
 }
 
-/// Returns a key as the report shows it: its name, or `?`.
+/// Returns a key as the report shows it: the key itself, or `?` if it is empty or needs quotes.
 fn key_name<'a>(key: &'a str) -> &'a str
     ensures { result.now ≡ key_name key.now }
 {
@@ -163,7 +165,7 @@ fn push_key(out: &mut String, key: Option<&str>) -> Result<(), AllocError>
     }
 }
 
-/// Writes the refusal of a text, with its line and the part that is wrong.
+/// Appends a refusal with its number, its line, and the part that has the error.
 fn push_part(out: &mut String, number: u8, line: usize, part: Part<'_>) -> Result<(), AllocError>
     ensures { OnOk result (string_bytes out.new
         ≡ string_bytes out.old ++ refusal_text number line (part_view part.entry)) }
@@ -176,7 +178,7 @@ fn push_part(out: &mut String, number: u8, line: usize, part: Part<'_>) -> Resul
     Ok(())
 }
 
-/// Writes the refusal of a table, with the part that is wrong.
+/// Appends the refusal of a table, with the part that has the error, if there is one.
 fn push_refusal(
     alloc: Global,
     out: &mut String,
@@ -198,7 +200,7 @@ fn push_refusal(
     }
 }
 
-/// Returns the report on a table: that it has a board, or its refusal with the part that is wrong.
+/// Returns the report on a table: `wiring valid`, or the refusal with the part that has the error.
 fn table_report(alloc: Global, text: &str, table: &Table) -> Result<String, AllocError>
     ensures { IfOk result (λ report. string_bytes report
         ≡ judged_text text.now (table_view table.now) (board_of_table (table_view table.now))) }
@@ -213,7 +215,7 @@ fn table_report(alloc: Global, text: &str, table: &Table) -> Result<String, Allo
     }
 }
 
-/// Returns the report on a text that is not TOML.
+/// Returns the report on a text that is not TOML: `no 20` and a line number.
 fn toml_report(alloc: Global, text: &str) -> Result<String, AllocError>
     ensures { IfOk result (λ report. string_bytes report
         ≡ as_line (codes "no 20 line " ++ decimal (line_after_toml text.now))) }
@@ -222,8 +224,8 @@ fn toml_report(alloc: Global, text: &str) -> Result<String, AllocError>
     format!(in alloc; "no 20 line {line}\n")
 }
 
-/// Returns the report on a board text: `wiring valid`, or its refusal with the line and the part
-/// that is wrong, as `no 25 line 6 lamp 2 key line`. It fails if memory is refused.
+/// Returns the report on a board text: `wiring valid`, or the refusal with the line and the part
+/// that has the error, as in `no 25 line 6 lamp 2 key line`. Fails if allocation fails.
 #[tactic(auto, unfolding(crate::specs::Parts::wiring_text))]
 pub fn wiring_text(alloc: Global, text: &str) -> Result<String, AllocError>
     ensures { IfOk result (λ report. string_bytes report ≡ wiring_text text.now) }

@@ -2,42 +2,42 @@
 ghost use Rattle.std.specs.Prelude.{◌≡◌};
 ghost use Rattle.mcs_wiring.specs.Format.{is_table_key, section_key, is_board_key};
 
-/// A section of a board text: a key at the top, and its tables.
+/// A section of a board text: a top-level key and its tables.
 #[derive(Clone, Copy)]
 pub(crate) enum Section {
-    /// The ROMs, a table each.
+    /// The ROMs, one table each.
     Rom,
-    /// The banks of RAM, a table each.
+    /// The RAM banks, one table each.
     Ram,
-    /// The chains of shift registers, a table each.
+    /// The shift-register chains, one table each.
     Chain,
     /// The key matrix, one table.
     Keys,
-    /// The lamps, a table each.
+    /// The lamps, one table each.
     Lamp,
 }
 
-/// A flaw of a section by itself.
+/// An error in a section that can be found without the other sections.
 #[derive(Clone, Copy)]
 pub(crate) enum Flaw {
-    /// A key that its tables do not have.
+    /// A table has a key that is unknown in the section.
     UnknownKey,
-    /// A table lacks a key.
+    /// A table lacks a required key.
     MissingKey,
-    /// A value of another type or form, or a number out of its range.
+    /// A value of the wrong type or form, or a number out of its range.
     BadValue,
 }
 
-/// A part with the number of its chip or of its bank.
+/// A part with its chip or bank number.
 #[derive(Clone, Copy, Default)]
 pub(crate) struct Numbered<T> {
-    /// The number.
+    /// The chip number of a ROM, or the number of a RAM bank.
     pub(crate) number: u8,
-    /// The part.
+    /// The properties of the part.
     pub(crate) part: T,
 }
 
-/// Returns true if a key may be at the top.
+/// Returns true if a key is a known top-level key.
 pub(crate) fn is_board_key(key: &str) -> bool
     ensures { result ≡ is_board_key key.now }
 {
@@ -45,7 +45,7 @@ pub(crate) fn is_board_key(key: &str) -> bool
 }
 
 impl Section {
-    /// All sections, in the order of a board text.
+    /// All sections, in the order in which a board text lists them.
     pub(crate) const ALL: [Section; 5] = [
         Section::Rom,
         Section::Ram,
@@ -54,7 +54,7 @@ impl Section {
         Section::Lamp,
     ];
 
-    /// Returns the key of the section at the top.
+    /// Returns the top-level key of the section.
     pub(crate) fn key(self) -> &'static str
         ensures { result.now ≡ section_key self }
     {
@@ -67,7 +67,7 @@ impl Section {
         }
     }
 
-    /// Returns true if the tables of the section have a key.
+    /// Returns true if a key is known in the section's tables.
     pub(crate) fn has_key(self, key: &str) -> bool
         ensures { result ≡ is_table_key self key.now }
     {

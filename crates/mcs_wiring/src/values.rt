@@ -1,4 +1,4 @@
-//! The values in the table of a board text.
+//! Reads values from the table of a board text.
 ghost use Rattle.std.specs.Prelude.{◌≡◌, option_map, map, is_none, length};
 ghost use Rattle.toml.specs.Data.{get_member};
 ghost use Rattle.toml.specs.View.{view, table_view};
@@ -22,7 +22,7 @@ pub(crate) fn lacks(table: &Table, key: &str) -> bool
     member(table, key).is_none()
 }
 
-/// Returns the values of the array at a key; none if there is no array at the key.
+/// Returns the elements of the array at a key, or none if there is no array.
 pub(crate) fn values_at<'a>(table: &'a Table, key: &str) -> &'a [Value]
     ensures { map view result.now ≡ values_at key.now (table_view table.now) }
 {
@@ -32,7 +32,7 @@ pub(crate) fn values_at<'a>(table: &'a Table, key: &str) -> &'a [Value]
     }
 }
 
-/// Returns the number from `least` to `most` at a key, if there is one.
+/// Returns the integer at a key if it is in the range `least` to `most`.
 pub(crate) fn number_at(table: &Table, key: &str, least: u8, most: u8) -> Option<u8>
     ensures { result ≡ number_at key.now least most (table_view table.now) }
 {
@@ -57,7 +57,7 @@ pub(crate) fn line_at(table: &Table, key: &str) -> Option<Line>
     line_in(member(table, key)?)
 }
 
-/// Returns true if the value at a key is something else than an array.
+/// Returns true if a key has a value that is not an array.
 pub(crate) fn has_no_array_at(table: &Table, key: &str) -> bool
     ensures { result ≡ is_no_array (get_member key.now (table_view table.now)) }
 {
@@ -67,7 +67,7 @@ pub(crate) fn has_no_array_at(table: &Table, key: &str) -> bool
     }
 }
 
-/// Returns the count of values of the array at a key; 0 if there is no array at the key.
+/// Returns the number of elements of the array at a key, or 0 if there is no array.
 pub(crate) fn count_at(table: &Table, key: &str) -> usize
     ensures { result ≡ length (values_at key.now (table_view table.now)) }
 {

@@ -1,4 +1,4 @@
-//! The text of a board.
+//! Writes a board as text.
 ghost use Rattle.std.specs.Prelude.{◌≡◌, ◌<◌, ◌∷◌, [], ◌++◌, string_bytes, codes, OnOk, IfOk};
 ghost use Rattle.std.specs.List.{flat_map, join_by};
 ghost use Rattle.std.specs.Option.{option_map_or};
@@ -12,7 +12,8 @@ use mcs_model::limits::{BANKS, ROMS};
 use mcs_nibble::LineMask;
 use std::alloc::{AllocError, Global};
 
-/// Returns the character of line `k` in the name of a port.
+/// Returns the character for line `k` of a port: `i` for an input, `0` or `1` for an output that
+/// reads as 0 or 1.
 fn mask_text(masks: &[LineMask; 4], k: usize) -> &'static str
     requires { k < 4 }
     ensures { result.now ≡ mask_character (mask_at masks.now k) ∷ [] }
@@ -24,7 +25,7 @@ fn mask_text(masks: &[LineMask; 4], k: usize) -> &'static str
     }
 }
 
-/// Writes the name of a line, in quotes.
+/// Appends the name of a line in double quotes.
 fn push_name(out: &mut String, line: Line) -> Result<(), AllocError>
     ensures { OnOk result (string_bytes out.new ≡ string_bytes out.old ++ quoted_name line) }
 {
@@ -35,7 +36,7 @@ fn push_name(out: &mut String, line: Line) -> Result<(), AllocError>
     }
 }
 
-/// Writes the lines of a ROM, if it is there.
+/// Appends the lines of text for a ROM, if the board has it.
 fn push_rom(out: &mut String, chip: u8, masks: Option<[LineMask; 4]>) -> Result<(), AllocError>
     ensures { OnOk result (string_bytes out.new
         ≡ string_bytes out.old ++ text_of (rom_lines chip masks)) }
@@ -51,7 +52,7 @@ fn push_rom(out: &mut String, chip: u8, masks: Option<[LineMask; 4]>) -> Result<
     Ok(())
 }
 
-/// Writes the lines of a bank of RAM, if it has chips.
+/// Appends the lines of text for a RAM bank, if it has chips.
 fn push_ram(out: &mut String, bank: u8, chips: u8) -> Result<(), AllocError>
     ensures { OnOk result (string_bytes out.new
         ≡ string_bytes out.old ++ text_of (bank_lines bank chips)) }
@@ -62,7 +63,7 @@ fn push_ram(out: &mut String, bank: u8, chips: u8) -> Result<(), AllocError>
     write!(out, "[[ram]]\nbank = {bank}\nchips = {chips}\n")
 }
 
-/// Writes the lines of a chain.
+/// Appends the lines of text for a chain.
 fn push_chain(out: &mut String, chain: &ChainPart) -> Result<(), AllocError>
     ensures { OnOk result (string_bytes out.new
         ≡ string_bytes out.old ++ text_of (chain_lines chain.now)) }
@@ -76,7 +77,7 @@ fn push_chain(out: &mut String, chain: &ChainPart) -> Result<(), AllocError>
     Ok(())
 }
 
-/// Writes the names of columns, separated by `, `.
+/// Appends the quoted line names of columns, separated by `, `.
 fn push_names(out: &mut String, lines: &[Line]) -> Result<(), AllocError>
     ensures { OnOk result (string_bytes out.new
         ≡ string_bytes out.old ++ join_by quoted_name (codes ", ") lines.now) }
@@ -92,7 +93,7 @@ fn push_names(out: &mut String, lines: &[Line]) -> Result<(), AllocError>
     Ok(())
 }
 
-/// Writes the lines of a key matrix.
+/// Appends the lines of text for a key matrix.
 fn push_matrix(out: &mut String, keys: &KeyMatrix) -> Result<(), AllocError>
     ensures { OnOk result (string_bytes out.new
         ≡ string_bytes out.old ++ text_of (matrix_lines keys.now)) }
@@ -107,7 +108,7 @@ fn push_matrix(out: &mut String, keys: &KeyMatrix) -> Result<(), AllocError>
     Ok(())
 }
 
-/// Writes the lines of a lamp.
+/// Appends the lines of text for a lamp.
 fn push_lamp(out: &mut String, line: Line) -> Result<(), AllocError>
     ensures { OnOk result (string_bytes out.new
         ≡ string_bytes out.old ++ text_of (lamp_lines line)) }
@@ -118,7 +119,7 @@ fn push_lamp(out: &mut String, line: Line) -> Result<(), AllocError>
     Ok(())
 }
 
-/// Writes the ROMs of a board, by rising chip.
+/// Appends the text for the ROMs of a board, in ascending order of chip number.
 fn push_roms(out: &mut String, board: &Board) -> Result<(), AllocError>
     ensures { OnOk result (string_bytes out.new
         ≡ string_bytes out.old ++ roms_text board.now ROMS) }
@@ -129,7 +130,7 @@ fn push_roms(out: &mut String, board: &Board) -> Result<(), AllocError>
     Ok(())
 }
 
-/// Writes the banks of RAM of a board, by rising number.
+/// Appends the text for the RAM banks of a board, in ascending order of bank number.
 fn push_rams(out: &mut String, board: &Board) -> Result<(), AllocError>
     ensures { OnOk result (string_bytes out.new
         ≡ string_bytes out.old ++ rams_text board.now BANKS) }
@@ -140,7 +141,7 @@ fn push_rams(out: &mut String, board: &Board) -> Result<(), AllocError>
     Ok(())
 }
 
-/// Writes chains.
+/// Appends the text for all chains, in order.
 fn push_chains(out: &mut String, chains: &[ChainPart]) -> Result<(), AllocError>
     ensures { OnOk result (string_bytes out.new
         ≡ string_bytes out.old ++ flat_map (λ c. text_of (chain_lines c)) chains.now) }
@@ -151,7 +152,7 @@ fn push_chains(out: &mut String, chains: &[ChainPart]) -> Result<(), AllocError>
     Ok(())
 }
 
-/// Writes the key matrix, if there is one.
+/// Appends the text for the key matrix, if there is one.
 fn push_keys(out: &mut String, keys: &Option<KeyMatrix>) -> Result<(), AllocError>
     ensures { OnOk result (string_bytes out.new
         ≡ string_bytes out.old ++ text_of (option_map_or matrix_lines keys.now [])) }
@@ -162,7 +163,7 @@ fn push_keys(out: &mut String, keys: &Option<KeyMatrix>) -> Result<(), AllocErro
     }
 }
 
-/// Writes lamps.
+/// Appends the text for all lamps, in order.
 fn push_lamps(out: &mut String, lamps: &[Line]) -> Result<(), AllocError>
     ensures { OnOk result (string_bytes out.new
         ≡ string_bytes out.old ++ flat_map (λ l. text_of (lamp_lines l)) lamps.now) }
@@ -173,8 +174,8 @@ fn push_lamps(out: &mut String, lamps: &[Line]) -> Result<(), AllocError>
     Ok(())
 }
 
-/// Returns the text of a board in TOML: the ROMs by rising chip, the RAM by rising bank, the
-/// chains, the key matrix and the lamps. Each line ends with LF.
+/// Returns the text of a board in TOML: the ROMs and RAM banks in ascending order, then the chains,
+/// the key matrix and the lamps. Each line ends with LF.
 pub fn board_text(alloc: Global, board: &Board) -> Result<String, AllocError>
     ensures { IfOk result (λ s. string_bytes s ≡ board_text board.now) }
 {
