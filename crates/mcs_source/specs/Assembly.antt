@@ -1,6 +1,7 @@
--- The result of assembling a source text: the (address, byte) pairs that its lines spell, or its
--- first error. (Our own choice.) Each definition is about line i in the list of all lines. Lines
--- count from 0 here, and from 1 in an error. Errors have the numbers 30 to 37 (`RefusalNumbers`).
+-- The result of assembling a source text: the (address, byte) pairs that its lines emit, or its
+-- first error. (Our own choice.) Most definitions are about line i in the list of all lines. Lines
+-- are numbered from 0 here, and from 1 in an error. Errors have the numbers 30 to 37
+-- (`RefusalNumbers`).
 use Rattle.std.specs.Prelude.{ℕ, zero, suc, ◌+◌, slice_index_or, ◌/◌, ◌%◌, Bool, true, false, not, ◌&&◌, ◌||◌, List, [], ◌∷◌, length, map, find, Option, Some, None, is_some, option_map, Result, Ok, Err, nat_lt, nat_le, ◌==◌, if◌then◌else◌}
 use Rattle.std.specs.List.{list_any, list_all, flat_map, filter_map, range_with_len}
 use Rattle.std.specs.Str.{bytes_eq}
@@ -18,19 +19,19 @@ use Rattle.mcs_model.specs.Table.{word_count_of}
 use Rattle.mcs_model.specs.Options.{◌>>=◌}
 use Rattle.mcs_model.specs.WordTables.{beside}
 
--- ---- the lines of a text, and their readings
+-- ---- the lines of a text, parsed
 
--- the reading of each line; None if it has no form
+-- each line of a text, parsed; `None` for a line that does not parse
 abbrev pub read : List (List ℕ) → List (Option SourceLine)
 read lines = map (λ line. line_of (tokens line)) lines
 
--- the reading of line i
+-- line i, parsed
 abbrev pub ith_line : List (Option SourceLine) → ℕ → Option SourceLine
 ith_line lines i = slice_index_or lines i None
 
 -- ---- addresses
 
--- the number of bytes that a statement spells, whatever its names are
+-- the number of bytes that a statement emits; it does not depend on the values of names
 abbrev pub size : Statement → ℕ
 size (Origin n) = 0
 size (Data vs) = length vs
@@ -47,30 +48,30 @@ abbrev pub statement_size : Option Statement → ℕ
 statement_size None = 0
 statement_size (Some s) = size s
 
--- the address after a statement: an `ORG` sets it, any other statement adds its size
+-- the address after a statement: `ORG` sets it, any other statement adds its size
 abbrev pub next_statement : Option Statement → ℕ → ℕ
 next_statement (Some (Origin n)) at = n
 next_statement s at = at + statement_size s
 
--- the address after a line whose statement is at `at`
+-- the address after a line that starts at address `at`
 abbrev pub next_at : Option SourceLine → ℕ → ℕ
 next_at (Some (Code label s)) at = next_statement s at
 next_at (Some (Define w n)) at = at
 next_at None at = at
 
--- the address of the statement of line i; the first one is at 0
+-- the address at which line i starts; line 0 starts at address 0
 unfoldable pub address_of : List (Option SourceLine) → ℕ → ℕ
 address_of lines zero = 0
 address_of lines (suc i) = next_at (ith_line lines i) (address_of lines i)
 
 -- ---- names
 
--- names with their values, in the order of the lines that define them
+-- the defined names with their values, in the order of the lines that define them
 abbrev pub Names : Type 0
 Names = List (List ℕ × ℕ)
 
--- the name that a line defines, with its value: a label has the address of its line's statement (on
--- an `ORG` line: the address before it); a `NAME = NUMBER` has its number
+-- The name that a line defines, with its value. The value of a label is the address at which its
+-- line starts, even if the line is an `ORG`. The value in `NAME = NUMBER` is the number.
 abbrev pub definition : Option SourceLine → ℕ → Option (List ℕ × ℕ)
 definition (Some (Code label s)) at = option_map (λ w. (w, at)) label
 definition (Some (Define w n)) at = Some (w, n)
@@ -81,14 +82,14 @@ unfoldable pub names_before : List (Option SourceLine) → ℕ → Names
 names_before lines i =
     filter_map (λ j. definition (ith_line lines j) (address_of lines j)) (range_with_len 0 i)
 
--- the names of all lines
+-- the names that all lines define, with their values
 abbrev pub all_names : List (Option SourceLine) → Names
 all_names lines = names_before lines (length lines)
 
--- ---- errors of class one: 30, 31, 36, 37, and 33 of `ORG` and `=`. They show from a line and
--- those before it.
+-- ---- errors of class one: 30, 31, 36, 37, and 33 in `ORG` and `=`. They depend only on the line
+-- and the lines before it.
 
--- error 31: a name that an earlier line defines
+-- error 31: an earlier line defines the same name
 abbrev pub is_known : List ℕ → Names → Bool
 is_known w names = list_any (λ n. bytes_eq n.0 w) names
 
@@ -100,7 +101,7 @@ abbrev pub is_known_name : Option (List ℕ) → Names → Bool
 is_known_name None names = false
 is_known_name (Some w) names = is_known w names
 
--- error 33 of class one: the number of an `ORG` or of a `NAME = NUMBER` is above 4095
+-- error 33 of class one: the number in `ORG` or `NAME = NUMBER` is above 4095
 abbrev pub is_bad_origin : Option Statement → Bool
 is_bad_origin (Some (Origin n)) = not (nat_lt n 4096)
 is_bad_origin s = false
@@ -109,15 +110,16 @@ abbrev pub has_bad_number : SourceLine → Bool
 has_bad_number (Define w n) = not (nat_lt n 4096)
 has_bad_number (Code label s) = is_bad_origin s
 
--- error 36: a label at 4096, or a byte at 4096 or later (`at` is above 4096 only if an earlier line
--- has an error)
+-- Error 36: the line has a label at 4096 or above, or emits a byte at 4096 or above. The address
+-- `at` is above 4096 only if an earlier line has an error.
 abbrev pub passes_end : SourceLine → ℕ → Bool
 passes_end (Define w n) at = false
 passes_end (Code label s) at =
     (is_some label && nat_le 4096 at) || nat_lt 4096 (at + statement_size s)
 
--- the first of the errors 30, 33, 31, 37 and 36 that a line has, if any. Its statement is at `at`,
--- and the lines before it define `names`. Error 37 means that it defines one more than `NAMES`.
+-- The first of the errors 30, 33, 31, 37 and 36 that a line has, if any. The line starts at address
+-- `at`, and `names` are the names that earlier lines define. Error 37: the line defines a name
+-- after `NAMES` names are defined.
 abbrev pub fault_one : ℕ → Names → Option SourceLine → Option SourceFault
 fault_one at names None = Some BadStatement
 fault_one at names (Some line) =
@@ -126,13 +128,14 @@ fault_one at names (Some line) =
     if is_some (defined_name line) && nat_le NAMES (length names) then Some TooManyNames else
     if passes_end line at then Some PastEnd else None
 
--- the error of class one of line i, if it has one: it depends on this line and on those before it
+-- the class-one error of line i, if it has one; it depends only on this line and the lines before
+-- it
 unfoldable pub class_one_fault : List (Option SourceLine) → ℕ → Option SourceFault
 class_one_fault lines i = fault_one (address_of lines i) (names_before lines i) (ith_line lines i)
 
--- ---- the bytes of a line, when all names have their values
+-- ---- the bytes of a line, given the values of all names
 
--- the value of a name: the one from the first line that defines it, if there is such a line
+-- the value that the first definition of a name gives it, or `None` if no line defines the name
 abbrev pub value_of : List ℕ → Names → Option ℕ
 value_of w names = beside (λ name. bytes_eq name w) names
 
@@ -144,30 +147,30 @@ abbrev pub values_in : Names → List Operand → Option (List ℕ)
 values_in names [] = Some []
 values_in names (v ∷ vs) = value_in names v >>= λ n. values_in names vs >>= λ ns. Some (n ∷ ns)
 
--- error 32 if a value is unknown
+-- error 32 if a value is unknown, else the next step with the value
 abbrev pub if_known : {A B : Type 0} → Option A → (A → Result B SourceFault) → Result B SourceFault
 if_known None next = Err UnknownName
 if_known (Some x) next = next x
 
--- error 33 if a value is out of its range
+-- error 33 if a value is out of its range, else the next step
 abbrev pub if_in_range : {B : Type 0} → Bool → Result B SourceFault → Result B SourceFault
 if_in_range false next = Err OutOfRange
 if_in_range true next = next
 
--- error 34 if an address is off its page
+-- error 34 if an address is not on the page that the instruction can reach, else the next step
 abbrev pub if_on_page : {B : Type 0} → Bool → Result B SourceFault → Result B SourceFault
 if_on_page false next = Err WrongPage
 if_on_page true next = next
 
--- the page that JCN and ISZ at an address reach: that of the address after their two words (MCS-4
--- Users Manual, JCN and ISZ)
+-- the page that a JCN or ISZ at an address can reach: the page of the address after its two words
+-- (MCS-4 Users Manual, JCN and ISZ)
 abbrev pub near_page : ℕ → ℕ
 near_page at = page_of (at + 2)
 
 abbrev pub is_near : ℕ → ℕ → Bool
 is_near at t = t / 256 == near_page at
 
--- the bytes that a statement at an address spells, or the first of the errors 32, 33 and 34 that it
+-- the bytes that a statement at an address emits, or the first of the errors 32, 33 and 34 that it
 -- has
 abbrev pub statement_bytes : ℕ → Names → Statement → Result (List ℕ) SourceFault
 statement_bytes at names (Origin n) = Ok []
@@ -195,7 +198,7 @@ statement_bytes at names (Isz r w) =
     if_known (value_in names w) (λ t.
     if_in_range (nat_lt t 4096) (if_on_page (is_near at t) (Ok (spelling (op.Isz r (t % 256))))))
 
--- the bytes of a line whose statement is at an address
+-- the bytes that a line emits if it starts at an address, or its error
 abbrev pub line_bytes : ℕ → Names → Option SourceLine → Result (List ℕ) SourceFault
 line_bytes at names (Some (Code label (Some s))) = statement_bytes at names s
 line_bytes at names line = Ok []
@@ -204,35 +207,35 @@ abbrev pub bytes_or_none : Result (List ℕ) SourceFault → List ℕ
 bytes_or_none (Ok bytes) = bytes
 bytes_or_none (Err f) = []
 
--- the (address, byte) pairs of line i; none if it has one of the errors 32, 33 and 34
+-- the (address, byte) pairs that line i emits; empty if the line has error 32, 33 or 34
 abbrev pub line_pairs : List (Option SourceLine) → Names → ℕ → List (ℕ × ℕ)
 line_pairs lines names i =
     from_address (address_of lines i)
     (bytes_or_none (line_bytes (address_of lines i) names (ith_line lines i)))
 
--- the pairs of the lines before line i, line by line
+-- the (address, byte) pairs that the lines before line i emit, in line order
 unfoldable pub pairs_before : List (Option SourceLine) → Names → ℕ → List (ℕ × ℕ)
 pairs_before lines names i = flat_map (line_pairs lines names) (range_with_len 0 i)
 
--- ---- errors of class two: 32 to 35. They need the values of all names, and count only if no line
--- has one of class one.
+-- ---- errors of class two: 32 to 35. They depend on the values of all names, and are reported only
+-- if no line has a class-one error.
 
--- the first of the errors 32, 33, 34 and 35 that a line has, if any: of its bytes; else 35 if
--- `pairs`, those of the lines before it, have one of its addresses
+-- The first of the errors 32, 33, 34 and 35 that a line has, if any. It is the error in the line's
+-- bytes, else 35 if `pairs`, the pairs of earlier lines, contain one of the line's addresses.
 abbrev pub fault_two : ℕ → List (ℕ × ℕ) → Result (List ℕ) SourceFault → Option SourceFault
 fault_two at pairs (Err f) = Some f
 fault_two at pairs (Ok bytes) = if overlaps pairs at (length bytes) then Some Overlap else None
 
--- the error of class two of line i, if it has one: it depends on this line, on those before it and
+-- the class-two error of line i, if it has one; it depends on this line, on the lines before it and
 -- on the values of all names
 unfoldable pub class_two_fault : List (Option SourceLine) → Names → ℕ → Option SourceFault
 class_two_fault lines names i =
     fault_two (address_of lines i) (pairs_before lines names i)
     (line_bytes (address_of lines i) names (ith_line lines i))
 
--- ---- the whole
+-- ---- the whole text
 
--- the first of n lines that has an error: its number, which counts from 1, and the error
+-- the first of n lines that has an error: its number, counted from 1, and the error
 abbrev pub first_fault : (ℕ → Option SourceFault) → ℕ → Option (ℕ × SourceFault)
 first_fault fault n =
     find (λ i. is_some (fault i)) (range_with_len 0 n) >>= λ i. fault i >>= λ f. Some (i + 1, f)
@@ -247,15 +250,15 @@ abbrev pub unless_fault : {A E : Type 0} → Option E → Result A E → Result 
 unless_fault (Some f) answer = Err f
 unless_fault None answer = answer
 
--- the first error of class one if there is one, else the first one of class two, else the pairs of
--- all lines
+-- the first class-one error if there is one, else the first class-two error, else the pairs of all
+-- lines
 unfoldable pub assembly_of : List (Option SourceLine) → Result (List (ℕ × ℕ)) (ℕ × SourceFault)
 assembly_of lines =
     unless_fault (first_of_class_one lines)
     (unless_fault (first_of_class_two lines (all_names lines))
     (Ok (pairs_before lines (all_names lines) (length lines))))
 
--- the pairs that a text spells, in the order of its lines, or its first error with the number of
--- its line
+-- the (address, byte) pairs that a text emits, in line order, or its first error with the line
+-- number
 abbrev pub assembly_of_text : List ℕ → Result (List (ℕ × ℕ)) (ℕ × SourceFault)
 assembly_of_text text = assembly_of (read (lines_of text))

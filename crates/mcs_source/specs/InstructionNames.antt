@@ -1,10 +1,9 @@
--- The names of the instructions, as sources and listings write them. (MCS-4 Users Manual,
--- instruction set.)
+-- The mnemonics of the instructions in sources and listings. (MCS-4 Users Manual, instruction set.)
 use Rattle.std.specs.Prelude.{ℕ, List, codes}
 use Rattle.mcs_model.specs.declared.op.Op.{Op}
 use Rattle.mcs_model.specs.declared.op.Op.TheVariants.{Nop, Jcn, Fim, Src, Fin, Jin, Jun, Jms, Inc, Isz, Add, Sub, Ld, Xch, Bbl, Ldm, Wrm, Wmp, Wrr, Wr0, Wr1, Wr2, Wr3, Sbm, Rdm, Rdr, Adm, Rd0, Rd1, Rd2, Rd3, Clb, Clc, Iac, Cmc, Cma, Ral, Rar, Tcc, Dac, Tcs, Stc, Daa, Kbp, Dcl}
 
--- the name of an instruction
+-- the mnemonic of an instruction
 abbrev pub name : Op → List ℕ
 name Nop = codes "NOP"
 name (Jcn _ _) = codes "JCN"

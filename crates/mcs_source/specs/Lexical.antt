@@ -4,8 +4,8 @@ use Rattle.std.specs.List.{before_first, flat_map}
 use Rattle.std.specs.Char.{is_ascii_digit, is_ascii_uppercase, is_ascii_lowercase}
 use Rattle.mcs_model.specs.TextLines.{is_blank, words_of}
 
--- a word is a run of letters, digits and `_`; `Other` is a byte that no form of a line has, such as
--- one that is not ASCII
+-- A token. A word is a run of letters, digits and `_`. `Other` is any byte that is not allowed in a
+-- line, such as a non-ASCII byte.
 pub data Token : Type 0 where
   Word : List ℕ → Token
   Comma : Token
@@ -13,23 +13,23 @@ pub data Token : Type 0 where
   Equals : Token
   Other : Token
 
--- a letter, a digit or `_`
+-- true for a letter, a digit and `_`
 abbrev pub is_word_byte : ℕ → Bool
 is_word_byte b = ((is_ascii_digit b || is_ascii_uppercase b) || is_ascii_lowercase b) || b == 95
 
--- the token of a byte that is not in a word
+-- the token for a byte that is not part of a word
 abbrev pub symbol : ℕ → Token
 symbol b = if b == 44 then Comma else if b == 58 then Colon else if b == 61 then Equals else Other
 
--- a byte of a line; blanks separate a symbol from its neighbours
+-- a byte, with a space on each side if it is a symbol
 abbrev pub set_apart : ℕ → List ℕ
 set_apart b = if is_word_byte b || is_blank b then b ∷ [] else 32 ∷ b ∷ 32 ∷ []
 
--- the token of a piece without blanks: a word, or a byte that was separated
+-- the token for a run of bytes without blanks: a word or a single symbol
 abbrev pub token_of : List ℕ → Token
 token_of [] = Other
 token_of (b ∷ word) = if is_word_byte b then Word (b ∷ word) else symbol b
 
--- the tokens of a line; a `;` begins a comment
+-- the tokens of a line without its comment; a comment begins with `;`
 unfoldable pub tokens : List ℕ → List Token
 tokens line = map token_of (words_of (flat_map set_apart (before_first (λ b. b == 59) line)))

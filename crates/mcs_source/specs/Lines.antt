@@ -1,5 +1,5 @@
--- The reading of the tokens of a line: an optional label and an optional statement, or a definition
--- of a name. A comment is no token. (Our own choice, with the operands of the MCS-4 Users Manual.)
+-- The syntax of a source line: an optional label and an optional statement, or the definition of a
+-- name. Comments are not tokens. (Our own choice, with the operands of the MCS-4 Users Manual.)
 use Rattle.std.specs.Prelude.{ℕ, ◌-◌, Bool, false, not, ◌&&◌, ◌||◌, List, [], ◌∷◌, Option, Some, None, is_some, nat_le, ◌==◌, if◌then◌else◌, codes, length}
 use Rattle.std.specs.Str.{str_eq_ignore_ascii_case}
 use Rattle.std.specs.Char.{is_ascii_digit, is_ascii_uppercase, is_ascii_lowercase}
@@ -14,13 +14,13 @@ use Rattle.mcs_source.specs.declared.mnemonic.Mnemonic.{Mnemonic}
 use Rattle.mcs_source.specs.declared.mnemonic.Mnemonic.TheVariants as m
 use Rattle.mcs_model.specs.Options.{◌>>=◌}
 
--- a value as it is written
+-- an operand as written in the source
 pub data Operand : Type 0 where
   Number : ℕ → Operand
   Name : List ℕ → Operand
 
--- a statement as it is written, its operands in that order; `Whole` is an instruction without a
--- value among its operands, with its registers or pair
+-- A statement with its operands in source order. `Whole` is an instruction whose operands, if any,
+-- are only registers or a pair.
 pub data Statement : Type 0 where
   Origin : ℕ → Statement
   Data : List Operand → Statement
@@ -35,37 +35,38 @@ abbrev pub begins_name : List ℕ → Bool
 begins_name [] = false
 begins_name (b ∷ word) = (is_ascii_uppercase b || is_ascii_lowercase b) || b == 95
 
--- a decimal number up to 15 with no leading zero
+-- the number from 0 to 15 that decimal digits without a leading zero denote
 abbrev pub up_to_15 : List ℕ → Option ℕ
 up_to_15 (d ∷ []) = if is_ascii_digit d then Some (d - 48) else None
 up_to_15 (t ∷ d ∷ []) = if t == 49 && is_in_range 48 53 d then Some (d - 38) else None
 up_to_15 ds = None
 
--- the number of `R0` to `R15`, or `r0` to `r15`
+-- the register number in `R0` to `R15` or `r0` to `r15`
 abbrev pub register_named : List ℕ → Option ℕ
 register_named (b ∷ ds) = if b == 82 || b == 114 then up_to_15 ds else None
 register_named [] = None
 
--- the same of `P0` to `P7`, or `p0` to `p7`
+-- the pair number in `P0` to `P7` or `p0` to `p7`
 abbrev pub pair_named : List ℕ → Option ℕ
 pair_named (b ∷ d ∷ []) = if (b == 80 || b == 112) && is_in_range 48 55 d then Some (d - 48) else None
 pair_named word = None
 
--- a word that cannot be a name, in upper or lower case: a mnemonic, `ORG`, `DB`, `WPM`, a register
--- or a pair
+-- true if a word is reserved, in upper or lower case, and cannot be a name: a mnemonic, `ORG`,
+-- `DB`, `WPM`, a register or a pair
 unfoldable pub is_reserved : List ℕ → Bool
 is_reserved w =
     is_some (mnemonic_of w) || (str_eq_ignore_ascii_case w (codes "WPM")
     || (is_some (register_named w) || is_some (pair_named w)))
 
--- a name begins with a letter or `_`, has at most `NAME_BYTES` bytes, and is not reserved
+-- true if a word can be a name: it begins with a letter or `_`, has at most `NAME_BYTES` bytes, and
+-- is not reserved
 abbrev pub is_name : List ℕ → Bool
 is_name w = (begins_name w && nat_le (length w) NAME_BYTES) && not (is_reserved w)
 
 abbrev pub name_of : List ℕ → Option Operand
 name_of w = if is_name w then Some (Name w) else None
 
--- no word is both a number and a name
+-- the number as an operand if there is one (2^32 if it is larger), else the name; no word is both
 abbrev pub number_or : Option ℕ → Option Operand → Option Operand
 number_or (Some n) name = Some (Number (capped_number n))
 number_or None name = name
@@ -73,17 +74,17 @@ number_or None name = name
 abbrev pub operand_of : List ℕ → Option Operand
 operand_of w = number_or (number_written w) (name_of w)
 
--- the word, if there is nothing else
+-- the word, if it is the only token
 abbrev pub word_only : List Token → Option (List ℕ)
 word_only (Word w ∷ []) = Some w
 word_only ts = None
 
--- the word before a comma, and the part after the comma
+-- the word before a comma, and the tokens after the comma
 abbrev pub word_first : List Token → Option (List ℕ × List Token)
 word_first (Word w ∷ Comma ∷ ts) = Some (w, ts)
 word_first ts = None
 
--- the operand, if there is nothing else
+-- the operand, number, register or pair, if it is the only token
 abbrev pub one_operand : List Token → Option Operand
 one_operand ts = word_only ts >>= operand_of
 
@@ -96,7 +97,7 @@ one_register ts = word_only ts >>= register_named
 abbrev pub one_pair : List Token → Option ℕ
 one_pair ts = word_only ts >>= pair_named
 
--- the operand before a comma, and the part after the comma
+-- the operand, register or pair before a comma, and the tokens after the comma
 abbrev pub first_operand : List Token → Option (Operand × List Token)
 first_operand ts = word_first ts >>= λ x. operand_of x.0 >>= λ v. Some (v, x.1)
 
@@ -106,18 +107,18 @@ first_register ts = word_first ts >>= λ x. register_named x.0 >>= λ r. Some (r
 abbrev pub first_pair : List Token → Option (ℕ × List Token)
 first_pair ts = word_first ts >>= λ x. pair_named x.0 >>= λ p. Some (p, x.1)
 
--- one or more operands with commas between
+-- one or more operands, separated by commas
 unfoldable pub operands_of : List Token → Option (List Operand)
 operands_of (Word w ∷ []) = operand_of w >>= λ v. Some (v ∷ [])
 operands_of (Word w ∷ Comma ∷ more) = operand_of w >>= λ v. operands_of more >>= λ vs. Some (v ∷ vs)
 operands_of ts = None
 
--- an instruction without operands
+-- an instruction without operands, if no token follows it
 abbrev pub bare_statement : Op → List Token → Option Statement
 bare_statement o [] = Some (Whole o)
 bare_statement o (t ∷ ts) = None
 
--- the statement that a mnemonic begins, from the part after it
+-- the statement for a mnemonic and the tokens after it, or `None` if the operands do not fit
 abbrev pub after_mnemonic : Mnemonic → List Token → Option Statement
 after_mnemonic m.Org ts = one_number ts >>= λ n. Some (Origin n)
 after_mnemonic m.Db ts = operands_of ts >>= λ vs. Some (Data vs)
@@ -138,28 +139,30 @@ after_mnemonic m.Bbl ts = one_operand ts >>= λ v. Some (Bbl v)
 after_mnemonic m.Ldm ts = one_operand ts >>= λ v. Some (Ldm v)
 after_mnemonic (m.Bare o) ts = bare_statement o ts
 
--- the statement of some tokens, if they have the form of one
+-- the statement that the tokens form, or `None` if they do not form one
 unfoldable pub statement_of : List Token → Option Statement
 statement_of (Word w ∷ ts) = mnemonic_of w >>= λ k. after_mnemonic k ts
 statement_of ts = None
 
--- a line that has a form: `Code` with its label and its statement, if any, or `NAME = NUMBER`
+-- a line that parses: `Code` with an optional label and an optional statement, or `Define` for
+-- `NAME = NUMBER`
 pub data SourceLine : Type 0 where
   Code : Option (List ℕ) → Option Statement → SourceLine
   Define : List ℕ → ℕ → SourceLine
 
--- the line that has this label, if any, and then these tokens
+-- the line with the given label, if any, and the statement that the tokens form, if there are
+-- tokens
 abbrev pub rest_of : Option (List ℕ) → List Token → Option SourceLine
 rest_of label [] = Some (Code label None)
 rest_of label (t ∷ ts) = statement_of (t ∷ ts) >>= λ s. Some (Code label (Some s))
 
--- a line without a label
+-- the line that the tokens form if they do not begin with a label
 abbrev pub unlabelled : List Token → Option SourceLine
 unlabelled (Word w ∷ Equals ∷ ts) =
     if is_name w then (one_number ts >>= λ n. Some (Define w n)) else None
 unlabelled ts = rest_of None ts
 
--- the reading of a line, if it has a form
+-- the line that the tokens form, or `None` if they have no valid form
 abbrev pub line_of : List Token → Option SourceLine
 line_of (Word w ∷ Colon ∷ ts) = if is_name w then rest_of (Some w) ts else None
 line_of ts = unlabelled ts

@@ -1,11 +1,11 @@
--- The words that spell an instruction.
+-- The words that encode an instruction.
 use Rattle.std.specs.Prelude.{◌≡◌, take, ℕ, ◌<◌, [], ◌∷◌}
 use Rattle.mcs_model.specs.declared.op.Op.{Op}
 use Rattle.mcs_model.specs.Table.{word_count_of}
 use Rattle.mcs_model.specs.declared.op.Op.TheVariants.{Jcn, Fim, Src, Fin, Jin, Jun, Jms, Inc, Isz, Add, Sub, Ld, Xch, Bbl, Ldm}
 use Rattle.mcs_source.specs.Spelling.{spelling}
 
--- an instruction whose operands are in their ranges
+-- Holds if the operands of an instruction are in range.
 abbrev pub IsOp : Op → Type 0
 IsOp (Jcn c b) = (c < 16) × (b < 256)
 IsOp (Fim p b) = (p < 8) × (b < 256)
@@ -24,7 +24,7 @@ IsOp (Bbl r) = r < 16
 IsOp (Ldm r) = r < 16
 IsOp o = Unit {0}
 
--- two words spell an instruction: its operands are in their ranges, and its words are the first of
--- the two, or both
+-- Holds if two words encode an instruction: its operands are in range, and its encoding is the
+-- first word or both words.
 abbrev pub IsSpelledBy : ℕ → ℕ → Op → Type 0
 IsSpelledBy first second o = IsOp o × (spelling o ≡ take (word_count_of o) (first ∷ second ∷ []))

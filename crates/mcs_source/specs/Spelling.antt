@@ -1,5 +1,5 @@
--- The words of an instruction, in the order of the code table. (MCS-4 Users Manual, instruction
--- set.)
+-- The encoding of each instruction, in the order of the opcode table. (MCS-4 Users Manual,
+-- instruction set.)
 use Rattle.std.specs.Prelude.{ℕ, ◌+◌, ◌*◌, List, [], ◌∷◌}
 use Rattle.mcs_model.specs.declared.op.Op.{Op}
 use Rattle.mcs_model.specs.declared.op.Op.TheVariants.{Nop, Jcn, Fim, Src, Fin, Jin, Jun, Jms, Inc, Isz, Add, Sub, Ld, Xch, Bbl, Ldm, Wrm, Wmp, Wrr, Wr0, Wr1, Wr2, Wr3, Sbm, Rdm, Rdr, Adm, Rd0, Rd1, Rd2, Rd3, Clb, Clc, Iac, Cmc, Cma, Ral, Rar, Tcc, Dac, Tcs, Stc, Daa, Kbp, Dcl}
@@ -10,8 +10,8 @@ one code = code ∷ []
 abbrev pub two : ℕ → ℕ → List ℕ
 two code second = code ∷ second ∷ []
 
--- the words that spell an instruction; if its operands are in their ranges, `instruction_of` of
--- `Table` reads it back from them
+-- the words that encode an instruction; if its operands are in range, `instruction_of` of `Table`
+-- decodes these words as the instruction
 abbrev pub spelling : Op → List ℕ
 spelling Nop = one 0x00
 spelling (Jcn c b) = two (0x10 + c) b

@@ -1,5 +1,5 @@
--- The locations of the lines of a source text, the number of bytes that each one spells, and the
--- values of its names. (Our own choice.) Lines count from 0, as in `Assembly`.
+-- The address of each source line, the number of bytes that it emits, and the values of the names.
+-- (Our own choice.) Lines are numbered from 0, as in `Assembly`.
 use Rattle.std.specs.Prelude.{ℕ, List, length, map, Option, Result}
 use Rattle.std.specs.Result.{result_map_both}
 use Rattle.std.specs.List.{range_with_len}
@@ -9,11 +9,11 @@ use Rattle.mcs_source.specs.Lines.{SourceLine}
 use Rattle.mcs_source.specs.Assembly.{Names, read, address_of, all_names, line_pairs, assembly_of_text}
 use Rattle.mcs_model.specs.TextLines.{lines_of}
 
--- the address of the statement of line i, and the number of bytes that the line spells
+-- the address at which line i starts, and the number of bytes that it emits
 abbrev pub span : List (Option SourceLine) → Names → ℕ → Span
 span lines names i = record { at = address_of lines i; size = length (line_pairs lines names i) }
 
--- the span of each line before line i
+-- the spans of the lines before line i
 unfoldable pub spans_before : List (Option SourceLine) → Names → ℕ → List Span
 spans_before lines names i = map (span lines names) (range_with_len 0 i)
 
@@ -23,15 +23,15 @@ pub record Survey : Type 0 where
   pub spans : List Span
   pub names : Names
 
--- the survey of lines that have no error
+-- the survey of lines without an error
 abbrev pub survey_of : List (Option SourceLine) → Survey
 survey_of lines = record {
   spans = spans_before lines (all_names lines) (length lines);
   names = all_names lines;
 }
 
--- the survey of a text that assembles; for any other text its first error, as `assembly_of_text`
--- has it
+-- the survey of a text that assembles; for any other text, the same first error as in
+-- `assembly_of_text`
 abbrev pub survey_of_text : List ℕ → Result Survey (ℕ × SourceFault)
 survey_of_text text =
     result_map_both (λ pairs. survey_of (read (lines_of text))) (λ f. f) (assembly_of_text text)

@@ -1,5 +1,5 @@
--- The text of an instruction at an address, and the listing of a ROM.
--- (Names and operands: MCS-4 Users Manual, instruction set. Their spelling: our own choice.)
+-- The text of an instruction at an address, and the listing of a ROM. (Names and operands: MCS-4
+-- Users Manual, instruction set. Their format: our own choice.)
 use Rattle.std.specs.Prelude.{ℕ, zero, suc, ◌+◌, ◌-◌, ◌/◌, ◌%◌, List, [], ◌∷◌, ◌++◌, length, drop, codes, Option, Some, None, nat_lt, nat_le, if◌then◌else◌}
 use Rattle.std.specs.Fmt.{decimal}
 use Rattle.mcs_model.specs.declared.op.Op.{Op}
@@ -10,19 +10,19 @@ use Rattle.mcs_model.specs.Table.{instruction_of, word_count_of}
 use Rattle.mcs_source.specs.Assembly.{near_page}
 use Rattle.mcs_source.specs.InstructionNames.{name}
 
--- the three digits of an address, by its page and its lower eight bits
+-- the three hexadecimal digits of an address, from its page and its lower eight bits
 abbrev pub address_digits : ℕ → ℕ → List ℕ
 address_digits page word = hex_digit page ∷ hex_2 word
 
--- an address as `0xHHH`
+-- an address as `0xHHH`, from its page and its lower eight bits
 abbrev pub address : ℕ → ℕ → List ℕ
 address page word = codes "0x" ++ address_digits page word
 
 abbrev pub byte_text : ℕ → List ℕ
 byte_text b = codes "DB 0x" ++ hex_2 b
 
--- the operands of an instruction, as they follow the name: registers, pairs and small values in
--- decimal, bytes and addresses in hexadecimal
+-- the operands of an instruction after its mnemonic: registers, pairs and small values in decimal,
+-- bytes and addresses in hexadecimal
 abbrev pub operands : ℕ → Op → List ℕ
 operands at (Jcn c b) = codes " " ++ (decimal c ++ (codes ", " ++ address (near_page at) b))
 operands at (Fim p b) = codes " P" ++ (decimal p ++ (codes ", 0x" ++ hex_2 b))
@@ -41,26 +41,27 @@ operands at (Bbl d) = codes " " ++ decimal d
 operands at (Ldm d) = codes " " ++ decimal d
 operands at o = []
 
--- the text of an instruction at an address
+-- the text of an instruction at an address; a JCN or ISZ needs the address to show its target
 abbrev pub instruction_text : ℕ → Op → List ℕ
 instruction_text at o = name o ++ operands at o
 
--- the instruction read from byte b and the bytes `rest` after it, if it is complete in them; None
--- if the piece is the byte: outside the table, or its second word is past the end
+-- The instruction decoded from byte b and the bytes `rest` after it, if it is complete. `None` if b
+-- is listed as a single byte: b is not an opcode, or the second word is past the end.
 abbrev pub whole_or_byte : Option Op → ℕ → List ℕ → Option Op
 whole_or_byte None b rest = None
 whole_or_byte (Some o) b rest = if nat_le (word_count_of o) (1 + length rest) then Some o else None
 
--- the byte after the first, or 0 if there is none, which `whole_or_byte` leaves without effect
+-- the byte after the first, or 0 if there is none; `whole_or_byte` makes the 0 irrelevant
 abbrev pub second_word : List ℕ → ℕ
 second_word [] = 0
 second_word (c ∷ rest) = c
 
--- the instruction that b begins, with the bytes `rest` after it; None if b is a byte alone
+-- the instruction that begins with b and continues in `rest`, or `None` if b is listed as a single
+-- byte
 unfoldable pub op_at : ℕ → List ℕ → Option Op
 op_at b rest = whole_or_byte (instruction_of b (second_word rest)) b rest
 
--- a piece is an instruction, or a byte that is not one
+-- a piece of a listing: an instruction, or a byte that is not one
 abbrev pub piece_text : ℕ → ℕ → Option Op → List ℕ
 piece_text at b None = byte_text b
 piece_text at b (Some o) = instruction_text at o
@@ -71,7 +72,7 @@ piece_size (Some o) = word_count_of o
 
 -- ---- the listing
 
--- a second word in a listing: two digits, or two spaces if a piece has none
+-- the second word in a listing: two digits, or two spaces if the piece has no second word
 abbrev pub second_column : Option ℕ → List ℕ
 second_column (Some second) = hex_2 second
 second_column None = codes "  "
@@ -80,20 +81,20 @@ second_column None = codes "  "
 abbrev pub second_of : Option Op → List ℕ → Option ℕ
 second_of piece rest = if nat_lt 1 (piece_size piece) then Some (second_word rest) else None
 
--- ` BB BB `
+-- the one or two words of a piece in the form ` BB BB `
 abbrev pub word_columns : ℕ → Option ℕ → List ℕ
 word_columns first second =
     codes " " ++ (hex_2 first ++ (codes " " ++ (second_column second ++ codes " ")))
 
--- `AAA BB BB `, before the text of a piece
+-- the columns `AAA BB BB ` before the text of a piece
 abbrev pub columns : ℕ → ℕ → Option ℕ → List ℕ
 columns at first second = address_digits (at / 256) (at % 256) ++ word_columns first second
 
--- `AAA BB BB TEXT`
+-- a line of a listing in the form `AAA BB BB TEXT`
 abbrev pub listing_line : ℕ → ℕ → List ℕ → Option Op → List ℕ
 listing_line at b rest piece = columns at b (second_of piece rest) ++ piece_text at b piece
 
--- the lines of the pieces of some bytes, the first at an address; at most `most` of them
+-- the listing lines for the bytes from an address on, at most `most` lines
 unfoldable pub listing_lines : ℕ → ℕ → List ℕ → List (List ℕ)
 listing_lines zero at bytes = []
 listing_lines (suc most) at [] = []
@@ -102,7 +103,7 @@ listing_lines (suc most) at (b ∷ rest) =
     ∷ listing_lines most (at + piece_size (op_at b rest))
     (drop (piece_size (op_at b rest) - 1) rest)
 
--- the listing of a ROM from an address on: as many lines as the third argument says, or fewer if
--- address FFF comes first; each ends with LF
+-- the listing of a ROM from an address on, at most `lines` lines; it ends early at address FFF, and
+-- each line ends with LF
 abbrev pub listing_text : List ℕ → ℕ → ℕ → List ℕ
 listing_text rom from lines = text_of (listing_lines lines from (drop from rom))

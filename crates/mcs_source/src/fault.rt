@@ -1,4 +1,4 @@
-//! The errors of a line of a source text.
+//! The errors that a line of a source text can have.
 ghost use Rattle.std.specs.Prelude.{◌≡◌};
 ghost use Rattle.mcs_source.specs.RefusalNumbers.{source_fault_number};
 
@@ -8,7 +8,7 @@ use thiserror::Error;
 /// An error in a line of a source text.
 #[derive(Clone, Copy, Debug, PartialEq, Eq, Error)]
 pub enum SourceFault {
-    /// The line has no form of a source text (no 30).
+    /// The line does not parse as a source line (no 30).
     #[error("the line is not a statement")]
     BadStatement,
     /// The line defines a name that an earlier line defined (no 31).
@@ -20,13 +20,13 @@ pub enum SourceFault {
     /// A value is out of its range (no 33).
     #[error("a value is out of its range")]
     OutOfRange,
-    /// An address is off the page that the instruction reaches (no 34).
+    /// The address in a JCN or ISZ is not on the page that the instruction can reach (no 34).
     #[error("the address is on another page")]
     WrongPage,
-    /// The line spells an address that an earlier line spells (no 35).
+    /// The line emits a byte at an address that an earlier line has filled (no 35).
     #[error("an earlier line fills the address")]
     Overlap,
-    /// The label of the line is at 4096, or the line spells a byte at 4096 or later (no 36).
+    /// The line has a label at address 4096, or emits a byte at address 4096 or above (no 36).
     #[error("the address is past the end of the ROM")]
     PastEnd,
     /// The line defines a 513th name (no 37).
@@ -35,7 +35,7 @@ pub enum SourceFault {
 }
 
 impl SourceFault {
-    /// Returns the number that the refusal is reported as.
+    /// Returns the refusal number of the error.
     pub fn number(self) -> u8
         ensures { result ≡ source_fault_number self }
     {

@@ -1,5 +1,6 @@
-//! The source language of the 4004: its words, the errors of its lines, and the definitions in `specs/`. Those define
-//! what a source text assembles to, and the text of an instruction.
+//! The assembly language of the 4004: its mnemonics, the errors of its lines, and the definitions
+//! in `specs/`. The definitions say to which bytes a source text assembles, and give the text of an
+//! instruction.
 #![tactic(auto)]
 
 pub mod fault;

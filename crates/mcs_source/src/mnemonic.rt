@@ -1,12 +1,12 @@
-//! The words that begin a statement.
+//! The mnemonics and directives that begin a statement.
 use mcs_model::op::Op;
 
-/// The word that begins a statement. A bare one has no operands.
+/// The mnemonic or directive that begins a statement.
 #[derive(Clone, Copy)]
 pub enum Mnemonic {
-    /// Origin: the address of the next statement.
+    /// Origin: sets the address of the next statement.
     Org,
-    /// Bytes.
+    /// Define bytes: emits one byte for each value.
     Db,
     /// Jump on condition.
     Jcn,
@@ -36,7 +36,7 @@ pub enum Mnemonic {
     Xch,
     /// Branch back and load.
     Bbl,
-    /// Load a value.
+    /// Load an immediate value.
     Ldm,
     /// An instruction without operands.
     Bare(Op),
