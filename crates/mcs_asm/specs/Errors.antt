@@ -1,5 +1,6 @@
--- All errors of a source text: the first one of each line, as if each line before it that has one
--- were empty. (Our own choice.)
+-- All errors of a source text: the first one of each line. For the lines after it, a line with a
+-- class-one error counts as empty, and a line with a class-two error emits no bytes. (Our own
+-- choice.)
 use Rattle.std.specs.Prelude.{◌≡◌, ℕ, zero, suc, ◌+◌, List, [], ◌∷◌, ◌++◌, length, take, map, codes, Option, Some, None, option_map, Result, Ok, Err}
 use Rattle.std.specs.List.{filter_map, range_with_len}
 use Rattle.std.specs.Fmt.{decimal}
@@ -14,27 +15,28 @@ use Rattle.mcs_asm.specs.declared.all_errors.LineError.{LineError}
 use Rattle.mcs_asm.specs.declared.all_errors.TheConstants.{ERROR_ROWS}
 use Rattle.mcs_asm.specs.Passes.{Before, nothing_before, before_next}
 
--- ---- class one: a line with an error says nothing of names and addresses
+-- ---- class one: a line with an error defines no name and does not change the address
 
 abbrev pub unless_error : {A : Type 0} → Option SourceFault → A → A → A
 unless_error (Some f) old new = old
 unless_error None old new = new
 
--- the address and the names after the lines before line i that have no error
+-- the next address and the defined names after the lines before line i, without the lines that have
+-- an error
 unfoldable pub sound_before : List (Option SourceLine) → ℕ → Before
 sound_before lines zero = nothing_before
 sound_before lines (suc i) =
     unless_error (fault_one (sound_before lines i).at (sound_before lines i).names (ith_line lines i))
     (sound_before lines i) (before_next (sound_before lines i) (ith_line lines i))
 
--- the error of class one of line i, if it has one
+-- the class-one error of line i, if it has one
 unfoldable pub class_one_error : List (Option SourceLine) → ℕ → Option SourceFault
 class_one_error lines i =
     fault_one (sound_before lines i).at (sound_before lines i).names (ith_line lines i)
 
--- ---- class two: a line with an error spells no bytes; its address and its name stay
+-- ---- class two: a line with an error emits no bytes, but its address and its name remain
 
--- the pairs of the lines before line i that have no error
+-- the (address, byte) pairs of the lines before line i that have no error
 unfoldable pub sound_pairs : List (Option SourceLine) → Names → ℕ → List (ℕ × ℕ)
 sound_pairs lines names zero = []
 sound_pairs lines names (suc i) =
@@ -42,15 +44,15 @@ sound_pairs lines names (suc i) =
     (line_bytes (address_of lines i) names (ith_line lines i)))
     (sound_pairs lines names i) (sound_pairs lines names i ++ line_pairs lines names i)
 
--- the error of class two of line i, if it has one
+-- the class-two error of line i, if it has one
 unfoldable pub class_two_error : List (Option SourceLine) → Names → ℕ → Option SourceFault
 class_two_error lines names i =
     fault_two (address_of lines i) (sound_pairs lines names i)
     (line_bytes (address_of lines i) names (ith_line lines i))
 
--- Holds if an answer is the error of bytes at an address, and the cells keep the pairs, with those
--- of bytes without an error. Lack of memory says nothing of the text. It is cited by clauses of
--- private functions alone.
+-- Holds if the result is the class-two error of a line that emits the given bytes at the address
+-- `at`, and the cells contain `pairs`. If the line has no error, the cells also contain its bytes.
+-- If allocation fails, nothing is stated. Only contracts of private functions cite this definition.
 abbrev pub ReportsError : {E : Type 0} → Result (Option SourceFault) E → ℕ → List (ℕ × ℕ)
     → Result (List ℕ) SourceFault → List (Option ℕ) → Type 0
 ReportsError (Err e) at pairs bytes cells = Unit {0}
@@ -58,13 +60,13 @@ ReportsError (Ok error) at pairs bytes cells =
     (error ≡ fault_two at pairs bytes)
     × HoldsPairs cells (unless_error error pairs (pairs ++ from_address at (bytes_or_none bytes)))
 
--- ---- the whole
+-- ---- the whole text
 
--- an error with the number of its line, which counts from 1
+-- the error of line i, with its line number counted from 1
 abbrev pub error_at : ℕ → SourceFault → LineError
 error_at i f = record { line = i + 1; fault = f }
 
--- the errors of the lines before line i
+-- the errors of the lines before line i, in line order
 unfoldable pub errors_before : (ℕ → Option SourceFault) → ℕ → List LineError
 errors_before error i = filter_map (λ j. option_map (error_at j) (error j)) (range_with_len 0 i)
 
@@ -78,11 +80,11 @@ abbrev pub or_errors : List LineError → List LineError → List LineError
 or_errors [] other = other
 or_errors (e ∷ es) other = e ∷ es
 
--- the errors that are reported: the first ERROR_ROWS
+-- the errors that are reported: the first `ERROR_ROWS` errors
 abbrev pub reported_errors : List LineError → List LineError
 reported_errors errors = take ERROR_ROWS errors
 
--- the errors of class one, or those of class two if there is none of class one
+-- the class-one errors, or the class-two errors if there are no class-one errors
 abbrev pub errors_of : List (Option SourceLine) → List LineError
 errors_of lines =
     or_errors (reported_errors (errors_of_class_one lines)) (reported_errors (errors_of_class_two lines))
@@ -90,7 +92,8 @@ errors_of lines =
 abbrev pub errors_of_text : List ℕ → List LineError
 errors_of_text text = errors_of (read (lines_of text))
 
--- ---- the law: the first error is the error of the assembly, and without one the assembly has none
+-- ---- the law: the first error is the error of the assembly; if there are no errors, the assembly
+-- has none
 
 abbrev pub first_of : List LineError → Option (ℕ × SourceFault)
 first_of [] = None
@@ -100,7 +103,7 @@ abbrev pub fault_of : {A : Type 0} → Result A (ℕ × SourceFault) → Option 
 fault_of (Ok x) = None
 fault_of (Err at) = Some at
 
--- ---- the text of the errors
+-- ---- the report on the errors
 
 abbrev pub error_row : LineError → List ℕ
 error_row e = codes "error " ++ decimal e.line ++ codes " " ++ decimal (source_fault_number e.fault)

@@ -1,15 +1,15 @@
--- The operands of a list one by one. It is cited by clauses of private functions alone.
+-- Parsing the operands of a list one by one. Only contracts of private functions cite this module.
 use Rattle.std.specs.Prelude.{Bool, true, false, List, [], ◌∷◌, Option, Some, None}
 use Rattle.mcs_source.specs.Lexical.{Token, Word, Comma}
 use Rattle.mcs_source.specs.Lines.{Operand, operand_of}
 use Rattle.mcs_model.specs.Options.{◌>>=◌}
 
--- the tokens that follow, if a comma is before them
+-- the remaining tokens if a comma precedes them
 abbrev pub rest_if : Bool → List Token → Option (List Token)
 rest_if true ts = Some ts
 rest_if false ts = None
 
--- the first operand, and the tokens after its comma
+-- the first operand, and the tokens after its comma if there is a comma
 abbrev pub list_item : List Token → Option (Operand × Option (List Token))
 list_item (Word w ∷ []) = operand_of w >>= λ v. Some (v, None)
 list_item (Word w ∷ Comma ∷ more) = operand_of w >>= λ v. Some (v, Some more)

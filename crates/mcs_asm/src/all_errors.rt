@@ -1,4 +1,4 @@
-//! All errors of a text: the first one of each line.
+//! Finds all errors of a text: the first one of each line.
 ghost use Rattle.std.specs.Prelude.{◌≡◌, ◌==◌, ◌≤◌, ◌<◌, ◌^◌, ◌++◌, ◌∷◌, [], ℕ, List, IfOk, OnOk, map, length, string_bytes, option_map, None, Some, Ok, ◌+◌};
 ghost use Rattle.std.specs.List.{cons_option};
 ghost use Rattle.mcs_model.specs.TextLines.{as_line, text_of};
@@ -19,19 +19,19 @@ use crate::statements::{SourceLine, read_line};
 use crate::text::lines;
 use std::alloc::{AllocError, Global};
 
-/// The most errors of a text that are reported.
+/// The maximum number of errors that are reported for a text.
 pub const ERROR_ROWS: usize = 100;
 
-/// An error with the number of its line, from 1.
+/// An error with its line number.
 #[derive(Clone, Copy, Debug)]
 pub struct LineError {
-    /// The number of the line.
+    /// The line number, from 1.
     pub line: usize,
     /// The error.
     pub fault: SourceFault,
 }
 
-/// Adds an error, if there is room for one.
+/// Appends an error if the list is not full.
 fn push_error(
     errors: &mut Vec<LineError>,
     index: usize,
@@ -50,7 +50,7 @@ fn push_error(
     Ok(())
 }
 
-/// Adds an error, if there is one and room for it.
+/// Appends an error, if there is one, if the list is not full.
 fn report_error(
     errors: &mut Vec<LineError>,
     index: usize,
@@ -67,8 +67,8 @@ fn report_error(
     }
 }
 
-/// Returns the error of class one of one more line, if it has one; else adds the line's names and
-/// addresses. It fails if memory is refused.
+/// Returns the class-one error of the next line. If the line has none, adds its name and advances
+/// the address. Fails if allocation fails.
 fn first_error<'a>(
     alloc: Global,
     names: &mut Names<'a>,
@@ -85,7 +85,8 @@ fn first_error<'a>(
     }
 }
 
-/// Returns the names of the lines, and the errors of class one.
+/// Returns the names that the lines define, and the class-one errors. Lines with an error define no
+/// names.
 fn errors_of_names<'a>(
     alloc: Global,
     lines: &[&'a [u8]],
@@ -103,8 +104,8 @@ fn errors_of_names<'a>(
 }
 
 impl SpelledLines {
-    /// Returns the error of bytes that are at an address with a byte; else adds the bytes. The
-    /// next statement is at `next`. It fails if memory is refused.
+    /// Returns an overlap error if one of the addresses already has a byte, else adds the bytes. In
+    /// both cases, the next statement is at `next`. Fails if allocation fails.
     fn add_or_pass(&mut self, bytes: &[u8], next: u16) -> Result<Option<SourceFault>, AllocError>
         requires room { self.old.at + length bytes.now ≤ 4096 }
         requires next { next ≤ 4096 }
@@ -122,8 +123,8 @@ impl SpelledLines {
         }
     }
 
-    /// Returns the error of class two of a line that has none of class one, if it has one; else
-    /// adds its bytes. It fails if memory is refused.
+    /// Returns the class-two error of a parsed line without a class-one error, or adds the line's
+    /// bytes if it has no error. Fails if allocation fails.
     fn error_of_line<'a>(
         &mut self,
         alloc: Global,
@@ -147,8 +148,8 @@ impl SpelledLines {
         }
     }
 
-    /// Returns the error of class two of one more line, which has none of class one, if it has
-    /// one; else adds its bytes. It fails if memory is refused.
+    /// Parses the next line, which must have no class-one error. Returns its class-two error, or
+    /// adds its bytes if it has no error. Fails if allocation fails.
     fn second_error<'a>(
         &mut self,
         alloc: Global,
@@ -169,7 +170,7 @@ impl SpelledLines {
     }
 }
 
-/// Returns the errors of class two of lines that have none of class one.
+/// Returns the class-two errors of lines that have no class-one errors.
 fn errors_of_bytes<'a>(
     alloc: Global,
     names: &Names<'a>,
@@ -198,7 +199,8 @@ fn are_none(errors: &[LineError]) -> bool
     errors.is_empty()
 }
 
-/// Returns the errors of lines.
+/// Returns the class-one errors of the lines, or the class-two errors if there are none of class
+/// one.
 fn errors_of_lines<'a>(alloc: Global, lines: &[&'a [u8]]) -> Result<Vec<LineError>, AllocError>
     ensures { IfOk result (λ found. found.items ≡ errors_of (read (map (λ l. l.now) lines.now))) }
 {
@@ -210,10 +212,10 @@ fn errors_of_lines<'a>(alloc: Global, lines: &[&'a [u8]]) -> Result<Vec<LineErro
     }
 }
 
-/// Returns the errors of a text, at most [`ERROR_ROWS`]: the first one of each line. They are of
-/// class one, or of class two if no line has one of class one. For the lines after it, a line with
-/// an error of class one is empty, and one with an error of class two spells no bytes. It fails if
-/// memory is refused.
+/// Returns the first error of each line of a text, at most [`ERROR_ROWS`] errors. All are of class
+/// one, or all are of class two if no line has an error of class one. Later lines are checked as if
+/// a line with a class-one error were empty, and as if a line with a class-two error emitted no
+/// bytes. Fails if allocation fails.
 pub fn errors(alloc: Global, source: &str) -> Result<Vec<LineError>, AllocError>
     ensures { IfOk result (λ found. found.items ≡ errors_of_text source.now) }
 {
@@ -221,13 +223,13 @@ pub fn errors(alloc: Global, source: &str) -> Result<Vec<LineError>, AllocError>
     errors_of_lines(alloc, &lines)
 }
 
-/// Proves that the first error of a text is the error of its assembly, with the same line. A text
-/// without errors has no error of its assembly.
+/// Proves that the first error of a text is the error of its assembly, with the same line number.
+/// The assembly of a text without errors has no error.
 pub fn the_first_error_is_the_fault()
     ensures { (text : List ℕ) → first_of (errors_of_text text) ≡ fault_of (assembly_of_text text) }
 {}
 
-/// Writes the line and the number of an error.
+/// Appends the row of an error: its line number and its refusal number.
 fn push_row(out: &mut String, error: LineError) -> Result<(), AllocError>
     ensures { OnOk result (string_bytes out.new ≡ string_bytes out.old ++ as_line (error_row error)) }
 {
@@ -235,7 +237,7 @@ fn push_row(out: &mut String, error: LineError) -> Result<(), AllocError>
     write!(out, "error {line} {number}\n")
 }
 
-/// Writes a row for each error.
+/// Appends a row for each error.
 fn push_errors(out: &mut String, errors: &[LineError]) -> Result<(), AllocError>
     ensures { OnOk result (string_bytes out.new
         ≡ string_bytes out.old ++ text_of (map error_row errors.now)) }
@@ -246,15 +248,15 @@ fn push_errors(out: &mut String, errors: &[LineError]) -> Result<(), AllocError>
     Ok(())
 }
 
-/// Writes the count of errors.
+/// Appends the row with the number of errors.
 fn push_count(out: &mut String, count: usize) -> Result<(), AllocError>
     ensures { OnOk result (string_bytes out.new ≡ string_bytes out.old ++ as_line (errors_head count)) }
 {
     write!(out, "errors {count}\n")
 }
 
-/// Returns the text of errors: `errors 2`, `error 3 30`, `error 7 31`. It fails if memory is
-/// refused.
+/// Returns the report on errors: their number, then a row for each error, as in `errors 2`, `error
+/// 3 30`, `error 7 31`. Fails if allocation fails.
 pub fn errors_text(alloc: Global, errors: &[LineError]) -> Result<Vec<u8>, AllocError>
     ensures { IfOk result (λ text. text.items ≡ errors_text errors.now) }
 {

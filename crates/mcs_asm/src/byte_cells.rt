@@ -1,4 +1,4 @@
-//! The bytes of an image while it grows.
+//! The bytes of an image that is being built.
 ghost use Rattle.std.specs.Prelude.{◌≡◌, ℕ, ◌<◌, ◌≤◌, ◌+◌, IfOk, length, take, drop, is_some, None};
 ghost use Rattle.std.specs.List.{list_any};
 ghost use lib.ListN.{replicate};
@@ -9,7 +9,7 @@ use mcs_nibble::Addr;
 use std::alloc::{AllocError, Global};
 use std::marker::Model;
 
-/// A byte, or none, for each address.
+/// A byte or nothing for each of the 4096 addresses.
 #[derive(Drop)]
 pub struct ByteCells {
     bytes: Vec<Option<u8>>,
@@ -26,7 +26,7 @@ impl Model for ByteCells {
 }
 
 impl ByteCells {
-    /// Returns cells with no byte at any address.
+    /// Returns cells without a byte at any address.
     #[tactic(auto, using(crate::proofs::CellPairs::new_rules))]
     pub fn new(alloc: Global) -> Result<ByteCells, AllocError>
         ensures { IfOk result (λ c. c ≡ replicate 4096 None) }
@@ -38,7 +38,7 @@ impl ByteCells {
         Ok(ByteCells { bytes })
     }
 
-    /// Returns true if one of `count` addresses from `at` on has a byte.
+    /// Returns true if one of the `count` addresses from `at` on already has a byte.
     pub fn is_taken(&self, at: usize, count: usize) -> bool
         requires { at + count ≤ 4096 }
         ensures { result ≡ list_any is_some (take count (drop at self.now)) }
@@ -46,7 +46,7 @@ impl ByteCells {
         any_taken(&self.bytes[at..at + count])
     }
 
-    /// Sets the bytes from an address on.
+    /// Stores bytes at consecutive addresses from `at` on.
     pub fn write(&mut self, at: usize, bytes: &[u8])
         requires { at + length bytes.now ≤ 4096 }
         ensures { self.new ≡ cells_after at bytes.now self.old }
@@ -56,7 +56,7 @@ impl ByteCells {
         }
     }
 
-    /// Returns the bytes that are in the cells, rising.
+    /// Returns the stored bytes with their addresses, in ascending order.
     pub fn image(&self, alloc: Global) -> Result<Image, AllocError>
         ensures { IfOk result (λ i. i ≡ pairs_from 0 self.now) }
     {

@@ -1,4 +1,4 @@
-//! The bytes that a statement spells.
+//! Computes the bytes that a statement emits.
 ghost use Rattle.std.specs.Prelude.{◌≡◌, ◌<◌, ◌≤◌, ◌/◌, ◌%◌, true, map, IfOk, nat_lt, Ok, Err, Some, option_map};
 ghost use Rattle.std.specs.List.{list_all};
 ghost use Rattle.mcs_source.specs.Lines.{Data, Ldm, Bbl, Jun, Jms, Fim, Jcn, Isz};
@@ -14,7 +14,7 @@ use mcs_model::op::Op;
 use mcs_nibble::{Addr, Nibble, PairNo, RegNo};
 use std::alloc::{AllocError, Global};
 
-/// Returns the values of some operands; `None` if a name has none.
+/// Returns the values of the operands, or `None` if a name is not defined.
 fn values<'a>(
     alloc: Global,
     names: &Names<'a>,
@@ -33,14 +33,14 @@ fn values<'a>(
     Ok(Some(found))
 }
 
-/// Returns true if each value is a byte.
+/// Returns true if each value is below 256.
 fn are_bytes(values: &[u64]) -> bool
     ensures { result ≡ list_all (λ n. nat_lt n 256) values.now }
 {
     values.iter().all(|n| *n < 256)
 }
 
-/// Returns values below 256 as bytes.
+/// Converts values below 256 to bytes.
 fn as_bytes(alloc: Global, values: &[u64]) -> Result<Vec<u8>, AllocError>
     requires { list_all (λ n. nat_lt n 256) values.now ≡ true }
     ensures { IfOk result (λ v. v.items ≡ values.now) }
@@ -52,7 +52,7 @@ fn as_bytes(alloc: Global, values: &[u64]) -> Result<Vec<u8>, AllocError>
     Ok(bytes)
 }
 
-/// Returns the bytes of a `DB`.
+/// Returns the bytes that a `DB` statement emits.
 fn data_bytes<'a>(
     alloc: Global,
     names: &Names<'a>,
@@ -70,14 +70,14 @@ fn data_bytes<'a>(
     Ok(as_bytes(alloc, &values)?)
 }
 
-/// Returns the value of an operand. It fails for a name that no line defines.
+/// Returns the value of an operand. Fails if the operand is a name that no line defines.
 fn value<'a>(names: &Names<'a>, operand: &Operand<'a>) -> Result<u64, SourceFault>
     ensures { result ≡ if_known (value_in names.now.names (operand_view operand.now)) (λ n. Ok n) }
 {
     names.value(operand).ok_or(SourceFault::UnknownName)
 }
 
-/// Returns a value as one of 0 to 15. It fails if the value is above 15.
+/// Converts a value to a nibble. Fails if the value is above 15.
 fn nibble(value: u64) -> Result<Nibble, SourceFault>
     ensures { result ≡ if_in_range (nat_lt value 16) (Ok value) }
 {
@@ -87,14 +87,14 @@ fn nibble(value: u64) -> Result<Nibble, SourceFault>
         .ok_or(SourceFault::OutOfRange)
 }
 
-/// Returns a value as one of 0 to 255. It fails if the value is above 255.
+/// Converts a value to a byte. Fails if the value is above 255.
 fn byte(value: u64) -> Result<u8, SourceFault>
     ensures { result ≡ if_in_range (nat_lt value 256) (Ok value) }
 {
     u8::try_from(value).ok().ok_or(SourceFault::OutOfRange)
 }
 
-/// Returns a value of 0 to 4095 as an address. It fails if the value is above 4095.
+/// Converts a value to an address. Fails if the value is above 4095.
 fn target(value: u64) -> Result<Addr, SourceFault>
     ensures { result ≡ if_in_range (nat_lt value 4096) (Ok value) }
 {
@@ -104,8 +104,8 @@ fn target(value: u64) -> Result<Addr, SourceFault>
         .ok_or(SourceFault::OutOfRange)
 }
 
-/// Returns the low byte of a target on the page after two words. It fails if the target is on
-/// another page.
+/// Returns the low byte of the target of a two-word instruction at `at`. Fails if the target is not
+/// on the page of the address after the instruction.
 fn near_byte(at: u16, target: Addr) -> Result<u8, SourceFault>
     requires { at ≤ 4096 }
     ensures { result ≡ if_on_page (is_near at target) (Ok (target % 256)) }
@@ -117,7 +117,8 @@ fn near_byte(at: u16, target: Addr) -> Result<u8, SourceFault>
     }
 }
 
-/// Returns the value of an operand, as a value of 0 to 15.
+/// Returns the value of an operand as a nibble. Fails if the name is not defined or the value is
+/// above 15.
 fn nibble_value<'a>(names: &Names<'a>, operand: &Operand<'a>) -> Result<Nibble, SourceFault>
     ensures { result ≡ if_known (value_in names.now.names (operand_view operand.now))
         (λ n. if_in_range (nat_lt n 16) (Ok n)) }
@@ -125,7 +126,8 @@ fn nibble_value<'a>(names: &Names<'a>, operand: &Operand<'a>) -> Result<Nibble, 
     nibble(value(names, operand)?)
 }
 
-/// Returns the value of an operand, as an address.
+/// Returns the value of an operand as an address. Fails if the name is not defined or the value is
+/// above 4095.
 fn target_value<'a>(names: &Names<'a>, operand: &Operand<'a>) -> Result<Addr, SourceFault>
     ensures { result ≡ if_known (value_in names.now.names (operand_view operand.now))
         (λ t. if_in_range (nat_lt t 4096) (Ok t)) }
@@ -170,7 +172,7 @@ fn jcn<'a>(at: u16, names: &Names<'a>, v: &Operand<'a>, t: &Operand<'a>) -> Resu
     ensures { GivesOp result
         (statement_bytes at names.now.names (Jcn (operand_view v.now) (operand_view t.now))) }
 {
-    // Both values are looked up before one of them can be out of its range.
+    // Both values are looked up first, because error 32 takes precedence over error 33.
     let v = value(names, v)?;
     let t = value(names, t)?;
     let v = nibble(v)?;
@@ -184,7 +186,7 @@ fn isz<'a>(at: u16, names: &Names<'a>, register: RegNo, t: &Operand<'a>) -> Resu
     Ok(Op::Isz(register, near_byte(at, target_value(names, t)?)?))
 }
 
-/// Returns the instruction of a statement at an address; an `ORG` has none.
+/// Returns the instruction of a statement at an address, or `None` for an `ORG`.
 fn op<'a>(at: u16, names: &Names<'a>, statement: &Statement<'a>) -> Result<Option<Op>, SourceFault>
     requires start { at ≤ 4096 }
     requires statement { IsNoData (statement_view statement.now) }
@@ -203,14 +205,14 @@ fn op<'a>(at: u16, names: &Names<'a>, statement: &Statement<'a>) -> Result<Optio
     }
 }
 
-/// Returns the words of an instruction, as the code table has them.
+/// Returns the one or two words that encode an instruction.
 fn words(op: Op) -> Words
     ensures { words_view result ≡ spelling op }
 {
     encode(op)
 }
 
-/// Returns one or two words as a list.
+/// Returns the one or two words of an instruction as a list.
 fn word_list(alloc: Global, words: Words) -> Result<Vec<u8>, AllocError>
     ensures { IfOk result (λ v. v.items ≡ words_view words) }
 {
@@ -222,7 +224,7 @@ fn word_list(alloc: Global, words: Words) -> Result<Vec<u8>, AllocError>
     Ok(bytes)
 }
 
-/// Returns the bytes that a statement at an address spells.
+/// Returns the bytes that a statement at an address emits.
 fn statement_bytes<'a>(
     alloc: Global,
     at: u16,
@@ -242,7 +244,7 @@ fn statement_bytes<'a>(
     }
 }
 
-/// Returns the bytes that a line at an address spells.
+/// Returns the bytes that a line at an address emits.
 pub fn line_bytes<'a>(
     alloc: Global,
     at: u16,

@@ -1,4 +1,4 @@
-//! The reasons why a text is refused.
+//! The errors that assembly can report.
 ghost use Rattle.std.specs.Prelude.{◌≡◌};
 ghost use Rattle.mcs_asm.specs.RefusalNumbers.{assembler_fault_number};
 
@@ -10,7 +10,7 @@ use thiserror::Error;
 /// The reason why a text has no image.
 #[derive(Clone, Copy, Debug, PartialEq, Eq, Error)]
 pub enum FaultKind {
-    /// Memory was refused (no 90).
+    /// Allocation failed (no 90).
     #[error("out of memory")]
     NoMemory,
     /// A line has an error.
@@ -19,7 +19,7 @@ pub enum FaultKind {
 }
 
 impl FaultKind {
-    /// Returns the number of the refusal.
+    /// Returns the refusal number of the error.
     pub fn number(self) -> u8
         ensures { result ≡ assembler_fault_number self }
     {
@@ -30,13 +30,13 @@ impl FaultKind {
     }
 }
 
-/// The first error of a text, with the number of its line from 1; 0 if memory was refused.
+/// The first error of a text with its line number, or an allocation failure.
 #[derive(Clone, Copy, Debug, Error)]
 #[error("line {line}: {kind}")]
 pub struct AsmFault {
-    /// The number of the line.
+    /// The line number, from 1, or 0 if allocation failed.
     pub line: usize,
-    /// The reason.
+    /// The error.
     pub kind: FaultKind,
 }
 

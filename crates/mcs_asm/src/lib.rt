@@ -1,4 +1,4 @@
-//! The assembler: from a source text to its image or its survey, or to its first error.
+//! The assembler: translates a source text to its image or its survey, or reports its first error.
 #![tactic(auto)]
 
 mod all_errors;

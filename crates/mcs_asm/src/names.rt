@@ -1,4 +1,4 @@
-//! The names of a text, and the addresses of its statements.
+//! The names that a text defines, and the addresses of its statements.
 ghost use Rattle.std.specs.Prelude.{◌≡◌, ◌<◌, ◌≤◌, ◌&&◌, ◌++◌, ◌∷◌, length, map, option_map, is_some, OnOk, OnErr, [], None, Some, false, nat_le, ◌+◌};
 ghost use Rattle.std.specs.Option.{option_copied};
 ghost use Rattle.std.specs.List.{list_any};
@@ -19,12 +19,14 @@ use std::alloc::{AllocError, Global};
 use std::collections::BTreeMap;
 use std::marker::Model;
 
-/// The names of the lines so far with their values, and the address of the next statement.
+/// The names that the lines so far define, with their values, and the address of the next
+/// statement.
 #[derive(Drop)]
 pub struct Names<'a> {
     at: u16,
     names: ArrayVec<(&'a [u8], u16), NAMES>,
-    // The same by name. A value is asked for at each operand, so no search may visit all names.
+    // The same pairs, indexed by name. Each operand needs a lookup, and a lookup must not scan all
+    // names.
     values: BTreeMap<&'a [u8], u16>,
 }
 
@@ -50,7 +52,7 @@ fn statement_size(statement: &Option<Statement<'_>>) -> usize
     }
 }
 
-/// Returns the count of bytes that a statement spells.
+/// Returns the number of bytes that a statement emits.
 fn size(statement: &Statement<'_>) -> usize
     ensures { result ≡ size (statement_view statement.now) }
 {
@@ -65,7 +67,7 @@ fn size(statement: &Statement<'_>) -> usize
 }
 
 impl<'a> Names<'a> {
-    /// Returns the names before the first line.
+    /// Returns the state before the first line: no names, and address 0.
     pub fn new(alloc: Global) -> Names<'a>
         ensures { result ≡ nothing_before }
     {
@@ -97,14 +99,14 @@ impl<'a> Names<'a> {
         self.names.len() >= NAMES
     }
 
-    /// Returns the names with their values, in the order of the lines that define them.
+    /// Returns the names and their values, in the order of the lines that define them.
     pub fn list(&self) -> &[(&'a [u8], u16)]
         ensures { map (λ e. (e.0.now, e.1)) result.now ≡ self.now.names }
     {
         &self.names
     }
 
-    /// Returns the address of the next statement.
+    /// Returns the address of the next statement, at most 4096.
     fn at(&self) -> u16
         ensures at { result ≡ self.now.at }
         ensures within { result ≤ 4096 }
@@ -112,8 +114,7 @@ impl<'a> Names<'a> {
         self.at
     }
 
-    /// Returns the first error of class one that a line has, of those that a line with a form can
-    /// have.
+    /// Returns the first class-one error of a line that parses, if it has one.
     pub fn fault(&self, line: &SourceLine<'a>) -> Option<SourceFault>
         ensures { result ≡ fault_one self.now.at self.now.names (Some (line_view line.now)) }
     {
@@ -131,8 +132,8 @@ impl<'a> Names<'a> {
         }
     }
 
-    /// Adds the name that a line without such an error defines, and sets the address of the next
-    /// statement. If memory is refused nothing is added.
+    /// Adds the name that a line defines, if any, and sets the address of the next statement. The
+    /// line must have no class-one error. If allocation fails, nothing changes.
     pub fn add(&mut self, line: &SourceLine<'a>) -> Result<(), AllocError>
         requires { fault_one self.old.at self.old.names (Some (line_view line.now)) ≡ None }
         ensures added { OnOk result (self.new ≡ before_next self.old (Some (line_view line.now))) }
@@ -147,7 +148,7 @@ impl<'a> Names<'a> {
         Ok(())
     }
 
-    /// Adds a name that is not known. There is room for one.
+    /// Adds a name with its value. The name must not be known yet, and there must be room for it.
     fn define(&mut self, name: &'a [u8], value: u16) -> Result<(), AllocError>
         requires unknown { is_known name.now self.old.names ≡ false }
         requires room { length self.old.names < NAMES }
@@ -160,7 +161,7 @@ impl<'a> Names<'a> {
         Ok(())
     }
 
-    /// Returns the value of an operand, if it has one.
+    /// Returns the value of an operand, or `None` for a name that is not defined.
     pub fn value(&self, operand: &Operand<'a>) -> Option<u64>
         ensures { result ≡ value_in self.now.names (operand_view operand.now) }
     {
@@ -177,14 +178,14 @@ fn knows(names: &[(&[u8], u16)], name: &[u8]) -> bool
     names.iter().any(|e| e.0 == name)
 }
 
-/// Returns the value of a name.
+/// Returns the value of a name, or `None` if the name is not defined.
 fn value_of<'a>(values: &BTreeMap<&'a [u8], u16>, name: &'a [u8]) -> Option<u64>
     ensures { result ≡ get_by (λ k. slice_cmp nat_cmp name.now k.now) values.now }
 {
     values.get(&name).map(|value| u64::from(*value))
 }
 
-/// Returns the name that a line defines.
+/// Returns the name that a line defines, if it defines one.
 fn defined_name<'a>(line: &SourceLine<'a>) -> Option<&'a [u8]>
     ensures { option_copied result ≡ defined_name (line_view line.now) }
 {
@@ -203,7 +204,7 @@ fn is_bad_origin(statement: &Option<Statement<'_>>) -> bool
     }
 }
 
-/// Returns true if a line puts a statement or a name outside the addresses.
+/// Returns true if the number in an `ORG` or a `NAME = NUMBER` is above 4095.
 fn has_bad_number(line: &SourceLine<'_>) -> bool
     ensures { result ≡ has_bad_number (line_view line.now) }
 {
@@ -213,7 +214,7 @@ fn has_bad_number(line: &SourceLine<'_>) -> bool
     }
 }
 
-/// Returns true if a line has its label, or a byte, past the last address.
+/// Returns true if a line at `at` has a label at address 4096, or emits a byte at 4096 or above.
 fn passes_end(line: &SourceLine<'_>, at: u16) -> bool
     requires { at ≤ 4096 }
     ensures { result ≡ passes_end (line_view line.now) at }
@@ -238,8 +239,8 @@ fn next_statement(statement: &Option<Statement<'_>>, at: u16) -> u16
     }
 }
 
-/// Returns the address of the statement of the next line, after a line without an error of class
-/// one.
+/// Returns the address of the next line's statement, after a line at `at` without a class-one
+/// error.
 pub fn next_at(line: &SourceLine<'_>, at: u16) -> u16
     requires start { at ≤ 4096 }
     requires number { has_bad_number (line_view line.now) ≡ false }

@@ -1,4 +1,5 @@
-//! The two passes over the lines of a text: first the names, then the bytes.
+//! The two passes over the lines of a text: the first collects the names, the second emits the
+//! bytes.
 ghost use Rattle.std.specs.Prelude.{List, ℕ, ◌+◌, length, Ok, ◌≡◌, ◌<◌, ◌≤◌, ◌^◌, ◌++◌, ◌∷◌, [], map, None, OnErr, OnOk};
 ghost use Rattle.mcs_source.specs.Lexical.{tokens};
 ghost use Rattle.mcs_source.specs.Lines.{line_of};
@@ -19,7 +20,7 @@ use mcs_model::image::Image;
 use mcs_source::survey::Span;
 use std::alloc::{AllocError, Global};
 
-/// Adds the names and addresses of one more line.
+/// Adds the name that the next line defines, if any, and advances the address.
 pub(crate) fn add_line<'a>(
     alloc: Global,
     names: &mut Names<'a>,
@@ -37,7 +38,8 @@ pub(crate) fn add_line<'a>(
     }
 }
 
-/// Returns an error of the line that has this index.
+/// Returns an error with the number of its line, which is the line's index plus 1. The number is 0
+/// if allocation failed.
 fn fault_at(index: usize, kind: FaultKind) -> AsmFault
     requires { index < 2 ^ 63 }
     ensures { (result.kind ≡ kind) × NumbersLine kind index result.line }
@@ -51,7 +53,7 @@ fn fault_at(index: usize, kind: FaultKind) -> AsmFault
     }
 }
 
-/// Returns the result of the line that has this index; an error has the line's number.
+/// Returns the result for the line with the given index. An error gets the number of the line.
 fn at_line(index: usize, came: Result<(), FaultKind>) -> Result<(), AsmFault>
     requires { index < 2 ^ 63 }
     ensures { ComesOf index came result }
@@ -62,7 +64,7 @@ fn at_line(index: usize, came: Result<(), FaultKind>) -> Result<(), AsmFault>
     }
 }
 
-/// Returns the names and addresses of all lines, or the first error of class one.
+/// Returns the names of all lines and the address after them, or the first class-one error.
 fn first_pass<'a>(alloc: Global, lines: &[&'a [u8]]) -> Result<Names<'a>, AsmFault>
     ensures { PassesFirst result (read (map (λ l. l.now) lines.now)) }
 {
@@ -73,7 +75,8 @@ fn first_pass<'a>(alloc: Global, lines: &[&'a [u8]]) -> Result<Names<'a>, AsmFau
     Ok(names)
 }
 
-/// Adds the span of a line that has these bytes and is at `at`. It fails if memory is refused.
+/// Appends the span of a line that starts at `at` and emits the given bytes. Fails if allocation
+/// fails.
 fn push_span(spans: &mut Vec<Span>, at: u16, bytes: &[u8]) -> Result<(), AllocError>
     requires { length bytes.now ≤ 4096 }
     ensures { OnOk result (spans.new.items ≡ spans.old.items ++ span_at at (Ok bytes.now) ∷ []) }
@@ -83,7 +86,7 @@ fn push_span(spans: &mut Vec<Span>, at: u16, bytes: &[u8]) -> Result<(), AllocEr
     Ok(())
 }
 
-/// The bytes that the lines so far spell, their spans, and the address of the next statement.
+/// The bytes that the lines so far emit, their spans, and the address of the next statement.
 #[derive(Drop)]
 pub(crate) struct SpelledLines {
     pub(crate) at: u16,
@@ -93,7 +96,7 @@ pub(crate) struct SpelledLines {
 }
 
 impl SpelledLines {
-    /// Adds the bytes of a line; the next statement is at `next`.
+    /// Adds the bytes of a line, and sets the address of the next statement to `next`.
     #[tactic(auto, using(crate::proofs::SpelledLists::taken_stops, crate::proofs::SpelledLists::free_goes))]
     pub(crate) fn add(&mut self, bytes: &[u8], next: u16) -> Result<(), FaultKind>
         requires room { self.old.at + length bytes.now ≤ 4096 }
@@ -116,7 +119,7 @@ impl SpelledLines {
         Ok(())
     }
 
-    /// Adds the bytes of one more line, which has no error of class one.
+    /// Adds the bytes of the next line, which must have no class-one error.
     fn spell<'a>(
         &mut self,
         alloc: Global,
@@ -140,7 +143,7 @@ impl SpelledLines {
     }
 }
 
-/// Returns the survey of all lines and the bytes that they spell, or the first error of class two.
+/// Returns the survey of all lines and the bytes that they emit, or the first class-two error.
 fn second_pass<'a>(
     alloc: Global,
     names: Names<'a>,
@@ -161,7 +164,7 @@ fn second_pass<'a>(
     Ok((Survey::new(spelled.spans, names), spelled.cells))
 }
 
-/// Returns the survey of a source text and the bytes that it spells, or its first error.
+/// Returns the survey of a source text and the bytes that it emits, or its first error.
 fn both_passes<'a>(alloc: Global, source: &'a str) -> Result<(Survey<'a>, ByteCells), AsmFault>
     ensures { PassesBoth result source.now }
 {
@@ -170,10 +173,11 @@ fn both_passes<'a>(alloc: Global, source: &'a str) -> Result<(Survey<'a>, ByteCe
     second_pass(alloc, names, &lines)
 }
 
-/// Returns the image of a source text, or its first error with the number of its line, from 1.
+/// Returns the image of a source text, or its first error with the line number, from 1.
 ///
-/// A line is an optional label `NAME:`, an optional statement and an optional comment from `;` on,
-/// or `NAME = NUMBER`. It fails with [`FaultKind::NoMemory`] and line 0 if memory is refused.
+/// A line is an optional label `NAME:`, an optional statement and an optional comment that begins
+/// with `;`, or it is a definition `NAME = NUMBER`. If allocation fails, the error is
+/// [`FaultKind::NoMemory`] with line 0.
 pub fn assemble(alloc: Global, source: &str) -> Result<Image, AsmFault>
     ensures { Assembles result (assembly_of_text source.now) }
 {
@@ -182,10 +186,10 @@ pub fn assemble(alloc: Global, source: &str) -> Result<Image, AsmFault>
     Ok(image)
 }
 
-/// Returns the survey of a source text: the address of each of its lines, the count of bytes that
-/// it spells, and the names with their values.
+/// Returns the survey of a source text: the address of each line, the number of bytes that the line
+/// emits, and the names with their values.
 ///
-/// A text that [`assemble`] refuses has the same error, with the same line, here.
+/// If [`assemble`] rejects a text, this function returns the same error with the same line number.
 pub fn survey<'a>(alloc: Global, source: &'a str) -> Result<Survey<'a>, AsmFault>
     ensures { Surveys result (survey_of_text source.now) }
 {

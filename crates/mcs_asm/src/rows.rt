@@ -1,4 +1,4 @@
-//! The text of a survey, as the shell answers it to `map`.
+//! Writes a survey as text, the answer of the shell to `map`.
 ghost use Rattle.std.specs.Prelude.{◌≡◌, ◌<◌, ◌++◌, string_bytes, map, OnOk, IfOk};
 ghost use Rattle.mcs_model.specs.QueryText.{address_text, hex_digit};
 ghost use Rattle.mcs_model.specs.TextLines.{as_line, text_of};
@@ -8,7 +8,7 @@ use crate::surveys::Survey;
 use mcs_source::survey::Span;
 use std::alloc::{AllocError, Global};
 
-/// Returns the upper case hexadecimal digit of a number below 16.
+/// Returns the upper-case hexadecimal digit of a number below 16.
 fn hex_digit(number: u16) -> char
     requires { number < 16 }
     ensures digit { result ≡ hex_digit number }
@@ -22,7 +22,7 @@ fn hex_digit(number: u16) -> char
     }
 }
 
-/// Writes the three digits of an address.
+/// Appends an address below 4096 as three hexadecimal digits.
 fn push_address(out: &mut String, at: u16) -> Result<(), AllocError>
     requires { at < 4096 }
     ensures { OnOk result (string_bytes out.new ≡ string_bytes out.old ++ address_text at) }
@@ -33,7 +33,7 @@ fn push_address(out: &mut String, at: u16) -> Result<(), AllocError>
     Ok(())
 }
 
-/// Writes an address, or `1000` for the address after the last one.
+/// Appends an address in hexadecimal; 4096, the end of the ROM, becomes `1000`.
 fn push_address_or_end(out: &mut String, at: u16) -> Result<(), AllocError>
     ensures { OnOk result (string_bytes out.new ≡ string_bytes out.old ++ address_or_end_text at) }
 {
@@ -45,7 +45,7 @@ fn push_address_or_end(out: &mut String, at: u16) -> Result<(), AllocError>
     }
 }
 
-/// Writes the address of a line and the count of bytes that it spells.
+/// Appends the row of a source line: its number, its address and the number of bytes that it emits.
 fn push_line(out: &mut String, number: usize, span: Span) -> Result<(), AllocError>
     ensures { OnOk result (string_bytes out.new
         ≡ string_bytes out.old ++ as_line (line_row number span)) }
@@ -57,7 +57,7 @@ fn push_line(out: &mut String, number: usize, span: Span) -> Result<(), AllocErr
     Ok(())
 }
 
-/// Writes a name and its value. It fails if memory is refused.
+/// Appends the row of a name: the name and its value. Fails if allocation fails.
 fn push_name(alloc: Global, out: &mut Vec<u8>, name: &[u8], value: u16) -> Result<(), AllocError>
     ensures { OnOk result (out.new.items ≡ out.old.items ++ as_line (name_row (name.now, value))) }
 {
@@ -71,7 +71,7 @@ fn push_name(alloc: Global, out: &mut Vec<u8>, name: &[u8], value: u16) -> Resul
     Ok(())
 }
 
-/// Writes the count of rows of each kind that follow.
+/// Appends the header row: the number of line rows and the number of name rows.
 fn push_head(out: &mut String, lines: usize, names: usize) -> Result<(), AllocError>
     ensures { OnOk result (string_bytes out.new
         ≡ string_bytes out.old ++ as_line (head_row lines names)) }
@@ -79,7 +79,7 @@ fn push_head(out: &mut String, lines: usize, names: usize) -> Result<(), AllocEr
     write!(out, "map lines {lines} names {names}\n")
 }
 
-/// Writes a row for each line of the source.
+/// Appends a row for each source line.
 fn push_lines(out: &mut String, spans: &[Span]) -> Result<(), AllocError>
     ensures { OnOk result (string_bytes out.new
         ≡ string_bytes out.old ++ text_of (line_rows 1 spans.now)) }
@@ -90,7 +90,7 @@ fn push_lines(out: &mut String, spans: &[Span]) -> Result<(), AllocError>
     Ok(())
 }
 
-/// Writes a row for each name. It fails if memory is refused.
+/// Appends a row for each name. Fails if allocation fails.
 fn push_names(alloc: Global, out: &mut Vec<u8>, names: &[(&[u8], u16)]) -> Result<(), AllocError>
     ensures { OnOk result (out.new.items ≡ out.old.items
         ++ text_of (map name_row (map (λ e. (e.0.now, e.1)) names.now))) }
@@ -101,11 +101,10 @@ fn push_names(alloc: Global, out: &mut Vec<u8>, names: &[(&[u8], u16)]) -> Resul
     Ok(())
 }
 
-/// Returns the text of a survey: a head, a row for each line of the source, and a row for each
-/// name.
+/// Returns the text of a survey: a header row, a row for each source line, and a row for each name.
 ///
-/// `map lines 2 names 1`, `line 1 000 0`, `line 2 FFE 2`, `name last FFE`: counts and numbers of
-/// lines in decimal, addresses and values in hexadecimal. It fails if memory is refused.
+/// For example: `map lines 2 names 1`, `line 1 000 0`, `line 2 FFE 2`, `name last FFE`. Counts and
+/// line numbers are in decimal, addresses and values in hexadecimal. Fails if allocation fails.
 pub fn survey_text(alloc: Global, survey: &Survey<'_>) -> Result<Vec<u8>, AllocError>
     ensures { IfOk result (λ text. text.items ≡ survey_text survey.now) }
 {

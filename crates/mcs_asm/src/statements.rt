@@ -1,4 +1,4 @@
-//! The statement or the definition of a line of a source text.
+//! Parses the statement or the definition in a line of a source text.
 ghost use Rattle.std.specs.Prelude.{◌≡◌, map, option_map, IfOk, MatchOption, ◌∷◌, Some, None};
 ghost use Rattle.std.specs.Option.{option_copied};
 ghost use Rattle.mcs_source.specs.Lexical.{Word, Colon, Equals, tokens, Token};
@@ -15,14 +15,15 @@ use mcs_nibble::{PairNo, RegNo};
 use mcs_source::mnemonic::Mnemonic;
 use std::alloc::{AllocError, Global};
 
-/// A value as it is written. A number from 4,294,967,296 on counts as 4,294,967,296.
+/// An operand as written in the source. A number above 4,294,967,296 counts as 4,294,967,296.
 #[derive(Clone, Copy)]
 pub enum Operand<'a> {
     Number(u64),
     Name(&'a [u8]),
 }
 
-/// A statement as it is written. `Whole` is an instruction none of whose operands is a value.
+/// A statement as written in the source. `Whole` is an instruction whose operands, if any, are only
+/// registers or a pair.
 #[derive(Drop)]
 pub enum Statement<'a> {
     Origin(u64),
@@ -37,14 +38,14 @@ pub enum Statement<'a> {
     Isz(RegNo, Operand<'a>),
 }
 
-/// A line that has a form: with its label and its statement, or a definition of a name.
+/// A line that parses: an optional label and an optional statement, or the definition of a name.
 #[derive(Drop)]
 pub enum SourceLine<'a> {
     Code(Option<&'a [u8]>, Option<Statement<'a>>),
     Define(&'a [u8], u64),
 }
 
-/// Reads the value that a word writes.
+/// Parses a word as an operand: a number or a name.
 fn operand_in(word: &[u8]) -> Option<Operand<'_>>
     ensures { option_map operand_view result ≡ operand_of word.now }
 {
@@ -55,7 +56,7 @@ fn operand_in(word: &[u8]) -> Option<Operand<'_>>
     }
 }
 
-/// Reads the word that is all that is left.
+/// Reads a word that must be the last token.
 fn only_word<'a>(tokens: &mut Tokens<'a>) -> Option<&'a [u8]>
     ensures { option_copied result ≡ word_only tokens.old }
 {
@@ -68,7 +69,7 @@ fn only_word<'a>(tokens: &mut Tokens<'a>) -> Option<&'a [u8]>
     Some(word)
 }
 
-/// Reads the word before a comma.
+/// Reads a word that must be followed by a comma.
 fn word_before_comma<'a>(tokens: &mut Tokens<'a>) -> Option<&'a [u8]>
     ensures { option_map (λ w. (w, tokens.new)) (option_copied result) ≡ word_first tokens.old }
 {
@@ -123,7 +124,7 @@ fn first_pair(tokens: &mut Tokens<'_>) -> Option<PairNo>
     pair_named(word_before_comma(tokens)?)
 }
 
-/// Reads an instruction without operands.
+/// Reads an instruction that must have no operands.
 fn without_operands<'a>(op: Op, tokens: &mut Tokens<'a>) -> Option<Statement<'a>>
     ensures { option_map statement_view result ≡ bare_statement op tokens.old }
 {
@@ -134,7 +135,7 @@ fn without_operands<'a>(op: Op, tokens: &mut Tokens<'a>) -> Option<Statement<'a>
     }
 }
 
-/// Reads the first operand. The second value is true if a comma follows it.
+/// Reads the next operand of a list. The second value is true if a comma follows the operand.
 fn list_item<'a>(tokens: &mut Tokens<'a>) -> Option<(Operand<'a>, bool)>
     ensures { option_map (λ x. (operand_view x.0, rest_if x.1 tokens.new)) result
         ≡ list_item tokens.old }
@@ -150,7 +151,7 @@ fn list_item<'a>(tokens: &mut Tokens<'a>) -> Option<(Operand<'a>, bool)>
     }
 }
 
-/// Reads one or more values with commas between.
+/// Reads one or more operands, separated by commas.
 fn operands<'a>(
     alloc: Global,
     tokens: &mut Tokens<'a>,
@@ -212,7 +213,7 @@ fn whole<'a>(op: Option<Op>) -> Option<Statement<'a>>
     Some(Statement::Whole(op))
 }
 
-/// Reads the statement that a mnemonic begins, from the tokens after it. A `DB` is not read here.
+/// Reads the statement for a mnemonic from the tokens after it. The mnemonic must not be `DB`.
 fn plain_statement<'a>(mnemonic: Mnemonic, tokens: &mut Tokens<'a>) -> Option<Statement<'a>>
     requires { IsNotDb mnemonic }
     ensures { option_map statement_view result ≡ after_mnemonic mnemonic tokens.old }
@@ -239,7 +240,7 @@ fn plain_statement<'a>(mnemonic: Mnemonic, tokens: &mut Tokens<'a>) -> Option<St
     }
 }
 
-/// Reads the statement that a mnemonic begins, from the tokens after it.
+/// Reads the statement for a mnemonic from the tokens after it.
 fn statement_after<'a>(
     alloc: Global,
     mnemonic: Mnemonic,
@@ -253,7 +254,7 @@ fn statement_after<'a>(
     }
 }
 
-/// Reads the statement that the tokens are, all of them.
+/// Reads the statement that consists of all remaining tokens.
 #[tactic(auto, unfolding(mcs_source::specs::Lines::statement_of))]
 fn read_statement<'a>(
     alloc: Global,
@@ -270,7 +271,7 @@ fn read_statement<'a>(
     statement_after(alloc, mnemonic, tokens)
 }
 
-/// Reads the tokens after a label, or the whole line if there is none.
+/// Reads the optional statement that consists of all remaining tokens, and adds the label.
 fn rest_of_line<'a>(
     alloc: Global,
     label: Option<&'a [u8]>,
@@ -288,7 +289,8 @@ fn rest_of_line<'a>(
     }
 }
 
-/// Returns the word before a colon, and the tokens after it.
+/// Returns the label of a line, if it begins with a word and a colon, and the tokens after the
+/// colon.
 fn label_of<'a>(line: &'a [u8]) -> Option<(&'a [u8], Tokens<'a>)>
     ensures { MatchOption result (NoLabel (tokens line.now))
         (λ x. tokens line.now ≡ Word x.0.now ∷ Colon ∷ x.1) }
@@ -300,7 +302,7 @@ fn label_of<'a>(line: &'a [u8]) -> Option<(&'a [u8], Tokens<'a>)>
     }
 }
 
-/// Returns the word before a `=`, and the tokens after it.
+/// Returns the word before `=`, if a line begins with a word and `=`, and the tokens after `=`.
 fn definition_of<'a>(line: &'a [u8]) -> Option<(&'a [u8], Tokens<'a>)>
     ensures { MatchOption result (NoDefinition (tokens line.now))
         (λ x. tokens line.now ≡ Word x.0.now ∷ Equals ∷ x.1) }
@@ -312,7 +314,7 @@ fn definition_of<'a>(line: &'a [u8]) -> Option<(&'a [u8], Tokens<'a>)>
     }
 }
 
-/// Reads a line without a label.
+/// Parses a line without a label.
 fn read_unlabelled<'a>(alloc: Global, line: &'a [u8]) -> Result<Option<SourceLine<'a>>, AllocError>
     ensures { IfOk result (λ o. option_map line_view o ≡ unlabelled (tokens line.now)) }
 {
@@ -325,7 +327,7 @@ fn read_unlabelled<'a>(alloc: Global, line: &'a [u8]) -> Result<Option<SourceLin
     }
 }
 
-/// Reads a line; returns `None` if it has no form.
+/// Parses a line. Returns `None` if the line has no valid form.
 pub fn read_line<'a>(alloc: Global, line: &'a [u8]) -> Result<Option<SourceLine<'a>>, AllocError>
     ensures { IfOk result (λ o. option_map line_view o ≡ line_of (tokens line.now)) }
 {

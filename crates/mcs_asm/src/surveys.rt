@@ -1,11 +1,11 @@
-//! The survey of a text: the addresses of its lines, and the values of its names.
+//! The survey of a text: the addresses and sizes of its lines, and the values of its names.
 ghost use Rattle.std.specs.Prelude.{◌≡◌, map};
 
 use crate::names::Names;
 use mcs_source::survey::Span;
 use std::marker::Model;
 
-/// The address of each line of a text and the count of bytes that it spells, and the names with
+/// The address of each line of a text, the number of bytes that the line emits, and the names with
 /// their values.
 #[derive(Drop)]
 pub struct Survey<'a> {
@@ -28,14 +28,14 @@ impl<'a> Survey<'a> {
         Survey { spans, names }
     }
 
-    /// Returns the span of each line, in order.
+    /// Returns the span of each line, in line order.
     pub fn spans(&self) -> &[Span]
         ensures { result.now ≡ self.now.spans }
     {
         &self.spans
     }
 
-    /// Returns the names with their values, in the order of the lines that define them.
+    /// Returns the names and their values, in the order of the lines that define them.
     pub fn names(&self) -> &[(&'a [u8], u16)]
         ensures { map (λ e. (e.0.now, e.1)) result.now ≡ self.now.names }
     {

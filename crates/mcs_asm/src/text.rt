@@ -1,4 +1,4 @@
-//! The lines of a source text.
+//! Splits a source text into lines.
 ghost use Rattle.std.specs.Prelude.{◌≡◌, ◌≤◌, ◌<◌, map, length, IfOk, MatchOption, ◌∷◌, []};
 ghost use Rattle.std.specs.List.{position_or_len};
 ghost use Rattle.mcs_model.specs.TextLines.{is_line_feed, lines_of};
@@ -6,7 +6,7 @@ ghost use Rattle.mcs_model.specs.TextLines.{is_line_feed, lines_of};
 use mcs_model::text_lines::without_return;
 use std::alloc::{AllocError, Global};
 
-/// Returns the count of bytes before the first LF.
+/// Returns the number of bytes before the first LF.
 fn line_len(bytes: &[u8]) -> usize
     ensures len { result ≡ position_or_len is_line_feed bytes.now }
     ensures within { result ≤ length bytes.now }
@@ -14,7 +14,8 @@ fn line_len(bytes: &[u8]) -> usize
     bytes.iter().take_while(|b| **b != b'\n').count()
 }
 
-/// Returns the first line, without its end, and the bytes after it.
+/// Returns the first line, without its line ending, and the bytes after it, or `None` if there are
+/// no bytes.
 #[tactic(auto, using(crate::proofs::LineLists::no_lines, crate::proofs::LineLists::last_front, crate::proofs::LineLists::more_front))]
 fn first_line(bytes: &[u8]) -> Option<(&[u8], &[u8])>
     ensures { MatchOption result (lines_of bytes.now ≡ [])
@@ -31,7 +32,7 @@ fn first_line(bytes: &[u8]) -> Option<(&[u8], &[u8])>
     }
 }
 
-/// Returns the lines, without their ends.
+/// Returns the lines without their line endings.
 pub fn lines(alloc: Global, bytes: &[u8]) -> Result<Vec<&[u8]>, AllocError>
     ensures { IfOk result (λ v. map (λ l. l.now) v.items ≡ lines_of bytes.now) }
 {

@@ -1,4 +1,4 @@
-//! The tokens of a line.
+//! Splits a line into tokens.
 ghost use Rattle.std.specs.Prelude.{◌≡◌, ◌≤◌, ◌∷◌, [], length, IsTrue, ◌↔◌, MatchOption};
 ghost use Rattle.std.specs.List.{prefix_len};
 ghost use Rattle.mcs_source.specs.Lexical.{is_word_byte, symbol, tokens};
@@ -8,7 +8,7 @@ ghost use Rattle.mcs_asm.specs.View.{token_view};
 use mcs_model::text_lines::is_blank;
 use std::marker::Model;
 
-/// A token; `Other` is a byte that belongs to no form of a line.
+/// A token. `Other` is any byte that is not allowed in a line.
 #[derive(Clone, Copy)]
 pub enum Token<'a> {
     Word(&'a [u8]),
@@ -25,7 +25,7 @@ fn is_word_byte(b: u8) -> bool
     b.is_ascii_digit() || b.is_ascii_uppercase() || b.is_ascii_lowercase() || b == b'_'
 }
 
-/// Returns the count of bytes of the word at the front, 0 if there is none.
+/// Returns the length of the word at the front, or 0 if there is none.
 fn word_len(bytes: &[u8]) -> usize
     ensures len { result ≡ prefix_len is_word_byte bytes.now }
     ensures within { result ≤ length bytes.now }
@@ -33,7 +33,7 @@ fn word_len(bytes: &[u8]) -> usize
     bytes.iter().take_while(|b| is_word_byte(**b)).count()
 }
 
-/// Returns the count of spaces and tabs that the line begins with.
+/// Returns the number of spaces and tabs at the front.
 fn blank_len(bytes: &[u8]) -> usize
     ensures len { result ≡ prefix_len is_blank bytes.now }
     ensures within { result ≤ length bytes.now }
@@ -41,7 +41,7 @@ fn blank_len(bytes: &[u8]) -> usize
     bytes.iter().take_while(|b| is_blank(**b)).count()
 }
 
-/// Returns a line without the spaces and tabs that it begins with.
+/// Returns a line without its leading spaces and tabs.
 #[tactic(auto, using(crate::proofs::Lexing::trimmed_rules))]
 fn without_blanks(line: &[u8]) -> &[u8]
     ensures same { tokens result.now ≡ tokens line.now }
@@ -51,7 +51,7 @@ fn without_blanks(line: &[u8]) -> &[u8]
     bytes
 }
 
-/// Returns the token of a byte that is not in a word.
+/// Returns the token for a byte that is not part of a word.
 fn symbol<'a>(b: u8) -> Token<'a>
     ensures { token_view result ≡ symbol b }
 {
@@ -63,8 +63,8 @@ fn symbol<'a>(b: u8) -> Token<'a>
     }
 }
 
-/// Returns the first token of a line that begins with neither a word nor a blank, and the bytes
-/// after it. Returns `None` if the line, or all of it but a comment, ends.
+/// Returns the first token of a line that does not begin with a word or a blank, and the bytes
+/// after the token. Returns `None` at the end of the line or at a comment.
 #[tactic(auto, using(crate::proofs::Lexing::symbol_rules))]
 fn first_symbol(bytes: &[u8]) -> Option<(Token<'_>, &[u8])>
     requires no_word { prefix_len is_word_byte bytes.now ≡ 0 }
@@ -81,7 +81,7 @@ fn first_symbol(bytes: &[u8]) -> Option<(Token<'_>, &[u8])>
     Some((symbol(*b), rest))
 }
 
-/// Returns the first token of a line, and the bytes after it.
+/// Returns the first token of a line and the bytes after it, or `None` if there is no token.
 #[tactic(auto, using(crate::proofs::Lexing::word_first))]
 fn first_token(line: &[u8]) -> Option<(Token<'_>, &[u8])>
     ensures { MatchOption result (tokens line.now ≡ [])
@@ -96,7 +96,7 @@ fn first_token(line: &[u8]) -> Option<(Token<'_>, &[u8])>
     Some((Token::Word(word), rest))
 }
 
-/// The tokens of a line that are left.
+/// The remaining tokens of a line.
 #[derive(Drop)]
 pub struct Tokens<'a> {
     rest: &'a [u8],
@@ -112,21 +112,21 @@ impl<'a> Model for Tokens<'a> {
 }
 
 impl<'a> Tokens<'a> {
-    /// Returns all tokens of a line.
+    /// Returns a reader that is before the first token of a line.
     pub fn new(line: &'a [u8]) -> Tokens<'a>
         ensures { result ≡ tokens line.now }
     {
         Tokens { rest: line }
     }
 
-    /// Returns true if no token is left.
+    /// Returns true if no token remains.
     pub fn is_empty(&self) -> bool
         ensures { IsTrue result ↔ (self.now ≡ []) }
     {
         first_token(self.rest).is_none()
     }
 
-    /// Returns the next token.
+    /// Removes and returns the next token, or returns `None` if no token remains.
     pub fn next(&mut self) -> Option<Token<'a>>
         ensures { MatchOption result (self.old ≡ []) (λ t. self.old ≡ token_view t ∷ self.new) }
     {

@@ -1,4 +1,4 @@
-//! The words of a source text.
+//! Recognises the words of a source text: mnemonics, numbers, registers, pairs and names.
 ghost use Rattle.std.specs.Prelude.{◌≡◌, ◌<◌, IfSome};
 ghost use Rattle.std.specs.Str.{str_eq_ignore_ascii_case};
 ghost use Rattle.mcs_source.specs.Mnemonics.{in_group1, in_group2, in_group3, in_group4, in_group5, in_group6, mnemonic_of};
@@ -10,14 +10,14 @@ use mcs_model::op::Op;
 use mcs_nibble::{PairNo, RegNo};
 use mcs_source::mnemonic::Mnemonic;
 
-/// Returns true if a word is this name, in upper or lower case.
+/// Returns true if a word equals a name, regardless of case.
 fn equals_ignoring_case(word: &[u8], name: &str) -> bool
     ensures { result ≡ str_eq_ignore_ascii_case word.now name.now }
 {
     word.eq_ignore_ascii_case(name.as_bytes())
 }
 
-/// Expands to the mnemonic of a row's name.
+/// Expands to the mnemonic for a row of the instruction table.
 macro_rules! asked {
     ($name:ident none) => {
         Mnemonic::Bare(Op::$name)
@@ -27,7 +27,7 @@ macro_rules! asked {
     };
 }
 
-/// Returns the mnemonic of a row's name, if the word is that name.
+/// Returns a row's mnemonic from the enclosing function if the word equals the row's name.
 macro_rules! answered {
     ($word:ident $name:ident $kind:ident $text:literal) => {
         if equals_ignoring_case($word, $text) {
@@ -36,10 +36,10 @@ macro_rules! answered {
     };
 }
 
-/// Does the same for a row of the wanted group, and nothing for another row.
+/// Tests the word against a row of the wanted group, and expands to nothing for any other row.
 ///
-/// The rows are in six numbered groups: a proof about one list of 45 names takes far longer
-/// than six proofs about eight names each.
+/// The rows are in six numbered groups: a proof about one list of 45 names takes far longer than
+/// six proofs about eight names each.
 macro_rules! tried {
     (group1 group1 $word:ident $name:ident $kind:ident $text:literal) => {
         answered!($word $name $kind $text)
@@ -62,7 +62,7 @@ macro_rules! tried {
     ($wanted:ident $group:ident $word:ident $name:ident $kind:ident $text:literal) => {};
 }
 
-/// Looks up the word in the rows of a group, one after another.
+/// Looks up the word in the rows of a group, in table order.
 macro_rules! group_rows {
     (($wanted:ident, $word:ident) $($codes:pat, $name:ident $kind:ident $words:literal $cycles:literal $group:ident $text:literal;)*) => {{
         $(tried!($wanted $group $word $name $kind $text);)*
@@ -70,7 +70,7 @@ macro_rules! group_rows {
     }};
 }
 
-/// Returns the mnemonic of `ORG`, `DB` and the instructions of the codes 10 to 5F.
+/// Looks up `ORG`, `DB` and the instructions with opcodes 10 to 5F.
 #[tactic(auto, unfolding(mcs_source::specs::Mnemonics::in_group1))]
 fn on_address(word: &[u8]) -> Option<Mnemonic>
     ensures { result ≡ in_group1 word.now }
@@ -84,7 +84,7 @@ fn on_address(word: &[u8]) -> Option<Mnemonic>
     instructions!(group_rows!(group1, word))
 }
 
-/// Returns the mnemonic of `NOP` and the instructions of 60 to DF.
+/// Looks up `NOP` and the instructions with opcodes 60 to DF.
 #[tactic(auto, unfolding(mcs_source::specs::Mnemonics::in_group2))]
 fn on_register(word: &[u8]) -> Option<Mnemonic>
     ensures { result ≡ in_group2 word.now }
@@ -92,7 +92,7 @@ fn on_register(word: &[u8]) -> Option<Mnemonic>
     instructions!(group_rows!(group2, word))
 }
 
-/// Returns the mnemonic of the instructions of E0 to E7, which write to RAM and ports.
+/// Looks up the instructions with opcodes E0 to E7. They write to RAM and ports.
 #[tactic(auto, unfolding(mcs_source::specs::Mnemonics::in_group3))]
 fn on_port(word: &[u8]) -> Option<Mnemonic>
     ensures { result ≡ in_group3 word.now }
@@ -100,7 +100,7 @@ fn on_port(word: &[u8]) -> Option<Mnemonic>
     instructions!(group_rows!(group3, word))
 }
 
-/// Returns the mnemonic of the instructions of E8 to EF, which read RAM and ports.
+/// Looks up the instructions with opcodes E8 to EF. They read from RAM and ports.
 #[tactic(auto, unfolding(mcs_source::specs::Mnemonics::in_group4))]
 fn on_memory_word(word: &[u8]) -> Option<Mnemonic>
     ensures { result ≡ in_group4 word.now }
@@ -108,7 +108,7 @@ fn on_memory_word(word: &[u8]) -> Option<Mnemonic>
     instructions!(group_rows!(group4, word))
 }
 
-/// Returns the mnemonic of the instructions of F0 to F6.
+/// Looks up the instructions with opcodes F0 to F6.
 #[tactic(auto, unfolding(mcs_source::specs::Mnemonics::in_group5))]
 fn on_accumulator_word(word: &[u8]) -> Option<Mnemonic>
     ensures { result ≡ in_group5 word.now }
@@ -116,7 +116,7 @@ fn on_accumulator_word(word: &[u8]) -> Option<Mnemonic>
     instructions!(group_rows!(group5, word))
 }
 
-/// Returns the mnemonic of the instructions of F7 to FD.
+/// Looks up the instructions with opcodes F7 to FD.
 #[tactic(auto, unfolding(mcs_source::specs::Mnemonics::in_group6))]
 fn on_carry_word(word: &[u8]) -> Option<Mnemonic>
     ensures { result ≡ in_group6 word.now }
@@ -124,7 +124,7 @@ fn on_carry_word(word: &[u8]) -> Option<Mnemonic>
     instructions!(group_rows!(group6, word))
 }
 
-/// Returns the mnemonic of a word that begins a statement.
+/// Returns the mnemonic for a word that begins a statement, or `None` if it is not a mnemonic.
 #[tactic(auto, unfolding(mcs_source::specs::Mnemonics::mnemonic_of))]
 pub fn mnemonic_in(word: &[u8]) -> Option<Mnemonic>
     ensures { result ≡ mnemonic_of word.now }
@@ -147,7 +147,7 @@ pub fn mnemonic_in(word: &[u8]) -> Option<Mnemonic>
     on_carry_word(word)
 }
 
-/// Reads a number of 0 to 15 without leading zeros.
+/// Parses a number from 0 to 15 in decimal without a leading zero.
 fn small_decimal(digits: &[u8]) -> Option<u8>
     ensures value { result ≡ up_to_15 digits.now }
     ensures within { IfSome result (λ n. n < 16) }
@@ -159,7 +159,7 @@ fn small_decimal(digits: &[u8]) -> Option<u8>
     }
 }
 
-/// Reads `R0` to `R15`, in either case.
+/// Parses a register name, `R0` to `R15`, in upper or lower case.
 pub fn register_named(word: &[u8]) -> Option<RegNo>
     ensures { result ≡ register_named word.now }
 {
@@ -169,7 +169,7 @@ pub fn register_named(word: &[u8]) -> Option<RegNo>
     }
 }
 
-/// Reads `P0` to `P7`, in either case.
+/// Parses a pair name, `P0` to `P7`, in upper or lower case.
 pub fn pair_named(word: &[u8]) -> Option<PairNo>
     ensures { result ≡ pair_named word.now }
 {
@@ -179,7 +179,7 @@ pub fn pair_named(word: &[u8]) -> Option<PairNo>
     }
 }
 
-/// Returns true if a word is reserved, in upper or lower case, so that it cannot be a name.
+/// Returns true if a word is reserved, in upper or lower case, and cannot be a name.
 #[tactic(auto, unfolding(mcs_source::specs::Lines::is_reserved))]
 fn is_reserved(word: &[u8]) -> bool
     ensures { result ≡ is_reserved word.now }
@@ -190,7 +190,7 @@ fn is_reserved(word: &[u8]) -> bool
         || pair_named(word).is_some()
 }
 
-/// Returns true if a word begins as a name does: with a letter or `_`.
+/// Returns true if a word begins with a letter or `_`, as a name must.
 fn begins_name(word: &[u8]) -> bool
     ensures { result ≡ begins_name word.now }
 {
@@ -200,7 +200,8 @@ fn begins_name(word: &[u8]) -> bool
     }
 }
 
-/// Returns true if a word is a name.
+/// Returns true if a word can be a name: it begins with a letter or `_`, has at most `NAME_BYTES`
+/// bytes, and is not reserved.
 pub fn is_name(word: &[u8]) -> bool
     ensures { result ≡ is_name word.now }
 {
