@@ -1,20 +1,21 @@
-//! Boards, part by part.
+//! Boards for tests, built from their parts.
 use arrayvec::ArrayVec;
 use mcs_fixtures::boards::{CLOCK_AND_DATA, MIXED, OUTPUTS, chains, lines, on_one_rom};
 use mcs_model::board::{Board, BoardFault, BoardParts, ChainPart, Line};
 use mcs_model::limits::{BANK_CHIPS, BANKS, CHAIN_BITS, CHAIN_CHIPS, CHAINS, ROMS};
 
-/// Returns a board with ROM 0 alone.
+/// Returns a board with ROM 0 as its only part.
 pub(crate) fn one_rom() -> Result<Board, BoardFault> {
     on_one_rom(OUTPUTS, [0; BANKS], ArrayVec::new(), &[])
 }
 
-/// Returns a board with ROM 0 alone, whose port has both directions.
+/// Returns a board with ROM 0 as its only part; the port has input and output lines.
 pub(crate) fn one_mixed_rom() -> Result<Board, BoardFault> {
     on_one_rom(MIXED, [0; BANKS], ArrayVec::new(), &[])
 }
 
-/// Returns a board with one ROM, a bank with the most chips, one chain of the greatest length, and a lamp at its end.
+/// Returns a board with one ROM, one bank with the maximum number of chips, one chain of maximum
+/// length, and a lamp at the end of the chain.
 pub(crate) fn one_long_chain() -> Result<Board, BoardFault> {
     let mut banks = [0; BANKS];
     banks[0] = BANK_CHIPS;
@@ -26,8 +27,8 @@ pub(crate) fn one_long_chain() -> Result<Board, BoardFault> {
     )
 }
 
-/// Returns a board with the most ROMs, RAM chips and chains, and a lamp at the end of the last chain. Line 0 of ROM `n`
-/// clocks chain `n`, and line 1 is its data.
+/// Returns a board with the maximum number of ROMs, RAM chips and chains, and a lamp at the end of
+/// the last chain. Line 0 of ROM `n` is the clock of chain `n`, and line 1 is its data line.
 pub(crate) fn largest() -> Result<Board, BoardFault> {
     let mut chains = ArrayVec::new();
     for n in 0..CHAINS as u8 {

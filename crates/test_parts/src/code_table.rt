@@ -1,4 +1,5 @@
-//! The codes that the manual's table leaves out, listed manually.
+//! Tests of the opcode table: the opcodes that the manual's table omits, listed manually, and word
+//! counts.
 use crate::checks::equal;
 use mcs_code::{Op, Words, cycles, decode, encode, word_count, words};
 use mcs_nibble::{Nibble, PairNo};

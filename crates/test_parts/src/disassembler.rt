@@ -1,15 +1,17 @@
-//! Uses of the disassembler that no command makes: sources, texts of words that are in no ROM, and a listing of no
-//! lines. Listings are in checks/lib/scripts/listings.scripts.
+//! Tests of the disassembler in ways that no command uses it: source texts, the text of words that
+//! are not in a ROM, and a listing of zero lines. All other listings are in
+//! checks/lib/scripts/listings.scripts.
 use mcs_dis::{line_of, listing, source};
 use mcs_nibble::Addr;
 use std::alloc::Global;
 use std::process::Abort;
 use std::test::Fail;
 
-/// An address, two words and the text that they have there.
+/// An address, the one or two words there, and their expected text.
 type TextRow<'a> = (u16, u8, Option<u8>, &'a str);
 
-/// Each instruction once, in the order of the code table.
+/// The opcodes and second words of all instructions, each instruction once, in the order of the
+/// opcode table.
 const CODES: [u8; 50] = [
     0x00, 0x14, 0x10, 0x22, 0x20, 0x21, 0x3E, 0x37, 0x41, 0x23, 0x5F, 0xED, 0x65, 0x7F, 0x0A, 0x80,
     0x9A, 0xA9, 0xBB, 0xCC, 0xDF, 0xE0, 0xE1, 0xE2, 0xE4, 0xE5, 0xE6, 0xE7, 0xE8, 0xE9, 0xEA, 0xEB,
@@ -17,17 +19,18 @@ const CODES: [u8; 50] = [
     0xFC, 0xFD,
 ];
 
-/// The source of these codes from address 0 on.
+/// The expected source of `CODES` from address 0 on.
 const TEXTS: &str =
     "ORG 0x000\nNOP\nJCN 4, 0x010\nFIM P1, 0x20\nSRC P0\nFIN P7\nJIN P3\nJUN 0x123\nJMS 0xFED\nINC R5\nISZ R15, 0x00A\nADD R0\nSUB R10\nLD R9\nXCH R11\nBBL 12\nLDM 15\nWRM\nWMP\nWRR\nWR0\nWR1\nWR2\nWR3\nSBM\nRDM\nRDR\nADM\nRD0\nRD1\nRD2\nRD3\nCLB\nCLC\nIAC\nCMC\nCMA\nRAL\nRAR\nTCC\nDAC\nTCS\nSTC\nDAA\nKBP\nDCL\n";
 
-/// A jump, and an instruction and two bytes of data at its target.
+/// A jump, and at its target an instruction and two data bytes.
 const JUMP_AND_DATA: [(usize, u8); 4] = [(0, 0x41), (0x100, 0xD5), (0x101, 1), (0x102, 0xFF)];
 
-/// An instruction of two words on both sides of a page's end, and the first word of one at the last address.
+/// A two-word instruction across a page boundary, and the first word of another one at the last
+/// address.
 const JUMP_AT_A_PAGE: [(usize, u8); 4] = [(0xFE, 0xE0), (0xFF, 0x14), (0x100, 0x10), (0xFFF, 0x7F)];
 
-/// Returns a ROM with these bytes, and 0 elsewhere.
+/// Returns a ROM with the given bytes, and 0 at all other addresses.
 fn holding(rt: &impl Abort, bytes: &[(usize, u8)]) -> [u8; 4096] {
     let mut rom = [0; 4096];
     for (at, byte) in bytes {
@@ -41,7 +44,7 @@ fn address(at: u16) -> Addr {
     Addr::of(at).unwrap_or(Addr::ZERO)
 }
 
-/// Expects these lines of a ROM's listing from an address on.
+/// Checks that the listing of a ROM from an address on has the given lines.
 fn expect_listing(
     rt: &impl Abort,
     alloc: Global,
@@ -54,7 +57,7 @@ fn expect_listing(
     Ok(())
 }
 
-/// Expects this source of a ROM's range.
+/// Checks that the source of a range of a ROM is the given text.
 fn expect_source(
     rt: &impl Abort,
     alloc: Global,
@@ -69,7 +72,7 @@ fn expect_source(
     Ok(())
 }
 
-/// Expects this text of an instruction.
+/// Checks that an instruction has the given text.
 fn expect_line(rt: &impl Abort, alloc: Global, row: TextRow<'_>) -> Result<(), Fail> {
     let (at, first, second, text) = row;
     let line = line_of(alloc, address(at), first, second)?;
@@ -77,7 +80,7 @@ fn expect_line(rt: &impl Abort, alloc: Global, row: TextRow<'_>) -> Result<(), F
     Ok(())
 }
 
-/// Instructions with their texts.
+/// Instructions at various addresses, and their expected texts.
 const INSTRUCTIONS: [TextRow<'static>; 10] = [
     (0x0FE, 0x14, Some(0x10), "JCN 4, 0x110"),
     (0x0FD, 0x14, Some(0x10), "JCN 4, 0x010"),

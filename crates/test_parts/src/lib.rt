@@ -1,6 +1,7 @@
-//! Tests of the parts below the bench. Numbers, code table and processor run on values worked manually from the
-//! instruction descriptions of Intel's manual. The chips run alone, and rigs with other counts than the bench's. Lines
-//! are read, and wiring, assembler and disassembler run on texts that no script can give to the program.
+//! Tests of the parts below the bench. The expected values for numbers, the opcode table and the
+//! processor were worked out manually from the instruction descriptions in Intel's manual. Chips
+//! are tested alone, and rigs with part counts that differ from the bench's. Command lines are
+//! parsed. Wiring, assembler and disassembler run on texts that no script can give to the program.
 #![tactic(auto)]
 
 #[cfg(test)]

@@ -1,8 +1,8 @@
-//! Command lines with their requests.
+//! Tests of command lines and the requests that they parse as.
 use mcs_lines::requests::{Request, read_request};
 use std::test::Fail;
 
-/// Lines whose numbers are in their ranges.
+/// Lines whose numbers are in range.
 const IN_RANGE: [&str; 41] = [
     "",
     " \t ",
@@ -55,7 +55,7 @@ fn lines_in_range(rt: HostRuntime) {
     }
 }
 
-/// Lines, and their requests.
+/// Lines, and the requests that they parse as.
 const REQUESTS: [(&str, &str); 24] = [
     ("", "Nothing"),
     ("\t ", "Nothing"),

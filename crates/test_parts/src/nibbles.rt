@@ -1,4 +1,5 @@
-//! Worked values from outside: the manual's rule for SUB, applied manually.
+//! Tests of subtraction: the expected values follow from the manual's rule for SUB, applied
+//! manually.
 use crate::checks::equal;
 use mcs_nibble::{Bit, Nibble};
 use std::test::Fail;

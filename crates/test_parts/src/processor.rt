@@ -1,4 +1,5 @@
-//! Cycles worked manually from the instruction descriptions of Intel's manual, over a program memory.
+//! Tests of the processor with a program memory. The expected results of the cycles were worked out
+//! manually from the instruction descriptions in Intel's manual.
 ghost use Rattle.std.specs.Prelude.{◌≡◌, ℕ, ◌<◌};
 ghost use Rattle.mcs_model.specs.Bus.{BusState, zero_bus};
 
@@ -6,7 +7,7 @@ use crate::checks::equal;
 use mcs_cpu4004::{Bus, Cpu, Cycle, Regs};
 use mcs_nibble::{Addr, Bit, Nibble, RegNo};
 
-/// A program memory with a TEST pin, and no other part.
+/// A bus with only a program memory and a TEST pin.
 #[derive(Drop)]
 struct Memory {
     rom: [u8; 4096],
@@ -67,7 +68,7 @@ fn nibble(n: u8) -> Nibble {
     Nibble::low_of(n)
 }
 
-/// Returns a memory with TEST at 1 that holds these bytes, and 0 elsewhere.
+/// Returns a memory with the given bytes, 0 at all other addresses, and TEST at 1.
 fn holding(bytes: &[(u16, u8)]) -> Memory {
     let mut rom = [0; 4096];
     for (at, byte) in bytes {
@@ -80,7 +81,8 @@ fn holding(bytes: &[(u16, u8)]) -> Memory {
     }
 }
 
-/// Returns the registers of pairs, two nibbles a byte.
+/// Returns the index registers for the bytes of the eight pairs. The even register of a pair is the
+/// high nibble.
 fn index_registers(bytes: [u8; 8]) -> [Nibble; 16] {
     let mut r = [Nibble::ZERO; 16];
     for i in 0..8 {
@@ -90,7 +92,7 @@ fn index_registers(bytes: [u8; 8]) -> [Nibble; 16] {
     r
 }
 
-/// Returns the registers after `cycles` cycles from an address.
+/// Runs `cycles` cycles from an address, and returns the registers.
 fn after(cpu: &mut Cpu, bus: &mut Memory, pc: u16, cycles: u32) -> Regs {
     cpu.set_pc(address(pc));
     for _ in 0..cycles {

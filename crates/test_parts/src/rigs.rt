@@ -1,4 +1,5 @@
-//! A rig that not every board fits: what it lacks, and keys, worked manually from the rules of the wiring.
+//! Tests of a rig that is too small for some boards: absent parts, and keys. The expected values
+//! were worked out manually from the wiring rules.
 use crate::boards::one_rom;
 use crate::checks::equal;
 use mcs_board::Rig;
@@ -47,8 +48,8 @@ fn an_absent_rom_reads_0_and_keeps_nothing(rt: HostRuntime) {
     equal(&rt, rig.fetch(address(0x0FF)), 0xD5);
 }
 
-/// Checks keys on driven rows. Two bits that were shifted in drive rows 0 and 1; the keys at (0, 1) and (1, 2) pull
-/// lines 1 and 2 of ROM 1.
+/// Checks keys on driven rows. Two 1 bits that were shifted into the chain drive rows 0 and 1. The
+/// keys at (0, 1) and (1, 2) pull lines 1 and 2 of ROM 1.
 #[test]
 fn keys_of_driven_rows_are_read(rt: HostRuntime) {
     let mut rig = wired(rt.alloc(), &rt, worked());

@@ -1,5 +1,6 @@
-//! Packed chips: worked values, and banks and chains of several sizes compared with plain lists, under calls that a
-//! seeded generator picks.
+//! Tests of chips that pack several values into one word. Some tests use values that were worked
+//! out manually. Others make calls that a seeded generator picks, and compare banks and chains of
+//! several sizes with plain lists.
 ghost use Rattle.std.specs.Prelude.{◌<◌, ◌≤◌};
 
 use crate::checks::equal;
@@ -10,7 +11,7 @@ use mcs_shift4003::Chain;
 use std::process::Abort;
 use std::test::Fail;
 
-/// Returns a byte of two characters.
+/// Returns a random byte, built from two random nibbles.
 fn byte(numbers: &mut Numbers) -> u8 {
     numbers.below(16) * 16 + numbers.below(16)
 }
@@ -19,7 +20,8 @@ fn nibble(numbers: &mut Numbers) -> Nibble {
     Nibble::low_of(numbers.below(16))
 }
 
-/// Checks the upper character of a byte beside the lower one, and two status characters of one byte.
+/// Checks that the two nibbles in a byte do not affect each other, for RAM characters and status
+/// characters.
 #[test]
 fn two_characters_of_a_byte(rt: HostRuntime) -> Result<(), Fail> {
     let four = Nibble::of(4).ok_or("a nibble")?;
@@ -42,7 +44,8 @@ fn two_characters_of_a_byte(rt: HostRuntime) -> Result<(), Fail> {
     Ok(())
 }
 
-/// Shifts a 1 through 13 bits, from one word into the next and out of the last.
+/// Shifts a 1 through a chain of 13 bits, from one storage word into the next, and out of the last
+/// one.
 #[test]
 fn thirteen_bits(rt: HostRuntime) {
     let mut chain = Chain::<13>::new(13);
@@ -56,7 +59,7 @@ fn thirteen_bits(rt: HostRuntime) {
     }
 }
 
-/// A bank as plain lists.
+/// A reference model of a bank, as plain lists.
 #[derive(Drop)]
 struct PlainBank {
     wired: usize,
@@ -111,7 +114,7 @@ impl PlainBank {
     }
 }
 
-/// Does one call that the numbers pick.
+/// Makes one random call on a bank, and the same change in its model.
 fn call_bank<const CHIPS: usize>(
     bank: &mut Bank<CHIPS>,
     plain: &mut PlainBank,
@@ -153,7 +156,7 @@ fn call_bank<const CHIPS: usize>(
     }
 }
 
-/// Compares everything that can be read.
+/// Compares everything that can be read from a bank with its model.
 fn compare_bank<const CHIPS: usize>(rt: &impl Abort, bank: &Bank<CHIPS>, plain: &PlainBank) {
     for src in 0..=255u8 {
         assert_eq!(rt;
@@ -185,7 +188,8 @@ fn compare_bank<const CHIPS: usize>(rt: &impl Abort, bank: &Bank<CHIPS>, plain: 
     }
 }
 
-/// Does two rounds of 1,500 calls, with a comparison after every thirty, and a clear after each round.
+/// Makes two rounds of 1,500 random calls, with a comparison after every 30 calls. Clears the bank
+/// after each round.
 fn run_bank<const CHIPS: usize>(rt: &impl Abort, bank: &mut Bank<CHIPS>, wired: usize) {
     let mut numbers = Numbers::new(4002);
     for _ in 0..2 {
@@ -217,14 +221,15 @@ fn banks_under_seeded_calls(rt: HostRuntime) {
     }
 }
 
-/// A chain of at most 80 bits as a plain list. The list has room for bits past the chain's end, which are 0.
+/// A reference model of a chain of at most 80 bits, as a plain list. The list has room for bits
+/// beyond the end of the chain, and those bits are 0.
 #[derive(Drop)]
 struct PlainChain {
     list: [u8; 96],
 }
 
 impl PlainChain {
-    /// Returns the ten bits from an index on, as a number.
+    /// Returns the ten bits from an index on as a number, with the first bit as its lowest bit.
     fn ten_from(&self, first: usize) -> u16
         requires { first ≤ 80 }
     {
@@ -237,7 +242,7 @@ impl PlainChain {
         ten
     }
 
-    /// Moves each of the first `bits` bits up by one. Bit 0 takes the level.
+    /// Shifts the first `bits` bits up by one. The new bit 0 is `level`.
     fn shift(&mut self, bits: usize, level: Bit)
         requires { bits ≤ 80 }
     {
@@ -249,7 +254,7 @@ impl PlainChain {
     }
 }
 
-/// Does one call that the numbers pick.
+/// Makes one random call on a chain, and the same change in its model.
 fn call_chain<const MAX: usize>(
     chain: &mut Chain<MAX>,
     plain: &mut PlainChain,
@@ -270,7 +275,7 @@ fn call_chain<const MAX: usize>(
     }
 }
 
-/// Compares everything that can be read.
+/// Compares everything that can be read from a chain with its model.
 fn compare_chain<const MAX: usize>(rt: &impl Abort, chain: &Chain<MAX>, plain: &PlainChain) {
     let bits = chain.bits();
     if bits > 80 {
@@ -284,7 +289,8 @@ fn compare_chain<const MAX: usize>(rt: &impl Abort, chain: &Chain<MAX>, plain: &
     equal(rt, chain.ten_from(bits), 0);
 }
 
-/// Does 2,000 calls, with a comparison after every five, and a clear before every hundred.
+/// Makes 2,000 random calls, with a comparison after every five calls. Clears the chain before
+/// every 100 calls.
 fn run_chain<const MAX: usize>(rt: &impl Abort, chain: &mut Chain<MAX>) {
     let mut numbers = Numbers::new(4003);
     for _ in 0..20 {

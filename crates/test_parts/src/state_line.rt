@@ -1,9 +1,9 @@
-//! The line `state`.
+//! Tests of the command `state`.
 use mcs_lines::requests::{Request, read_request};
 use mcs_model::query::Query;
 use std::process::Abort;
 
-/// Returns whether a line asks for the state in one line.
+/// Returns true if a line parses as the query for the state in one line.
 fn asks_for_the_state(line: &[u8]) -> bool {
     matches!(read_request(line), Request::Ask(Query::State))
 }

@@ -1,11 +1,12 @@
-//! Texts that no session hands to the wiring, because some of their bytes are not plain, or they end without LF, and
-//! the numbers of its refusals. All others are in checks/lib/scripts/board_texts.scripts.
+//! Tests of refusal numbers, and of board texts that no session passes to the wiring. These texts
+//! contain bytes other than LF, tab and printable ASCII, or end without LF. All other texts are in
+//! checks/lib/scripts/board_texts.scripts.
 use mcs_wiring::{WiringFault, board_of, board_text, wiring_text};
 use std::alloc::Global;
 use std::process::Abort;
 use std::test::Fail;
 
-/// A text, and the number of its refusal.
+/// A text and its refusal number.
 type Row = (&'static str, u8);
 
 fn is_refused(alloc: Global, text: &str, number: u8) -> bool {
@@ -15,7 +16,7 @@ fn is_refused(alloc: Global, text: &str, number: u8) -> bool {
     }
 }
 
-/// Texts with a byte that is not plain, and some that end without LF.
+/// Texts with a byte other than printable ASCII, and texts that end without LF.
 const REFUSED: [Row; 7] = [
     ("\u{0}", 20),
     ("\"\u{e9}\" = 1", 21),
@@ -33,7 +34,7 @@ fn texts_that_no_script_gives_are_refused(rt: HostRuntime) {
     }
 }
 
-/// Expects this text of a text's board.
+/// Checks that the board that a text describes is written as the given text.
 fn expect_spelling(rt: &impl Abort, alloc: Global, text: &str, plain: &str) -> Result<(), Fail> {
     let board = board_of(alloc, text)?;
     let found = board_text(alloc, &board)?;
@@ -41,7 +42,8 @@ fn expect_spelling(rt: &impl Abort, alloc: Global, text: &str, plain: &str) -> R
     Ok(())
 }
 
-/// Spellings of one ROM, with CR at line ends or without LF at the end.
+/// Different texts for the same board with one ROM, some with CR at line ends, others without LF at
+/// the end.
 const SPELLINGS: &[&str] = &[
     "rom = [{ chip = 10, port = \"1i0i\" }]",
     "rom = [ # one\n  { port = '1i0i', chip = 0x0A },\n]",
@@ -49,7 +51,7 @@ const SPELLINGS: &[&str] = &[
     "ram = []\nlamp = []\nchain = []\n[[rom]]\nport = \"1i0i\"\nchip = 10",
 ];
 
-/// Checks one table in several spellings.
+/// Checks that several texts for the same board are written as the same text.
 #[test]
 fn spellings(rt: HostRuntime) -> Result<(), Fail> {
     for text in SPELLINGS {
@@ -59,7 +61,7 @@ fn spellings(rt: HostRuntime) -> Result<(), Fail> {
     Ok(())
 }
 
-/// Board texts and their reports.
+/// Board texts and their expected reports.
 const REPORTS: &[(&str, &str)] = &[
     ("[[rom]]\nchip = 0\nport = \"0000\"\n", "wiring valid\n"),
     ("[[rom]]\nchip = 0\nport = \n[[lamp]]\n", "no 20 line 3\n"),
