@@ -1,4 +1,4 @@
-//! A board with a program: the electronic die of the examples.
+//! The board of the example with an electronic die, and its program.
 use mcs_board::BenchRig;
 use mcs_check::Replica;
 use mcs_cpu4004::Cpu;
@@ -15,13 +15,13 @@ pub(crate) const PROGRAM: [u8; 29] = [
     177, 64, 11, 0, 0, 64, 11,
 ];
 
-/// The lamps of the die's faces, as stored after its program.
+/// The lamp patterns of the die's six faces, which are in ROM after its program.
 pub(crate) const FACES: [u8; 6] = [8, 1, 9, 3, 11, 7];
 
-/// The address of the faces.
+/// The address of the lamp patterns.
 const FACES_AT: u16 = 42;
 
-/// Returns a board with a ROM port of outputs, one of inputs, a RAM chip and one key.
+/// Returns a board with a ROM with outputs, a ROM with inputs, a RAM chip and one key.
 fn one_key() -> Result<Board, BoardFault> {
     let mut roms = [None; ROMS];
     roms[0] = Some(OUTPUTS);
@@ -40,7 +40,7 @@ fn one_key() -> Result<Board, BoardFault> {
     })
 }
 
-/// Puts bytes into ROMs, from an address on.
+/// Writes bytes to consecutive ROM addresses.
 fn put(rig: &mut BenchRig, from: u16, bytes: &[u8]) {
     let mut at = Addr::ZERO.plus(from);
     for byte in bytes {
@@ -49,7 +49,7 @@ fn put(rig: &mut BenchRig, from: u16, bytes: &[u8]) {
     }
 }
 
-/// Returns the board of the die with a program, before its first cycle.
+/// Returns a rig with the die's board and faces and with the given program, before its first cycle.
 pub(crate) fn rig(alloc: Global, rt: &impl Abort, program: &[u8]) -> Result<BenchRig, AllocError> {
     let board = one_key().expect(rt, "a board");
     let mut rig = BenchRig::new(alloc)?;
@@ -60,7 +60,8 @@ pub(crate) fn rig(alloc: Global, rt: &impl Abort, program: &[u8]) -> Result<Benc
     Ok(rig)
 }
 
-/// Returns the machine of such a board.
+/// Returns a machine with the die's board and faces and with the given program, before its first
+/// cycle.
 pub(crate) fn machine(
     alloc: Global,
     rt: &impl Abort,
@@ -70,7 +71,7 @@ pub(crate) fn machine(
     Ok(Replica::of(Cpu::new(), rig))
 }
 
-/// Returns the die, before its first cycle.
+/// Returns a machine that runs the die's program, before its first cycle.
 pub(crate) fn die(alloc: Global, rt: &impl Abort) -> Result<Replica, AllocError> {
     machine(alloc, rt, &PROGRAM)
 }

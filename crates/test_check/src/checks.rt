@@ -1,4 +1,4 @@
-//! Outcomes of whole checks.
+//! Tests of complete checks and their outcomes.
 use crate::boards::{FACES, die};
 use mcs_check::{
     Aim, Cell, CellList, Comparison, Condition, Conjunction, Outcome, Part, check_all,
@@ -6,14 +6,16 @@ use mcs_check::{
 use std::alloc::{AllocError, Global};
 use std::process::Abort;
 
-/// The number of states of the die: one at the start, and for each of six faces, one after it was shown and one after
-/// its key was read as up. A second reading of the chips counts as many.
+/// The number of states of the die: one at the start, and two for each of the six faces. Of these
+/// two, one follows the display of the face, and one follows a read of its key as up. An
+/// independent model of the chips gives the same number.
 pub(crate) const STATES: usize = 13;
 
-/// A number of cycles without a reading that is enough for the die.
+/// A number of cycles without an input read, after which a check cuts the path. It is large enough
+/// for the die.
 pub(crate) const PAUSE: u32 = 1_000;
 
-/// More memory than a search needs.
+/// More bytes of memory than a search needs.
 pub(crate) const MEMORY: usize = 1_000_000_000;
 
 /// The lamps: the port latch of the RAM chip.
@@ -22,7 +24,8 @@ const LAMPS: Cell = Cell {
     index: 0,
 };
 
-/// Returns the condition that the lamps show this, or do not.
+/// Returns the condition that the lamps show the pattern `n`, or another pattern if `inside` is
+/// false.
 fn shown(n: u8, inside: bool) -> Condition {
     Condition::Compare(Comparison {
         cell: LAMPS,
@@ -33,7 +36,7 @@ fn shown(n: u8, inside: bool) -> Condition {
     })
 }
 
-/// Returns the condition, never to be met, that the lamps show no face and are not dark.
+/// Returns the aim that the lamps never show a pattern that is neither a face nor dark.
 pub(crate) fn no_face(alloc: Global) -> Result<Aim, AllocError> {
     let mut conditions = Vec::new(alloc);
     conditions.push(shown(0, false))?;
@@ -45,7 +48,7 @@ pub(crate) fn no_face(alloc: Global) -> Result<Aim, AllocError> {
     Ok(Aim::never(alloc, nevers))
 }
 
-/// Returns the condition, never to be met, that the lamps show this.
+/// Returns the aim that the lamps never show the pattern `n`.
 fn lamps_are(alloc: Global, n: u8) -> Result<Aim, AllocError> {
     let mut conditions = Vec::new(alloc);
     conditions.push(shown(n, true))?;
@@ -54,12 +57,12 @@ fn lamps_are(alloc: Global, n: u8) -> Result<Aim, AllocError> {
     Ok(Aim::never(alloc, nevers))
 }
 
-/// Checks the die, in at most `STATES` states.
+/// Checks an aim on the die, with at most `STATES` states.
 pub(crate) fn all_checked(alloc: Global, rt: &impl Abort, aim: Aim) -> Result<Outcome, AllocError> {
     check_all(alloc, die(alloc, rt)?, aim, STATES, MEMORY, PAUSE)
 }
 
-/// Returns whether lamps that show this may be found.
+/// Returns true if a check says that the lamps may show the pattern `n`.
 fn may_show(alloc: Global, rt: &impl Abort, n: u8) -> bool {
     let aim = lamps_are(alloc, n).expect(rt, "memory");
     match all_checked(alloc, rt, aim).expect(rt, "memory") {
@@ -71,7 +74,7 @@ fn may_show(alloc: Global, rt: &impl Abort, n: u8) -> bool {
     }
 }
 
-/// Expects that the conditions are never met, and how many states there are.
+/// Checks that the outcome is that the aim holds, and that the number of states is right.
 pub(crate) fn expect_holds(rt: &impl Abort, outcome: Outcome) {
     match outcome {
         Outcome::Holds(n) => assert_eq!(rt; n, STATES),
@@ -85,7 +88,7 @@ fn faces_alone_are_shown(rt: HostRuntime) {
     let outcome = all_checked(rt.alloc(), &rt, aim).expect(&rt, "memory");
     expect_holds(&rt, outcome);
     for n in 0..16 {
-        // the lamps are dark at the beginning
+        // the lamps are dark at the start
         let is_face = n == 0 || FACES.contains(&n);
         assert!(&rt; may_show(rt.alloc(), &rt, n) == is_face, "lamps {n}");
     }

@@ -1,5 +1,6 @@
-//! Tests of checks for all inputs on a board whose states a second reading of the chips counted. They cover what a
-//! proof does not say: the number of states, and that a result is found at all.
+//! Tests of checks for all inputs. An independent model of the chips has counted the states of the
+//! test board. The tests cover what the proofs do not state: the number of states, and that a check
+//! reaches a result at all.
 #![tactic(auto)]
 
 #[cfg(test)]

@@ -1,10 +1,10 @@
-//! Mistakes that a program makes, or does not make.
+//! Tests that check programs for common mistakes.
 use crate::boards::{die, machine};
 use crate::checks::{MEMORY, PAUSE, STATES, expect_holds};
 use mcs_check::{Aim, Condition, Conjunction, Mistakes, Outcome, check_all};
 use std::alloc::{AllocError, Global};
 
-/// All mistakes.
+/// All common mistakes.
 pub(crate) const ALL: Mistakes = Mistakes {
     no_code: true,
     fourth_call: true,
@@ -15,7 +15,7 @@ pub(crate) const ALL: Mistakes = Mistakes {
     no_outputs: true,
 };
 
-/// Returns the conditions, never to be met, that these mistakes are made.
+/// Returns the aim that a program never makes any of these mistakes.
 fn never(alloc: Global, asked: Mistakes) -> Result<Aim, AllocError> {
     let mut conditions = Vec::new(alloc);
     conditions.push(Condition::Mistaken(asked))?;
@@ -34,8 +34,9 @@ fn the_die_makes_none(rt: HostRuntime) {
     );
 }
 
-/// Programs, each of which makes one mistake: a code outside the table, four nested calls, a BBL, or WRM after DCL of
-/// bank 1; a jump to 200, RDR of the port of ROM 0, or WRR to that of ROM 1. None continues into the die's faces.
+/// Programs that make one mistake each: an invalid opcode, four nested calls, BBL without a call,
+/// WRM after DCL of bank 1, a jump to 0x200, RDR of the port of ROM 0, and WRR to the port of ROM
+/// 1. No program runs on into the die's faces.
 pub(crate) const PROGRAMS: [[u8; 10]; 7] = [
     [0xFE, 0, 0, 0, 0, 0, 0, 0, 0, 0],
     [0x50, 2, 0x50, 4, 0x50, 6, 0x50, 8, 0x40, 8],
@@ -46,7 +47,7 @@ pub(crate) const PROGRAMS: [[u8; 10]; 7] = [
     [0x20, 0x10, 0x21, 0xE2, 0x40, 3, 0, 0, 0, 0],
 ];
 
-/// Returns the mistake of a program.
+/// Returns the mistake that program `k` makes.
 pub(crate) fn mistake(k: usize) -> Mistakes {
     let mut asked = Mistakes::NONE;
     match k {

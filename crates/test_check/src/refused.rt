@@ -1,10 +1,11 @@
-//! One refused allocation: `checks/allocations` refuses each in turn, the gate none.
+//! Tests with one failing allocation. `checks/allocations` makes each allocation fail in turn; in
+//! the gate, none fails.
 use crate::checks::{STATES, all_checked, expect_holds, no_face};
 use mcs_check::{Aim, Outcome};
 use std::alloc::Global;
 use std::process::Abort;
 
-/// Checks the die. Returns what was refused.
+/// Checks the die. Returns the part whose allocation failed, or `nothing`.
 fn check_once(alloc: Global, rt: &impl Abort, aim: Aim) -> &'static str {
     match all_checked(alloc, rt, aim) {
         Ok(Outcome::NoMemory(states)) => {
@@ -19,7 +20,8 @@ fn check_once(alloc: Global, rt: &impl Abort, aim: Aim) -> &'static str {
     }
 }
 
-/// Checks the die, and then once more. Returns what was refused.
+/// Checks the die, and repeats the check if an allocation failed in it. Returns the part whose
+/// allocation failed, or `nothing`.
 fn run(alloc: Global, rt: &impl Abort) -> &'static str {
     let Ok(aim) = no_face(alloc) else {
         return "the conditions";

@@ -1,4 +1,4 @@
-//! Checks by sets of values.
+//! Tests of checks by sets of values.
 use crate::boards::{PROGRAM, rig};
 use crate::checks::MEMORY;
 use crate::mistakes::{ALL, PROGRAMS, mistake};
@@ -8,10 +8,10 @@ use mcs_sets::check_by_sets;
 use std::alloc::{AllocError, Global};
 use std::process::Abort;
 
-/// More entries than a program of these has.
+/// More entries than a check of any of these programs needs.
 const ENTRIES: usize = 10_000;
 
-/// Returns the conditions, never to be met, that these mistakes are made.
+/// Returns the conditions that the given mistakes are made, none of which may ever be met.
 fn never(alloc: Global, asked: Mistakes) -> Result<Vec<Vec<Condition>>, AllocError> {
     let mut conditions = Vec::new(alloc);
     conditions.push(Condition::Mistaken(asked))?;
@@ -20,7 +20,7 @@ fn never(alloc: Global, asked: Mistakes) -> Result<Vec<Vec<Condition>>, AllocErr
     Ok(nevers)
 }
 
-/// Checks a program on the board of the die.
+/// Checks a program on the die's board.
 fn checked(
     alloc: Global,
     rt: &impl Abort,

@@ -1,4 +1,4 @@
-//! Times between addresses, by a stopwatch.
+//! Tests of the time between two addresses, which a stopwatch measures.
 use crate::boards::machine;
 use crate::checks::MEMORY;
 use mcs_check::{
@@ -11,34 +11,39 @@ use std::process::Abort;
 /// More states than these programs have.
 const MOST: usize = 10_000;
 
-/// The cycles after which a pause without readings is cut: a loop is seen once it was run through after that. The nested
-/// loops are cut where the upper byte of the stopwatch is not 0.
+/// The number of cycles without an input read, after which a check cuts the path. A loop is
+/// recognised when it runs once more after that. In the nested loops, the upper byte of the
+/// stopwatch is not 0 at the cut.
 const PAUSE: u32 = 137_000;
 
-/// FIM P0 0, ISZ R0 2, JUN 0: 2 cycles, 16 times 2 and 2.
+/// FIM P0 0, ISZ R0 2, JUN 0. They take 2 cycles, 16 times 2 cycles, and 2 cycles.
 const DELAY: [u8; 6] = [0x20, 0, 0x70, 2, 0x40, 0];
 
-/// The cycles from address 0 to address 0.
+/// The number of cycles from address 0 back to address 0.
 const DELAY_CYCLES: u32 = 36;
 
-/// FIM P0 0, 16 times (JCN TEST 6, NOP, NOP, ISZ R0 2), JUN 0: each of 16 passes takes 4 cycles or 6.
+/// FIM P0 0, 16 times (JCN TEST 6, NOP, NOP, ISZ R0 2), JUN 0. Each of the 16 passes takes 4 or 6
+/// cycles.
 const BRANCHES: [u8; 10] = [0x20, 0, 0x11, 6, 0, 0, 0x70, 2, 0x40, 0];
 
-/// The most cycles from address 0 to address 0.
+/// The maximum number of cycles from address 0 back to address 0.
 const BRANCHES_CYCLES: u32 = 100;
 
-/// At the readings of pass 1 to 16 there are 1 to 16 different times. With the start that is:
+/// The number of states: pass n of the 16 passes reads TEST at n different times, and the start is
+/// one more state.
 const BRANCHES_STATES: usize = 137;
 
-/// FIM P0 0, FIM P1 8, and four nested loops by ISZ R0 to R3, the last of 8 passes, JUN 0.
+/// FIM P0 0, FIM P1 8, four nested loops with ISZ R0 to R3, and JUN 0. The outermost loop has 8
+/// passes.
 const NESTED: [u8; 14] = [
     0x20, 0, 0x22, 8, 0x70, 4, 0x71, 4, 0x72, 4, 0x73, 4, 0x40, 0,
 ];
 
-/// 2 + 2, twice 8 + 128 + 2048 + 32768 passes, and 2.
+/// The number of cycles: 2 + 2 for the FIMs, 2 for each of 8 + 128 + 2048 + 32768 passes, and 2 for
+/// the JUN.
 const NESTED_CYCLES: u32 = 69_910;
 
-/// Returns the condition that a counter is a number.
+/// Returns the condition that a counter equals `n`.
 fn is(index: u16, n: u8) -> Condition {
     Condition::Compare(Comparison {
         cell: Cell {
@@ -52,7 +57,7 @@ fn is(index: u16, n: u8) -> Condition {
     })
 }
 
-/// Returns the conditions that an instruction begins at an address of page 0.
+/// Returns the condition that an instruction begins at an address of page 0.
 fn begins_at(alloc: Global, low: u8) -> Result<Vec<Conjunction>, AllocError> {
     let mut conditions = Vec::new(alloc);
     conditions.push(is(3, 0))?;
@@ -63,7 +68,7 @@ fn begins_at(alloc: Global, low: u8) -> Result<Vec<Conjunction>, AllocError> {
     Ok(lists)
 }
 
-/// Checks that a program goes from one address to another within a limit.
+/// Checks that a program always gets from one address to another within `limit` cycles.
 fn checked(
     alloc: Global,
     rt: &impl Abort,
@@ -82,7 +87,7 @@ fn checked(
     check_all(alloc, machine, aim, MOST, MEMORY, PAUSE).expect(rt, "memory")
 }
 
-/// Expects that a program takes these cycles at most from one address to another.
+/// Checks that `cycles` is the longest time that a program takes from one address to another.
 fn expect_longest(alloc: Global, rt: &impl Abort, program: &[u8], from: u8, to: u8, cycles: u32) {
     let outcome = checked(alloc, rt, program, from, to, cycles);
     assert!(rt; matches!(&outcome, Outcome::Holds(_)), "{cycles}");

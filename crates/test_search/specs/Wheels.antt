@@ -1,4 +1,4 @@
--- Rules without content: the tests count states, and replay choices.
+-- Rules that state nothing. The tests count states and replay choices instead.
 use Rattle.std.specs.Prelude.{ℕ}
 use Rattle.mcs_search.specs.Rules.{Rules}
 

@@ -1,5 +1,5 @@
-//! Tests of searches through systems whose states can be counted manually. They cover what a proof does not say: that
-//! counterexamples are shortest, and when a search gives up.
+//! Tests of searches through systems whose states can be counted manually. They cover what the
+//! proofs do not state: that counterexamples are shortest, and when a search gives up.
 #![tactic(auto)]
 
 #[cfg(test)]

@@ -1,22 +1,23 @@
-//! One refused allocation: `checks/allocations` refuses each in turn, the gate none.
+//! Tests with one failing allocation. `checks/allocations` makes each allocation fail in turn; in
+//! the gate, none fails.
 use crate::wheels::{Wheels, go_on};
 use mcs_search::{Search, Verdict};
 use std::alloc::Global;
 use std::process::Abort;
 
-/// Wheels at their first places.
+/// The start state: three wheels at position 0.
 const START: [u8; 3] = [0; 3];
 
-/// The places of a wheel: there are more states than a block has.
+/// The number of positions of a wheel. It gives more states than a block can hold.
 const PLACES: u8 = 41;
 
-/// The states.
+/// The number of states: 41 * 41 * 41.
 const STATES: usize = 68_921;
 
-/// A number of steps that is enough for all states.
+/// More steps than all states need.
 const STEPS: usize = 100_000;
 
-/// Expects that all states were found.
+/// Checks that the search has found all states.
 fn expect_all(rt: &impl Abort, verdict: Option<Verdict>) {
     match verdict {
         Some(Verdict::Holds(n)) => assert_eq!(rt; n, STATES),
@@ -24,7 +25,8 @@ fn expect_all(rt: &impl Abort, verdict: Option<Verdict>) {
     }
 }
 
-/// Continues to the end of a search, and again if memory was refused. Returns what was refused.
+/// Continues a search to its end, and repeats this if an allocation failed. Returns the part whose
+/// allocation failed, or `nothing`.
 fn go_to_end(rt: &impl Abort, search: &mut Search) -> &'static str {
     let mut wheels = Wheels::new(3, PLACES);
     match go_on(search, &mut wheels, STEPS) {
@@ -40,7 +42,8 @@ fn go_to_end(rt: &impl Abort, search: &mut Search) -> &'static str {
     }
 }
 
-/// Begins a search, and again if memory was refused. Returns what was refused.
+/// Starts a search, and repeats this if an allocation failed. Returns the part whose allocation
+/// failed, or `nothing`.
 fn run(alloc: Global, rt: &impl Abort) -> &'static str {
     match Search::begin(alloc, &START, STATES) {
         Ok(mut search) => go_to_end(rt, &mut search),

@@ -1,10 +1,10 @@
-//! Verdicts of whole searches.
+//! Tests of complete searches and their verdicts.
 use crate::wheels::{Wheels, searched};
 use mcs_search::Verdict;
 use std::alloc::Global;
 use std::process::Abort;
 
-/// Expects that the property holds on this many states.
+/// Checks that the property holds for the given number of states.
 fn expect_holds(rt: &impl Abort, verdict: &Verdict, states: usize) {
     match verdict {
         Verdict::Holds(n) => assert_eq!(rt; *n, states),
@@ -16,7 +16,7 @@ fn expect_too_many(rt: &impl Abort, verdict: &Verdict) {
     assert!(rt; matches!(verdict, Verdict::TooMany));
 }
 
-/// Expects that all places of the wheels are found.
+/// Checks that a search finds all states of the wheels.
 fn expect_all(alloc: Global, rt: &impl Abort, count: usize, places: u8, states: usize) {
     let mut wheels = Wheels::new(count, places);
     expect_holds(rt, &searched(alloc, rt, &mut wheels, 1_000_000), states);
@@ -36,7 +36,7 @@ fn more_states_than_a_block_has(rt: HostRuntime) {
     expect_all(rt.alloc(), &rt, 3, 51, 132_651);
 }
 
-/// Expects a counterexample that turns each wheel to its bad place and not further.
+/// Checks that the counterexample turns each wheel to its bad position and no further.
 fn expect_shortest(alloc: Global, rt: &impl Abort, places: u8, bad: [u8; 3]) {
     let mut wheels = Wheels::new(3, places);
     wheels.bad = bad;
@@ -82,7 +82,7 @@ fn a_system_may_give_up(rt: HostRuntime) {
             Verdict::GaveUp
         )
     );
-    // a nearer counterexample is found before
+    // a counterexample with fewer choices is found first
     wheels.bad = [0, 2, 0];
     assert!(&rt;
         matches!(

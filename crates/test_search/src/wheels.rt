@@ -1,24 +1,27 @@
-//! A system for tests.
+//! A system of wheels for tests.
 use mcs_search::{Search, System, Verdict, search_all};
 use std::alloc::{AllocError, Global};
 use std::process::Abort;
 
-/// Wheels of `places` places, all at place 0 first. A choice turns a wheel by one place.
+/// A system of `count` wheels with `places` positions each. All wheels start at position 0. A
+/// choice turns one wheel by one position.
 #[derive(Drop)]
 pub(crate) struct Wheels {
     pub(crate) count: usize,
     pub(crate) places: u8,
-    /// The property fails here; of fewer wheels the first bytes count.
+    /// The positions at which the property fails. With fewer than three wheels, only the first
+    /// bytes count.
     pub(crate) bad: [u8; 3],
-    /// The system gives up here.
+    /// The positions at which the system gives up. With fewer than three wheels, only the first
+    /// bytes count.
     pub(crate) stuck: [u8; 3],
 }
 
-/// No state: no wheel has this place.
+/// Positions that no state has, because no wheel has position 255.
 pub(crate) const NOWHERE: [u8; 3] = [255; 3];
 
 impl Wheels {
-    /// Returns wheels on which the property holds everywhere.
+    /// Returns wheels for which the property holds in all states.
     pub(crate) fn new(count: usize, places: u8) -> Wheels {
         Wheels {
             count,
@@ -29,7 +32,7 @@ impl Wheels {
     }
 }
 
-/// Returns whether the wheels are at these places.
+/// Returns true if the wheels of a state are at the given positions.
 fn are_at(key: &[u8], places: &[u8; 3]) -> bool {
     !key.is_empty() && key.len() <= 3 && key == &places[..key.len()]
 }
@@ -68,7 +71,7 @@ impl System for Wheels {
     }
 }
 
-/// Follows at most `steps` states of a search.
+/// Continues a search for at most `steps` states.
 #[tactic(auto, using(crate::proofs::Free::free_under_way))]
 pub(crate) fn go_on(
     search: &mut Search,
@@ -78,7 +81,7 @@ pub(crate) fn go_on(
     search.go_on(wheels, steps)
 }
 
-/// Searches through at most `most` places of the wheels.
+/// Searches all states of the wheels, with at most `most` states.
 pub(crate) fn searched(
     alloc: Global,
     rt: &impl Abort,

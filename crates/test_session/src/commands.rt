@@ -1,17 +1,18 @@
-//! Commands whose bytes are in no session: for a key that no board has, and of no byte.
+//! Tests of command bytes that occur in no session: a command for a key that no board has, and a
+//! command of zero bytes.
 use mcs_codec::{COMMAND_BYTES, command_bytes, command_of};
 use mcs_model::command::Command;
 use std::alloc::Global;
 use std::process::Abort;
 
-/// Checks that the command is written as these bytes.
+/// Checks that a command is encoded as the given bytes.
 fn expect_bytes(rt: &impl Abort, command: &Command, want: &[u8]) {
     let mut bytes = [0; COMMAND_BYTES];
     let count = command_bytes(command, &mut bytes);
     assert_eq!(rt; &bytes[..count], want);
 }
 
-/// Returns the command that these bytes spell, if they spell one.
+/// Returns the command that the bytes encode, or none if they do not encode one.
 fn read(rt: &impl Abort, alloc: Global, bytes: &[u8]) -> Option<Command> {
     command_of(alloc, bytes).expect(rt, "memory")
 }
@@ -20,7 +21,7 @@ fn is_read(rt: &impl Abort, alloc: Global, bytes: &[u8]) -> bool {
     read(rt, alloc, bytes).is_some()
 }
 
-/// Checks that what is read from these bytes is written as these bytes again.
+/// Checks that the bytes decode to a command that is encoded as the same bytes.
 fn expect_same(rt: &impl Abort, alloc: Global, want: &[u8]) {
     match read(rt, alloc, want) {
         Some(command) => expect_bytes(rt, &command, want),
@@ -28,8 +29,8 @@ fn expect_same(rt: &impl Abort, alloc: Global, want: &[u8]) {
     }
 }
 
-/// Checks that the command is written as these bytes, and that what is read from them is written so
-/// again.
+/// Checks that a command is encoded as the given bytes, and that decoding and encoding these bytes
+/// gives the same bytes.
 fn expect_both(rt: &impl Abort, alloc: Global, command: &Command, want: &[u8]) {
     expect_bytes(rt, command, want);
     expect_same(rt, alloc, want);

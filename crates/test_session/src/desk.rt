@@ -1,4 +1,4 @@
-//! The operations of the tests on disks and sessions.
+//! Helper functions for tests on disks and sessions.
 use crate::checks::equal;
 use mcs_bench::Bench;
 use mcs_disk::{Disk, FuseDisk, MemDisk};
@@ -11,7 +11,7 @@ use mcs_session::session::Session;
 use std::alloc::Global;
 use std::process::Abort;
 
-/// Returns the command that puts a value, 0 to 15, into a register, 0 to 15.
+/// Returns the command that sets a register, 0 to 15, to a value, 0 to 15.
 pub(crate) fn poke(rt: &impl Abort, register: u8, value: u8) -> Command {
     match (RegNo::of(register), Nibble::of(value)) {
         (Some(register), Some(value)) => Command::Poke(Place::Register(register, value)),
@@ -23,7 +23,7 @@ pub(crate) fn blank(alloc: Global, rt: &impl Abort) -> MemDisk {
     MemDisk::new(alloc, FILE_SIZE).expect(rt, "memory")
 }
 
-/// Makes a session on this disk, and returns the answer.
+/// Creates a session on a disk, and returns the result.
 pub(crate) fn create<D: Disk + Drop>(
     alloc: Global,
     disk: D,
@@ -31,7 +31,7 @@ pub(crate) fn create<D: Disk + Drop>(
     Session::create(alloc, disk)
 }
 
-/// Returns a new session on this disk.
+/// Returns a new session on a disk.
 pub(crate) fn made<D: Disk + Drop>(alloc: Global, rt: &impl Abort, disk: D) -> Session<D> {
     match create(alloc, disk) {
         Ok(session) => session,
@@ -39,12 +39,12 @@ pub(crate) fn made<D: Disk + Drop>(alloc: Global, rt: &impl Abort, disk: D) -> S
     }
 }
 
-/// Opens this disk, and returns the answer.
+/// Opens the session on a disk, and returns the result.
 pub(crate) fn open<D: Disk + Drop>(alloc: Global, disk: D) -> Result<Session<D>, (StoreFault, D)> {
     Session::open(alloc, disk)
 }
 
-/// Returns the session that this disk holds.
+/// Returns the session that is stored on a disk.
 pub(crate) fn opened<D: Disk + Drop>(alloc: Global, rt: &impl Abort, disk: D) -> Session<D> {
     match open(alloc, disk) {
         Ok(session) => session,
@@ -57,18 +57,18 @@ pub(crate) fn bench_of<D: Disk + Drop>(session: &Session<D>) -> &Bench {
     session.bench()
 }
 
-/// Returns the disk of a session, and ends the session.
+/// Ends a session, and returns its disk.
 pub(crate) fn left<D: Disk + Drop>(session: Session<D>) -> D {
     session.into_disk()
 }
 
-/// Checks that the disk holds a session that has accepted `seq` commands.
+/// Checks that a disk stores a session that has accepted `seq` commands.
 pub(crate) fn expect_seq<D: Disk + Drop>(alloc: Global, rt: &impl Abort, disk: D, seq: u32) {
     equal(rt, bench_of(&opened(alloc, rt, disk)).seq(), seq);
 }
 
-/// Checks that the disk holds a session that has accepted `seq` commands, with this value in this
-/// register.
+/// Checks that a disk stores a session that has accepted `seq` commands, and that a register has
+/// the given value.
 pub(crate) fn expect_register<D: Disk + Drop>(
     alloc: Global,
     rt: &impl Abort,
@@ -83,7 +83,7 @@ pub(crate) fn expect_register<D: Disk + Drop>(
     equal(rt, bench.regs().r[register].get(), value);
 }
 
-/// Returns the session's answer to the command.
+/// Applies a command to a session, and returns the result.
 fn answer<D: Disk + Drop>(
     session: &mut Session<D>,
     command: &Command,
@@ -91,7 +91,7 @@ fn answer<D: Disk + Drop>(
     session.apply(command)
 }
 
-/// Checks that the command is not done, for this reason.
+/// Checks that a session does not carry out a command, with the given fault.
 pub(crate) fn expect_fault<D: Disk + Drop>(
     rt: &impl Abort,
     session: &mut Session<D>,
@@ -101,7 +101,7 @@ pub(crate) fn expect_fault<D: Disk + Drop>(
     equal(rt, answer(session, command), Err(fault));
 }
 
-/// Checks that the command is acknowledged with this reply.
+/// Checks that a session acknowledges a command with the given reply.
 pub(crate) fn expect_reply<D: Disk + Drop>(
     rt: &impl Abort,
     session: &mut Session<D>,
@@ -111,12 +111,12 @@ pub(crate) fn expect_reply<D: Disk + Drop>(
     equal(rt, answer(session, command), Ok(reply));
 }
 
-/// Checks that the command is acknowledged with a reply without contents.
+/// Checks that a session acknowledges a command with the reply `Done`.
 pub(crate) fn done<D: Disk + Drop>(rt: &impl Abort, session: &mut Session<D>, command: &Command) {
     expect_reply(rt, session, command, Reply::Done);
 }
 
-/// Checks that a run is acknowledged and reaches its end.
+/// Checks that a session acknowledges a run, and that the run executes all its cycles.
 pub(crate) fn run<D: Disk + Drop>(rt: &impl Abort, session: &mut Session<D>, cycles: u32) {
     let reply = Reply::Ran {
         cycles,
@@ -125,13 +125,13 @@ pub(crate) fn run<D: Disk + Drop>(rt: &impl Abort, session: &mut Session<D>, cyc
     expect_reply(rt, session, &Command::Run(cycles), reply);
 }
 
-/// Reads what the disk holds at an offset.
+/// Reads bytes from a disk at an offset.
 fn read<D: Disk>(rt: &impl Abort, disk: &mut D, at: usize, into: &mut [u8]) {
     assert!(rt; at <= disk.size() && into.len() <= disk.size() - at);
     assert!(rt; disk.read(at, into).is_ok());
 }
 
-/// Checks that the disk holds these bytes at an offset.
+/// Checks that a disk has the given bytes at an offset.
 pub(crate) fn expect_bytes<D: Disk>(rt: &impl Abort, disk: &mut D, at: usize, want: &[u8]) {
     let mut got = [0u8; 16];
     assert!(rt; want.len() <= 16);
@@ -140,18 +140,18 @@ pub(crate) fn expect_bytes<D: Disk>(rt: &impl Abort, disk: &mut D, at: usize, wa
     assert_eq!(rt; &*found, want, "at {at}");
 }
 
-/// Writes these bytes at an offset, as a stop may have left them.
+/// Overwrites bytes at an offset, as an interrupted write may have left them.
 pub(crate) fn leave<D: Disk>(rt: &impl Abort, disk: &mut D, at: usize, bytes: &[u8]) {
     assert!(rt; at <= disk.size() && bytes.len() <= disk.size() - at);
     assert!(rt; disk.write(at, bytes).is_ok());
 }
 
-/// Returns a disk that fails each call but the first `calls`.
+/// Returns a blank disk that fails each call after the first `calls`.
 pub(crate) fn fused(alloc: Global, rt: &impl Abort, calls: usize) -> FuseDisk {
     FuseDisk::after(blank(alloc, rt), calls)
 }
 
-/// Returns the disk, which fails no call any more.
+/// Returns a disk that no longer fails any call.
 pub(crate) fn mended(mut disk: FuseDisk) -> FuseDisk {
     disk.mend();
     disk

@@ -1,4 +1,4 @@
-//! A stop while the first opening of a session of version 1 carries it over.
+//! Tests of a stop while a session of version 1 is migrated, which happens when it is first opened.
 use crate::checks::equal;
 use crate::desk::{blank, expect_bytes, expect_register, leave, mended, open};
 use mcs_disk::{FuseDisk, MemDisk};
@@ -9,7 +9,7 @@ use std::process::Abort;
 
 const SECOND_SLOT: usize = 81_936;
 
-/// Returns a disk that holds the file of one register, of version 1.
+/// Returns a disk with a file of version 1: a new bench and the record of `poke r5 9`.
 fn one_register(alloc: Global, rt: &impl Abort) -> MemDisk {
     let mut disk = blank(alloc, rt);
     for (at, bytes) in NEW_BENCH {
@@ -19,8 +19,8 @@ fn one_register(alloc: Global, rt: &impl Abort) -> MemDisk {
     disk
 }
 
-/// Returns the disk after a stop that keeps the file of one register from opening, or none if the
-/// file opens. The stop is after `calls` calls of the disk.
+/// Returns the disk after a stop that prevents the file of version 1 from opening, or none if the
+/// file opens. The disk fails each call after the first `calls`.
 fn stopped(alloc: Global, rt: &impl Abort, calls: usize) -> Option<FuseDisk> {
     let disk = FuseDisk::after(one_register(alloc, rt), calls);
     match open(alloc, disk) {
@@ -32,7 +32,7 @@ fn stopped(alloc: Global, rt: &impl Abort, calls: usize) -> Option<FuseDisk> {
     }
 }
 
-/// Returns the number of calls of the disk that opening needs.
+/// Returns the number of device calls that opening the file needs.
 fn count_calls(alloc: Global, rt: &impl Abort) -> usize {
     let mut calls = 0usize;
     for _ in 0..64 {
@@ -44,7 +44,7 @@ fn count_calls(alloc: Global, rt: &impl Abort) -> usize {
     calls
 }
 
-/// Returns the disk after a stop at the call that is `before` calls before the end of opening.
+/// Returns the disk after a stop `before` calls before the end of opening.
 fn stopped_before(alloc: Global, rt: &impl Abort, calls: usize, before: usize) -> FuseDisk {
     assert!(rt; before <= calls);
     let call = calls - before;
@@ -54,8 +54,8 @@ fn stopped_before(alloc: Global, rt: &impl Abort, calls: usize, before: usize) -
     }
 }
 
-/// Checks what the disk holds `before` calls before the end. The last four calls write the
-/// snapshot, sync it, write the selector, and sync it.
+/// Checks the bytes on the disk after a stop `before` calls before the end of opening. The last
+/// four calls write the snapshot, sync it, write the selector, and sync it.
 fn expect_stage(rt: &impl Abort, disk: &mut FuseDisk, before: usize) {
     let (length, selector) = match before {
         1 => ([0, 0, 0x1A, 0xA8], 1),

@@ -29,7 +29,7 @@ fn created(alloc: Global, rt: &impl Abort) -> Store<MemDisk> {
     }
 }
 
-/// Checks that the disk holds these bytes at an offset.
+/// Checks that the disk has the given bytes at an offset.
 fn expect_bytes(rt: &impl Abort, disk: &mut MemDisk, at: usize, want: &[u8]) {
     let mut got = [0u8; 16];
     assert!(rt; want.len() <= 16 && at <= disk.size() && want.len() <= disk.size() - at);
@@ -38,13 +38,14 @@ fn expect_bytes(rt: &impl Abort, disk: &mut MemDisk, at: usize, want: &[u8]) {
     assert_eq!(rt; &*found, want, "at {at}");
 }
 
-/// Writes these bytes at an offset, as another program or a stop may have left them.
+/// Overwrites bytes at an offset, as another program or an interrupted write may have left them.
 fn damage(rt: &impl Abort, disk: &mut MemDisk, at: usize, bytes: &[u8]) {
     assert!(rt; bytes.len() <= FILE_SIZE && at <= disk.size() && bytes.len() <= disk.size() - at);
     disk.write(at, bytes).expect(rt, "a write");
 }
 
-/// Checks that the disk holds this snapshot and `records` times the record, and returns the disk.
+/// Checks that the disk has the given snapshot and `records` copies of the record, and returns the
+/// disk.
 fn expect_pair<D: Disk + Drop>(
     alloc: Global,
     rt: &impl Abort,
@@ -118,8 +119,8 @@ fn writes_the_format(rt: HostRuntime) -> Result<(), Fail> {
     Ok(())
 }
 
-/// Creates, appends and replaces until a call fails, and returns the disk. The three make 5, 4 and
-/// 4 device calls.
+/// Creates a store, appends a record and replaces the snapshot until a call fails, and returns the
+/// disk. The three operations make 5, 4 and 4 device calls.
 fn run_until_fault(alloc: Global, rt: &impl Abort, passed: usize) -> FuseDisk {
     let mut store = match Store::create(alloc, FuseDisk::after(blank(alloc, rt), passed), &SNAP) {
         Ok(store) => store,
@@ -231,7 +232,7 @@ fn makes_a_store_on_a_blank_disk_only(rt: HostRuntime) {
     }
 }
 
-/// The laws are proved for every two types of disks. These two are such types.
+/// Applies the laws of power cuts, which are proved for any two types of disks, to these two types.
 #[test]
 fn laws_of_power_cuts_hold_of_disks_in_memory(_rt: HostRuntime) {
     read_bytes_are_an_image::<FuseDisk>();

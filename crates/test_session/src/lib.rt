@@ -1,6 +1,6 @@
-//! Runs sessions and journals over disks in memory: the bytes that a journal writes, and what is
-//! found after a stop at each device call. Other tests are about commands and state lists that no
-//! session has, and about benches restored from numbers and from bytes.
+//! Tests of sessions and journals on disks in memory: the bytes that a journal writes, and what is
+//! found after a stop at each device call. Other tests cover commands and state lists that no
+//! session has, and benches that are restored from numbers or from bytes.
 #![tactic(auto)]
 
 #[cfg(test)]

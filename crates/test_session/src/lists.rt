@@ -1,5 +1,5 @@
-//! A state as plain numbers, whose lists have other lengths than its board gives them: no file
-//! spells one.
+//! Tests of states as plain numbers whose lists have other lengths than the board requires. No file
+//! encodes such a state.
 use mcs_bench::Flat;
 use mcs_fixtures::boards::worked;
 use std::alloc::Global;
@@ -13,7 +13,8 @@ fn is_valid(flat: &Flat) -> bool {
     flat.check()
 }
 
-/// Checks a key of a board without keys, and a board with chains and keys whose lists are empty.
+/// Checks that two states are invalid: one with a key on a board without keys, and one with empty
+/// lists for a board with chains and keys.
 #[test]
 fn lists_are_as_long_as_the_board_has_them(rt: HostRuntime) {
     let mut flat = new_state(rt.alloc(), &rt);

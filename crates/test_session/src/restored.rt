@@ -1,4 +1,4 @@
-//! Benches that are restored from plain numbers and from bytes.
+//! Tests of benches that are restored from plain numbers or from bytes.
 use crate::checks::equal;
 use mcs_bench::{Bench, Flat};
 use mcs_codec::{STATE_BYTES, bench_of, state_bytes};
@@ -10,13 +10,14 @@ use mcs_nibble::Addr;
 use std::alloc::Global;
 use std::process::Abort;
 
-/// Returns the bench in this state.
+/// Returns a bench with the given state.
 fn restored(alloc: Global, rt: &impl Abort, flat: &Flat) -> Bench {
     assert!(rt; flat.check());
     Bench::restore(alloc, flat).expect(rt, "memory")
 }
 
-/// Checks that a bench that has accepted its last command rejects each further one.
+/// Checks that a bench that has accepted the maximum number of commands rejects any further
+/// command.
 #[test]
 fn a_worn_bench(rt: HostRuntime) {
     let alloc = rt.alloc();
@@ -30,7 +31,7 @@ fn a_worn_bench(rt: HostRuntime) {
     equal(&rt, bench.check(&Command::Reset), Ok(()));
 }
 
-/// Does a command that the bench accepts.
+/// Applies a command that the bench must accept.
 fn done(rt: &impl Abort, bench: &mut Bench, command: &Command) {
     match bench.check(command) {
         Ok(()) => {
@@ -40,7 +41,7 @@ fn done(rt: &impl Abort, bench: &mut Bench, command: &Command) {
     }
 }
 
-/// Returns `JUN 0x123` at address 0.
+/// Returns an image with `JUN 0x123` at address 0.
 fn jump(alloc: Global, rt: &impl Abort) -> Image {
     let mut image = Image::new(alloc).expect(rt, "memory");
     assert!(rt; image.push(Addr::ZERO, 0x41).is_ok());
@@ -58,14 +59,15 @@ fn owing(alloc: Global, rt: &impl Abort) -> Bench {
     bench
 }
 
-/// Returns the state of a bench in bytes, and their number.
+/// Returns the encoded state of a bench in a buffer, and the number of its bytes.
 fn written(bench: &Bench) -> ([u8; STATE_BYTES], usize) {
     let mut bytes = [0; STATE_BYTES];
     let count = state_bytes(bench, &mut bytes);
     (bytes, count)
 }
 
-/// Checks that a pending cycle is written and read, like everything else.
+/// Checks that a pending second cycle survives writing and reading the state, together with
+/// everything else.
 #[test]
 fn an_owed_cycle(rt: HostRuntime) {
     let alloc = rt.alloc();

@@ -1,4 +1,5 @@
-//! Sessions whose disk fails: what is left then, and what they answer.
+//! Tests of sessions whose disk fails: the state that remains on the disk, and the answers of the
+//! session.
 use crate::checks::equal;
 use crate::desk::{
     bench_of, done, expect_fault, expect_seq, fused, leave, left, made, mended, poke, run,
@@ -9,8 +10,8 @@ use mcs_session::session::Session;
 use std::alloc::Global;
 use std::process::Abort;
 
-/// Fills a log so that one byte is left for a commit byte of 0: 9,361 records of seven bytes, and
-/// one of eight.
+/// Fills a log until only one byte remains, which holds a commit byte of 0. The log has 9,361
+/// records of seven bytes and one of eight.
 fn fill_log<D: Disk + Drop>(rt: &impl Abort, session: &mut Session<D>) {
     let one = poke(rt, 0, 1);
     for _ in 0..9_361 {
@@ -19,10 +20,10 @@ fn fill_log<D: Disk + Drop>(rt: &impl Abort, session: &mut Session<D>) {
     run(rt, session, 1);
 }
 
-/// Returns the disk after a full log and `poke r0 2`, during which the disk failed.
+/// Returns the disk after a full log and a `poke r0 2` during which the disk failed.
 fn stopped_in_the_turn(alloc: Global, rt: &impl Abort) -> FuseDisk {
-    // five calls make the session, and each of 9,362 commands needs four; then the snapshot is
-    // written and synced
+    // Creating the session takes five calls, and each of the 9,362 commands takes four. Two more
+    // calls write and sync the snapshot.
     let mut session = made(alloc, rt, fused(alloc, rt, 5 + 4 * 9_362 + 2));
     fill_log(rt, &mut session);
     expect_fault(rt, &mut session, &poke(rt, 0, 2), SessionFault::Device);
@@ -39,7 +40,7 @@ fn a_stop_in_the_turn_leaves_the_state_before(rt: HostRuntime) {
     }
 }
 
-/// Checks that the disk fails at `poke r5 9`, and that this closes the session.
+/// Checks that the disk fails during `poke r5 9`, and that this closes the session.
 fn expect_close(rt: &impl Abort, session: &mut Session<FuseDisk>) {
     let command = poke(rt, 5, 9);
     expect_fault(rt, session, &command, SessionFault::Device);
@@ -51,7 +52,7 @@ fn expect_close(rt: &impl Abort, session: &mut Session<FuseDisk>) {
 #[test]
 fn a_session_is_closed_after_a_fault(rt: HostRuntime) {
     let alloc = rt.alloc();
-    // the write of the commit byte fails, or the sync after it
+    // in the first row the write of the commit byte fails, in the second the sync after it
     for (calls, seq) in [(7, 0), (8, 1)] {
         let mut session = made(alloc, &rt, fused(alloc, &rt, calls));
         expect_close(&rt, &mut session);
