@@ -11,8 +11,8 @@ use std::process::Abort;
 /// independent model of the chips gives the same number.
 pub(crate) const STATES: usize = 13;
 
-/// A number of cycles without an input read, after which a check cuts the path. It is large enough
-/// for the die.
+/// The number of cycles after which a search step ends if the program reads no input. It is large
+/// enough for the die.
 pub(crate) const PAUSE: u32 = 1_000;
 
 /// More bytes of memory than a search needs.

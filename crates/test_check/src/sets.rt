@@ -11,7 +11,8 @@ use std::process::Abort;
 /// More entries than a check of any of these programs needs.
 const ENTRIES: usize = 10_000;
 
-/// Returns the conditions that the given mistakes are made, none of which may ever be met.
+/// Returns condition lists that must never be met. The only condition is that the program makes one
+/// of the given mistakes.
 fn never(alloc: Global, asked: Mistakes) -> Result<Vec<Vec<Condition>>, AllocError> {
     let mut conditions = Vec::new(alloc);
     conditions.push(Condition::Mistaken(asked))?;

@@ -11,9 +11,9 @@ use std::process::Abort;
 /// More states than these programs have.
 const MOST: usize = 10_000;
 
-/// The number of cycles without an input read, after which a check cuts the path. A loop is
+/// The number of cycles after which a search step ends if the program reads no input. A loop is
 /// recognised when it runs once more after that. In the nested loops, the upper byte of the
-/// stopwatch is not 0 at the cut.
+/// stopwatch is not 0 at the end of such a step.
 const PAUSE: u32 = 137_000;
 
 /// FIM P0 0, ISZ R0 2, JUN 0. They take 2 cycles, 16 times 2 cycles, and 2 cycles.

@@ -1,9 +1,9 @@
-//! Comparisons. One `assert_eq!` here costs the proofs of the tests less than one in each place. A library may not end the
-//! program, so each crate of tests has its own.
+//! Comparisons. A single `assert_eq!` here makes the proofs of the tests cheaper than one at each
+//! use. A library must not end the program, so each test crate has its own copy.
 use std::fmt::Debug;
 use std::process::Abort;
 
-/// Checks that a value is the expected one.
+/// Checks that a value equals the expected one.
 pub(crate) fn equal<T: Copy + Debug + PartialEq>(rt: &impl Abort, found: T, wanted: T) {
     assert_eq!(rt; found, wanted);
 }

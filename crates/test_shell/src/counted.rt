@@ -1,4 +1,4 @@
-//! A reader and a writer that count how often they failed.
+//! A reader and a writer that count their failures.
 ghost use Rattle.std.specs.Prelude.{Some};
 
 use crate::checks::equal;
@@ -13,7 +13,7 @@ use mcs_shell::shell::run_shell;
 use mcs_shell::streams::{AnswerSink, InputSource, ReadFailed};
 use std::io::{Read, Write};
 
-/// A reader, and the number of its failures.
+/// A reader that counts its failures.
 #[derive(Drop)]
 struct CountedReader<R> {
     reader: R,
@@ -36,7 +36,7 @@ impl<R: Read + Drop> InputSource for CountedReader<R> {
     }
 }
 
-/// A writer, and the number of its stops.
+/// A writer that counts its failures.
 #[derive(Drop)]
 struct CountedWriter<W> {
     writer: W,
@@ -64,9 +64,9 @@ impl<W: Write + Drop> AnswerSink for CountedWriter<W> {
     }
 }
 
-/// Checks that the shell ends by a failure of its reader or writer, and counts it there. The reader
-/// reads a script whole, or fails once after some bytes. The writer accepts all answers, or fails
-/// once after some bytes.
+/// Checks that a failure of the reader or the writer ends the shell, and that the one that failed
+/// counts the failure. The reader reads the whole script or fails once after some bytes. The writer
+/// accepts all answers or fails once after some bytes.
 #[test]
 fn a_fault_is_counted_where_it_was(rt: HostRuntime) {
     let rows = [

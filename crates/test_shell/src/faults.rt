@@ -1,4 +1,4 @@
-//! Readers and writers that fail.
+//! Tests of readers and writers that fail.
 use crate::checks::equal;
 use crate::sessions::{answered, disk_behind, new_in_memory, opened, seq_of, serve};
 use mcs_fixtures::streams::{CutReader, CutWriter};
@@ -11,11 +11,12 @@ pub(crate) const SCRIPT: &[u8] = b"poke r5 9\nseq\nregs\n";
 pub(crate) const ANSWERS: &[u8] =
     b"session 0\nok 1\nseq 1\nacc 0 cy 0 pc 000 owed 0 dcl 0 test 1 r 0000090000000000 ret 000 000 000\n";
 
-/// The number of failures of a reader or a writer. With one failure, a second try would succeed.
+/// The numbers of times that a reader or a writer fails. After a single failure, a second attempt
+/// would succeed.
 const FAILURES: [usize; 2] = [1, usize::MAX];
 
 /// Checks that a reader that fails `failures` times, after `left` bytes of the script, ends the
-/// shell. The shell has then written the first `size` bytes of the answers.
+/// shell. By then, the shell has written the first `size` bytes of the answers.
 fn expect_cut_reading(rt: &impl Abort, alloc: Global, left: usize, failures: usize, size: usize) {
     let mut session = new_in_memory(alloc, rt);
     let mut reader = CutReader::new(SCRIPT, left, failures);
@@ -28,7 +29,8 @@ fn expect_cut_reading(rt: &impl Abort, alloc: Global, left: usize, failures: usi
 #[test]
 fn the_reader_fails_after_each_count_of_bytes(rt: HostRuntime) {
     for left in 0..SCRIPT.len() + 1 {
-        // the lines end after 10, 14 and 19 bytes, and their answers after 15, 21 and all
+        // the lines end after 10, 14 and 19 bytes; their answers end after 15 bytes, after 21 bytes
+        // and at the end
         let size = match left {
             0..10 => 10,
             10..14 => 15,
@@ -42,7 +44,7 @@ fn the_reader_fails_after_each_count_of_bytes(rt: HostRuntime) {
 }
 
 /// Checks that a writer that fails `failures` times, after `left` bytes of the answers, ends the
-/// shell. The command is recorded once the first answer is out.
+/// shell. The command is recorded once the first answer is written.
 fn expect_cut_writing(rt: &impl Abort, alloc: Global, left: usize, failures: usize) {
     let mut session = new_in_memory(alloc, rt);
     let mut writer = CutWriter::new(alloc, left, failures);

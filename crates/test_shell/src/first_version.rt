@@ -1,4 +1,4 @@
-//! Files of version 1, and a stop while opening carries them over.
+//! Tests of files of version 1, and of a stop while opening migrates them.
 use crate::scripts::INPUTS;
 use crate::sessions::{expect, expect_state, failing_disk_of, file_of, found, left_on, open, put};
 use mcs_fixtures::files::NEW_BENCH;
@@ -6,10 +6,10 @@ use mcs_journal::{FILE_SIZE, StoreFault};
 use std::alloc::Global;
 use std::process::Abort;
 
-/// The offset of the first log.
+/// The offset of the first log in a session file.
 const LOG: usize = 16_400;
 
-/// Returns the file of a new bench.
+/// Returns the version 1 file of a new bench.
 pub(crate) fn new_file(alloc: Global, rt: &impl Abort) -> Vec<u8> {
     let mut file = vec![in alloc; 0u8; FILE_SIZE].expect(rt, "memory");
     for (at, bytes) in NEW_BENCH {
@@ -18,7 +18,8 @@ pub(crate) fn new_file(alloc: Global, rt: &impl Abort) -> Vec<u8> {
     file
 }
 
-/// Returns the file of the commands of the script. Its records are those of version 2.
+/// Returns a version 1 file with the commands of the script. Its records are encoded as in version
+/// 2.
 fn file_of_inputs(alloc: Global, rt: &impl Abort) -> Vec<u8> {
     let mut file = new_file(alloc, rt);
     let later = file_of(alloc, rt, &INPUTS, 0, b"");
@@ -29,8 +30,8 @@ fn file_of_inputs(alloc: Global, rt: &impl Abort) -> Vec<u8> {
     file
 }
 
-/// Returns the file that a stop after `calls` calls of the disk leaves if it keeps a file from
-/// opening, or none if the file opens.
+/// Returns the file after a stop that prevents it from opening, or none if it opens. The disk fails
+/// each call after the first `calls`.
 fn left_by_a_stop(alloc: Global, rt: &impl Abort, file: &[u8], calls: usize) -> Option<Vec<u8>> {
     match open(alloc, failing_disk_of(alloc, rt, file, calls)) {
         Ok(_) => None,

@@ -1,11 +1,11 @@
-//! `count` and `trace` on a closed session, and with a writer that fails.
+//! Tests of `count` and `trace` on a closed session, and with a writer that fails.
 use crate::checks::equal;
 use crate::sessions::{answered, blank, new_in_memory, new_session, seq_of, serve};
 use mcs_disk::FuseDisk;
 use mcs_fixtures::streams::CutWriter;
 use mcs_shell::ends::ShellEnd;
 
-/// Checks that a session that a device fault has closed still answers `count` and `trace`.
+/// Checks that a session that was closed by a device fault still answers `count` and `trace`.
 #[test]
 fn a_closed_session(rt: HostRuntime) {
     let alloc = rt.alloc();
@@ -22,8 +22,8 @@ fn a_closed_session(rt: HostRuntime) {
     );
 }
 
-/// Checks that a writer that fails in an answer ends the shell, and that the shell does nothing
-/// after it.
+/// Checks that a writer that fails within an answer ends the shell, and that the shell carries out
+/// no later command.
 #[test]
 fn the_writer_fails_in_an_answer(rt: HostRuntime) {
     let answers =

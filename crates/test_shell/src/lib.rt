@@ -1,5 +1,5 @@
-//! Tests of whole sessions over disks in memory: disks that stop, readers and writers that fail,
-//! and allocations that fail. Other tests are about the calls of the page.
+//! Tests of whole sessions on disks in memory, with disks, readers, writers and allocations that
+//! fail. Other tests cover the page's calls.
 #![tactic(auto)]
 
 #[cfg(test)]

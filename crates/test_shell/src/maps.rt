@@ -1,10 +1,10 @@
-//! A map, and the errors of a program, from a closed session.
+//! Tests of `map` and `errors` on a closed session.
 use crate::checks::equal;
 use crate::sessions::{answered, blank, new_session};
 use mcs_disk::FuseDisk;
 use mcs_shell::ends::ShellEnd;
 
-/// Checks that a session whose device failed still gives a map and the errors of a program.
+/// Checks that a session whose device failed still answers `map` and `errors`.
 #[test]
 fn a_map_on_a_closed_session(rt: HostRuntime) {
     let alloc = rt.alloc();

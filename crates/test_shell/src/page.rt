@@ -1,4 +1,4 @@
-//! The calls of the page.
+//! Tests of the page's calls.
 mod calls;
 mod files;
 mod no_memory;

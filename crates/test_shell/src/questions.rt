@@ -1,5 +1,6 @@
-//! One allocation that fails while the shell answers questions that need memory: maps, counts and
-//! traces. `checks/allocations` fails each in turn, and the gate none.
+//! Tests with one failing allocation while the shell answers questions that need memory: maps,
+//! counts and traces. `checks/allocations` makes each allocation fail in turn; in the gate, none
+//! fails.
 use crate::sessions::{create, seq_of, serve};
 use mcs_disk::MemDisk;
 use mcs_journal::{FILE_SIZE, StoreFault};
@@ -11,8 +12,8 @@ use std::process::Abort;
 const SCRIPT: &[u8] =
     b"map\na: JUN a\nb = 0x2F\n.\nmap\nJUN c\n.\ncount 2\ntrace 2 pc lamps\nseq\n";
 
-/// The answers if nothing found no memory, and if the first program, the second one, the count or
-/// the trace did.
+/// The answers if no allocation fails, and if one fails for the first program, the second program,
+/// the count or the trace.
 const ANSWERS: [(&[u8], &str); 5] = [
     (
         b"session 0\nmap lines 2 names 2\nline 1 000 2\nline 2 002 0\nname a 000\nname b 02F\nno 32 line 1\ncount ran 2 end lines 2\n000 1\n001 1\ntrace ran 2 end lines 2 000 -\n0 000 001 -\n1 001 002 -\nseq 0\n",
@@ -36,7 +37,7 @@ const ANSWERS: [(&[u8], &str); 5] = [
     ),
 ];
 
-/// Returns the part that one failed allocation left out of these answers.
+/// Returns the part that a failed allocation left out of the output.
 fn left_out(rt: &impl Abort, output: &[u8]) -> &'static str {
     for (answers, what) in ANSWERS {
         if output == answers {
@@ -46,12 +47,13 @@ fn left_out(rt: &impl Abort, output: &[u8]) -> &'static str {
     panic!(rt; "other answers")
 }
 
-/// Returns a writer that has its memory before it is written to.
+/// Returns a writer whose memory is allocated before the first write.
 fn ready_writer(alloc: Global) -> Result<Vec<u8>, AllocError> {
     Vec::with_capacity(alloc, 1_024)
 }
 
-/// Does the script, which changes nothing. It returns the part that found no memory.
+/// Runs the script, which does not change the session. Returns the part that ran out of memory, or
+/// `nothing`.
 fn run(alloc: Global, rt: &impl Abort, mut session: Session<MemDisk>) -> &'static str {
     let Ok(mut writer) = ready_writer(alloc) else {
         return "the writer";
@@ -69,7 +71,8 @@ fn run(alloc: Global, rt: &impl Abort, mut session: Session<MemDisk>) -> &'stati
     refused
 }
 
-/// Makes a session and does the script on it. It returns the part that found no memory.
+/// Creates a session and runs the script on it. Returns the part that ran out of memory, or
+/// `nothing`.
 fn make_and_run(alloc: Global, rt: &impl Abort) -> &'static str {
     let Ok(disk) = MemDisk::new(alloc, FILE_SIZE) else {
         return "the disk";

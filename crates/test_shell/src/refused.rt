@@ -1,5 +1,5 @@
-//! One allocation that fails, whichever it is: `checks/allocations` fails each in turn, and the
-//! gate none.
+//! Tests with one failing allocation. `checks/allocations` makes each allocation fail in turn; in
+//! the gate, none fails.
 use crate::first_version::new_file;
 use crate::sessions::{bytes_of, create, disk_behind, open, opened, put, seq_of, serve};
 use arrayvec::ArrayVec;
@@ -13,7 +13,7 @@ use std::alloc::Global;
 use std::io::{self, Write};
 use std::process::Abort;
 
-/// A writer that keeps what it is given, without memory of its own.
+/// A writer that stores its output in a fixed buffer and allocates nothing.
 #[derive(Drop)]
 struct FixedWriter {
     held: ArrayVec<u8, 1_024>,
@@ -34,11 +34,11 @@ impl Write for FixedWriter {
 
 const QUESTIONS: &[u8] = b"asm\nLDM 1\n.\nlist 0 1\nboard\nseq\n";
 
-/// The line before the text of the board.
+/// The line before the text of the board in an answer.
 const BOARD: &[u8] = b"board\n";
 
 /// The answers if every allocation succeeds, and if one fails for the board, the program, the
-/// listing or the question for the board. The text of the board follows `BOARD`.
+/// listing or the question for the board. The text of the board follows the line `BOARD`.
 const ANSWERS: [[&[u8]; 6]; 5] = [
     [
         b"session 0\n",
@@ -82,8 +82,8 @@ const ANSWERS: [[&[u8]; 6]; 5] = [
     ],
 ];
 
-/// Returns true if the output is these answers, or, with a device fault, some first ones of them
-/// and then the fault.
+/// Returns true if the output consists of the given answers. With a device fault, it consists of
+/// the first few of them and then the fault.
 fn is_answered(output: &[u8], answers: &[&[u8]], is_device: bool) -> bool {
     let mut rest = output;
     for answer in answers {
@@ -104,7 +104,7 @@ fn is_answered(output: &[u8], answers: &[&[u8]], is_device: bool) -> bool {
     rest.is_empty() && !is_device
 }
 
-/// The part that one failed allocation left out, by the row of `ANSWERS` that was the output.
+/// The part that a failed allocation leaves out, for each row of `ANSWERS`.
 const LEFT_OUT: [&str; 5] = [
     "nothing",
     "the board",
@@ -113,8 +113,8 @@ const LEFT_OUT: [&str; 5] = [
     "the question for the board",
 ];
 
-/// Returns the part that was left out of the output, or none if one failed allocation cannot have
-/// this output.
+/// Returns the part that the output leaves out, or none if one failed allocation cannot cause this
+/// output.
 fn left_out(output: &[u8], is_device: bool) -> Option<&'static str> {
     for (answers, what) in ANSWERS.iter().zip(LEFT_OUT.iter()) {
         if is_answered(output, answers, is_device) {
@@ -124,7 +124,7 @@ fn left_out(output: &[u8], is_device: bool) -> Option<&'static str> {
     None
 }
 
-/// Returns the board and the questions.
+/// Returns the script: the command that wires the board, then the questions.
 fn script() -> ArrayVec<u8, 1_024> {
     let mut script = ArrayVec::new();
     for part in [WIRE_WORKED, QUESTIONS] {
@@ -135,7 +135,7 @@ fn script() -> ArrayVec<u8, 1_024> {
     script
 }
 
-/// Does the script. It returns the part that found no memory, if there was one.
+/// Runs the script. Returns the part that ran out of memory, or `nothing`.
 fn do_script(alloc: Global, rt: &impl Abort, session: &mut Session<MemDisk>) -> &'static str {
     let script = script();
     let mut reader = script.as_slice();
@@ -158,7 +158,8 @@ fn do_script(alloc: Global, rt: &impl Abort, session: &mut Session<MemDisk>) -> 
     }
 }
 
-/// Serves the script, and then opens the file again. It returns the part that found no memory.
+/// Runs the script, then opens the file again. Returns the part that ran out of memory, or
+/// `nothing`.
 fn run(alloc: Global, rt: &impl Abort, mut session: Session<MemDisk>) -> &'static str {
     let served = do_script(alloc, rt, &mut session);
     let seq = seq_of(&session);
@@ -169,8 +170,8 @@ fn run(alloc: Global, rt: &impl Abort, mut session: Session<MemDisk>) -> &'stati
     refused.unwrap_or(served)
 }
 
-/// Returns the session of a disk, which is opened again if opening failed, and the part that found
-/// no memory.
+/// Opens the session on a disk, and opens it again if that fails. Returns the session, and the part
+/// that ran out of memory, if any.
 fn open_again(
     alloc: Global,
     rt: &impl Abort,
@@ -185,8 +186,8 @@ fn open_again(
     (opened(alloc, rt, disk), Some(refused))
 }
 
-/// Makes the session, and repeats this if it found no memory. It returns the part that found no
-/// memory.
+/// Creates a session and runs the script on it. Creates the session again if that ran out of
+/// memory. Returns the part that ran out of memory, or `nothing`.
 fn make_and_run(alloc: Global, rt: &impl Abort) -> &'static str {
     let Ok(disk) = MemDisk::new(alloc, FILE_SIZE) else {
         return "the disk";
@@ -213,7 +214,7 @@ fn one_allocation(rt: HostRuntime) {
     let _ = println!(rt; "refused: {refused}");
 }
 
-/// Writes the file of one register, of version 1, to a disk.
+/// Writes a file of version 1 to a disk, with a new bench and the record of `poke r5 9`.
 fn put_first(disk: &mut MemDisk) -> Result<(), DiskFault> {
     for (at, bytes) in [NEW_BENCH[0], NEW_BENCH[1], NEW_BENCH[2], NEW_BENCH[3], POKE] {
         if at <= disk.size() && bytes.len() <= disk.size() - at {
@@ -223,13 +224,14 @@ fn put_first(disk: &mut MemDisk) -> Result<(), DiskFault> {
     Ok(())
 }
 
-/// Checks that a session is that of this file.
+/// Checks that a session has accepted one command and that register R5 is 9.
 fn expect_register(rt: &impl Abort, session: &Session<MemDisk>) {
     let bench = session.bench();
     assert!(rt; bench.seq() == 1 && bench.regs().r[5].get() == 9);
 }
 
-/// Opens a file of version 1, and again if that failed. It returns the part that found no memory.
+/// Opens a file of version 1, and opens it again if that fails. Returns the part that ran out of
+/// memory, or `nothing`.
 fn carry_over(alloc: Global, rt: &impl Abort) -> &'static str {
     let Ok(mut disk) = MemDisk::new(alloc, FILE_SIZE) else {
         return "the disk";

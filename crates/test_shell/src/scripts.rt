@@ -1,9 +1,9 @@
-//! The script of commands with its answers, and the questions to a session.
+//! A script of commands with its answers, and the questions that show a session's state.
 use mcs_fixtures::texts::WIRE_WORKED;
 
-/// The commands, in order. The first wires a board of three ROMs, two banks, a chain, keys and
-/// lamps. The second loads a program that drives two rows and reads four columns. Then come a key,
-/// as many cycles as the program has before its last instruction, and a register.
+/// The commands, in order. The first wires a board with three ROMs, two banks, a chain, keys and
+/// lamps. The second loads a program that drives two rows and reads four columns. The others press
+/// a key, run all cycles before the program's last instruction, and set a register.
 pub(crate) const INPUTS: [&[u8]; 5] = [
     WIRE_WORKED,
     b"asm
@@ -24,7 +24,7 @@ KBP
     b"poke r5 9\n",
 ];
 
-/// The answer to each of them.
+/// The answer to each command in `INPUTS`.
 pub(crate) const ANSWERS: [&[u8]; 5] = [
     b"ok 1\n",
     b"ok 2 bytes 11\n",
@@ -33,7 +33,7 @@ pub(crate) const ANSWERS: [&[u8]; 5] = [
     b"ok 5\n",
 ];
 
-/// The questions that distinguish two states.
+/// Questions whose answers distinguish any two states.
 pub(crate) const QUESTIONS: &[u8] = b"board
 list 0 12
 ram 0
@@ -48,6 +48,6 @@ regs
 /// A command whose record has seven bytes.
 pub(crate) const POKE: &[u8] = b"poke r0 1\n";
 
-/// After the commands, this many pokes leave no room for another: the records of the commands have
-/// 136, 527, 6, 8 and 7 of 65,535 bytes.
+/// The number of pokes after the commands of `INPUTS` that leave no room in the log for another
+/// one. The records of the commands take 136, 527, 6, 8 and 7 of the log's 65,535 bytes.
 pub(crate) const POKES: usize = 9_264;

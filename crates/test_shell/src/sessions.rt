@@ -1,4 +1,4 @@
-//! Sessions over files in memory.
+//! Helper functions for sessions on files in memory.
 ghost use Rattle.std.specs.Prelude.{◌≡◌, ◌≤◌, ◌+◌, length};
 
 use crate::scripts::QUESTIONS;
@@ -14,17 +14,17 @@ use std::alloc::Global;
 use std::io::{Read, Write};
 use std::process::Abort;
 
-/// Checks a condition, in the row or at the place of that number.
+/// Checks a condition. A failure reports `at`, the number of the row or the position.
 pub(crate) fn expect(rt: &impl Abort, holds: bool, at: usize) {
     assert!(rt; holds, "at {at}");
 }
 
-/// Returns a disk of a session file's size, all 0.
+/// Returns a disk of a session file's size with all bytes 0.
 pub(crate) fn blank(alloc: Global, rt: &impl Abort) -> MemDisk {
     MemDisk::new(alloc, FILE_SIZE).expect(rt, "memory")
 }
 
-/// Returns a disk that holds these bytes.
+/// Returns a disk with the given bytes.
 pub(crate) fn disk_of(alloc: Global, rt: &impl Abort, bytes: &[u8]) -> MemDisk {
     let mut disk = MemDisk::new(alloc, bytes.len()).expect(rt, "memory");
     disk.write(0, bytes).expect(rt, "a write");
@@ -38,17 +38,17 @@ pub(crate) fn bytes_of<D: Disk>(alloc: Global, rt: &impl Abort, disk: &mut D) ->
     bytes
 }
 
-/// Writes bytes over those of a file from `at` on.
+/// Overwrites the bytes of a file from `at` on.
 pub(crate) fn put(rt: &impl Abort, file: &mut [u8], at: usize, bytes: &[u8]) {
     assert!(rt; at <= file.len() && bytes.len() <= file.len() - at);
     file[at..at + bytes.len()].copy_from_slice(bytes);
 }
 
-// The calls whose contracts are long are made here, once each. A test needs none of their promises,
-// because it must only be safe. A call of these functions, which promise nothing, is proved at
-// once.
+// Functions with long contracts are called only here, once each. A test needs none of their
+// promises, because it must only be safe. These wrappers promise nothing, so a call to one of them
+// is proved at once.
 
-/// Makes the session of a new bench.
+/// Creates a session with a new bench on a disk.
 pub(crate) fn create<D: Disk + Drop>(
     alloc: Global,
     disk: D,
@@ -56,12 +56,12 @@ pub(crate) fn create<D: Disk + Drop>(
     Session::create(alloc, disk)
 }
 
-/// Opens the session of a file.
+/// Opens the session that is stored on a disk.
 pub(crate) fn open<D: Disk + Drop>(alloc: Global, disk: D) -> Result<Session<D>, (StoreFault, D)> {
     Session::open(alloc, disk)
 }
 
-/// Serves a session the input of a reader, until its shell ends, and returns the end.
+/// Runs the shell on a session with the input of a reader, and returns how the shell ended.
 pub(crate) fn serve<R: Read, W: Write, D: Disk + Drop>(
     alloc: Global,
     reader: &mut R,
@@ -71,7 +71,7 @@ pub(crate) fn serve<R: Read, W: Write, D: Disk + Drop>(
     run_shell(alloc, reader, writer, session)
 }
 
-/// Sets the first register to 1.
+/// Sets register R0 to 1.
 pub(crate) fn poke<D: Disk + Drop>(session: &mut Session<D>) -> Result<(), SessionFault> {
     let command = Command::Poke(Place::Register(RegNo::ZERO, Nibble::ONE));
     match session.apply(&command) {
@@ -80,17 +80,17 @@ pub(crate) fn poke<D: Disk + Drop>(session: &mut Session<D>) -> Result<(), Sessi
     }
 }
 
-/// Returns the number of commands that a session has done.
+/// Returns the number of commands that a session has accepted.
 pub(crate) fn seq_of<D: Disk + Drop>(session: &Session<D>) -> u32 {
     session.bench().seq()
 }
 
-/// Returns the disk of a session, and ends the session.
+/// Ends a session, and returns its disk.
 pub(crate) fn disk_behind<D: Disk + Drop>(session: Session<D>) -> D {
     session.into_disk()
 }
 
-/// Returns a disk that holds these bytes, and fails each call after the first `calls`.
+/// Returns a disk with the given bytes that fails each call after the first `calls`.
 pub(crate) fn failing_disk_of(
     alloc: Global,
     rt: &impl Abort,
@@ -100,13 +100,13 @@ pub(crate) fn failing_disk_of(
     FuseDisk::after(disk_of(alloc, rt, bytes), calls)
 }
 
-/// Returns all bytes of a disk that failed, once it is mended.
+/// Mends a disk that failed, and returns all its bytes.
 pub(crate) fn left_on(alloc: Global, rt: &impl Abort, mut disk: FuseDisk) -> Vec<u8> {
     disk.mend();
     bytes_of(alloc, rt, &mut disk)
 }
 
-/// Returns the session of a new bench.
+/// Returns a session with a new bench on the given disk.
 pub(crate) fn new_session<D: Disk + Drop>(alloc: Global, rt: &impl Abort, disk: D) -> Session<D> {
     match create(alloc, disk) {
         Ok(session) => session,
@@ -114,12 +114,13 @@ pub(crate) fn new_session<D: Disk + Drop>(alloc: Global, rt: &impl Abort, disk: 
     }
 }
 
-/// Returns the session of a new bench, on a disk in memory.
+/// Returns a session with a new bench on a disk in memory.
 pub(crate) fn new_in_memory(alloc: Global, rt: &impl Abort) -> Session<MemDisk> {
     new_session(alloc, rt, blank(alloc, rt))
 }
 
-/// Returns the end of a session's shell over the input of a reader, and its answers.
+/// Runs the shell on a session with the input of a reader. Returns how the shell ended, and the
+/// answers.
 pub(crate) fn answered<R: Read, D: Disk + Drop>(
     alloc: Global,
     reader: &mut R,
@@ -130,7 +131,8 @@ pub(crate) fn answered<R: Read, D: Disk + Drop>(
     (end, writer)
 }
 
-/// Returns a session's answers to a script, and checks that the shell reaches its end.
+/// Returns a session's answers to a script, and checks that the shell reaches the end of the
+/// script.
 pub(crate) fn answers_to<D: Disk + Drop>(
     alloc: Global,
     rt: &impl Abort,
@@ -142,7 +144,8 @@ pub(crate) fn answers_to<D: Disk + Drop>(
     answers
 }
 
-/// Returns the state of a file's session as its answers, or why the file holds none.
+/// Returns the state of a file's session as its answers to `QUESTIONS`, or the error if the file
+/// holds no session.
 pub(crate) fn found(alloc: Global, rt: &impl Abort, file: &[u8]) -> Result<Vec<u8>, StoreFault> {
     match open(alloc, disk_of(alloc, rt, file)) {
         Ok(mut session) => Ok(answers_to(alloc, rt, &mut session, QUESTIONS)),
@@ -150,7 +153,7 @@ pub(crate) fn found(alloc: Global, rt: &impl Abort, file: &[u8]) -> Result<Vec<u
     }
 }
 
-/// Checks that the session of a file has this state.
+/// Checks that the session in a file has the given state.
 pub(crate) fn expect_state(
     alloc: Global,
     rt: &impl Abort,
@@ -166,8 +169,8 @@ pub(crate) fn expect_state(
     }
 }
 
-/// Returns the state of a new session as its answers, and then the state after each of these
-/// commands.
+/// Returns the state of a session before the commands and after each of them. A state is the
+/// session's answers to `QUESTIONS`.
 pub(crate) fn states_behind<D: Disk + Drop>(
     alloc: Global,
     rt: &impl Abort,
@@ -187,14 +190,14 @@ fn keep(rt: &impl Abort, states: &mut Vec<Vec<u8>>, state: Vec<u8>) {
     states.push(state).expect(rt, "memory");
 }
 
-/// Pokes `times` times.
+/// Sets register R0 to 1 `times` times.
 fn poke_often<D: Disk + Drop>(rt: &impl Abort, session: &mut Session<D>, times: usize) {
     for i in 0..times {
         expect(rt, poke(session).is_ok(), i);
     }
 }
 
-/// Returns the file of a session after these commands, `pokes` pokes, and a last command.
+/// Returns the file of a new session after the given commands, `pokes` pokes and a last command.
 pub(crate) fn file_of(
     alloc: Global,
     rt: &impl Abort,
@@ -211,7 +214,7 @@ pub(crate) fn file_of(
     bytes_behind(alloc, rt, session)
 }
 
-/// Returns all bytes of the disk of a session.
+/// Ends a session, and returns all bytes of its disk.
 pub(crate) fn bytes_behind<D: Disk + Drop>(
     alloc: Global,
     rt: &impl Abort,
@@ -220,7 +223,7 @@ pub(crate) fn bytes_behind<D: Disk + Drop>(
     bytes_of(alloc, rt, &mut disk_behind(session))
 }
 
-/// Returns the session of a file.
+/// Returns the session that is stored on a disk.
 pub(crate) fn opened<D: Disk + Drop>(alloc: Global, rt: &impl Abort, disk: D) -> Session<D> {
     match open(alloc, disk) {
         Ok(session) => session,
@@ -228,7 +231,7 @@ pub(crate) fn opened<D: Disk + Drop>(alloc: Global, rt: &impl Abort, disk: D) ->
     }
 }
 
-/// Returns the session of a file, on a disk in memory.
+/// Returns the session that is stored in a file, on a disk in memory.
 pub(crate) fn opened_in_memory(alloc: Global, rt: &impl Abort, file: &[u8]) -> Session<MemDisk> {
     opened(alloc, rt, disk_of(alloc, rt, file))
 }

@@ -1,4 +1,4 @@
-//! A stop at each call of a disk, and after each byte that is read or written.
+//! Tests of a stop at each call of a disk, and after each byte that is read or written.
 use crate::scripts::{ANSWERS, INPUTS, POKE, POKES};
 use crate::sessions::{
     answered, blank, bytes_of, create, disk_behind, expect, expect_state, failing_disk_of, file_of,
@@ -14,10 +14,10 @@ use mcs_shell::ends::{ShellEnd, status};
 use std::alloc::Global;
 use std::process::Abort;
 
-/// The first line of the answers of a new session.
+/// The first line of a new session's answers.
 const FIRST: &[u8] = b"session 0\n";
 
-/// Returns a new session's answers to the first `done` commands, and then `then`.
+/// Returns a new session's answers to the first `done` commands, followed by `then`.
 fn answers_to(alloc: Global, rt: &impl Abort, done: usize, then: &[u8]) -> Vec<u8> {
     let mut answers = joined(alloc, &[FIRST]).expect(rt, "memory");
     for answer in ANSWERS.iter().take(done) {
@@ -27,13 +27,12 @@ fn answers_to(alloc: Global, rt: &impl Abort, done: usize, then: &[u8]) -> Vec<u
     answers
 }
 
-/// Returns all commands, one after the other.
+/// Returns a script with all commands.
 fn script_of_inputs(alloc: Global, rt: &impl Abort) -> Vec<u8> {
     joined(alloc, &INPUTS).expect(rt, "memory")
 }
 
-/// Returns the number of these pieces that end at an offset or before it, if they follow one
-/// another.
+/// Returns the number of consecutive pieces that end at an offset or before it.
 fn whole_pieces(pieces: &[&[u8]], place: usize) -> usize {
     let mut count = 0usize;
     let mut end = 0usize;
@@ -46,7 +45,7 @@ fn whole_pieces(pieces: &[&[u8]], place: usize) -> usize {
     count
 }
 
-/// Returns a disk that fails each call after the first `calls`, or only the next one.
+/// Returns a blank disk that fails each call after the first `calls`, or only the next call.
 fn failing(alloc: Global, rt: &impl Abort, calls: usize, is_once: bool) -> FuseDisk {
     let disk = blank(alloc, rt);
     if is_once {
@@ -56,8 +55,8 @@ fn failing(alloc: Global, rt: &impl Abort, calls: usize, is_once: bool) -> FuseD
     }
 }
 
-/// Checks that the shell does the first `done` commands, and that the device fails the one after
-/// them, if there is one. The session is closed then.
+/// Checks that the shell carries out the first `done` commands. If there is another command, checks
+/// that the device fails during it and that the session is then closed.
 fn expect_stopped(
     alloc: Global,
     rt: &impl Abort,
@@ -81,9 +80,9 @@ fn expect_stopped(
     }
 }
 
-/// Checks a stop in the commands of a session that took five calls to make. Each command takes
-/// four, and the last of them acknowledges it. A disk that has failed one call only needs no
-/// mending.
+/// Checks a stop during the commands of a session. Creating the session takes five device calls,
+/// and each command takes four. The last of the four acknowledges the command. A disk that fails
+/// only one call needs no mending.
 fn stop_in_commands(
     alloc: Global,
     rt: &impl Abort,
@@ -124,8 +123,8 @@ fn at_each_call_of_the_disk(rt: HostRuntime) {
     }
 }
 
-/// Returns true if a stop after `calls` calls of the disk keeps a file from opening, and checks
-/// that the disk then has the same bytes.
+/// Returns true if a file does not open because the disk stops after `calls` calls. In this case,
+/// checks that the disk's bytes are unchanged.
 fn is_stopped_opening(alloc: Global, rt: &impl Abort, file: &[u8], calls: usize) -> bool {
     match open(alloc, failing_disk_of(alloc, rt, file, calls)) {
         Ok(_) => false,
@@ -138,7 +137,7 @@ fn is_stopped_opening(alloc: Global, rt: &impl Abort, file: &[u8], calls: usize)
     }
 }
 
-/// Returns the number of calls of the disk that opening a file needs, which is below 65,536.
+/// Returns the number of device calls that opening a file needs. It must be below 65,536.
 fn calls_of_open(alloc: Global, rt: &impl Abort, file: &[u8]) -> usize {
     let mut calls = 0usize;
     for bit in 0..16u32 {
@@ -150,8 +149,8 @@ fn calls_of_open(alloc: Global, rt: &impl Abort, file: &[u8]) -> usize {
     calls
 }
 
-/// Checks a poke for which the log of a file has no room, stopped at each of its eight calls.
-/// `accepted` ends the answers of a whole one.
+/// Checks a poke that needs a checkpoint because the file's log is full, with a stop at each of its
+/// eight device calls. `accepted` is the end of the answers if there is no stop.
 fn stop_in_a_checkpoint(alloc: Global, rt: &impl Abort, file: &[u8], accepted: &[u8]) {
     let mut session = opened_in_memory(alloc, rt, file);
     let states = states_behind(alloc, rt, &mut session, &[POKE]);
@@ -169,8 +168,8 @@ fn stop_in_a_checkpoint(alloc: Global, rt: &impl Abort, file: &[u8], accepted: &
     }
 }
 
-/// Returns the file that a poke leaves on a disk, and checks the end of the shell and the end of
-/// its answers.
+/// Serves a poke on the session of a disk, and returns the bytes on the disk afterwards. Checks how
+/// the shell ends, and the end of its answers.
 fn left_by_a_poke(
     alloc: Global,
     rt: &impl Abort,
@@ -210,8 +209,8 @@ fn at_each_call_of_opening(rt: HostRuntime) {
     }
 }
 
-/// Checks that a reader that fails after `left` bytes ends the shell. The inputs that were read
-/// whole are answered.
+/// Checks that a reader that fails after `left` bytes ends the shell. Inputs that were read
+/// completely are answered.
 fn expect_cut_reading(alloc: Global, rt: &impl Abort, script: &[u8], left: usize) {
     let mut session = new_in_memory(alloc, rt);
     let mut reader = CutReader::new(script, left, usize::MAX);
@@ -230,8 +229,7 @@ fn at_each_byte_that_is_read(rt: HostRuntime) {
     }
 }
 
-/// Checks that a shell reads no more than its limit of an input that has no end. Empty lines have
-/// no answers.
+/// Checks that the shell reads an endless input only up to its limit. Empty lines have no answers.
 #[test]
 fn at_the_limit_of_an_endless_input(rt: HostRuntime) {
     let alloc = rt.alloc();
@@ -272,7 +270,7 @@ fn at_each_byte_that_is_written(rt: HostRuntime) {
     let alloc = rt.alloc();
     let script = script_of_inputs(alloc, &rt);
     let answers = answers_to(alloc, &rt, ANSWERS.len(), b"");
-    // a command is recorded once all answers before its own are out
+    // a command is recorded as soon as all earlier answers are written
     let [one, two, three, four, _] = ANSWERS;
     let before = [FIRST, one, two, three, four];
     for left in 0..=answers.len() {

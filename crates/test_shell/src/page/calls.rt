@@ -1,4 +1,4 @@
-//! The calls of the page: sessions over several calls, rejected files, and buffers that are too
+//! Tests of the page's calls: sessions over several calls, rejected files, and buffers that are too
 //! short.
 use crate::checks::equal;
 use crate::page::files::{
@@ -35,7 +35,7 @@ const FIRST_ANSWERS: &[u8] = b"session 0\nok 1\nok 2\nok 3 bytes 4\nok 4 ran 100
 const SECOND_ANSWERS: &[u8] =
     b"session 4\nseq 4\nacc 0 cy 0 pc 002 owed 0 dcl 0 test 1 r 0000390000000000 ret 000 000 000\n";
 
-/// Serves an input on a session that continues after it.
+/// Serves an input on a session that can serve another input afterwards.
 fn serve_on(alloc: Global, session: &mut Session<MemDisk>, input: &[u8]) {
     let mut reader = input;
     let mut writer = Vec::new(alloc);
@@ -49,7 +49,7 @@ fn bytes_of(alloc: Global, rt: &impl Abort, mut disk: MemDisk) -> Vec<u8> {
     bytes
 }
 
-/// Returns the bytes of the file after both inputs, served by one session of the shell.
+/// Returns the bytes of the file after one session has served both inputs.
 fn file_of_one_session(alloc: Global, rt: &impl Abort) -> Vec<u8> {
     let disk = MemDisk::new(alloc, FILE_SIZE).expect(rt, "memory");
     let Ok(mut session) = Session::create(alloc, disk) else {
@@ -73,7 +73,7 @@ fn one_session_over_two_calls(rt: HostRuntime) {
     expect_answers(alloc, &rt, file.as_mut_slice(), (b"", b"session 4\n"));
 }
 
-/// Returns the commit byte of the first record of the slot that the selector names.
+/// Returns the commit byte of the first record in the slot that the selector selects.
 fn commit_byte(file: &[u8]) -> Option<u8> {
     let log = if file.get(8) == Some(&0) {
         16_400
@@ -83,7 +83,7 @@ fn commit_byte(file: &[u8]) -> Option<u8> {
     file.get(log).copied()
 }
 
-/// Settles a file, and checks that an input then has these answers.
+/// Settles a file, and checks the answers to an input that it then serves.
 fn expect_settled(alloc: Global, rt: &impl Abort, file: &mut [u8], row: (&[u8], &[u8])) {
     equal(rt, settled(alloc, file), Ok(()));
     equal(rt, commit_byte(file), Some(0));
@@ -96,15 +96,15 @@ fn a_settled_file_has_no_records(rt: HostRuntime) {
     let mut file = new_file(alloc, &rt);
     expect_answers(alloc, &rt, file.as_mut_slice(), (FIRST, FIRST_ANSWERS));
     equal(&rt, commit_byte(file.as_slice()), Some(1));
-    // and again, in the other slot
+    // once more, with the other slot
     let third: (&[u8], &[u8]) = (b"step\nseq\n", b"session 4\nok 5 ran 2 end\nseq 5\n");
     for row in [(SECOND, SECOND_ANSWERS), third] {
         expect_settled(alloc, &rt, file.as_mut_slice(), row);
     }
 }
 
-/// Checks that the slot that the selector names holds a snapshot of version 2, and that the file
-/// answers with the registers.
+/// Checks that the selected slot has a snapshot of version 2, and that the file gives the right
+/// answers to `regs`.
 fn expect_carried_over(alloc: Global, rt: &impl Abort, file: &mut [u8]) {
     let at = if file.get(8) == Some(&0) { 24 } else { 81_944 };
     equal(rt, file.get(at), Some(&2));
@@ -127,8 +127,8 @@ fn a_settled_file_of_version_1_is_carried_over(rt: HostRuntime) {
     expect_carried_over(alloc, &rt, file.as_mut_slice());
 }
 
-/// Checks that an input that is served and settled in one call has the same answers as in two
-/// calls, and leaves the same bytes.
+/// Checks that one call that serves and settles gives the same answers as two calls, and leaves the
+/// same bytes.
 fn expect_both_at_once(alloc: Global, rt: &impl Abort, file: &mut [u8], row: (&[u8], &[u8])) {
     let mut other = copy(alloc, rt, file);
     expect_answers(alloc, rt, other.as_mut_slice(), row);
@@ -156,7 +156,8 @@ fn questions_leave_the_file(rt: HostRuntime) {
     let alloc = rt.alloc();
     let mut file = new_file(alloc, &rt);
     let before = copy(alloc, &rt, file.as_slice());
-    // commands too are answered, as if they were done; asked again, they have the same answers
+    // commands are answered too, as if they were carried out, and a repeated call gives the same
+    // answers
     for _ in 0..2 {
         let row = (FIRST, FIRST_ANSWERS);
         expect_answers_by(alloc, &rt, Call::Ask, file.as_mut_slice(), row);
@@ -172,7 +173,7 @@ fn questions_leave_the_file(rt: HostRuntime) {
     );
 }
 
-/// Checks that every call rejects a file with this error, and that the file stays as it was.
+/// Checks that every call rejects a file with the given error, and leaves the file unchanged.
 fn expect_refused(alloc: Global, rt: &impl Abort, file: &[u8], fault: StoreFault) {
     let mut kept = copy(alloc, rt, file);
     for call in CALLS {
@@ -188,7 +189,7 @@ fn files_of_another_size(rt: HostRuntime) {
     let alloc = rt.alloc();
     let mut made = new_file(alloc, &rt);
     made.push(0).expect(&rt, "memory");
-    // a byte more, a byte less, eight bytes, no byte
+    // one byte more, one byte less, eight bytes, no bytes
     for size in [FILE_SIZE + 1, FILE_SIZE - 1, 8, 0] {
         made.truncate(size);
         expect_refused(alloc, &rt, made.as_slice(), StoreFault::NotASession);
@@ -198,7 +199,7 @@ fn files_of_another_size(rt: HostRuntime) {
 #[test]
 fn files_of_one_byte_over_and_over(rt: HostRuntime) {
     let alloc = rt.alloc();
-    // rubbish, and all bytes 0
+    // garbage, and all bytes 0
     for byte in [0xA5, 0] {
         let file = vec![in alloc; byte; FILE_SIZE].expect(&rt, "memory");
         expect_refused(alloc, &rt, file.as_slice(), StoreFault::NotASession);
@@ -209,8 +210,8 @@ fn files_of_one_byte_over_and_over(rt: HostRuntime) {
 fn files_that_hold_no_session(rt: HostRuntime) {
     let alloc = rt.alloc();
     let made = new_file(alloc, &rt);
-    // another name, the length of the snapshot, a state of a version to come, a record that spells
-    // no command
+    // another format name, a wrong snapshot length, a state of a future version, a record that
+    // encodes no command
     let changes: [(usize, &[u8], StoreFault); 4] = [
         (7, b"2", StoreFault::NotASession),
         (19, &[0], StoreFault::Damaged),
@@ -224,8 +225,8 @@ fn files_that_hold_no_session(rt: HostRuntime) {
     }
 }
 
-/// Checks that the answers to the first input have no room in `room` bytes of a buffer, which stays
-/// as it was.
+/// Checks that the answers to the first input do not fit into `room` bytes of a buffer, and that
+/// the buffer stays unchanged.
 fn expect_no_room(alloc: Global, rt: &impl Abort, file: &mut [u8], room: usize) {
     let mut buffer = [b'#'; 128];
     let Some(short) = buffer.get_mut(..room) else {
@@ -238,7 +239,7 @@ fn expect_no_room(alloc: Global, rt: &impl Abort, file: &mut [u8], room: usize) 
     equal(rt, buffer, [b'#'; 128]);
 }
 
-/// Checks that the answers to the first input are at the front of a buffer.
+/// Checks that the answers to the first input are written to the start of a buffer.
 fn expect_room(alloc: Global, rt: &impl Abort, file: &mut [u8]) {
     let count = FIRST_ANSWERS.len();
     let mut buffer = [b'#'; 128];

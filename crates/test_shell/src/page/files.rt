@@ -1,4 +1,4 @@
-//! Session files as a page keeps them, and the calls on them.
+//! Session files as the page stores them, and the page's calls on these files.
 use crate::checks::equal;
 use crate::sessions::put;
 use mcs_fixtures::files::{NEW_BENCH, POKE};
@@ -16,12 +16,12 @@ pub(crate) fn new_file(alloc: Global, rt: &impl Abort) -> Vec<u8> {
     file
 }
 
-/// Returns a copy of these bytes.
+/// Returns a copy of the given bytes.
 pub(crate) fn copy(alloc: Global, rt: &impl Abort, bytes: &[u8]) -> Vec<u8> {
     bytes.to_vec(alloc).expect(rt, "memory")
 }
 
-/// Makes a file one of version 1: a new bench, and the record of `poke r5 9`.
+/// Turns a file into one of version 1, with a new bench and the record of `poke r5 9`.
 pub(crate) fn put_version_1(rt: &impl Abort, file: &mut [u8]) {
     file.fill(0);
     for (at, bytes) in NEW_BENCH {
@@ -30,18 +30,18 @@ pub(crate) fn put_version_1(rt: &impl Abort, file: &mut [u8]) {
     put(rt, file, POKE.0, POKE.1);
 }
 
-/// Returns the file of that session.
+/// Returns a file of version 1, with a new bench and the record of `poke r5 9`.
 pub(crate) fn file_of_version_1(alloc: Global, rt: &impl Abort) -> Vec<u8> {
     let mut file = vec![in alloc; 0u8; FILE_SIZE].expect(rt, "memory");
     put_version_1(rt, file.as_mut_slice());
     file
 }
 
-/// The answer of that session to `regs`.
+/// The answers to `regs` on the file of version 1.
 pub(crate) const CARRIED_OVER: &[u8] =
     b"session 1\nacc 0 cy 0 pc 000 owed 0 dcl 0 test 1 r 0000090000000000 ret 000 000 000\n";
 
-/// A call that answers an input.
+/// The calls that answer an input.
 #[derive(Clone, Copy)]
 pub(crate) enum Call {
     Serve,
@@ -49,7 +49,7 @@ pub(crate) enum Call {
     Ask,
 }
 
-/// All of them.
+/// All calls that answer an input.
 pub(crate) const CALLS: [Call; 3] = [Call::Serve, Call::ServeAndSettle, Call::Ask];
 
 /// Makes a call that answers an input on a file, and writes the answers into a buffer.
@@ -67,12 +67,13 @@ pub(crate) fn served(
     }
 }
 
-/// Replaces a file's records with a snapshot.
+/// Replaces the records of a file with a snapshot.
 pub(crate) fn settled(alloc: Global, file: &mut [u8]) -> Result<(), StoreFault> {
     settle(alloc, file)
 }
 
-/// Makes a call that answers an input on a file, and returns the answers, or why there are none.
+/// Makes a call that answers an input on a file. Returns the answers, or the error if there are
+/// none.
 pub(crate) fn answers(
     alloc: Global,
     rt: &impl Abort,
@@ -87,12 +88,12 @@ pub(crate) fn answers(
     Ok(buffer)
 }
 
-/// Checks that an input served on a file has these answers.
+/// Checks the answers to an input that is served on a file.
 pub(crate) fn expect_answers(alloc: Global, rt: &impl Abort, file: &mut [u8], row: (&[u8], &[u8])) {
     expect_answers_by(alloc, rt, Call::Serve, file, row);
 }
 
-/// Checks that a call has these answers to an input.
+/// Checks the answers of a call to an input.
 pub(crate) fn expect_answers_by(
     alloc: Global,
     rt: &impl Abort,

@@ -1,6 +1,6 @@
-//! One allocation that fails, whichever it is: `checks/allocations` fails each in turn, and the
-//! gate none. A call that found no memory has left file and buffer as they were, and succeeds when
-//! it is repeated.
+//! Tests with one failing allocation. `checks/allocations` makes each allocation fail in turn; in
+//! the gate, none fails. A call that runs out of memory leaves file and buffer unchanged, and
+//! succeeds when it is repeated.
 use crate::checks::equal;
 use crate::page::files::{CARRIED_OVER, Call, put_version_1, served, settled};
 use crate::sessions::put;
@@ -11,7 +11,7 @@ use mcs_wasm::page::{ServedInput, begin};
 use std::alloc::{AllocError, Global};
 use std::process::Abort;
 
-/// A file, its bytes before the call that is made, and the buffer for the answers.
+/// A file, a copy of its bytes before the current call, and the buffer for the answers.
 #[derive(Drop)]
 struct Desk {
     file: Vec<u8>,
@@ -19,15 +19,16 @@ struct Desk {
     buffer: [u8; 128],
 }
 
-/// The result of a call. `is_second` is true if the call found no memory when it was made first.
+/// The result of a call. `is_second` is true if the first attempt ran out of memory.
 #[derive(Drop)]
 struct CallReport {
-    /// The number of bytes of the answers, or, as an error, the number that have no room.
+    /// The number of bytes in the answers; as an error, the number of bytes that did not fit.
     count: Result<usize, usize>,
     is_second: bool,
 }
 
-/// Returns the number of bytes that a call returned, and checks that it was served or had no room.
+/// Returns the number of answer bytes of a call, or as an error the number that did not fit. Checks
+/// that there was no other error.
 fn count_of(rt: &impl Abort, report: Result<ServedInput, ServeFault>) -> Result<usize, usize> {
     match report {
         Ok(served) => {
@@ -40,7 +41,7 @@ fn count_of(rt: &impl Abort, report: Result<ServedInput, ServeFault>) -> Result<
 }
 
 impl Desk {
-    /// Makes a file of bytes that are no session.
+    /// Creates a file whose bytes are not a session.
     fn new(alloc: Global) -> Result<Desk, AllocError> {
         Ok(Desk {
             file: vec![in alloc; 0xA5u8; FILE_SIZE]?,
@@ -49,7 +50,7 @@ impl Desk {
         })
     }
 
-    /// Keeps the bytes of the file, and clears the buffer.
+    /// Saves a copy of the file's bytes, and resets the buffer.
     fn prepare(&mut self, rt: &impl Abort) {
         assert!(rt; self.before.len() == self.file.len());
         self.before
@@ -58,12 +59,12 @@ impl Desk {
         self.buffer = [b'#'; 128];
     }
 
-    /// Checks that the last call has left file and buffer as they were.
+    /// Checks that the last call has left file and buffer unchanged.
     fn expect_untouched(&self, rt: &impl Abort) {
         assert!(rt; self.file.as_slice() == self.before.as_slice() && self.buffer == [b'#'; 128]);
     }
 
-    /// Begins the file. It returns true if this had to be repeated.
+    /// Starts a new session in the file. Returns true if the call had to be repeated.
     fn begin(&mut self, alloc: Global, rt: &impl Abort) -> bool {
         self.prepare(rt);
         assert!(rt; self.file.len() == FILE_SIZE);
@@ -76,7 +77,7 @@ impl Desk {
         true
     }
 
-    /// Settles the file. It returns true if this had to be repeated.
+    /// Settles the file. Returns true if the call had to be repeated.
     fn settle(&mut self, alloc: Global, rt: &impl Abort) -> bool {
         self.prepare(rt);
         if let Err(fault) = settled(alloc, self.file.as_mut_slice()) {
@@ -88,7 +89,7 @@ impl Desk {
         false
     }
 
-    /// Makes a call that answers an input, with room for `room` bytes of answers.
+    /// Makes one call that answers an input, with room for `room` bytes of answers.
     fn call_once(
         &mut self,
         alloc: Global,
@@ -102,12 +103,12 @@ impl Desk {
         }
     }
 
-    /// Serves an input, and repeats this if there was no memory.
+    /// Serves an input, and repeats the call if it runs out of memory.
     fn serve(&mut self, alloc: Global, rt: &impl Abort, input: &[u8], room: usize) -> CallReport {
         self.call(alloc, rt, Call::Serve, (input, room))
     }
 
-    /// Makes a call that answers an input, and repeats it if there was no memory.
+    /// Makes a call that answers an input, and repeats the call if it runs out of memory.
     fn call(
         &mut self,
         alloc: Global,
@@ -132,8 +133,8 @@ impl Desk {
         }
     }
 
-    /// Returns true if the last call returned these answers, and the rest of the buffer is as it
-    /// was.
+    /// Returns true if the last call returned the given answers and left the rest of the buffer
+    /// unchanged.
     fn has(&self, rt: &impl Abort, report: &CallReport, answers: &[u8]) -> bool {
         let mut wanted = [b'#'; 128];
         put(rt, &mut wanted, 0, answers);
@@ -146,8 +147,8 @@ const FIRST: &[u8] =
 
 const SECOND: &[u8] = b"poke r5 9\nlist 0 1\nseq\n";
 
-/// The answers to the first input if a part of it was left out for lack of memory, and to the
-/// second input after it.
+/// The answers to the first input if a part was left out for lack of memory, and the answers to the
+/// second input after that.
 struct Row {
     left_out: &'static str,
     first: &'static [u8],
@@ -241,10 +242,10 @@ seq 3
     },
 ];
 
-/// The answers to the second input without the listing.
+/// The answers to the second input if its listing is left out.
 const SECOND_WITHOUT: &[u8] = b"session 2\nok 3\nno 90\nseq 3\n";
 
-/// The part that found no memory; there is one at most.
+/// The part that ran out of memory. At most one part can.
 #[derive(Drop)]
 struct Refusals {
     report: &'static str,
@@ -259,8 +260,8 @@ impl Refusals {
     }
 }
 
-/// Checks that the answers to the first input have no room in eight bytes. Their number shows if
-/// one of them was left out.
+/// Checks that the answers to the first input do not fit into eight bytes. The reported length
+/// shows whether one of them was left out.
 fn look_for_room(alloc: Global, rt: &impl Abort, desk: &mut Desk, refusals: &mut Refusals) {
     let report = desk.serve(alloc, rt, FIRST, 8);
     desk.expect_untouched(rt);
@@ -274,7 +275,7 @@ fn look_for_room(alloc: Global, rt: &impl Abort, desk: &mut Desk, refusals: &mut
     panic!(rt; "another count");
 }
 
-/// Serves the first input, and returns the answers that the second input must then have.
+/// Serves the first input, and returns the answers that the second input must have after it.
 fn serve_first(
     alloc: Global,
     rt: &impl Abort,
@@ -308,22 +309,22 @@ fn serve_second(
     }
 }
 
-/// Asks for the count of commands, and again by the call that settles, and checks that both have
-/// the same answer.
+/// Asks for the number of commands with two calls, of which the second also settles the file.
+/// Checks that both give the same answer.
 fn ask_and_settle(alloc: Global, rt: &impl Abort, desk: &mut Desk, refusals: &mut Refusals) {
     let asked = desk.call(alloc, rt, Call::Ask, (b"seq\n", 128));
     refusals.note(rt, asked.is_second, "the question");
     let answers = desk.buffer;
     let settled = desk.call(alloc, rt, Call::ServeAndSettle, (b"seq\n", 128));
     refusals.note(rt, settled.is_second, "the input settled");
-    // `session N` and `seq N`
+    // the length of `session N` and `seq N` with their line feeds
     equal(rt, asked.count, Ok(16));
     equal(rt, settled.count, Ok(16));
     equal(rt, desk.buffer, answers);
 }
 
-/// Begins a file, serves both inputs, settles the file between them, and uses the other calls for a
-/// question. It returns the part that found no memory.
+/// Starts a session, serves both inputs, and settles the file between them. Then asks a question
+/// with the other calls. Returns the part that ran out of memory.
 fn begin_and_serve(alloc: Global, rt: &impl Abort) -> &'static str {
     let Ok(mut desk) = Desk::new(alloc) else {
         return "a file";
@@ -344,8 +345,8 @@ fn one_allocation(rt: HostRuntime) {
     let _ = println!(rt; "refused: {refused}");
 }
 
-/// Settles a file of version 1, and serves an input on another. It returns the part that found no
-/// memory.
+/// Settles a file of version 1, and serves an input on another one. Returns the part that ran out
+/// of memory.
 fn carry_over(alloc: Global, rt: &impl Abort) -> &'static str {
     let Ok(mut desk) = Desk::new(alloc) else {
         return "a file";
