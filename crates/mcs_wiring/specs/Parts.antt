@@ -200,7 +200,7 @@ wrong_direction b =
     option_or (wrong_chain_from NoOutput b 0 b.chains.items)
     (option_or (wrong_column_of NoInput b b.keys) (wrong_lamp_from Input b 0 b.lamps.items))
 
--- the first part of a table to which an error applies
+-- the first location in a table that has the given error, or `None` if the error has no location
 abbrev pub part_of : WiringFault → Members → Option Part
 part_of fault.UnknownKey ms = unknown_key ms
 part_of fault.MissingKey ms = flawed MissingKey ms

@@ -586,7 +586,8 @@ fn part_within<'a>(fault: WiringFault, table: &Table) -> Option<Part<'a>>
     }
 }
 
-/// Returns the first part of a table to which an error applies.
+/// Returns the first location in a table that has the given error, or none if the error has no
+/// location.
 pub(crate) fn part_of<'a>(fault: WiringFault, table: &'a Table) -> Option<Part<'a>>
     requires { board_of_table (table_view table.now) ≡ Err fault }
     ensures { option_map part_view result ≡ part_of fault (table_view table.now) }
