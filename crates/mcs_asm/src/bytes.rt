@@ -172,7 +172,8 @@ fn jcn<'a>(at: u16, names: &Names<'a>, v: &Operand<'a>, t: &Operand<'a>) -> Resu
     ensures { GivesOp result
         (statement_bytes at names.now.names (Jcn (operand_view v.now) (operand_view t.now))) }
 {
-    // Both values are looked up first, because error 32 takes precedence over error 33.
+    // Both values are looked up first: an unknown name (32) takes precedence over a value out of
+    // range (33).
     let v = value(names, v)?;
     let t = value(names, t)?;
     let v = nibble(v)?;

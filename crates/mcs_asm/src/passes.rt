@@ -64,7 +64,7 @@ fn at_line(index: usize, came: Result<(), FaultKind>) -> Result<(), AsmFault>
     }
 }
 
-/// Returns the names of all lines and the address after them, or the first class-one error.
+/// Returns the names of all lines and the address after them, or the first error of class one (30, 31, 33, 36, 37).
 fn first_pass<'a>(alloc: Global, lines: &[&'a [u8]]) -> Result<Names<'a>, AsmFault>
     ensures { PassesFirst result (read (map (λ l. l.now) lines.now)) }
 {
@@ -143,7 +143,7 @@ impl SpelledLines {
     }
 }
 
-/// Returns the survey of all lines and the bytes that they emit, or the first class-two error.
+/// Returns the survey of all lines and the bytes that they emit, or the first error of class two (32 to 35).
 fn second_pass<'a>(
     alloc: Global,
     names: Names<'a>,

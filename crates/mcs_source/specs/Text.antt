@@ -51,7 +51,8 @@ abbrev pub whole_or_byte : Option Op → ℕ → List ℕ → Option Op
 whole_or_byte None b rest = None
 whole_or_byte (Some o) b rest = if nat_le (word_count_of o) (1 + length rest) then Some o else None
 
--- the byte after the first, or 0 if there is none; `whole_or_byte` makes the 0 irrelevant
+-- the byte after the first, or 0 if there is none. The 0 has no effect, because `whole_or_byte`
+-- then accepts only one-word instructions.
 abbrev pub second_word : List ℕ → ℕ
 second_word [] = 0
 second_word (c ∷ rest) = c
