@@ -5,7 +5,7 @@ ghost use Rattle.mcs_nibble.specs.Bits.{bit_of};
 use crate::bits::Bit;
 use std::marker::Model;
 
-/// A four-bit number, 0 to 15: the contents of the accumulator, a register, a RAM character or a port.
+/// A four-bit number, 0 to 15: the contents of the accumulator, a register, a RAM location or a port.
 #[derive(Clone, Copy, Debug, Default, PartialEq, Eq)]
 pub struct Nibble {
     value: u8,
