@@ -10,7 +10,7 @@ pub record BenchState : Type 0 where
   pub bus : BusState
   -- the breakpoint addresses, in ascending order
   pub breakpoints : List ℕ
-  -- the watched RAM characters as indices (`ram_index`), in ascending order
+  -- the watched RAM nibbles as indices (`ram_index`), in ascending order
   pub watches : List ℕ
   -- the number of accepted commands
   pub seq : ℕ

@@ -13,7 +13,7 @@ pub record BusState : Type 0 where
   pub board : BoardParts
   -- the ROM bytes by address: 4,096; the bytes of absent ROMs are 0
   pub rom : List ℕ
-  -- the RAM characters by `ram_index`: 2,048; absent ones are 0
+  -- the RAM nibbles by `ram_index`: 2,048; absent ones are 0
   pub ram : List ℕ
   -- the status characters by `status_index`: 512; absent ones are 0
   pub status : List ℕ
@@ -58,7 +58,7 @@ abbrev pub chips_of : BusState → ℕ → ℕ
 chips_of s bank = slice_index s.board.banks bank
 
 -- the SRC byte that a bank stores: its upper two bits select the chip, the next two the register,
--- and the lower nibble the character (4002 data sheet)
+-- and the lower four bits the RAM nibble (4002 data sheet)
 abbrev pub src_of : BusState → ℕ → ℕ
 src_of s bank = slice_index s.ram_src bank
 
@@ -74,23 +74,23 @@ after_src s bank byte =
     then record s { rom_src = byte; ram_src = slice_set s.ram_src bank byte }
     else record s { rom_src = byte }
 
--- the index of the RAM character that an SRC byte selects in a bank
+-- the index of the RAM nibble that an SRC byte selects in a bank
 abbrev pub ram_index : ℕ → ℕ → ℕ
 ram_index bank src = bank * 256 + src
 
--- the selected RAM character of a bank (4002 data sheet); an absent one reads as 0 (our own choice)
+-- the selected RAM nibble of a bank (4002 data sheet); an absent one reads as 0 (our own choice)
 unfoldable pub ram_of : BusState → ℕ → ℕ
 ram_of s bank = slice_index s.ram (ram_index bank (src_of s bank))
 
--- The bus after a write to the RAM character that an SRC byte selects in a bank (4002 data sheet).
--- The write is lost if the chip is absent (our own choice).
+-- The bus after a write to the RAM nibble that an SRC byte selects in a bank (4002 data sheet). The
+-- write is lost if the chip is absent (our own choice).
 unfoldable pub with_ram : BusState → ℕ → ℕ → ℕ → BusState
 with_ram s bank src n =
     if has_chip s bank src
     then record s { ram = slice_set s.ram (ram_index bank src) n }
     else s
 
--- the bus after a write to the selected RAM character of a bank
+-- the bus after a write to the selected RAM nibble of a bank
 unfoldable pub after_ram : BusState → ℕ → ℕ → BusState
 after_ram s bank n = with_ram s bank (src_of s bank) n
 

@@ -137,7 +137,7 @@ registers_after Daa s _ = after_daa s
 registers_after Kbp s _ = with_acc s (key_of s.acc)
 registers_after Dcl s _ = record s { dcl = s.acc % 8 }
 
--- The bus after an instruction. Only SRC and the instructions that write a RAM character, a status
+-- The bus after an instruction. Only SRC and the instructions that write a RAM nibble, a status
 -- character or a port change it (Manual, SRC and the input, output and RAM instructions).
 abbrev pub bus_after : Op → Regs → BusState → BusState
 bus_after (Src k) s m = after_src m s.dcl (pair_of s k)

@@ -64,7 +64,7 @@ lamps_text s =
     codes "lamps " ++ or_dash (map (λ line. lamp_mark (level s line)) s.board.lamps.items)
 
 -- the line for register r of a RAM chip: the numbers of its bank, chip and register, its 16 main
--- characters, and its four status characters
+-- nibbles, and its four status characters
 abbrev pub register_line : BusState → ℕ → ℕ → ℕ → List ℕ
 register_line s bank chip r =
     digit_text bank ++ codes "." ++ digit_text chip ++ codes "." ++ digit_text r
@@ -98,11 +98,11 @@ breaks_text breakpoints = codes "breaks " ++ or_dash (join_by address_text (code
 abbrev pub hex_2 : ℕ → List ℕ
 hex_2 b = hex_digit (b / 16) ∷ hex_digit (b % 16) ∷ []
 
--- a watched RAM character: its bank and its SRC byte
+-- a watched RAM nibble: its bank and its SRC byte
 abbrev pub watch_text : ℕ → List ℕ
 watch_text w = digit_text (w / 256) ++ codes "." ++ hex_2 (w % 256)
 
--- the answer to `watches`: the watched RAM characters in ascending order
+-- the answer to `watches`: the watched RAM nibbles in ascending order
 abbrev pub watches_text : List ℕ → List ℕ
 watches_text watches = codes "watches " ++ or_dash (join_by watch_text (codes " ") watches)
 

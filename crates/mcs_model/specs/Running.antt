@@ -26,12 +26,12 @@ after_cycles (suc k) s = unwrap_or (cycle_of (after_cycles k s).0 (after_cycles 
 abbrev pub at_break : List ℕ → ℕ → Machine → Bool
 at_break breaks k s = nat_lt 0 k && s.0.owed == 0 && list_any (λ a. a == s.0.pc) breaks
 
--- true if the value of a watched RAM character differs between the machines s and t
+-- true if the value of a watched RAM nibble differs between the machines s and t
 abbrev pub has_changed : List ℕ → Machine → Machine → Bool
 has_changed watches s t =
     list_any (λ w. not (slice_index s.1.ram w == slice_index t.1.ram w)) watches
 
--- the breakpoints and the watched RAM characters of a run
+-- the breakpoints and the watched RAM nibbles of a run
 pub record Stops : Type 0 where
   pub breaks : List ℕ
   pub watches : List ℕ
@@ -47,7 +47,7 @@ stop_at stops n k s t =
     else None
 
 -- The reason why a run of n cycles from s stops after k cycles, or none. For k = 0 no cycle was
--- executed, and no watched character has changed.
+-- executed, and no watched RAM nibble has changed.
 abbrev pub stop_after : Stops → ℕ → Machine → ℕ → Option Stop
 stop_after stops n s k = stop_at stops n k (after_cycles (k - 1) s) (after_cycles k s)
 

@@ -80,8 +80,7 @@ pub record AreBreakpoints (items : List ℕ) : Type 0 where
   pub addresses : All (λ a. a < 4096) items
   pub rising : IsStrictlyIncreasing items
 
--- holds if the list has at most 8 indices of RAM characters (`ram_index`), in strictly ascending
--- order
+-- holds if the list has at most 8 indices of RAM nibbles (`ram_index`), in strictly ascending order
 pub record AreWatches (items : List ℕ) : Type 0 where
   pub few : length items ≤ WATCHES
   pub indices : All (λ a. a < 2048) items

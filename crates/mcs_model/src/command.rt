@@ -20,7 +20,7 @@ pub enum Place {
     Dcl(BankNo),
     /// A ROM byte, by its address.
     Rom(Addr, u8),
-    /// A RAM character: its bank, and the SRC byte that selects it.
+    /// A RAM nibble: its bank, and the SRC byte that selects it.
     Ram(BankNo, u8, Nibble),
     /// A status character: its bank, the upper nibble of the SRC byte that selects its register, and its number.
     Status(BankNo, Nibble, StatusNo, Nibble),
@@ -53,10 +53,10 @@ pub enum Command {
     Break(Addr),
     /// Clears the breakpoint at an address, if there is one.
     Unbreak(Addr),
-    /// Watches the RAM character that an SRC byte selects in a bank. A run stops when the value of a watched character
+    /// Watches the RAM nibble that an SRC byte selects in a bank. A run stops when the value of a watched RAM nibble
     /// changes.
     Watch(BankNo, u8),
-    /// Stops watching the RAM character that an SRC byte selects in a bank.
+    /// Stops watching the RAM nibble that an SRC byte selects in a bank.
     Unwatch(BankNo, u8),
 }
 

@@ -36,7 +36,7 @@ pub const LAMPS: usize = 64;
 /// The maximum number of breakpoints that are set at one time.
 pub const BREAKPOINTS: usize = 32;
 
-/// The maximum number of RAM characters that are watched at one time.
+/// The maximum number of RAM nibbles that are watched at one time.
 pub const WATCHES: usize = 8;
 
 /// The maximum number of instruction cycles in one run.

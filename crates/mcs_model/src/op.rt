@@ -40,27 +40,27 @@ pub enum Op {
     Bbl(Nibble),
     /// Load a value into the accumulator.
     Ldm(Nibble),
-    /// Write the accumulator into the selected RAM character.
+    /// Write the accumulator to the selected RAM nibble.
     Wrm,
     /// Write the accumulator to the port of the selected RAM chip.
     Wmp,
     /// Write the accumulator to the port of the selected ROM.
     Wrr,
-    /// Write the accumulator into status character 0 of the selected register.
+    /// Write the accumulator to status character 0 of the selected register.
     Wr0,
-    /// Write the accumulator into status character 1 of the selected register.
+    /// Write the accumulator to status character 1 of the selected register.
     Wr1,
-    /// Write the accumulator into status character 2 of the selected register.
+    /// Write the accumulator to status character 2 of the selected register.
     Wr2,
-    /// Write the accumulator into status character 3 of the selected register.
+    /// Write the accumulator to status character 3 of the selected register.
     Wr3,
-    /// Subtract the selected RAM character from the accumulator with borrow.
+    /// Subtract the selected RAM nibble from the accumulator with borrow.
     Sbm,
-    /// Read the selected RAM character into the accumulator.
+    /// Read the selected RAM nibble into the accumulator.
     Rdm,
     /// Read the port of the selected ROM into the accumulator.
     Rdr,
-    /// Add the selected RAM character to the accumulator with carry.
+    /// Add the selected RAM nibble to the accumulator with carry.
     Adm,
     /// Read status character 0 of the selected register into the accumulator.
     Rd0,

@@ -13,7 +13,7 @@ pub enum Query {
     Ram(BankNo),
     /// The breakpoints.
     Breaks,
-    /// The watched RAM characters.
+    /// The watched RAM nibbles.
     Watches,
     /// The number of accepted commands.
     Seq,

@@ -7,7 +7,7 @@ pub enum Stop {
     Outside,
     /// The program counter is at a breakpoint.
     Breakpoint,
-    /// A watched RAM character has changed.
+    /// The value of a watched RAM nibble has changed.
     Watched,
     /// All instruction cycles of the run or the step are done.
     Ended,
