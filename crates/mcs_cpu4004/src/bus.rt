@@ -20,12 +20,12 @@ pub trait Bus {
         requires { bank < 8 }
         ensures { flat self.new ≡ after_src (flat self.old) bank byte };
 
-    /// Reads the selected RAM character of a bank.
+    /// Reads the selected RAM nibble of a bank.
     fn ram_read(&self, bank: u8) -> Nibble
         requires { bank < 8 }
         ensures { result ≡ ram_of (flat self.now) bank };
 
-    /// Writes the selected RAM character of a bank.
+    /// Writes the selected RAM nibble of a bank.
     fn ram_write(&mut self, bank: u8, n: Nibble)
         requires { bank < 8 }
         ensures { flat self.new ≡ after_ram (flat self.old) bank n };
