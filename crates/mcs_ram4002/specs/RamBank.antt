@@ -1,6 +1,6 @@
 -- A bank of 4002s as flat lists. Source: MCS-4 Users Manual, 4002: each chip has an output port and
--- four registers of 16 main and 4 status characters. SRC selects a chip, a register and a
--- character. That an absent chip reads as 0 is our own choice.
+-- four registers of 16 main nibbles and 4 status characters. SRC selects a chip, a register and a
+-- main nibble. That an absent chip reads as 0 is our own choice.
 use Rattle.std.specs.Prelude.{◌≡◌, ℕ, ◌+◌, ◌*◌, ◌/◌, ◌%◌, ◌^◌, ◌<◌, ◌≤◌, List, [], All, replicate, slice_index, slice_set, length, take, if◌then◌else◌, nat_lt}
 use Rattle.mcs_nibble.specs.Tables.{table_of, flat_rows, column}
 use Rattle.mcs_ram4002.specs.declared.BankWrite.{BankWrite}
@@ -12,10 +12,10 @@ pub record BankState : Type 0 where
   pub wired : ℕ
   -- the last SRC byte
   pub src : ℕ
-  -- the main characters, indexed by SRC byte; 256
+  -- the main nibbles, indexed by SRC byte; 256
   pub main : List ℕ
-  -- the status characters, 64; character k of the register that the upper SRC nibble h selects is
-  -- at index h * 4 + k
+  -- the status characters, 64; status character k of the register that the upper SRC nibble h
+  -- selects is at index h * 4 + k
   pub status : List ℕ
   -- the output port latches of chips 0 to 3
   pub ports : List ℕ
@@ -87,27 +87,27 @@ pub record IsValidBank (b : BankState) : Type 0 where
 abbrev pub half_of : ℕ → ℕ → ℕ
 half_of byte k = byte / 16 ^ k % 16
 
--- the characters in bytes that store two characters each
+-- the nibbles in bytes that store two nibbles each, lower half first
 unfoldable pub characters_of : List ℕ → List ℕ
 characters_of bytes = table_of (2 * length bytes) (λ k. half_of (slice_index bytes (k / 2)) (k % 2))
 
--- the main characters of a chip, then its status characters, by index; only this definition and the
--- next one say how a chip stores them
+-- The main nibbles of a chip by index. The next definition gives its status characters. Only these
+-- two say how a chip stores them.
 abbrev pub main_cells_of : Chip → List ℕ
 main_cells_of c = characters_of c.main
 
 abbrev pub status_cells_of : Chip → List ℕ
 status_cells_of c = characters_of c.status
 
--- the characters of a chip, each list by index, and its port latch
+-- the main nibbles and the status characters of a chip, each list by index, and its port latch
 pub record ChipState : Type 0 where
-  -- at index register * 16 + character
+  -- the main nibbles, at index register * 16 + nibble number
   pub main : List ℕ
-  -- at index register * 4 + character
+  -- the status characters, at index register * 4 + status character number
   pub status : List ℕ
   pub port : ℕ
 
--- the characters and the port latch of a chip
+-- the main nibbles, the status characters and the port latch of a chip
 abbrev pub cells_of : Chip → ChipState
 cells_of c = record { main = main_cells_of c; status = status_cells_of c; port = c.port }
 

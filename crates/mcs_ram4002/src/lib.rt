@@ -1,5 +1,5 @@
-//! The 4002: RAM chips, and the banks that they form. Intel calls a RAM nibble a character. A chip stores two
-//! characters in a byte.
+//! The 4002: RAM chips, and the banks that they form. Intel calls a nibble of RAM a RAM character. A chip stores two
+//! nibbles in a byte.
 //!
 //! A bank alone behaves as the processor sees it: `src`, `read`, `write`, `read_status`, `write_status` and
 //! `write_port` access the location that the last SRC selected. A rig accesses a bank by index instead (`at`,
@@ -16,10 +16,10 @@ use std::marker::Model;
 /// One write to a bank: a location and its new value.
 #[derive(Clone, Copy)]
 pub enum BankWrite {
-    /// The RAM character that an SRC byte selects, and its new value.
+    /// The RAM nibble that an SRC byte selects, and its new value.
     Character(u8, Nibble),
     /// A status character of a register: the upper nibble of the SRC byte that selects the register, the number of the
-    /// character, 0 to 3, and its new value.
+    /// status character, 0 to 3, and its new value.
     Status(Nibble, u8, Nibble),
     /// The output port of a chip: the chip, 0 to 3, and its new value.
     Port(u8, Nibble),
@@ -52,7 +52,8 @@ impl BankWrite {
     }
 }
 
-/// Returns the half of a byte that holds character `at`: the lower half if `at` is even, the upper half if it is odd.
+/// Returns the half of a byte that stores nibble `at` of a chip: the lower half if `at` is even, the upper half if it
+/// is odd.
 fn half(byte: u8, at: u8) -> Nibble
     ensures { result ≡ half_of byte (at % 2) }
 {
@@ -63,8 +64,8 @@ fn half(byte: u8, at: u8) -> Nibble
     }
 }
 
-/// Returns the byte with character `at` replaced by `n`: in the lower half if `at` is even, in the upper half if it is
-/// odd.
+/// Returns the byte with nibble `at` of a chip replaced by `n`: in the lower half if `at` is even, in the upper half if
+/// it is odd.
 fn with_half(byte: u8, at: u8, n: Nibble) -> u8
     ensures set { half_of result (at % 2) ≡ n }
     ensures kept { half_of result (1 - at % 2) ≡ half_of byte (1 - at % 2) }
@@ -76,11 +77,11 @@ fn with_half(byte: u8, at: u8, n: Nibble) -> u8
     }
 }
 
-/// A 4002 (MCS-4 Users Manual): four registers of 16 main characters and four status characters, and a four-line output
+/// A 4002 (MCS-4 Users Manual): four registers of 16 main nibbles and four status characters, and a four-line output
 /// port. All access to a chip is through its bank.
 #[derive(Clone, Copy)]
 pub struct Chip {
-    // Two characters in a byte. The lower half is the first of them.
+    // Two nibbles in each byte, the first of them in the lower half.
     main: [u8; 32],
     status: [u8; 8],
     port: Nibble,
@@ -98,7 +99,7 @@ impl Chip {
         }
     }
 
-    /// Returns a main character. Its index `at` is register * 16 + character.
+    /// Returns a main nibble. Its index `at` is register * 16 + nibble number.
     fn character(&self, at: u8) -> Nibble
         requires { at < 64 }
         ensures { result ≡ slice_index (main_cells_of self.now) at }
@@ -106,7 +107,7 @@ impl Chip {
         half(self.main[usize::from(at / 2)], at)
     }
 
-    /// Returns a status character. Its index `at` is register * 4 + character.
+    /// Returns a status character. Its index `at` is register * 4 + status character number.
     fn status_character(&self, at: u8) -> Nibble
         requires { at < 16 }
         ensures { result ≡ slice_index (status_cells_of self.now) at }
@@ -143,7 +144,7 @@ impl Chip {
         }
     }
 
-    /// Proves that the port and each main and status character are nibbles.
+    /// Proves that the port, each main nibble and each status character are in the range 0 to 15.
     fn show_state_is_valid(&self)
         ensures { IsValidChip self.now }
     {
@@ -151,7 +152,7 @@ impl Chip {
     }
 }
 
-/// Proves that the contents of each chip are nibbles.
+/// Proves that the contents of each chip are in the range 0 to 15.
 fn are_valid(chips: &[Chip])
     ensures { All IsValidChip chips.now }
 {
@@ -171,11 +172,11 @@ fn copied<const CHIPS: usize>(chips: &[Chip; CHIPS]) -> [Chip; CHIPS]
     copy
 }
 
-/// A bank of RAM chips. The first `wired` chips are present. Characters, status characters and ports of absent chips
+/// A bank of RAM chips. The first `wired` chips are present. Main nibbles, status characters and ports of absent chips
 /// read as 0, and writes to them are lost. Each bank stores its own last SRC byte.
 ///
-/// The upper two bits of an SRC byte select the chip, the next two bits the register, and the lower nibble the
-/// character.
+/// The upper two bits of an SRC byte select the chip, the next two bits the register, and the lower four bits the main
+/// nibble.
 #[derive(Drop)]
 pub struct Bank<const CHIPS: usize> {
     chips: [Chip; CHIPS],
@@ -249,7 +250,7 @@ impl<const CHIPS: usize> Bank<CHIPS> {
         self.src
     }
 
-    /// Returns the character that an SRC byte selects.
+    /// Returns the main nibble that an SRC byte selects.
     pub fn at(&self, src: u8) -> Nibble
         ensures { result ≡ slice_index self.now.main src }
     {
@@ -261,7 +262,7 @@ impl<const CHIPS: usize> Bank<CHIPS> {
         }
     }
 
-    /// Writes the character that an SRC byte selects.
+    /// Writes the main nibble that an SRC byte selects.
     pub fn set_at(&mut self, src: u8, n: Nibble)
         ensures { self.new ≡ after_write self.old (BankWrite.Character src n) }
     {
@@ -303,14 +304,14 @@ impl<const CHIPS: usize> Bank<CHIPS> {
         }
     }
 
-    /// Returns the character that the last SRC selected.
+    /// Returns the main nibble that the last SRC selected.
     pub fn read(&self) -> Nibble
         ensures { result ≡ slice_index self.now.main self.now.src }
     {
         self.at(self.last_src())
     }
 
-    /// Writes the character that the last SRC selected.
+    /// Writes the main nibble that the last SRC selected.
     pub fn write(&mut self, n: Nibble)
         ensures { self.new ≡ after_write self.old (BankWrite.Character self.old.src n) }
     {
@@ -343,7 +344,7 @@ impl<const CHIPS: usize> Bank<CHIPS> {
         self.store(BankWrite::Port(chip, n));
     }
 
-    /// Sets all main and status characters, the port latches and the SRC byte to 0. The set of chips stays the same.
+    /// Sets all main nibbles, status characters, port latches and the SRC byte to 0. The set of chips stays the same.
     pub fn clear(&mut self)
         ensures { self.new ≡ blank_bank self.old.wired }
     {
@@ -352,8 +353,8 @@ impl<const CHIPS: usize> Bank<CHIPS> {
         *self = Bank::new(wired);
     }
 
-    /// Proves that the state lists have their lengths, and that each character, status character and port is a nibble.
-    /// Also proves that absent ones are 0.
+    /// Proves that the state lists have their lengths, and that each main nibble, status character and port is in the
+    /// range 0 to 15. Also proves that absent ones are 0.
     pub fn show_state_is_valid(&self)
         ensures { IsValidBank self.now }
     {
