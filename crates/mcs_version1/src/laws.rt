@@ -9,7 +9,7 @@ pub fn commands_lift()
     ensures folds { FoldsLift }
 {}
 
-/// Proves that version 2, in the lifted state, answers each query as version 1 does.
+/// Proves that version 2, in the lifted state, answers each query of `Query1` as version 1 does.
 pub fn queries_lift()
     ensures { QueriesLift }
 {}
