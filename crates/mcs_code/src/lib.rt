@@ -1,7 +1,7 @@
-//! The code table of the 4004: from codes to instructions and back.
+//! The opcode table of the 4004, for decoding and encoding instructions.
 //!
-//! `instructions!` lists the 45 instructions once. Each function here, and each user of the table,
-//! expands that list in its body with a macro of its own.
+//! `instructions!` is the single list of the 45 instructions. Each function here expands that list in its body with a
+//! macro of its own. Other users of the table do the same.
 //! Source: Intel MCS-4 Users Manual, instruction set.
 #![tactic(auto)]
 
@@ -17,7 +17,7 @@ pub use spelling::Words;
 mod rows;
 mod spelling;
 
-/// Returns the instruction that two words spell, or `None` if the first is outside the table.
+/// Decodes the instruction with these two words. Returns `None` if the first word is an opcode outside the table.
 #[inline(always)]
 #[tactic(auto, unfolding(mcs_model::specs::Table::instruction_of, mcs_model::specs::Table::row_of))]
 pub fn decode(first: u8, second: u8) -> Option<Op>
@@ -26,7 +26,7 @@ pub fn decode(first: u8, second: u8) -> Option<Op>
     instructions!(decode_rows!(first, second))
 }
 
-/// Returns the words of an instruction.
+/// Encodes an instruction into its one or two words.
 #[tactic(auto, unfolding(mcs_model::specs::Table::instruction_of, mcs_model::specs::Table::row_of))]
 pub fn encode(op: Op) -> Words
     ensures decodes { instruction_of result.first (unwrap_or result.second 0) ≡ Some op }
@@ -35,7 +35,7 @@ pub fn encode(op: Op) -> Words
     instructions!(encode_rows!(op))
 }
 
-/// Returns the number of words of an instruction with that first word, 1 or 2. Returns 1 for a code outside the table.
+/// Returns the number of words of the instruction with this opcode, 1 or 2. Returns 1 for an opcode outside the table.
 #[tactic(auto, unfolding(mcs_model::specs::Table::instruction_of, mcs_model::specs::Table::row_of))]
 pub fn words(code: u8) -> u8
     ensures { result ≡ option_map_or word_count_of (instruction_of code 0) 1 }

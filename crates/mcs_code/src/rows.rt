@@ -1,10 +1,10 @@
-//! The list of the instructions, and what the functions of this crate derive from a row.
+//! The list of the instructions, and macros that expand its rows for the functions of this crate.
 
-/// Hands the rows of the code table to another macro, after `$head`.
+/// Passes `$head` and the rows of the opcode table to another macro.
 ///
-/// A row is: the upper and the lower nibble of its codes as patterns, the instruction, and the kind of its operands;
-/// then the number of its words, the number of its instruction cycles, the group in which its name is looked up, and
-/// its name as text. If a row has many codes, the first pattern of the lower nibble is the lowest.
+/// A row starts with patterns for the upper and lower nibbles of its opcodes, the instruction, and the kind of its
+/// operands. Then follow the number of words, the number of instruction cycles, the group in which its name is looked
+/// up, and its name as text. If a row has several opcodes, the first pattern for the lower nibble is the lowest.
 #[macro_export]
 macro_rules! instructions {
     ($with:ident! $head:tt) => {
@@ -59,8 +59,8 @@ macro_rules! instructions {
     };
 }
 
-/// Expands to the pattern of a row's instruction that binds its operands to `$a` and `$b`. `Op` must be in scope where
-/// the macro is used.
+/// Expands to a pattern that matches a row's instruction and binds its operands to `$a` and `$b`. `Op` must be in scope
+/// where the macro is used.
 #[macro_export]
 macro_rules! taken {
     ($a:ident $b:ident $name:ident none) => {
@@ -80,7 +80,7 @@ macro_rules! taken {
     };
 }
 
-/// Expands to the instruction of a row, from its words.
+/// Expands to an expression that builds a row's instruction from the words `$first` and `$second`.
 macro_rules! built {
     ($first:ident $second:ident $name:ident none) => {
         Op::$name
@@ -105,7 +105,8 @@ macro_rules! built {
     };
 }
 
-/// Expands to the words of a row's instruction with the operands `$a` and `$b`.
+/// Expands to the encoded words of a row's instruction with the operands `$a` and `$b`. `$upper` and `$lower` are the
+/// nibbles of the row's lowest opcode.
 macro_rules! spelled {
     ($a:ident $b:ident $upper:literal $lower:literal none) => {
         Words { first: $upper * 16 + $lower, second: None }
@@ -127,7 +128,8 @@ macro_rules! spelled {
     };
 }
 
-/// Expands to a match that finds the row of the first word, and builds its instruction from both words.
+/// Expands to a match that finds the row of the first word and builds the instruction from both words. The result is
+/// `None` if no row has the first word.
 macro_rules! decode_rows {
     (($first:ident, $second:ident) $($codes:pat, $name:ident $kind:ident $words:literal $cycles:literal $group:ident $text:literal;)*) => {
         match ($first / 16, $first % 16) {
@@ -137,7 +139,7 @@ macro_rules! decode_rows {
     };
 }
 
-/// Expands to a match that gives the words of the instruction, by its row.
+/// Expands to a match that finds the row of an instruction and encodes the instruction as words.
 macro_rules! encode_rows {
     (($op:ident) $(($upper:literal, $lower:literal $($more:tt)*), $name:ident $kind:ident $words:literal $cycles:literal $group:ident $text:literal;)*) => {
         match $op {
@@ -146,7 +148,7 @@ macro_rules! encode_rows {
     };
 }
 
-/// Expands to a match that gives the number of words, by the row of the code.
+/// Expands to a match that finds the row of an opcode and gives the number of words, or 1 if no row has the opcode.
 macro_rules! words_rows {
     (($code:ident) $($codes:pat, $name:ident $kind:ident $words:literal $cycles:literal $group:ident $text:literal;)*) => {
         match ($code / 16, $code % 16) {
@@ -156,7 +158,7 @@ macro_rules! words_rows {
     };
 }
 
-/// Expands to a match that gives the number of words, by the row of the instruction.
+/// Expands to a match that finds the row of an instruction and gives the number of words.
 macro_rules! word_count_rows {
     (($op:ident) $($codes:pat, $name:ident $kind:ident $words:literal $cycles:literal $group:ident $text:literal;)*) => {
         match $op {
@@ -165,7 +167,7 @@ macro_rules! word_count_rows {
     };
 }
 
-/// Expands to a match that gives the number of instruction cycles, by the row of the instruction.
+/// Expands to a match that finds the row of an instruction and gives the number of instruction cycles.
 macro_rules! cycles_rows {
     (($op:ident) $($codes:pat, $name:ident $kind:ident $words:literal $cycles:literal $group:ident $text:literal;)*) => {
         match $op {

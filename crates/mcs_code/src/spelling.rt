@@ -1,11 +1,11 @@
-//! The words of an instruction.
+//! Encoded instructions.
 
-/// The words that spell an instruction.
+/// The one or two words of an encoded instruction.
 #[derive(Clone, Copy, Debug, PartialEq, Eq)]
 pub struct Words {
-    /// The code.
+    /// The first word, which is the opcode.
     pub first: u8,
 
-    /// The second word, if the instruction has two.
+    /// The second word, or `None` for a one-word instruction.
     pub second: Option<u8>,
 }

@@ -1,8 +1,9 @@
--- The work of a processor on one instruction.
+-- The execution of one instruction by a processor.
 use Rattle.std.specs.Prelude.{◌≡◌, ℕ, ◌<◌, ◌≤◌, true, false}
 use Rattle.mcs_model.specs.Running.{Machine, after_cycles, is_outside}
 
--- the cycles of one instruction, k of them from s to t, at most `left`: none if no cycle can follow
+-- Holds if k cycles of one instruction lead from s to t, and k is at most `left`. If k is 0, no
+-- cycle is possible at s.
 pub record InstructionRan (left : ℕ) (s t : Machine) (k : ℕ) : Type 0 where
   pub within : k ≤ left
   pub machine : t ≡ after_cycles k s

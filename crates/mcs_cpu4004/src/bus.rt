@@ -5,8 +5,9 @@ ghost use Rattle.mcs_model.specs.Levels.{after_ram_port, after_rom_port, port_of
 
 use mcs_nibble::{Addr, Bit, Nibble};
 
-/// The chips that the processor drives, and the TEST pin. The meaning of a bus is a flat state, before and after each
-/// call. The value of the command register, 0 to 7, names a bank; this is this project's own choice.
+/// The chips that the processor drives, and the TEST pin. Contracts describe a call by the flat state of the bus before
+/// and after it. The bank number is the value of the command register, 0 to 7. This numbering is this project's own
+/// choice.
 pub trait Bus {
     ghost flat: { Self → BusState };
 
@@ -14,43 +15,43 @@ pub trait Bus {
     fn fetch(&self, at: Addr) -> u8
         ensures { result ≡ fetch_of (flat self.now) at };
 
-    /// Sends a byte out, as SRC does. The ROMs keep it, and so does the bank.
+    /// Sends an SRC byte. The ROMs store the byte, and so does the bank if it has chips.
     fn src(&mut self, bank: u8, byte: u8)
         requires { bank < 8 }
         ensures { flat self.new ≡ after_src (flat self.old) bank byte };
 
-    /// Returns the selected RAM character of a bank.
+    /// Reads the selected RAM nibble of a bank.
     fn ram_read(&self, bank: u8) -> Nibble
         requires { bank < 8 }
         ensures { result ≡ ram_of (flat self.now) bank };
 
-    /// Writes the selected RAM character of a bank.
+    /// Writes the selected RAM nibble of a bank.
     fn ram_write(&mut self, bank: u8, n: Nibble)
         requires { bank < 8 }
         ensures { flat self.new ≡ after_ram (flat self.old) bank n };
 
-    /// Returns status character `k` of the selected register of a bank.
+    /// Reads status character `k`, 0 to 3, of the selected register of a bank.
     fn status_read(&self, bank: u8, k: u8) -> Nibble
         requires bank { bank < 8 }
         requires k { k < 4 }
         ensures { result ≡ status_of (flat self.now) bank k };
 
-    /// Writes status character `k` of the selected register of a bank.
+    /// Writes status character `k`, 0 to 3, of the selected register of a bank.
     fn status_write(&mut self, bank: u8, k: u8, n: Nibble)
         requires bank { bank < 8 }
         requires k { k < 4 }
         ensures { flat self.new ≡ after_status (flat self.old) bank k n };
 
-    /// Writes the port of the selected RAM chip of a bank.
+    /// Writes the output port of the selected RAM chip of a bank.
     fn ram_port(&mut self, bank: u8, n: Nibble)
         requires { bank < 8 }
         ensures { flat self.new ≡ after_ram_port (flat self.old) bank n };
 
-    /// Writes the port of the selected ROM.
+    /// Writes the port of the ROM that the last SRC selected.
     fn rom_port(&mut self, n: Nibble)
         ensures { flat self.new ≡ after_rom_port (flat self.old) n };
 
-    /// Reads the port of the selected ROM.
+    /// Reads the port of the ROM that the last SRC selected.
     fn port_read(&self) -> Nibble
         ensures { result ≡ port_of (flat self.now) };
 

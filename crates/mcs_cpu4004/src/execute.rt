@@ -1,4 +1,4 @@
-//! The effect of each instruction on registers and bus.
+//! The effect of each instruction on the registers and the bus.
 ghost use Rattle.std.specs.Prelude.{◌≡◌, ℕ, ◌+◌, ◌-◌, ◌%◌, ◌<◌, ◌==◌, if◌then◌else◌, [], ◌∷◌, slice_index};
 ghost use Rattle.mcs_model.specs.Effect.{effect, address_beside, with_sum, is_taken, after_jcn, after_isz, after_rar, after_daa, key_of};
 ghost use Rattle.mcs_model.specs.Table.{cycles_of};
@@ -10,7 +10,7 @@ use mcs_code::{Op, instructions, taken};
 use mcs_model::regs::Regs;
 use mcs_nibble::{Addr, Bit, Nibble, PairNo, RegNo};
 
-/// Returns the address of a word on the page of another address.
+/// Returns the address of `word` on the same page as the address `at`.
 #[inline(always)]
 fn word_beside(at: Addr, word: u8) -> Addr
     ensures { result ≡ address_beside at word }
@@ -18,7 +18,7 @@ fn word_beside(at: Addr, word: u8) -> Addr
     Addr::on_page(at.page(), word)
 }
 
-/// Returns whether JCN jumps at that level of TEST.
+/// Returns true if JCN with this condition jumps when TEST is at the level `test`.
 #[inline(always)]
 fn takes_jump(condition: Nibble, regs: &Regs, test: Bit) -> bool
     ensures { result ≡ is_taken condition regs.now test }
@@ -30,8 +30,8 @@ fn takes_jump(condition: Nibble, regs: &Regs, test: Bit) -> bool
     if c / 8 % 2 == 1 { !holds } else { holds }
 }
 
-/// Returns the address where the processor continues after JCN, at that level of TEST. `next` is the address after its
-/// words.
+/// Returns the next program counter after JCN, when TEST is at the level `test`. `next` is the address after the two
+/// words of JCN.
 #[inline(always)]
 fn after_condition(regs: &Regs, condition: Nibble, word: u8, test: Bit, next: Addr) -> Addr
     ensures { record regs.now { pc = result }
@@ -44,7 +44,7 @@ fn after_condition(regs: &Regs, condition: Nibble, word: u8, test: Bit, next: Ad
     }
 }
 
-/// Does FIN. `next` is the address after its word.
+/// Executes FIN. `next` is the address after the one word of FIN.
 #[inline(always)]
 fn fetch_indirect<B: Bus>(regs: &mut Regs, bus: &B, pair: PairNo, next: Addr)
     ensures { regs.new ≡ with_pair regs.old pair
@@ -54,7 +54,8 @@ fn fetch_indirect<B: Bus>(regs: &mut Regs, bus: &B, pair: PairNo, next: Addr)
     regs.set_pair(pair, bus.fetch(from));
 }
 
-/// Updates the list of return addresses as JMS does. `next` is the address after its words.
+/// Pushes a return address, as JMS does: `next` becomes the first entry, and the last entry is lost. `next` is the
+/// address after the two words of JMS.
 #[inline(always)]
 fn push(regs: &mut Regs, next: Addr)
     ensures { regs.new ≡ record regs.old
@@ -64,7 +65,8 @@ fn push(regs: &mut Regs, next: Addr)
     regs.ret = ret;
 }
 
-/// Updates the list of return addresses as BBL does. `next` is the address after its word.
+/// Pops a return address, as BBL does: the first entry is removed, and `next` becomes the last entry. `next` is the
+/// address after the one word of BBL.
 #[inline(always)]
 fn pop(regs: &mut Regs, next: Addr)
     ensures { regs.new ≡ record regs.old
@@ -74,7 +76,7 @@ fn pop(regs: &mut Regs, next: Addr)
     regs.ret = ret;
 }
 
-/// Does INC.
+/// Executes INC.
 #[inline(always)]
 fn count_up(regs: &mut Regs, r: RegNo)
     ensures { regs.new ≡ with_register regs.old r ((register_of regs.old r + 1) % 16) }
@@ -83,9 +85,10 @@ fn count_up(regs: &mut Regs, r: RegNo)
     regs.set_register(r, sum);
 }
 
-/// Returns the address itself. It is called if ISZ continues without its jump, which is rare. The jump is then a branch
-/// that the machine can predict, and it waits for no register. No registers are passed: the compiler assumes that a
-/// call which has them can change each. It does not see that the sum changes nothing, so the call stays.
+/// Returns `next` unchanged. It is called when ISZ does not jump, which is rare. The call makes the decision a branch:
+/// the host can predict a branch, and a branch does not wait for a register. The emulated registers are not passed,
+/// because the compiler would assume that the call can change each of them. The compiler does not see that the addition
+/// of 0 changes nothing. It therefore keeps the call.
 #[cold]
 #[inline(never)]
 fn without_jump(next: Addr) -> Addr
@@ -94,8 +97,8 @@ fn without_jump(next: Addr) -> Addr
     Addr::ZERO.plus(next.get())
 }
 
-/// Does ISZ, except for the counter, and returns the address where the processor continues. `next` is the address after
-/// its words.
+/// Executes ISZ, except for the program counter, and returns the next program counter. `next` is the address after the
+/// two words of ISZ.
 #[inline(always)]
 fn count_to_zero(regs: &mut Regs, r: RegNo, word: u8, next: Addr) -> Addr
     ensures counted { record regs.new { pc = result }
@@ -110,7 +113,7 @@ fn count_to_zero(regs: &mut Regs, r: RegNo, word: u8, next: Addr) -> Addr
     word_beside(next, word)
 }
 
-/// Adds a nibble, as ADD and ADM do.
+/// Adds a nibble and the carry to the accumulator, as ADD and ADM do.
 #[inline(always)]
 fn add(regs: &mut Regs, n: Nibble)
     ensures { regs.new ≡ with_sum regs.old (regs.old.acc + n + regs.old.cy) }
@@ -118,7 +121,7 @@ fn add(regs: &mut Regs, n: Nibble)
     (regs.acc, regs.cy) = regs.acc.add(n, regs.cy);
 }
 
-/// Subtracts a nibble, as SUB and SBM do.
+/// Subtracts a nibble from the accumulator with borrow, as SUB and SBM do.
 #[inline(always)]
 fn subtract(regs: &mut Regs, n: Nibble)
     ensures { regs.new ≡ with_sum regs.old (regs.old.acc + (15 - n) + (1 - regs.old.cy)) }
@@ -126,7 +129,7 @@ fn subtract(regs: &mut Regs, n: Nibble)
     (regs.acc, regs.cy) = regs.acc.sub_borrow(n, regs.cy);
 }
 
-/// Does RAR.
+/// Executes RAR.
 #[inline(always)]
 fn rotate_right(regs: &mut Regs)
     ensures { regs.new ≡ after_rar regs.old }
@@ -136,7 +139,7 @@ fn rotate_right(regs: &mut Regs)
     regs.cy = Bit::low_of(acc);
 }
 
-/// Does TCS.
+/// Executes TCS.
 #[inline(always)]
 fn transfer_carry_subtract(regs: &mut Regs)
     ensures { regs.new ≡ record regs.old { acc = 9 + regs.old.cy; cy = 0 } }
@@ -145,7 +148,7 @@ fn transfer_carry_subtract(regs: &mut Regs)
     regs.cy = Bit::ZERO;
 }
 
-/// Does DCL.
+/// Executes DCL.
 #[inline(always)]
 fn designate(regs: &mut Regs)
     ensures bank { regs.new ≡ record regs.old { dcl = regs.old.acc % 8 } }
@@ -154,7 +157,8 @@ fn designate(regs: &mut Regs)
     regs.dcl = regs.acc.get() % 8;
 }
 
-/// Returns the number of the only line that is 1, counted from 1, as KBP does. Returns 0 for none, and 15 for several.
+/// Converts one-out-of-four code to binary, as KBP does. Returns the number of the only bit that is 1, counted from 1.
+/// Returns 0 if no bit is 1, and 15 if several bits are 1.
 #[inline(always)]
 fn line_number(lines: Nibble) -> Nibble
     ensures { result ≡ key_of lines }
@@ -169,8 +173,8 @@ fn line_number(lines: Nibble) -> Nibble
     })
 }
 
-/// Does DAA. The carry is 1 after it whenever six was added: it was 1 before, or the sum is above 15. Nothing branches,
-/// because no machine can predict digits.
+/// Executes DAA. The new carry is 1 exactly when six is added, because the carry was then 1 already or the sum is above
+/// 15. The code has no branches, because a host cannot predict the digits.
 #[inline(always)]
 fn adjust(regs: &mut Regs)
     ensures { regs.new ≡ after_daa regs.old }
@@ -181,9 +185,9 @@ fn adjust(regs: &mut Regs)
     regs.cy = Bit::when(adds);
 }
 
-/// Expands to the address where the processor continues after an instruction, by the name of its row: `$next`, after
-/// its words, except for the jumps. It is evaluated before the effect. ISZ counts here, because its count decides where
-/// it continues. The operands are `$a` and `$b`.
+/// Expands to the next program counter for the instruction with this row name. It is `$next`, the address after the
+/// instruction, except for jumps, JMS and BBL. The expression is evaluated before the effect of the instruction. ISZ
+/// increments its register here, because the result decides whether it jumps. The operands are `$a` and `$b`.
 macro_rules! goes_on {
     (Jcn $regs:ident $bus:ident $next:ident $a:ident $b:ident) => {
         after_condition($regs, $a, $b, $bus.test(), $next)
@@ -208,8 +212,9 @@ macro_rules! goes_on {
     };
 }
 
-/// Expands to what an instruction does to the bus and to the registers except for the counter, by the name of its row.
-/// Its operands are `$a` and `$b`, and `$next` is the address after its words.
+/// Expands to the effect of the instruction with this row name on the bus and on the registers other than the program
+/// counter. ISZ has its effect in `goes_on!` instead. The operands are `$a` and `$b`, and `$next` is the address after
+/// the instruction.
 macro_rules! effect {
     (Nop $regs:ident $bus:ident $next:ident $a:ident $b:ident) => {
         ()
@@ -361,7 +366,8 @@ macro_rules! effect {
     };
 }
 
-/// Expands to the instruction's whole work, by its row.
+/// Expands to a match that executes the instruction of a row. It gives the next program counter and the number of
+/// cycles.
 macro_rules! work_rows {
     (($regs:ident, $bus:ident, $op:ident, $at:ident) $($codes:pat, $name:ident $kind:ident $words:literal $cycles:literal $group:ident $text:literal;)*) => {
         match $op {
@@ -375,9 +381,10 @@ macro_rules! work_rows {
     };
 }
 
-/// Does the instruction at an address, except for the counter and the pending cycles. Returns the address where the
-/// processor continues, and the number of cycles that the instruction takes. Each row does all of its work, and the
-/// counter passes by value. A processor that has decoded a code therefore takes one jump to it.
+/// Executes the instruction at an address, but leaves the stored program counter and the pending cycle as they are.
+/// Returns the next program counter, and the number of cycles that the instruction takes. Each match arm does all the
+/// work of its instruction, and the program counter is passed by value. From a decoded opcode, the host therefore needs
+/// only one jump to the instruction's code.
 #[inline(always)]
 pub fn execute<B: Bus>(regs: &mut Regs, bus: &mut B, op: Op, at: Addr) -> (Addr, u8)
     requires { regs.old.dcl < 8 }

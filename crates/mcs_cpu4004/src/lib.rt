@@ -1,7 +1,7 @@
-//! The 4004: its instruction cycle over any bus.
+//! The 4004: its instruction cycle on any bus.
 //!
-//! `Bus` is the processor's interface to everything outside it, with a flat state as its meaning. One cycle of `Cpu`
-//! over it is the cycle that `mcs_model` defines, for each of the 256 codes. Source: Intel MCS-4 Users Manual, the
+//! `Bus` is the processor's interface to everything outside it. Contracts see a bus as its flat state. One cycle of
+//! `Cpu` on a bus is the cycle that `mcs_model` defines, for each of the 256 opcodes. Source: Intel MCS-4 Users Manual,
 //! description of the 4004 and its instruction set. Each definition of `mcs_model` says which parts are this project's
 //! own choice.
 #![tactic(auto)]

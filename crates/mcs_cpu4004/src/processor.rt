@@ -15,15 +15,15 @@ use std::marker::Model;
 /// The result of an instruction cycle.
 #[derive(Clone, Copy, Debug, PartialEq, Eq)]
 pub enum Cycle {
-    /// The cycle did an instruction.
+    /// The cycle executed an instruction.
     Done,
-    /// The cycle was the second one of an instruction, in which nothing else happens.
+    /// The cycle was the pending second cycle of an instruction. Nothing else happened.
     Idle,
-    /// The code at the counter is outside the table: nothing changed.
+    /// The opcode at the program counter is outside the opcode table. Nothing changed.
     Outside,
 }
 
-/// A 4004, as its registers.
+/// A 4004. Contracts see it as its registers.
 #[derive(Clone, Copy)]
 pub struct Cpu {
     regs: Regs,
@@ -43,14 +43,14 @@ impl Model for Cpu {
 }
 
 impl Cpu {
-    /// Returns a processor after power-on: all registers are 0.
+    /// Returns a processor in its power-on state: all registers are 0.
     pub fn new() -> Cpu
         ensures { result ≡ new_regs }
     {
         Cpu { regs: Regs::new() }
     }
 
-    /// Does the first cycle of the instruction at the counter. No cycle is pending before it.
+    /// Executes the first cycle of the instruction at the program counter. A second cycle must not be pending.
     #[inline(always)]
     #[tactic(auto, unfolding(mcs_model::specs::Effect::cycle_of))]
     fn begin<B: Bus>(&mut self, bus: &mut B) -> Cycle
@@ -72,7 +72,7 @@ impl Cpu {
         }
     }
 
-    /// Does one instruction cycle on a bus.
+    /// Executes one instruction cycle on a bus.
     #[inline(always)]
     #[tactic(auto, unfolding(mcs_model::specs::Effect::cycle_of))]
     pub fn cycle<B: Bus>(&mut self, bus: &mut B) -> Cycle
@@ -88,7 +88,7 @@ impl Cpu {
         self.begin(bus)
     }
 
-    /// Returns the instruction at an address, if its code is in the table.
+    /// Decodes the instruction at an address. Returns `None` if its opcode is outside the opcode table.
     #[inline(always)]
     pub fn instruction<B: Bus>(&self, bus: &B, at: Addr) -> Option<Op>
         ensures { result ≡ instruction_at (record self.now { pc = at }) (B.flat bus.now) }
@@ -97,9 +97,9 @@ impl Cpu {
         mcs_code::decode(bus.fetch(at), bus.fetch(second))
     }
 
-    /// Does the cycles of the instruction at an address, at most `left` of them. No cycle is pending before it. Returns
-    /// the address where the processor continues, and the number of cycles done. The counter itself stays as it is: a
-    /// run keeps it in a variable, and sets it at its end.
+    /// Executes the instruction at an address, for at most `left` cycles. A second cycle must not be pending. Returns
+    /// the next program counter, and the number of cycles executed. The stored program counter does not change: a run
+    /// keeps the current value in a variable, and stores it at the end.
     #[inline(always)]
     #[tactic(auto, unfolding(mcs_model::specs::Effect::cycle_of))]
     pub fn run_instruction<B: Bus>(
@@ -127,7 +127,7 @@ impl Cpu {
         (next, whole)
     }
 
-    /// Returns whether the next cycle on a bus would be `Outside`.
+    /// Returns true if the next cycle on a bus would return `Outside`.
     #[tactic(auto, unfolding(mcs_model::specs::Effect::cycle_of))]
     pub fn is_outside<B: Bus>(&self, bus: &B) -> bool
         ensures { IsTrue result ↔ IsNone (cycle_of self.now (B.flat bus.now)) }
@@ -135,7 +135,7 @@ impl Cpu {
         self.regs.owed != 1 && self.instruction(bus, self.regs.pc).is_none()
     }
 
-    /// Returns all registers.
+    /// Returns the registers.
     pub fn regs(&self) -> Regs
         ensures same { result ≡ self.now }
         ensures dcl { result.dcl < 8 }
@@ -179,14 +179,14 @@ impl Cpu {
         self.regs.pc = pc;
     }
 
-    /// Sets the return addresses, the one that BBL takes first.
+    /// Sets the three return addresses. The first entry is the address to which BBL returns.
     pub fn set_ret(&mut self, ret: [Addr; 3])
         ensures { self.new ≡ record self.old { ret = ret } }
     {
         self.regs.ret = ret;
     }
 
-    /// Sets the command register.
+    /// Sets the command register, 0 to 7.
     pub fn set_dcl(&mut self, dcl: u8)
         requires { dcl < 8 }
         ensures { self.new ≡ record self.old { dcl = dcl } }
@@ -194,7 +194,7 @@ impl Cpu {
         self.regs.dcl = dcl;
     }
 
-    /// Sets the number of pending idle cycles.
+    /// Sets the number of pending second cycles, 0 or 1.
     pub fn set_owed(&mut self, owed: u8)
         requires { owed < 2 }
         ensures { self.new ≡ record self.old { owed = owed } }

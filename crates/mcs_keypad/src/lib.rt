@@ -1,4 +1,4 @@
-//! The keys of a board: which are down, and which lines of its ROMs they pull.
+//! The keys of a board: which keys are down, and which ROM lines they pull.
 #![tactic(auto)]
 
 ghost use Rattle.std.specs.Prelude.{◌≡◌, ◌+◌, ◌<◌, ◌≤◌, All, length, replicate, slice_index, slice_set};
@@ -15,8 +15,8 @@ use mcs_nibble::{Bit, Nibble};
 use mcs_shift4003::Chain;
 use std::marker::Model;
 
-/// A board and its keys. The matrix of the keys is stored in the board alone. Contracts see the board and, for each
-/// key, row by row, 1 if it is down.
+/// A board and the states of its keys. Only the board stores the key matrix. Contracts see the board and a list of
+/// keys, row by row: 1 for a key that is down, 0 for a key that is up.
 #[derive(Drop)]
 pub struct KeyPad {
     board: Board,
@@ -34,7 +34,7 @@ impl Model for KeyPad {
 }
 
 impl KeyPad {
-    /// Returns a board with all its keys up.
+    /// Returns the board with all its keys up.
     pub fn of(board: Board) -> KeyPad
         ensures { result ≡ record { board = board; down = replicate (key_count board) 0 } }
     {
@@ -45,7 +45,7 @@ impl KeyPad {
         KeyPad { board, keys }
     }
 
-    /// Returns an equal board with equal keys.
+    /// Returns a copy of the board and its keys.
     pub fn copy(&self) -> KeyPad
         ensures { result ≡ self.now }
     {
@@ -63,7 +63,7 @@ impl KeyPad {
         &self.board
     }
 
-    /// Returns the key at an index, row by row: 1 if it is down.
+    /// Returns the state of a key: 1 if it is down, 0 if it is up. Keys are indexed row by row.
     pub fn key(&self, at: usize) -> Bit
         requires { at < length self.now.down }
         ensures { result ≡ slice_index self.now.down at }
@@ -71,7 +71,7 @@ impl KeyPad {
         self.keys.key(at)
     }
 
-    /// Sets the key at an index, row by row: 1 is down, 0 is up.
+    /// Sets the state of a key: 1 for down, 0 for up. Keys are indexed row by row.
     pub fn set_key(&mut self, at: usize, bit: Bit)
         requires { at < length self.old.down }
         ensures { self.new ≡ record self.old { down = slice_set self.old.down at bit } }
@@ -82,7 +82,8 @@ impl KeyPad {
         }
     }
 
-    /// Returns the levels that the keys pull the four lines of a ROM to, if a chain of these bits drives the rows.
+    /// Returns a nibble whose bit k is 1 if a key pulls line k of ROM `chip` to 1. The chain `bits` drives the rows of
+    /// the key matrix.
     #[inline]
     pub fn pulls<const MAX: usize>(&self, bits: &Chain<MAX>, chip: Nibble) -> Nibble
         requires { (matrix_on self.now.board).first + (matrix_on self.now.board).rows
@@ -96,7 +97,7 @@ impl KeyPad {
         }
     }
 
-    /// Proves that each key is 0 or 1.
+    /// Proves that the state of each key is 0 or 1.
     pub fn show_state_is_valid(&self)
         ensures { All (λ key. key < 2) self.now.down }
     {

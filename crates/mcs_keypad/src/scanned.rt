@@ -1,8 +1,8 @@
-//! Keys with bytes from which a port is read.
+//! Key states, and column masks from which a port is read.
 //!
-//! Bit j of a byte stands for column j. Each row has the byte of its keys that are down, and each line of each ROM has
-//! the byte of the columns at it. Reading a port then takes about ten ORs (of the driven rows) and four ANDs (with its
-//! lines), however many keys there are.
+//! A column mask is a byte whose bit j represents column j. Each row has a mask of its keys that are down. Each line of
+//! each ROM has a mask of the columns that pull it. Reading a port takes about ten ORs of row masks and four ANDs with
+//! line masks, however many keys there are.
 
 ghost use Rattle.std.specs.Prelude.{◌≡◌, ℕ, ◌+◌, ◌*◌, ◌/◌, ◌%◌, ◌<◌, ◌≤◌, Bool, ◌&&◌, All, length, replicate, slice_index, slice_index_or, slice_set};
 ghost use Rattle.std.specs.List.{list_any, range_with_len};
@@ -18,19 +18,20 @@ use mcs_nibble::{Bit, Nibble};
 use mcs_shift4003::Chain;
 use std::marker::Model;
 
-// A byte for each row, and one for each line of each ROM.
+// The numbers of column masks: one for each row, and one for each line of each ROM.
 const ROW_BYTES: usize = KEY_ROWS as usize;
 
 const ROM_LINE_BYTES: usize = 4 * ROMS;
 
-/// The keys of a matrix, and bytes derived from them and from the matrix.
+/// The key states of a matrix, and column masks computed from them and from the matrix. Bit j of a column mask
+/// represents column j.
 #[derive(Drop)]
 pub(crate) struct ScannedKeys {
-    // Row by row.
+    // The key states, row by row.
     down: ArrayVec<Bit, KEYS>,
-    // The byte of each row's keys that are down.
+    // For each row, the mask of the columns whose keys are down.
     rows: [u8; ROW_BYTES],
-    // The byte of the columns at line k of ROM c, at 4 * c + k.
+    // At index 4 * c + k, the mask of the columns that pull line k of ROM c.
     lines: [u8; ROM_LINE_BYTES],
 }
 
@@ -42,7 +43,7 @@ impl Model for ScannedKeys {
     ghost view = { λ k. record { down = k.down.items; row_bytes = k.rows; line_bytes = k.lines } };
 }
 
-/// Returns whether a column is line `k` of a ROM.
+/// Returns true if `column` is line `k` of ROM `chip`.
 fn is_named(column: Line, chip: u8, k: u8) -> bool
     ensures { result ≡ is_rom_line chip k column }
 {
@@ -52,7 +53,7 @@ fn is_named(column: Line, chip: u8, k: u8) -> bool
     }
 }
 
-/// Returns whether the key at an index, row by row, is down.
+/// Returns true if the key at index `at` is down, and false if there is no such key. Keys are indexed row by row.
 fn is_down(down: &[Bit], at: usize) -> bool
     ensures { result ≡ is_down down.now at }
 {
@@ -62,7 +63,7 @@ fn is_down(down: &[Bit], at: usize) -> bool
     }
 }
 
-/// Returns the byte of the keys that are down, for `columns` keys from an index on.
+/// Returns the column mask of one row: for each j below `columns`, bit j is 1 if key `from` + j is down.
 fn row_byte(down: &[Bit], from: usize, columns: usize) -> u8
     requires columns { columns ≤ KEY_COLUMNS }
     requires from { from ≤ KEYS }
@@ -77,7 +78,7 @@ fn row_byte(down: &[Bit], from: usize, columns: usize) -> u8
     byte
 }
 
-/// Returns the byte of the columns at line `k` of a ROM.
+/// Returns the column mask of one ROM line: bit j is 1 if column j is line `k` of ROM `chip`.
 fn line_byte(columns: &[Line], chip: u8, k: u8) -> u8
     requires { length columns.now ≤ KEY_COLUMNS }
     ensures { IsByteOf result (length columns.now)
@@ -92,7 +93,7 @@ fn line_byte(columns: &[Line], chip: u8, k: u8) -> u8
     byte
 }
 
-/// Returns, for each row, the byte of the keys that are down.
+/// Returns the column mask of each row: bit j is 1 if the row's key in column j is down.
 fn row_bytes(down: &[Bit], rows: u8, columns: usize) -> [u8; ROW_BYTES]
     requires rows { rows ≤ KEY_ROWS }
     requires columns { columns ≤ KEY_COLUMNS }
@@ -106,7 +107,7 @@ fn row_bytes(down: &[Bit], rows: u8, columns: usize) -> [u8; ROW_BYTES]
     bytes
 }
 
-/// Returns the byte of the columns at each line of each ROM, four lines a ROM.
+/// Returns the column masks of all ROM lines. The mask at index 4 * c + k has the columns that are line k of ROM c.
 fn line_bytes(columns: &[Line]) -> [u8; ROM_LINE_BYTES]
     requires { length columns.now ≤ KEY_COLUMNS }
     ensures { (i : ℕ) → i < ROM_LINE_BYTES →
@@ -120,7 +121,7 @@ fn line_bytes(columns: &[Line]) -> [u8; ROM_LINE_BYTES]
     bytes
 }
 
-/// Returns 1 if the two bytes have a bit in common.
+/// Returns 1 if some bit is 1 in both bytes, and 0 otherwise.
 fn meets(line: u8, driven: u8) -> Bit
     ensures { (n : ℕ) (p q : ℕ → Bool) → IsByteOf line n p → IsByteOf driven n q →
         result ≡ bit_when (list_any (λ j. p j && q j) (range_with_len 0 n)) }
@@ -132,7 +133,7 @@ fn meets(line: u8, driven: u8) -> Bit
     }
 }
 
-/// Returns keys that are all up.
+/// Returns the states of `rows` * `columns` keys, all up.
 fn up(rows: u8, columns: usize) -> ArrayVec<Bit, KEYS>
     requires rows { rows ≤ KEY_ROWS }
     requires columns { columns ≤ KEY_COLUMNS }
@@ -145,7 +146,7 @@ fn up(rows: u8, columns: usize) -> ArrayVec<Bit, KEYS>
     down
 }
 
-/// Returns the same keys.
+/// Returns a copy of the key states.
 fn copied(down: &ArrayVec<Bit, KEYS>) -> ArrayVec<Bit, KEYS>
     ensures { result.items ≡ down.now.items }
 {
@@ -157,7 +158,7 @@ fn copied(down: &ArrayVec<Bit, KEYS>) -> ArrayVec<Bit, KEYS>
 }
 
 impl ScannedKeys {
-    /// Returns no keys.
+    /// Returns the keys of an empty matrix.
     pub(crate) fn none() -> ScannedKeys
         ensures up { result.down ≡ replicate 0 0 }
         ensures scanned { IsScanned no_matrix result }
@@ -183,7 +184,7 @@ impl ScannedKeys {
         ScannedKeys { down, rows, lines }
     }
 
-    /// Returns equal keys.
+    /// Returns a copy of the keys.
     pub(crate) fn copy(&self) -> ScannedKeys
         ensures { result ≡ self.now }
     {
@@ -194,7 +195,7 @@ impl ScannedKeys {
         }
     }
 
-    /// Returns the key at an index, row by row: 1 if it is down.
+    /// Returns the state of a key: 1 if it is down, 0 if it is up. Keys are indexed row by row.
     pub(crate) fn key(&self, at: usize) -> Bit
         requires { at < length self.now.down }
         ensures { result ≡ slice_index self.now.down at }
@@ -202,7 +203,7 @@ impl ScannedKeys {
         self.down[at]
     }
 
-    /// Sets the key of the matrix at an index, row by row: 1 is down, 0 is up.
+    /// Sets the state of a key of the matrix: 1 for down, 0 for up. Keys are indexed row by row.
     pub(crate) fn set_key(&mut self, matrix: &KeyMatrix, at: usize, bit: Bit)
         requires at { at < length self.old.down }
         requires scanned { IsScanned matrix.now self.old }
@@ -213,7 +214,8 @@ impl ScannedKeys {
         self.rows = row_bytes(self.down.as_slice(), matrix.rows, matrix.columns.len());
     }
 
-    /// Returns the byte of the columns of the matrix that some row drives, if a chain of these bits drives the rows.
+    /// Returns the mask of the columns that at least one row drives. A row drives a column if its bit in the chain
+    /// `bits` is 1 and its key in that column is down.
     fn driven<const MAX: usize>(&self, matrix: &KeyMatrix, bits: &Chain<MAX>) -> u8
         requires scanned { IsScanned matrix.now self.now }
         requires rows { matrix.now.first + matrix.now.rows ≤ length bits.now }
@@ -225,7 +227,7 @@ impl ScannedKeys {
         let mut left = levels;
         let mut driven: u8 = 0;
         for r in 0..usize::from(matrix.rows) {
-            // No row from here on is driven.
+            // None of the remaining rows is driven.
             if left == 0 {
                 return driven;
             }
@@ -237,8 +239,8 @@ impl ScannedKeys {
         driven
     }
 
-    /// Returns the levels that keys of the matrix pull the four lines of a ROM to, if a chain of these bits drives the
-    /// rows.
+    /// Returns a nibble whose bit k is 1 if a key of the matrix pulls line k of ROM `chip` to 1. The chain `bits`
+    /// drives the rows of the matrix.
     pub(crate) fn pulls<const MAX: usize>(
         &self,
         matrix: &KeyMatrix,
@@ -260,7 +262,7 @@ impl ScannedKeys {
         )
     }
 
-    /// Proves that each key is 0 or 1.
+    /// Proves that the state of each key is 0 or 1.
     pub(crate) fn show_state_is_valid(&self)
         ensures { All (λ key. key < 2) self.now.down }
     {

@@ -1,4 +1,4 @@
--- The flat state of a bench: everything that a session keeps, as numbers and lists.
+-- The flat state of a bench: everything that a session stores, as numbers and lists.
 use Rattle.std.specs.Prelude.{ℕ, List, [], replicate}
 use Rattle.mcs_model.specs.declared.regs.Regs.{Regs}
 use Rattle.mcs_model.specs.Bus.{BusState, zero_bus}
@@ -6,16 +6,16 @@ use Rattle.mcs_model.specs.Bus.{BusState, zero_bus}
 pub record BenchState : Type 0 where
   -- the registers of the 4004
   pub processor : Regs
-  -- the board, what its chips hold, its keys and the TEST pin
+  -- the board, the contents of its chips, its keys and the TEST pin
   pub bus : BusState
-  -- the breakpoints, rising
+  -- the breakpoint addresses, in ascending order
   pub breakpoints : List ℕ
-  -- the watched RAM characters, each by its index (`ram_index`), rising
+  -- the watched RAM nibbles as indices (`ram_index`), in ascending order
   pub watches : List ℕ
   -- the number of accepted commands
   pub seq : ℕ
 
--- the registers after power-on: all 0 (4004 data sheet, reset)
+-- the power-on state of the registers: all 0 (4004 data sheet, reset)
 abbrev pub new_regs : Regs
 new_regs = record {
   acc = 0;
@@ -27,7 +27,7 @@ new_regs = record {
   owed = 0;
 }
 
--- a new bench: the empty board, all 0, TEST 1 (our own choice)
+-- a new bench: the board is empty, TEST is 1, and everything else is 0 or empty (our own choice)
 abbrev pub new_bench_state : BenchState
 new_bench_state = record {
   processor = new_regs;

@@ -1,4 +1,5 @@
--- The parts of a board, and which parts make a board (our own choice, after what the chips have).
+-- The parts of a board, and the conditions under which they form a valid board. (Our own choice,
+-- based on what the chips have.)
 use Rattle.std.specs.Prelude.{◌≡◌, ℕ, ◌+◌, ◌*◌, ◌≤◌, Bool, false, ◌&&◌, ◌||◌, not, List, [], replicate, Option, Some, None, is_some, slice_index, slice_index_or, length, nat_lt, nat_le, if◌then◌else◌}
 use Rattle.std.specs.List.{list_any}
 use Rattle.mcs_nibble.specs.declared.lines.LineMask.{LineMask}
@@ -12,32 +13,33 @@ use Rattle.mcs_model.specs.declared.board.Line.{Line}
 use Rattle.mcs_model.specs.declared.board.Line.TheVariants.{Rom, Ram, Chain}
 use Rattle.mcs_model.specs.declared.limits.TheConstants.{ROMS, BANKS, BANK_CHIPS, CHAINS, CHAIN_CHIPS, CHAIN_BITS, KEY_COLUMNS, KEY_ROWS, LAMPS}
 
--- the masks of the port lines of a ROM, if the board has that ROM (input or output by the mask:
--- 4001 data sheet)
+-- The mask options of a ROM's port lines, or none if the board does not have that ROM. (4001 data
+-- sheet: the mask makes each line an input or an output.)
 abbrev pub masks_on : BoardParts → ℕ → Option (List LineMask)
 masks_on b chip = slice_index_or b.roms chip None
 
--- true if line k, 0 to 3, of a ROM is an input line; false if the board lacks the ROM
+-- true if line k, 0 to 3, of a ROM is an input line; false if the board does not have that ROM
 abbrev pub input_on : BoardParts → ℕ → ℕ → Bool
 input_on b chip k = elim (masks_on b chip) [ Some mask ↦ is_input (mask_at mask k) | None ↦ false ]
 
--- the value of `chain_part` past the last chain: without bits; its two lines mean nothing
+-- the value of `chain_part` past the last chain: a chain without bits, whose two lines have no
+-- meaning
 abbrev pub no_chain : ChainPart
 no_chain = record { clock = Rom 0 0; data_in = Rom 0 0; chips = 0 }
 
--- chain i
+-- chain i of the board, or `no_chain` past the last chain
 abbrev pub chain_part : BoardParts → ℕ → ChainPart
 chain_part b i = slice_index_or b.chains.items i no_chain
 
 abbrev pub chain_count : BoardParts → ℕ
 chain_count b = length b.chains.items
 
--- the number of bits in chain i: ten for each of its chips (4003 data sheet; that the chips are one
--- row is our own choice)
+-- the number of bits in chain i: ten for each chip (4003 data sheet; that the chips form one
+-- sequence of bits is our own choice)
 abbrev pub chain_bits : BoardParts → ℕ → ℕ
 chain_bits b i = 10 * (chain_part b i).chips
 
--- the board with nothing on it
+-- the empty board: no chips, no keys and no lamps
 abbrev pub empty_parts : BoardParts
 empty_parts = record {
   roms = replicate ROMS None;
@@ -47,33 +49,34 @@ empty_parts = record {
   lamps = record { items = [] };
 }
 
--- true if the numbers of a line are in their ranges
+-- true if all numbers of a line are in range
 abbrev pub in_range : Line → Bool
 in_range (Rom chip k) = nat_lt chip ROMS && nat_lt k 4
 in_range (Ram bank chip k) = nat_lt bank BANKS && nat_lt chip BANK_CHIPS && nat_lt k 4
 in_range (Chain n i) = nat_lt n CHAINS && nat_lt i CHAIN_BITS
 
--- true if the board has a line: line k, 0 to 3, of a ROM or RAM chip that it has, or bit i of a
--- chain that has more than i bits
+-- true if the line is on the board: line 0 to 3 of a ROM or RAM chip that is present, or a bit that
+-- a chain has
 abbrev pub exists_on : BoardParts → Line → Bool
 exists_on b (Rom chip k) = is_some (masks_on b chip) && nat_lt k 4
 exists_on b (Ram bank chip k) = nat_lt chip (slice_index b.banks bank) && nat_lt k 4
 exists_on b (Chain n i) = nat_lt i (chain_bits b n)
 
--- true if a line of the board is an input line: one of a ROM, by its mask
+-- true if the line is an input line of the board: a ROM line whose mask makes it an input
 abbrev pub is_input_line : BoardParts → Line → Bool
 is_input_line b (Rom chip k) = exists_on b (Rom chip k) && input_on b chip k
 is_input_line b (Ram bank chip k) = false
 is_input_line b (Chain n i) = false
 
--- true if a line of the board is an output line: one of a ROM, by its mask, or of a RAM chip
+-- true if the line is an output line of the board: a ROM line whose mask makes it an output, or a
+-- line of a RAM chip
 abbrev pub is_output_line : BoardParts → Line → Bool
 is_output_line b (Rom chip k) = exists_on b (Rom chip k) && not (input_on b chip k)
 is_output_line b (Ram bank chip k) = exists_on b (Ram bank chip k)
 is_output_line b (Chain n i) = false
 
--- true if p holds of the clock or the data line of some chain; the next two definitions: of some
--- column, of some lamp
+-- True if p is true of the clock line or the data line of at least one chain. The next two
+-- definitions say the same of key columns and of lamps.
 abbrev pub any_chain_line : (Line → Bool) → BoardParts → Bool
 any_chain_line p b = list_any (λ (c : ChainPart). p c.clock || p c.data_in) b.chains.items
 
@@ -83,7 +86,7 @@ any_column p b = elim b.keys [ Some m ↦ list_any p m.columns.items | None ↦ 
 abbrev pub any_lamp : (Line → Bool) → BoardParts → Bool
 any_lamp p b = list_any p b.lamps.items
 
--- true if p holds of some line that the parts name
+-- true if p is true of at least one line that the parts name
 abbrev pub any_line : (Line → Bool) → BoardParts → Bool
 any_line p b = any_chain_line p b || any_column p b || any_lamp p b
 
@@ -91,8 +94,8 @@ any_line p b = any_chain_line p b || any_column p b || any_lamp p b
 abbrev pub is_chain_size : ChainPart → Bool
 is_chain_size c = nat_lt 0 c.chips && nat_le c.chips CHAIN_CHIPS
 
--- true if the numbers of a key matrix are in their ranges: chain 0 to 3, first bit 0 to 79, 1 to 10
--- rows, at least one column (at most 8 by its type)
+-- True if the numbers of a key matrix are in range: chain 0 to 3, first bit 0 to 79, and 1 to 10
+-- rows. There must be at least one column; the type limits the columns to 8.
 abbrev pub is_matrix_size : KeyMatrix → Bool
 is_matrix_size m =
     nat_lt m.chain CHAINS && nat_lt m.first CHAIN_BITS && nat_lt 0 m.rows && nat_le m.rows KEY_ROWS
@@ -101,7 +104,7 @@ is_matrix_size m =
 abbrev pub has_bad_matrix : BoardParts → Bool
 has_bad_matrix b = elim b.keys [ Some m ↦ not (is_matrix_size m) | None ↦ false ]
 
--- true if a number is out of its range
+-- true if any number in the parts is out of range
 abbrev pub has_bad_value : BoardParts → Bool
 has_bad_value b =
     list_any (λ n. nat_lt BANK_CHIPS n) b.banks
@@ -109,7 +112,7 @@ has_bad_value b =
     || has_bad_matrix b
     || any_line (λ line. not (in_range line)) b
 
--- true if the chain of a key matrix is absent, or has no bit for some row
+-- true if the chain of the key matrix is not on the board, or has too few bits for the rows
 abbrev pub lacks_rows : BoardParts → Bool
 lacks_rows b =
     elim b.keys [
@@ -117,7 +120,7 @@ lacks_rows b =
       | None ↦ false
     ]
 
--- true if the parts name a line, or need a row, that the board lacks
+-- true if the parts name a line, or need a chain bit for a key row, that the board does not have
 abbrev pub lacks_line : BoardParts → Bool
 lacks_line b = any_line (λ line. not (exists_on b line)) b || lacks_rows b
 
@@ -129,7 +132,7 @@ has_wrong_direction b =
     || any_column (λ line. not (is_input_line b line)) b
     || any_lamp (is_input_line b) b
 
--- the first fault of the parts, if any
+-- the first error in the parts, or none if they have no errors
 abbrev pub board_fault_of : BoardParts → Option BoardFault
 board_fault_of b =
     if has_bad_value b then Some BadValue
@@ -137,7 +140,7 @@ board_fault_of b =
     else if has_wrong_direction b then Some WrongDirection
     else None
 
--- true if the board has the key of a row and a column
+-- true if the board has a key at this row and column
 abbrev pub has_key : BoardParts → ℕ → ℕ → Bool
 has_key b row column =
     elim b.keys [
@@ -145,15 +148,15 @@ has_key b row column =
       | None ↦ false
     ]
 
--- the number of its keys; the next definition: the index of the key of a row and a column among
--- them, row by row
+-- The number of keys on the board. The next definition is the index of the key at a row and a
+-- column; keys are indexed row by row.
 abbrev pub key_count : BoardParts → ℕ
 key_count b = elim b.keys [ Some m ↦ m.rows * length m.columns.items | None ↦ 0 ]
 
 abbrev pub key_index : BoardParts → ℕ → ℕ → ℕ
 key_index b row column = elim b.keys [ Some m ↦ row * length m.columns.items + column | None ↦ 0 ]
 
--- the lengths of the lists of all parts, by their types
+-- holds if the lists in the parts have the lengths that their types imply
 pub record IsSized (b : BoardParts) : Type 0 where
   pub roms : length b.roms ≡ ROMS
   pub masks : (chip : ℕ) (mask : List LineMask) → masks_on b chip ≡ Some mask → length mask ≡ 4

@@ -1,37 +1,38 @@
--- Everything that the processor reaches outside itself: the board, and what its chips hold. (MCS-4
--- Users Manual and data sheets, as each definition says. Our own choice: positive logic, so that a
--- level of 1 is the bit 1; the DCL code, 0 to 7, names a bank; each bank keeps its own SRC byte;
--- absent parts hold 0, read as 0 and lose what is written to them.)
+-- Everything that the processor accesses outside itself: the board, and the contents of its chips.
+-- (MCS-4 Users Manual and data sheets, as each definition says. The following is our own choice.
+-- Logic is positive: level 1 is the bit 1. The value of the command register, 0 to 7, is the bank
+-- number. Each bank stores its own SRC byte. Absent parts contain 0, read as 0 and ignore writes.)
 use Rattle.std.specs.Prelude.{ℕ, ◌+◌, ◌*◌, ◌/◌, List, [], replicate, Bool, slice_index, slice_set, if◌then◌else◌, nat_lt}
 use Rattle.mcs_model.specs.declared.board.BoardParts.{BoardParts}
 use Rattle.mcs_model.specs.Boards.{empty_parts}
 
--- The comments give the lengths, and the zeros of absent parts, of every valid state (`IsInRange`
--- and `IsAbsentZero` of Validity). Reads of absent parts give 0 by them alone.
+-- The comments give the length of each list in a valid state (`IsInRange` of Validity), and the
+-- entries that are 0 because a part is absent (`IsAbsentZero`). `fetch_of`, `ram_of` and
+-- `status_of` give 0 for absent chips only because these entries are 0.
 pub record BusState : Type 0 where
   pub board : BoardParts
-  -- the bytes of the ROMs, by address: 4,096, those of absent ROMs 0
+  -- the ROM bytes by address: 4,096; the bytes of absent ROMs are 0
   pub rom : List ℕ
-  -- the RAM characters, each at its `ram_index`: 2,048, absent ones 0
+  -- the RAM nibbles by `ram_index`: 2,048; absent ones are 0
   pub ram : List ℕ
-  -- the status characters, each at its `status_index`: 512, absent ones 0
+  -- the status characters by `status_index`: 512; absent ones are 0
   pub status : List ℕ
-  -- the port latches of the RAM chips, each at its `ram_port_index`: 32, absent ones 0
+  -- the port latches of the RAM chips by `ram_port_index`: 32; absent ones are 0
   pub ram_ports : List ℕ
-  -- the port latches of the ROMs: 16, absent ones and the bits of input lines 0
+  -- the port latches of the ROMs: 16; absent ones, and the bits of input lines, are 0
   pub rom_ports : List ℕ
-  -- the SRC byte that the ROMs keep
+  -- the SRC byte that the ROMs store
   pub rom_src : ℕ
-  -- the SRC byte that each bank keeps, 0 in a bank without chips
+  -- the SRC byte that each bank stores; 0 in a bank without chips
   pub ram_src : List ℕ
   -- the bits of each chain, bit 0 first
   pub chains : List (List ℕ)
-  -- the keys, row by row: 1 for a key that is down
+  -- the states of the keys, row by row: 1 for a key that is down
   pub keys : List ℕ
   -- the level of the TEST pin, set by a command (our own choice: 1 in a new session)
   pub test : ℕ
 
--- the empty board, all 0
+-- the state with the empty board and all contents 0
 unfoldable pub zero_bus : BusState
 zero_bus = record {
   board = empty_parts;
@@ -47,16 +48,17 @@ zero_bus = record {
   test = 0;
 }
 
--- the ROM byte at an address (4001 data sheet); an absent ROM reads 00 (our own choice)
+-- the ROM byte at an address (4001 data sheet); an absent ROM reads as 00 (our own choice)
 unfoldable pub fetch_of : BusState → ℕ → ℕ
 fetch_of s at = slice_index s.rom at
 
--- the number of chips in a bank; its DCL code names a bank (our own choice)
+-- the number of chips in a bank; the bank number is the value of the command register (our own
+-- choice)
 abbrev pub chips_of : BusState → ℕ → ℕ
 chips_of s bank = slice_index s.board.banks bank
 
--- the SRC byte that a bank keeps: its upper two bits select the chip, the next two the register,
--- the lower nibble the character (4002 data sheet)
+-- the SRC byte that a bank stores: its upper two bits select the chip, the next two the register,
+-- and the lower four bits the RAM nibble (4002 data sheet)
 abbrev pub src_of : BusState → ℕ → ℕ
 src_of s bank = slice_index s.ram_src bank
 
@@ -64,55 +66,57 @@ src_of s bank = slice_index s.ram_src bank
 abbrev pub has_chip : BusState → ℕ → ℕ → Bool
 has_chip s bank src = nat_lt (src / 64) (chips_of s bank)
 
--- SRC sends a byte: the ROMs keep it, and so does the designated bank if it has chips
--- (MCS-4 Users Manual, SRC; that the other banks keep their own is our own choice)
+-- The bus after SRC sends a byte. The ROMs store it, and so does the designated bank if it has
+-- chips (MCS-4 Users Manual, SRC). That the other banks keep their SRC bytes is our own choice.
 unfoldable pub after_src : BusState → ℕ → ℕ → BusState
 after_src s bank byte =
     if nat_lt 0 (chips_of s bank)
     then record s { rom_src = byte; ram_src = slice_set s.ram_src bank byte }
     else record s { rom_src = byte }
 
--- the index of the character of a bank and an SRC byte
+-- the index of the RAM nibble that an SRC byte selects in a bank
 abbrev pub ram_index : ℕ → ℕ → ℕ
 ram_index bank src = bank * 256 + src
 
--- the selected character of a bank (4002 data sheet); an absent one reads 0 (our own choice)
+-- the selected RAM nibble of a bank (4002 data sheet); an absent one reads as 0 (our own choice)
 unfoldable pub ram_of : BusState → ℕ → ℕ
 ram_of s bank = slice_index s.ram (ram_index bank (src_of s bank))
 
--- a write to a RAM character, by its bank and its SRC byte (4002 data sheet); it is lost if the
--- chip is absent (our own choice)
+-- The bus after a write to the RAM nibble that an SRC byte selects in a bank (4002 data sheet). The
+-- write is lost if the chip is absent (our own choice).
 unfoldable pub with_ram : BusState → ℕ → ℕ → ℕ → BusState
 with_ram s bank src n =
     if has_chip s bank src
     then record s { ram = slice_set s.ram (ram_index bank src) n }
     else s
 
--- a write to the selected character of a bank
+-- the bus after a write to the selected RAM nibble of a bank
 unfoldable pub after_ram : BusState → ℕ → ℕ → BusState
 after_ram s bank n = with_ram s bank (src_of s bank) n
 
--- the index of status character k of the register with SRC upper nibble `high` of a bank
+-- the index of status character k of the register that the upper SRC nibble `high` selects in a
+-- bank
 abbrev pub status_index : ℕ → ℕ → ℕ → ℕ
 status_index bank high k = bank * 64 + (high * 4 + k)
 
--- status character k of the selected register of a bank (4002 data sheet); an absent one reads 0
+-- status character k of the selected register of a bank (4002 data sheet); an absent one reads as 0
 -- (our own choice)
 unfoldable pub status_of : BusState → ℕ → ℕ → ℕ
 status_of s bank k = slice_index s.status (status_index bank (src_of s bank / 16) k)
 
--- the index of the port latch of a RAM chip, by its bank and its number
+-- the index of the port latch of a RAM chip, from its bank number and chip number
 abbrev pub ram_port_index : ℕ → ℕ → ℕ
 ram_port_index bank chip = bank * 4 + chip
 
--- a write to a status character, by its bank, the upper nibble of its SRC byte and k (4002 data
--- sheet); it is lost if the chip is absent (our own choice)
+-- The bus after a write to a status character: character k of the register that the upper SRC
+-- nibble `high` selects in a bank (4002 data sheet). The write is lost if the chip is absent (our
+-- own choice).
 unfoldable pub with_status : BusState → ℕ → ℕ → ℕ → ℕ → BusState
 with_status s bank high k n =
     if nat_lt (high / 4) (chips_of s bank)
     then record s { status = slice_set s.status (status_index bank high k) n }
     else s
 
--- a write to status character k of the selected register of a bank
+-- the bus after a write to status character k of the selected register of a bank
 unfoldable pub after_status : BusState → ℕ → ℕ → ℕ → BusState
 after_status s bank k n = with_status s bank (src_of s bank / 16) k n

@@ -1,6 +1,6 @@
--- The contents of a board's chips, changed at one location (`with_`..: the last argument is the new
--- value), by a reset, and by a new board. (Our own choice: that writes to absent chips are lost,
--- that latch bits of input lines stay 0, and what a reset and a new board clear.)
+-- The bus after a change of one location, after a reset, and after a change of the board. In the
+-- definitions `with_`.., the last argument is the new value. (Our own choice: writes to absent
+-- chips are lost; latch bits of input lines stay 0; what a reset and a new board clear.)
 use Rattle.std.specs.Prelude.{ℕ, ◌*◌, ◌/◌, List, [], ◌∷◌, Some, None, is_some, map, replicate, slice_index, slice_index_or, slice_set, if◌then◌else◌, nat_lt}
 use Rattle.mcs_nibble.specs.Tables.{table_of}
 use Rattle.mcs_nibble.specs.Ports.{latch_value}
@@ -10,27 +10,28 @@ use Rattle.mcs_model.specs.Boards.{masks_on, key_count, key_index}
 use Rattle.mcs_model.specs.Bus.{BusState, chips_of, ram_port_index, zero_bus}
 use Rattle.mcs_model.specs.Levels.{with_rom_ports_at, with_ram_ports_at}
 
--- the ROM byte at an address; the write is lost if the ROM is absent
+-- the bus after a write to the ROM byte at an address; the write is lost if the ROM is absent
 unfoldable pub with_rom_byte : BusState → ℕ → ℕ → BusState
 with_rom_byte s at byte =
     if is_some (masks_on s.board (at / 256))
     then record s { rom = slice_set s.rom at byte }
     else s
 
--- the ROM bytes of an image, each at its address
+-- the bus after the bytes of an image are written to ROM, each at its address
 abbrev pub with_rom_bytes : BusState → List (ℕ × ℕ) → BusState
 with_rom_bytes s [] = s
 with_rom_bytes s (p ∷ image) = with_rom_bytes (with_rom_byte s p.0 p.1) image
 
--- the port latch of a RAM chip, without clocking; the write is lost if the chip is absent
+-- the bus after a write to the port latch of a RAM chip, without clocking; the write is lost if the
+-- chip is absent
 unfoldable pub with_ram_latch : BusState → ℕ → ℕ → ℕ → BusState
 with_ram_latch s bank chip n =
     if nat_lt chip (chips_of s bank)
     then with_ram_ports_at s (ram_port_index bank chip) n
     else s
 
--- the port latch of a ROM, without clocking: n on its output lines, 0 on its input lines; the write
--- is lost if the ROM is absent
+-- The bus after a write to the port latch of a ROM, without clocking. Output lines take the bits of
+-- n, and input lines 0. The write is lost if the ROM is absent.
 unfoldable pub with_rom_latch : BusState → ℕ → ℕ → BusState
 with_rom_latch s chip n =
     elim (masks_on s.board chip) [
@@ -38,28 +39,28 @@ with_rom_latch s chip n =
       | None ↦ s
     ]
 
--- the SRC byte that a bank keeps; a bank without chips stays at 0
+-- the bus after a write to the SRC byte that a bank stores; in a bank without chips it stays 0
 unfoldable pub with_ram_src : BusState → ℕ → ℕ → BusState
 with_ram_src s bank byte =
     if nat_lt 0 (chips_of s bank)
     then record s { ram_src = slice_set s.ram_src bank byte }
     else s
 
--- bit i of a chain; nothing is shifted
+-- the bus after bit i of a chain is set; nothing is shifted
 abbrev pub with_chain_bit : BusState → ℕ → ℕ → ℕ → BusState
 with_chain_bit s n i bit =
     record s { chains = slice_set s.chains n (slice_set (slice_index_or s.chains n []) i bit) }
 
--- the key of a row and a column: 1 if it is down
+-- the bus after the key at a row and a column is set: 1 for down, 0 for up
 abbrev pub with_key : BusState → ℕ → ℕ → ℕ → BusState
 with_key s row column bit = record s { keys = slice_set s.keys (key_index s.board row column) bit }
 
--- the chains of a board, all bits 0
+-- the chains of a board, with all bits 0
 abbrev pub blank_chains : BoardParts → List (List ℕ)
 blank_chains b = map (λ (c : ChainPart). replicate (10 * c.chips) 0) b.chains.items
 
--- a power cycle: the board, ROM, keys and TEST stay; everything else (RAM, port latches, SRC bytes,
--- chains) becomes 0, and nothing is shifted
+-- the bus after a power cycle: the board, ROM, keys and TEST stay; everything else (RAM, port
+-- latches, SRC bytes, chains) becomes 0, and nothing is shifted
 abbrev pub after_reset : BusState → BusState
 after_reset s = record zero_bus {
   board = s.board;
@@ -69,13 +70,13 @@ after_reset s = record zero_bus {
   test = s.test;
 }
 
--- the bytes of the ROMs that a board has, 0 at the others
+-- the ROM bytes, with 0 for all bytes of ROMs that are not on the board
 unfoldable pub kept_rom : BoardParts → List ℕ → List ℕ
 kept_rom b rom =
     table_of 4096 (λ at. if is_some (masks_on b (at / 256)) then slice_index rom at else 0)
 
--- another board: all keys are up, everything that a reset clears is cleared, and the bytes of ROMs
--- that it lacks become 0
+-- The bus after the board is replaced. All keys are up, and everything that a reset clears is
+-- cleared. The bytes of ROMs that are not on the new board become 0.
 abbrev pub after_wire : BusState → BoardParts → BusState
 after_wire s b = record (after_reset (record s { board = b })) {
   rom = kept_rom b s.rom;

@@ -1,5 +1,5 @@
--- The commands that a bench accepts, their effects and their replies. (Our own choice throughout:
--- commands are what a user does at the bench.)
+-- The commands that a bench accepts, their effects and their replies. (All of this is our own
+-- choice: a command is an action of a user at the bench.)
 use Rattle.std.specs.Prelude.{ℕ, Bool, ◌+◌, ◌/◌, ◌==◌, ◌&&◌, ◌||◌, length, Option, Some, None, is_none, nat_lt, nat_le, slice_set, if◌then◌else◌}
 use Rattle.std.specs.List.{list_any}
 use Rattle.mcs_model.specs.declared.board.BoardParts.{BoardParts}
@@ -22,11 +22,11 @@ use Rattle.mcs_model.specs.Running.{Machine, Stops, run_length, after_run, run_s
 
 -- ---- which commands are accepted
 
--- true if the board lacks the ROM of an address
+-- true if the ROM that contains the address is not on the board
 abbrev pub lacks_rom : BoardParts → ℕ → Bool
 lacks_rom b at = is_none (masks_on b (at / 256))
 
--- the reason that a value cannot be put into a place, if any
+-- the reason why a location cannot be set to a value, or none
 abbrev pub place_refusal : BusState → Place → Option BenchFault
 place_refusal s (Rom at byte) = if lacks_rom s.board at then Some NoRom else None
 place_refusal s (Ram bank src n) = if has_chip s bank src then None else Some NoSuchPlace
@@ -36,7 +36,7 @@ place_refusal s (Status bank high k n) =
     else Some NoSuchPlace
 place_refusal s _ = None
 
--- the reason that a state rejects a command because of the command itself, if any
+-- the reason why a state rejects a command, or none, apart from the limit on the number of commands
 abbrev pub refusal_of_command : BenchState → Command → Option BenchFault
 refusal_of_command s (Load image) =
     if list_any (λ p. lacks_rom s.bus.board p.0) image
@@ -56,8 +56,8 @@ refusal_of_command s (Watch bank src) =
     else Some WatchesFull
 refusal_of_command s _ = None
 
--- the reason that a state rejects a command, if any: a worn session, which has accepted all
--- commands that it can count, rejects every one
+-- The reason why a state rejects a command, or none. A session that has accepted the maximum number
+-- of commands rejects every command.
 abbrev pub refusal : BenchState → Command → Option BenchFault
 refusal s c = if s.seq == ACCEPTED_COMMANDS then Some Worn else refusal_of_command s c
 
@@ -66,7 +66,7 @@ refusal s c = if s.seq == ACCEPTED_COMMANDS then Some Worn else refusal_of_comma
 abbrev pub machine_of : BenchState → Machine
 machine_of s = (s.processor, s.bus)
 
--- the stops of a run that begins in this state
+-- the breakpoints and watches of a run that begins in this state
 abbrev pub stops_of : BenchState → Stops
 stops_of s = record { breaks = s.breakpoints; watches = s.watches }
 
@@ -79,7 +79,7 @@ with_processor s p = record s { processor = p }
 abbrev pub with_bus : BenchState → BusState → BenchState
 with_bus s b = record s { bus = b }
 
--- the state with a value put into a place
+-- the state after a location is set to a value
 abbrev pub with_place : BenchState → Place → BenchState
 with_place s (Acc n) = with_processor s (record s.processor { acc = n })
 with_place s (Cy bit) = with_processor s (record s.processor { cy = bit })
@@ -91,7 +91,7 @@ with_place s (Rom at byte) = with_bus s (with_rom_byte s.bus at byte)
 with_place s (Ram bank src n) = with_bus s (with_ram s.bus bank src n)
 with_place s (Status bank high k n) = with_bus s (with_status s.bus bank high k n)
 
--- the effect of a command, except for the count of commands
+-- the state after a command has had its effect; the command is not yet counted
 abbrev pub after_change : BenchState → Command → BenchState
 after_change s (Wire board) = with_machine s (new_regs, after_wire s.bus board)
 after_change s (Load image) = with_bus s (with_rom_bytes s.bus image)
@@ -108,7 +108,7 @@ after_change s (Watch bank src) = record s { watches = with_listed s.watches (ra
 after_change s (Unwatch bank src) =
     record s { watches = without_listed s.watches (ram_index bank src) }
 
--- the state after an accepted command: each raises the count by one, even if nothing else changes
+-- the state after an accepted command; each one adds 1 to the count, even if nothing else changes
 abbrev pub after : BenchState → Command → BenchState
 after s c = record (after_change s c) { seq = s.seq + 1 }
 

@@ -1,8 +1,8 @@
 -- The effect of each instruction, and one instruction cycle. (Intel MCS-4 Users Manual, instruction
--- set: each rule is the description of the instruction that it names, in the manual's three groups.
--- Our own choices are: codes outside the table, one list of return addresses, and the bank that the
--- DCL code names; also an SRC byte for each bank, and that an instruction of two cycles does all
--- its work in the first.)
+-- set: each rule is the manual's description of the instruction, in the manual's three groups. Our
+-- own choices are the opcodes outside the table, one list of return addresses, and the value of the
+-- command register as the bank number. Two more are an SRC byte for each bank, and that a two-cycle
+-- instruction does all its work in the first cycle.)
 use Rattle.std.specs.Prelude.{ℕ, ◌+◌, ◌-◌, ◌*◌, ◌/◌, ◌%◌, Bool, ◌&&◌, ◌||◌, not, [], ◌∷◌, Option, Some, None, slice_index, if◌then◌else◌, nat_lt, ◌==◌}
 use Rattle.mcs_model.specs.declared.regs.Regs.{Regs}
 use Rattle.mcs_model.specs.declared.op.Op.{Op}
@@ -13,25 +13,26 @@ use Rattle.mcs_model.specs.Bus.{BusState, fetch_of, after_src, ram_of, after_ram
 use Rattle.mcs_model.specs.Levels.{after_ram_port, after_rom_port, port_of}
 use Rattle.mcs_model.specs.Table.{instruction_of, word_count_of, cycles_of}
 
--- the accumulator set
+-- the registers with the accumulator set to n
 abbrev pub with_acc : Regs → ℕ → Regs
 with_acc s n = record s { acc = n }
 
--- a sum put into carry and accumulator
+-- the registers with a sum x in the accumulator (x % 16) and the carry (x / 16)
 abbrev pub with_sum : Regs → ℕ → Regs
 with_sum s x = record s { acc = x % 16; cy = x / 16 }
 
--- the address of word w on the page of an address: for JCN, ISZ, FIN and JIN of the one after the
--- instruction's words (Manual, these at the end of a page)
+-- The address of word w on the page of another address. For JCN, ISZ, FIN and JIN, that other
+-- address is the one after the instruction (Manual, these instructions at the end of a page).
 abbrev pub address_beside : ℕ → ℕ → ℕ
 address_beside address w = word_on_page (page_of address) w
 
--- the counter set to a word on its own page; it is already after the instruction's words
+-- The registers with the program counter set to word w on its own page. In s, the program counter
+-- is already the address after the instruction.
 abbrev pub with_word : Regs → ℕ → Regs
 with_word s w = record s { pc = address_beside s.pc w }
 
--- JCN: true if the jump is taken. Condition bit 2 asks for an accumulator of 0, bit 1 for a carry
--- of 1, bit 0 for a TEST of 0. One that is met is enough, and bit 3 inverts the result.
+-- JCN: true if the jump is taken. Condition bit 2 tests whether the accumulator is 0, bit 1 whether
+-- the carry is 1, and bit 0 whether TEST is 0. One true test is enough. Bit 3 inverts the result.
 abbrev pub is_taken : ℕ → Regs → ℕ → Bool
 is_taken condition s test =
     let holds =
@@ -40,41 +41,42 @@ is_taken condition s test =
     || (condition % 2 == 1 && test == 0) in
     if condition / 8 % 2 == 1 then not holds else holds
 
--- JCN: the counter if the jump is taken
+-- JCN: sets the program counter to word w on its page if the jump is taken
 abbrev pub after_jcn : ℕ → ℕ → Regs → ℕ → Regs
 after_jcn condition w s test = if is_taken condition s test then with_word s w else s
 
--- ISZ: register r incremented, and the counter if the register is then not 0
+-- ISZ: increments register r, and sets the program counter to word w on its page if the register is
+-- then not 0
 abbrev pub after_isz : ℕ → ℕ → Regs → Regs
 after_isz r w s =
     let n = (register_of s r + 1) % 16 in
     if n == 0 then with_register s r n else with_word (with_register s r n) w
 
--- JMS: the counter goes to the front of the return addresses, and the last of them is lost (one
--- list: our own choice)
+-- JMS: sets the program counter to the target; its old value becomes the first return address, and
+-- the last return address is lost (one list: our own choice)
 abbrev pub after_jms : ℕ → Regs → Regs
 after_jms target s =
     record s { pc = target; ret = s.pc ∷ slice_index s.ret 0 ∷ slice_index s.ret 1 ∷ [] }
 
--- BBL: the processor continues at the first return address; the counter goes after the others (our
--- own choice)
+-- BBL: sets the program counter to the first return address; its old value becomes the last return
+-- address (our own choice)
 abbrev pub after_bbl : Regs → Regs
 after_bbl s =
     record s { pc = slice_index s.ret 0; ret = slice_index s.ret 1 ∷ slice_index s.ret 2 ∷ s.pc ∷ [] }
 
--- RAR: the accumulator rotated one place to the right, through the carry
+-- RAR: rotates the accumulator and the carry right by one bit
 abbrev pub after_rar : Regs → Regs
 after_rar s = record s { acc = 8 * s.cy + s.acc / 2; cy = s.acc % 2 }
 
--- DAA: 6 is added if the carry is 1 or the accumulator is above 9; the carry becomes 1 if that
--- exceeds 15, and is never cleared
+-- DAA: adds 6 to the accumulator if the carry is 1 or the accumulator is above 9. The carry becomes
+-- 1 if the sum is above 15, and is never cleared.
 abbrev pub after_daa : Regs → Regs
 after_daa s =
     if s.cy == 1 || nat_lt 9 s.acc
     then record s { acc = (s.acc + 6) % 16; cy = if nat_lt 15 (s.acc + 6) then 1 else s.cy }
     else s
 
--- KBP: the number of the only line that is 1, counted from 1; 0 for none, 15 for several
+-- KBP: the number of the only bit that is 1, counted from 1; 0 if no bit is 1, 15 if several are
 abbrev pub key_of : ℕ → ℕ
 key_of n =
     if n == 0 then 0
@@ -84,10 +86,10 @@ key_of n =
     else if n == 8 then 4
     else 15
 
--- The registers after an instruction on a bus; the counter is already after its words. First are
--- the machine instructions (NOP to LDM), then those for RAM and ports (WRM to RD3), then the
--- accumulator group (CLB to DCL). SUB, SBM: a carry of 1 going in is a borrow; coming out, 1 means
--- that nothing was borrowed.
+-- The registers after an instruction. In s, the program counter is already the address after the
+-- instruction's words. First are the machine instructions (NOP to LDM), then those for RAM and
+-- ports (WRM to RD3), then the accumulator group (CLB to DCL). SUB and SBM: a carry of 1 before the
+-- instruction is a borrow, and a carry of 1 after it means no borrow.
 abbrev pub registers_after : Op → Regs → BusState → Regs
 registers_after Nop s _ = s
 registers_after (Jcn c b) s m = after_jcn c b s m.test
@@ -135,8 +137,8 @@ registers_after Daa s _ = after_daa s
 registers_after Kbp s _ = with_acc s (key_of s.acc)
 registers_after Dcl s _ = record s { dcl = s.acc % 8 }
 
--- The bus after an instruction: SRC and the instructions that write RAM, status or a port change it
--- (Manual, SRC and the input, output and RAM instructions).
+-- The bus after an instruction. Only SRC and the instructions that write a RAM nibble, a status
+-- character or a port change it (Manual, SRC and the input, output and RAM instructions).
 abbrev pub bus_after : Op → Regs → BusState → BusState
 bus_after (Src k) s m = after_src m s.dcl (pair_of s k)
 bus_after Wrm s m = after_ram m s.dcl s.acc
@@ -148,21 +150,23 @@ bus_after Wr2 s m = after_status m s.dcl 2 s.acc
 bus_after Wr3 s m = after_status m s.dcl 3 s.acc
 bus_after _ _ m = m
 
--- the counter moved after an instruction's words, with the cycles that it still takes after this
--- one
+-- the registers with the program counter at the address after the instruction's words, and with its
+-- pending second cycle, if any
 abbrev pub after_words : Op → Regs → Regs
 after_words op s = record s { pc = (s.pc + word_count_of op) % 4096; owed = cycles_of op - 1 }
 
--- processor and bus after the first cycle of an instruction, which does all its work
+-- the registers and the bus after the first cycle of an instruction, which does all its work
 abbrev pub effect : Op → Regs → BusState → Regs × BusState
 effect op s m = (registers_after op (after_words op s) m, bus_after op s m)
 
--- the instruction at the counter, if its code is in the table; the word after address 4095 is at 0
+-- the instruction at the program counter, or none if its opcode is outside the table; after address
+-- 4095 comes address 0
 abbrev pub instruction_at : Regs → BusState → Option Op
 instruction_at s m = instruction_of (fetch_of m s.pc) (fetch_of m ((s.pc + 1) % 4096))
 
--- One instruction cycle: an idle one if one is pending, else the instruction at the counter. It has
--- no value if that code is outside the table.
+-- One instruction cycle. It is the pending second cycle if there is one, and otherwise the first
+-- cycle of the instruction at the program counter. There is no result if that instruction's opcode
+-- is outside the table.
 unfoldable pub cycle_of : Regs → BusState → Option (Regs × BusState)
 cycle_of s m =
     if s.owed == 1

@@ -1,15 +1,16 @@
--- Commands in turn.
+-- Sequences of commands.
 use Rattle.std.specs.Prelude.{◌≡◌, List, [], ◌∷◌, None}
 use Rattle.mcs_model.specs.declared.command.Command.{Command}
 use Rattle.mcs_model.specs.BenchState.{BenchState}
 use Rattle.mcs_model.specs.Command.{refusal, after}
 
--- the state after these commands, each done as an accepted one (`AreAccepted` says that each is)
+-- the state after a sequence of commands, each of them applied as an accepted command
+-- (`AreAccepted` states that each is accepted)
 abbrev pub fold : BenchState → List Command → BenchState
 fold s [] = s
 fold s (c ∷ cs) = fold (after s c) cs
 
--- each of these commands is accepted in its turn
+-- holds if each command of a sequence is accepted in the state that the commands before it lead to
 abbrev pub AreAccepted : BenchState → List Command → Type 0
 AreAccepted s [] = Unit {0}
 AreAccepted s (c ∷ cs) = (refusal s c ≡ None) × AreAccepted (after s c) cs

@@ -1,25 +1,27 @@
--- Bytes with their addresses.
+-- Program images: bytes with their addresses.
 use Rattle.std.specs.Prelude.{ℕ, ◌+◌, ◌<◌, ◌==◌, Bool, ◌&&◌, List, [], ◌∷◌, find, nat_lt, nat_le}
 use Rattle.std.specs.List.{list_any, filter_map, range_with_len, All, AllPairs}
 
--- some bytes from an address on, each with its address
+-- bytes at consecutive addresses, beginning at `at`: each byte with its address
 abbrev pub from_address : ℕ → List ℕ → List (ℕ × ℕ)
 from_address at [] = []
 from_address at (b ∷ bytes) = (at, b) ∷ from_address (at + 1) bytes
 
--- true if one of the addresses from `at` on, as many as the third argument says, has a byte
+-- true if one of the `count` addresses that begin at `at` has a byte
 abbrev pub overlaps : List (ℕ × ℕ) → ℕ → ℕ → Bool
 overlaps pairs at count = list_any (λ p. nat_le at p.0 && nat_lt p.0 (at + count)) pairs
 
--- by rising address, so no address occurs twice
+-- holds if the addresses are in strictly ascending order; no address then occurs twice
 abbrev pub IsRising : List (ℕ × ℕ) → Type 0
 IsRising image = AllPairs (λ p q. p.0 < q.0) image
 
--- a list that an image can be
+-- holds if the list can be an image: addresses in strictly ascending order, each below 4096, and
+-- values below 256
 pub record IsImage (image : List (ℕ × ℕ)) : Type 0 where
   pub rising : IsRising image
   pub in_range : All (λ p. (p.0 < 4096) × (p.1 < 256)) image
 
--- these pairs by rising address: for each address in turn the first pair that has it, if any
+-- the pairs in ascending order of address, for addresses below 4096; if several pairs have the same
+-- address, only the first of them is included
 unfoldable pub by_address : List (ℕ × ℕ) → List (ℕ × ℕ)
 by_address pairs = filter_map (λ at. find (λ p. p.0 == at) pairs) (range_with_len 0 4096)

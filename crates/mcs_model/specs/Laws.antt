@@ -1,30 +1,30 @@
--- The laws of this crate: of the code table, and of consecutive runs.
+-- The theorems of this crate, about the opcode table and about consecutive runs.
 use Rattle.std.specs.Prelude.{◌≡◌, ℕ, ◌+◌, ◌/◌, ◌%◌, Bool, List, [], ◌∷◌, is_none, filter, count_by, nat_le}
 use Rattle.std.specs.List.{range_with_len, list_all}
 use Rattle.mcs_model.specs.Running.{Machine, Stops, after_run}
 use Rattle.mcs_model.specs.Table.{Row, covers, row_of}
 
--- the codes that are in no row
+-- the opcodes that are in no row of the table
 abbrev pub outside_codes : List ℕ
 outside_codes =
     0x01 ∷ 0x02 ∷ 0x03 ∷ 0x04 ∷ 0x05 ∷ 0x06 ∷ 0x07 ∷ 0x08 ∷ 0x09 ∷ 0x0A ∷ 0x0B ∷ 0x0C ∷ 0x0D ∷ 0x0E ∷ 0x0F
     ∷ 0xE3 ∷ 0xFE ∷ 0xFF ∷ []
 
--- of the 256 codes, exactly these are in no row
+-- holds if exactly these of the 256 opcodes are in no row of the table
 abbrev pub LeavesOut : List ℕ → Type 0
 LeavesOut codes = filter (λ code. is_none (row_of code)) (range_with_len 0 256) ≡ codes
 
--- no code is in two rows of a table
+-- true if no opcode is in more than one row of a table
 abbrev pub is_unambiguous : List Row → Bool
 is_unambiguous table =
     list_all (λ code. nat_le (count_by (covers (code / 16) (code % 16)) table) 1) (range_with_len 0 256)
 
--- nothing but its end and a code outside stops a run
+-- no breakpoints and no watches: a run stops only at its end, or at an opcode outside the table
 abbrev pub no_stops : Stops
 no_stops = record { breaks = []; watches = [] }
 
--- if no breakpoint is set and nothing is watched, two runs reach the state that one run of all
--- their cycles reaches
+-- holds if, without breakpoints and watches, two consecutive runs reach the same state as one run
+-- of all their cycles
 abbrev pub RunsCompose : Type 0
 RunsCompose =
     (s : Machine) (a b : ℕ) →

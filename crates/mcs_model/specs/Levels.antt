@@ -1,5 +1,5 @@
--- The levels of lines, and reads and writes of a port. (4001, 4002 and 4003 data sheets, as each
--- definition says. Our own choice: positive logic, so that a line at 1 carries the bit 1.)
+-- The levels of lines, and port reads and writes. (4001, 4002 and 4003 data sheets, as each
+-- definition says. Our own choice: positive logic, in which a line at level 1 carries the bit 1.)
 use Rattle.std.specs.Prelude.{ℕ, ◌+◌, ◌*◌, ◌/◌, Bool, false, ◌&&◌, ◌==◌, List, [], Some, None, length, slice_index, slice_index_or, slice_set, if◌then◌else◌}
 use Rattle.std.specs.List.{list_any, range_with_len}
 use Rattle.mcs_nibble.specs.Bits.{bit_of}
@@ -15,22 +15,22 @@ use Rattle.mcs_model.specs.Bus.{BusState, src_of, has_chip, ram_port_index}
 abbrev pub bit_when : Bool → ℕ
 bit_when b = if b then 1 else 0
 
--- bit i of a chain
+-- bit i of chain n
 abbrev pub chain_bit : BusState → ℕ → ℕ → ℕ
 chain_bit s n i = slice_index (slice_index_or s.chains n []) i
 
--- true if a line is line k of a ROM
+-- true if the line is line k of ROM `chip`
 abbrev pub is_rom_line : ℕ → ℕ → Line → Bool
 is_rom_line chip k (Rom c j) = c == chip && j == k
 is_rom_line chip k _ = false
 
--- true if row r drives column j: the row's chain bit is 1, and the key of that row and column is
--- down
+-- true if row r drives column j: the chain bit of the row is 1, and the key at that row and column
+-- is down
 abbrev pub drives : List ℕ → List ℕ → KeyMatrix → ℕ → ℕ → Bool
 drives bits keys m j r =
     slice_index bits (m.first + r) == 1 && slice_index keys (r * length m.columns.items + j) == 1
 
--- true if some column names line k of a ROM and some row drives that column
+-- true if at least one column is line k of ROM `chip` and is driven by at least one row
 abbrev pub is_pulled_by : List ℕ → List ℕ → KeyMatrix → ℕ → ℕ → Bool
 is_pulled_by bits keys m chip k =
     list_any
@@ -38,7 +38,7 @@ is_pulled_by bits keys m chip k =
     && list_any (drives bits keys m j) (range_with_len 0 m.rows))
     (range_with_len 0 (length m.columns.items))
 
--- true if a key pulls line k of a ROM to 1 (our own choice: each key has a diode)
+-- true if a key pulls line k of ROM `chip` to 1 (our own choice: each key has a diode)
 unfoldable pub is_pulled : BusState → ℕ → ℕ → Bool
 is_pulled s chip k =
     elim s.board.keys [
@@ -46,56 +46,60 @@ is_pulled s chip k =
       | Some m ↦ is_pulled_by (slice_index_or s.chains m.chain []) s.keys m chip k
     ]
 
--- the bit that the latch of a port line holds
+-- the latch bit of a port line; 0 for a chain output, which has no port latch
 unfoldable pub latch_of : BusState → Line → ℕ
 latch_of s (Rom c k) = bit_of (slice_index s.rom_ports c) k
 latch_of s (Ram b c k) = bit_of (slice_index s.ram_ports (ram_port_index b c)) k
 latch_of s _ = 0
 
--- the level of a line: the latch bit of an output line, the bit of a chain, and for an input line 1
--- if a key pulls it
+-- The level of a line. An output line has the level of its latch bit, and a chain output that of
+-- its chain bit. An input line is at 1 if a key pulls it, and otherwise at 0.
 unfoldable pub level : BusState → Line → ℕ
 level s (Rom c k) = if input_on s.board c k then bit_when (is_pulled s c k) else latch_of s (Rom c k)
 level s (Ram b c k) = latch_of s (Ram b c k)
 level s (Chain n i) = chain_bit s n i
 
--- the level of each chain's clock line
+-- the levels of the clock lines of all chains
 unfoldable pub clock_levels : BusState → List ℕ
 clock_levels s = table_of (chain_count s.board) (λ i. level s (chain_part s.board i).clock)
 
--- the bits of chain i after a port write: s is the bus as the write leaves it, `was` the level of
--- the chain's clock line before it. If that rose, each bit moves up by one, the data line's level
--- becomes bit 0, and the last bit is lost (4003 data sheet: a shift register with a serial input;
--- edge, order and data level are our own choice).
+-- The bits of chain i after a port write. s is the bus after the write, before any shift; `was` is
+-- the level of the clock line before the write. If that level rises from 0 to 1, each bit moves up
+-- by one, the level of the data line becomes bit 0, and the last bit is lost. (4003 data sheet: a
+-- shift register with a serial input. The clock edge, the bit order and the data level are our own
+-- choice.)
 unfoldable pub chain_clocked : BusState → ℕ → ℕ → List ℕ → List ℕ
 chain_clocked s i was bits =
     if was == 0 && level s (chain_part s.board i).clock == 1
     then bits_after_shift (level s (chain_part s.board i).data_in) bits
     else bits
 
--- the chains after clocking; their clock lines were at `before`
+-- the bus with each chain shifted whose clock line rose; `before` has the levels of the clock lines
+-- before the port write
 unfoldable pub chains_clocked : List ℕ → BusState → BusState
 chains_clocked before s = record s {
   chains = table_of (chain_count s.board) (λ i. chain_clocked s i (slice_index before i) (slice_index_or s.chains i []));
 }
 
--- one port latch set, without clocking: by the number of the ROM, by `ram_port_index`
+-- The bus with one port latch set, without clocking. This definition sets the latch of a ROM, by
+-- ROM number. The next one sets the latch of a RAM chip, by `ram_port_index`.
 abbrev pub with_rom_ports_at : BusState → ℕ → ℕ → BusState
 with_rom_ports_at s c n = record s { rom_ports = slice_set s.rom_ports c n }
 
 abbrev pub with_ram_ports_at : BusState → ℕ → ℕ → BusState
 with_ram_ports_at s i n = record s { ram_ports = slice_set s.ram_ports i n }
 
--- a write to the port of the selected RAM chip of a bank (4002 data sheet, WMP), and the shift of
--- each chain whose clock line it raises; a write to an absent chip is lost (our own choice)
+-- The bus after a write to the port of the selected RAM chip of a bank (4002 data sheet, WMP). Each
+-- chain whose clock line rises is shifted. A write to an absent chip is lost (our own choice).
 unfoldable pub after_ram_port : BusState → ℕ → ℕ → BusState
 after_ram_port s bank n =
     if has_chip s bank (src_of s bank)
     then chains_clocked (clock_levels s) (with_ram_ports_at s (ram_port_index bank (src_of s bank / 64)) n)
     else s
 
--- a write to the port of the selected ROM (4001 data sheet, WRR), and those shifts; its latch keeps
--- 0 at input lines, and a write to an absent ROM is lost (our own choice)
+-- The bus after a write to the port of the selected ROM (4001 data sheet, WRR). Each chain whose
+-- clock line rises is shifted. Latch bits of input lines stay 0, and a write to an absent ROM is
+-- lost (our own choice).
 unfoldable pub after_rom_port : BusState → ℕ → BusState
 after_rom_port s n =
     elim (masks_on s.board (s.rom_src / 16)) [
@@ -103,8 +107,8 @@ after_rom_port s n =
       | None ↦ s
     ]
 
--- the value that is read at the port of a ROM (4001 data sheet, RDR); an absent ROM reads 0 (our
--- own choice)
+-- the value that the processor reads at the port of a ROM (4001 data sheet, RDR); an absent ROM
+-- reads as 0 (our own choice)
 unfoldable pub port_at : BusState → ℕ → ℕ
 port_at s chip =
     elim (masks_on s.board chip) [
@@ -112,6 +116,6 @@ port_at s chip =
       | None ↦ 0
     ]
 
--- the value that is read at the port of the selected ROM
+-- the value that the processor reads at the port of the selected ROM
 abbrev pub port_of : BusState → ℕ
 port_of s = port_at s (s.rom_src / 16)

@@ -1,4 +1,5 @@
--- The numbers of the machine: nibbles are 0 to 15, bytes 0 to 255, addresses 0 to 4095.
+-- The numbers of the machine (nibbles are 0 to 15, bytes 0 to 255, addresses 0 to 4095), and the
+-- pages of addresses.
 use Rattle.std.specs.Prelude.{ℕ, ◌+◌, ◌*◌, ◌/◌, ◌%◌}
 
 -- the page of an address: its upper four bits, which select the ROM (MCS-4 Users Manual, 4001

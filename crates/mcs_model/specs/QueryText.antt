@@ -1,5 +1,5 @@
--- The answers of a bench about its state: one text for each query and state, without the last line
--- feed (our own choice).
+-- The answers of a bench to queries about its state: one text for each query and state, without the
+-- last line feed. (Our own choice.)
 use Rattle.std.specs.Prelude.{ℕ, ◌+◌, ◌*◌, ◌/◌, ◌%◌, ◌==◌, List, [], ◌∷◌, ◌++◌, map, take, drop, length, codes, nat_lt, if◌then◌else◌, slice_index, Some, None}
 use Rattle.std.specs.Fmt.{decimal}
 use Rattle.std.specs.List.{flat_map, join_by, join_with_byte, range_with_len}
@@ -13,28 +13,29 @@ use Rattle.mcs_model.specs.TextLines.{line_feed}
 use Rattle.mcs_model.specs.BenchState.{BenchState}
 use Rattle.mcs_model.specs.Levels.{chain_bit, level, port_at}
 
--- the upper case hexadecimal digit of a nibble
+-- the uppercase hexadecimal digit of a nibble
 abbrev pub hex_digit : ℕ → ℕ
 hex_digit n = if nat_lt n 10 then 48 + n else 55 + n
 
--- the three digits of an address
+-- an address as three hexadecimal digits
 abbrev pub address_text : ℕ → List ℕ
 address_text a = hex_digit (a / 256) ∷ hex_digit (a / 16 % 16) ∷ hex_digit (a % 16) ∷ []
 
--- the one digit of a value below 16
+-- a value below 16 as one hexadecimal digit
 abbrev pub digit_text : ℕ → List ℕ
 digit_text n = hex_digit n ∷ []
 
--- an empty list is printed as a dash
+-- the bytes, or a dash if there are none
 abbrev pub or_dash : List ℕ → List ℕ
 or_dash [] = codes "-"
 or_dash bytes = bytes
 
--- numbers from an index on, as many as the third argument says
+-- at most `count` numbers of a list, from index `from` on
 abbrev pub stretch : List ℕ → ℕ → ℕ → List ℕ
 stretch items from count = take count (drop from items)
 
--- the registers of the processor except its return addresses; also the TEST pin (`test`)
+-- the registers of the processor except the return addresses, and the level of the TEST pin
+-- (`test`)
 abbrev pub registers_text : Regs → ℕ → List ℕ
 registers_text registers test =
     codes "acc " ++ digit_text registers.acc
@@ -45,7 +46,7 @@ registers_text registers test =
     ++ codes " test " ++ digit_text test
     ++ codes " r " ++ map hex_digit registers.r
 
--- `regs`: the registers of the processor and the TEST pin
+-- the answer to `regs`: the registers of the processor and the level of the TEST pin
 abbrev pub regs_text : Regs → ℕ → List ℕ
 regs_text registers test =
     registers_text registers test
@@ -53,67 +54,69 @@ regs_text registers test =
     ++ codes " " ++ address_text (slice_index registers.ret 1)
     ++ codes " " ++ address_text (slice_index registers.ret 2)
 
--- the mark of a lamp: `*` if it is on
+-- the mark of a lamp: `*` if it is on, `.` if it is off
 abbrev pub lamp_mark : ℕ → ℕ
 lamp_mark level = if level == 1 then 42 else 46
 
--- `lamps`: a mark for each lamp of the board, in order
+-- the answer to `lamps`: a mark for each lamp of the board, in order
 abbrev pub lamps_text : BusState → List ℕ
 lamps_text s =
     codes "lamps " ++ or_dash (map (λ line. lamp_mark (level s line)) s.board.lamps.items)
 
--- register r of a RAM chip, named by bank, chip and register: its 16 characters, and its four
--- status characters
+-- the line for register r of a RAM chip: the numbers of its bank, chip and register, its 16 main
+-- nibbles, and its four status characters
 abbrev pub register_line : BusState → ℕ → ℕ → ℕ → List ℕ
 register_line s bank chip r =
     digit_text bank ++ codes "." ++ digit_text chip ++ codes "." ++ digit_text r
     ++ codes " " ++ map hex_digit (stretch s.ram (bank * 256 + chip * 64 + r * 16) 16)
     ++ codes " " ++ map hex_digit (stretch s.status (bank * 64 + chip * 16 + r * 4) 4)
 
--- the port of a RAM chip: its bank, its number, and after some word what its latch holds
+-- the port of a RAM chip: its bank number, its chip number, the separator `out`, and the contents
+-- of its latch
 abbrev pub ram_port_text : List ℕ → BusState → ℕ → ℕ → List ℕ
 ram_port_text out s bank chip =
     digit_text bank ++ codes "." ++ digit_text chip ++ out
     ++ digit_text (slice_index s.ram_ports (ram_port_index bank chip))
 
--- a RAM chip: its four registers, and its port
+-- the lines for a RAM chip: one for each of its four registers, and one for its port
 abbrev pub chip_lines : BusState → ℕ → ℕ → List (List ℕ)
 chip_lines s bank chip =
     map (register_line s bank chip) (range_with_len 0 4)
     ++ ram_port_text (codes " out ") s bank chip ∷ []
 
--- `ram`: the number of chips in a bank, and what each of them holds
+-- the answer to `ram`: the number of chips in a bank, and the contents of each chip
 abbrev pub ram_lines : BusState → ℕ → List (List ℕ)
 ram_lines s bank =
     (codes "ram " ++ digit_text bank ++ codes " chips " ++ digit_text (chips_of s bank))
     ∷ flat_map (chip_lines s bank) (range_with_len 0 (chips_of s bank))
 
--- `breaks`: the breakpoints, rising
+-- the answer to `breaks`: the breakpoints in ascending order
 abbrev pub breaks_text : List ℕ → List ℕ
 breaks_text breakpoints = codes "breaks " ++ or_dash (join_by address_text (codes " ") breakpoints)
 
--- a byte as two upper case hexadecimal digits
+-- a byte as two uppercase hexadecimal digits
 abbrev pub hex_2 : ℕ → List ℕ
 hex_2 b = hex_digit (b / 16) ∷ hex_digit (b % 16) ∷ []
 
--- a watched character: its bank, and its SRC byte
+-- a watched RAM nibble: its bank and its SRC byte
 abbrev pub watch_text : ℕ → List ℕ
 watch_text w = digit_text (w / 256) ++ codes "." ++ hex_2 (w % 256)
 
--- `watches`: the watched characters, rising
+-- the answer to `watches`: the watched RAM nibbles in ascending order
 abbrev pub watches_text : List ℕ → List ℕ
 watches_text watches = codes "watches " ++ or_dash (join_by watch_text (codes " ") watches)
 
--- ---- the state outside ROM and RAM, item by item
+-- ---- the items of the state outside ROM and RAM
 
--- a bank that has chips: its number, and the SRC byte that it keeps
+-- a bank as an item: its number, and the SRC byte that it stores; no item if it has no chips
 abbrev pub bank_items : BusState → ℕ → List (List ℕ)
 bank_items s bank =
     if nat_lt 0 (chips_of s bank)
     then (digit_text bank ++ codes "." ++ hex_2 (slice_index s.ram_src bank)) ∷ []
     else []
 
--- the port of a ROM that is present: its number, what its latch holds, and what is read there
+-- a ROM as an item: its number, the contents of its port latch, and the value that the processor
+-- reads at its port; no item if it is absent
 abbrev pub rom_items : BusState → ℕ → List (List ℕ)
 rom_items s chip =
     elim (masks_on s.board chip) [
@@ -124,18 +127,18 @@ rom_items s chip =
       | None ↦ []
     ]
 
--- the key of a row and a column, if it is down
+-- the key at a row and a column as an item; no item if it is up
 abbrev pub key_item : BusState → ℕ → ℕ → List (List ℕ)
 key_item s row column =
     if slice_index s.keys (key_index s.board row column) == 1
     then (digit_text row ++ codes "." ++ digit_text column) ∷ []
     else []
 
--- the keys of a row that are down
+-- the keys of a row that are down, as items
 abbrev pub row_items : BusState → ℕ → ℕ → List (List ℕ)
 row_items s columns row = flat_map (key_item s row) (range_with_len 0 columns)
 
--- the keys that are down, row by row
+-- the keys that are down, as items, row by row
 abbrev pub key_items : BusState → List (List ℕ)
 key_items s =
     elim s.board.keys [
@@ -143,27 +146,27 @@ key_items s =
       | None ↦ []
     ]
 
--- `seq`: the number of accepted commands
+-- the answer to `seq`: the number of accepted commands
 abbrev pub seq_text : ℕ → List ℕ
 seq_text seq = codes "seq " ++ decimal seq
 
 -- ---- the state in one line
 
--- a list in one word: commas between the items, and a dash if there is none
+-- items as one word: separated by commas, or a dash if there are no items
 abbrev pub one_word : List (List ℕ) → List ℕ
 one_word [] = codes "-"
 one_word items = join_with_byte 44 items
 
--- the ports of the RAM chips of a bank
+-- the ports of the RAM chips of a bank, as items
 abbrev pub ram_items : BusState → ℕ → List (List ℕ)
 ram_items s bank = map (ram_port_text (codes ".") s bank) (range_with_len 0 (chips_of s bank))
 
--- the bits of a chain, bit 0 first
+-- the bits of a chain as one item, bit 0 first
 abbrev pub chain_item : BusState → ℕ → List ℕ
 chain_item s n = map (λ i. hex_digit (chain_bit s n i)) (range_with_len 0 (chain_bits s.board n))
 
--- `state`: everything but the board and the contents of ROM and RAM, each part as its name and one
--- word
+-- the answer to `state`: everything except the board and the contents of ROM and RAM; each part has
+-- a name and one word
 abbrev pub state_text : BenchState → List ℕ
 state_text s =
     codes "state " ++ seq_text s.seq

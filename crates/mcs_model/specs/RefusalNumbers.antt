@@ -1,4 +1,4 @@
--- The numbers that refusals are reported as (our own choice).
+-- The refusal numbers of errors. (Our own choice.)
 use Rattle.std.specs.Prelude.{ℕ}
 use Rattle.mcs_model.specs.declared.board.BoardFault.{BoardFault}
 use Rattle.mcs_model.specs.declared.board.BoardFault.TheVariants.{BadValue, NoSuchLine, WrongDirection}
@@ -6,7 +6,7 @@ use Rattle.mcs_model.specs.declared.refusals.BenchFault.{BenchFault}
 use Rattle.mcs_model.specs.declared.refusals.BenchFault.TheVariants.{NoKey, NoRom, NoSuchPlace, BadCount, BreaksFull, Worn, WatchesFull}
 use Rattle.mcs_model.specs.declared.refusal_numbers.TheConstants.{BAD_VALUE, NO_SUCH_LINE, WRONG_DIRECTION, NO_KEY, NO_ROM, NO_SUCH_PLACE, BAD_COUNT, BREAKS_FULL, WORN, WATCHES_FULL}
 
--- of a command
+-- the refusal number of a command that a bench rejects
 abbrev pub bench_fault_number : BenchFault → ℕ
 bench_fault_number NoKey = NO_KEY
 bench_fault_number NoRom = NO_ROM
@@ -16,7 +16,7 @@ bench_fault_number BreaksFull = BREAKS_FULL
 bench_fault_number Worn = WORN
 bench_fault_number WatchesFull = WATCHES_FULL
 
--- of a board
+-- the refusal number of an invalid board
 abbrev pub board_fault_number : BoardFault → ℕ
 board_fault_number BadValue = BAD_VALUE
 board_fault_number NoSuchLine = NO_SUCH_LINE

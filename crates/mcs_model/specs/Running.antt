@@ -1,4 +1,4 @@
--- A run and a step: the cycle repeated up to the first reason to stop. (Our own choice.)
+-- Runs and steps: the instruction cycle, repeated until the first reason to stop. (Our own choice.)
 use Rattle.std.specs.Prelude.{ℕ, ◌+◌, zero, suc, Bool, ◌&&◌, List, Option, Some, None, is_none, is_some, not, slice_index, ◌-◌, if◌then◌else◌, nat_lt, ◌==◌, unwrap_or, find}
 use Rattle.std.specs.List.{range_with_len, list_any}
 use Rattle.mcs_model.specs.declared.regs.Regs.{Regs}
@@ -7,36 +7,37 @@ use Rattle.mcs_model.specs.declared.stop.Stop.TheVariants.{Outside, Breakpoint, 
 use Rattle.mcs_model.specs.Bus.{BusState}
 use Rattle.mcs_model.specs.Effect.{cycle_of}
 
--- a processor on a bus
+-- a machine: the registers of a processor, and the state of its bus
 abbrev pub Machine : Type 0
 Machine = Regs × BusState
 
--- true if no cycle can follow: none is pending, and the code at the counter is outside the table
+-- true if no cycle is possible: no second cycle is pending, and the opcode at the program counter
+-- is outside the table
 abbrev pub is_outside : Machine → Bool
 is_outside s = is_none (cycle_of s.0 s.1)
 
--- a machine after k cycles; if no cycle can follow it stays as it is
+-- the machine after k cycles; it does not change if no cycle is possible
 abbrev pub after_cycles : ℕ → Machine → Machine
 after_cycles zero s = s
 after_cycles (suc k) s = unwrap_or (cycle_of (after_cycles k s).0 (after_cycles k s).1) (after_cycles k s)
 
--- true if a run is at a breakpoint after k cycles: none at its start counts, and none between the
--- two cycles of an instruction
+-- True if a run is at a breakpoint after k cycles. A breakpoint at the start of the run does not
+-- count, and neither does one between the two cycles of an instruction.
 abbrev pub at_break : List ℕ → ℕ → Machine → Bool
 at_break breaks k s = nat_lt 0 k && s.0.owed == 0 && list_any (λ a. a == s.0.pc) breaks
 
--- true if a watched RAM character has another value in the machine t than in s
+-- true if the value of a watched RAM nibble differs between the machines s and t
 abbrev pub has_changed : List ℕ → Machine → Machine → Bool
 has_changed watches s t =
     list_any (λ w. not (slice_index s.1.ram w == slice_index t.1.ram w)) watches
 
--- the stops of a run: breakpoints and watched RAM characters
+-- the breakpoints and the watched RAM nibbles of a run
 pub record Stops : Type 0 where
   pub breaks : List ℕ
   pub watches : List ℕ
 
--- the reason that a run of n cycles stops after k of them, if it does; they led to the machine t,
--- the last one from the machine s
+-- The reason why a run of n cycles stops after k cycles, or none. t is the machine after these k
+-- cycles, and s is the machine before the last of them.
 abbrev pub stop_at : Stops → ℕ → ℕ → Machine → Machine → Option Stop
 stop_at stops n k s t =
     if is_outside t then Some Outside
@@ -45,12 +46,12 @@ stop_at stops n k s t =
     else if k == n then Some Ended
     else None
 
--- the reason that a run of n cycles from s stops after k of them, if it does; at k = 0 no cycle was
--- done, so no character has changed
+-- The reason why a run of n cycles from s stops after k cycles, or none. For k = 0 no cycle was
+-- executed, and no watched RAM nibble has changed.
 abbrev pub stop_after : Stops → ℕ → Machine → ℕ → Option Stop
 stop_after stops n s k = stop_at stops n k (after_cycles (k - 1) s) (after_cycles k s)
 
--- the number of cycles that a run of n cycles takes: the least k at which it stops
+-- the number of cycles that a run of n cycles executes: the least k after which it stops
 abbrev pub run_length : Stops → ℕ → Machine → ℕ
 run_length stops n s =
     unwrap_or (find (λ k. is_some (stop_after stops n s k)) (range_with_len 0 (n + 1))) n
@@ -59,17 +60,18 @@ run_length stops n s =
 abbrev pub after_run : Stops → ℕ → Machine → Machine
 after_run stops n s = after_cycles (run_length stops n s) s
 
--- the reason that a run of n cycles stops
+-- the reason why a run of n cycles stops
 abbrev pub run_stop : Stops → ℕ → Machine → Stop
 run_stop stops n s = unwrap_or (stop_after stops n s (run_length stops n s)) Ended
 
--- the reason that a step stops after k cycles, at the machine s, if it does: at its start if no
--- cycle can follow, else after the first cycle that leaves none pending
+-- The reason why a step stops after k cycles, or none; s is the machine after these k cycles. A
+-- step stops at its start if no cycle is possible, and otherwise after the first cycle that leaves
+-- none pending.
 abbrev pub step_at : ℕ → Machine → Option Stop
 step_at zero s = if is_outside s then Some Outside else None
 step_at (suc k) s = if s.0.owed == 0 then Some Ended else None
 
--- the number of cycles that a step takes, at most 2: the least k at which it stops
+-- the number of cycles that a step executes, at most 2: the least k after which it stops
 abbrev pub step_length : Machine → ℕ
 step_length s = unwrap_or (find (λ k. is_some (step_at k (after_cycles k s))) (range_with_len 0 3)) 2
 
@@ -77,6 +79,6 @@ step_length s = unwrap_or (find (λ k. is_some (step_at k (after_cycles k s))) (
 abbrev pub after_step : Machine → Machine
 after_step s = after_cycles (step_length s) s
 
--- the reason that a step stops
+-- the reason why a step stops
 abbrev pub step_stop : Machine → Stop
 step_stop s = unwrap_or (step_at (step_length s) (after_step s)) Ended

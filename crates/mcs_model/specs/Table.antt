@@ -1,20 +1,20 @@
--- The code table: which codes spell which instruction, and how many words and cycles it takes.
--- (MCS-4 Users Manual, instruction set. The codes 01 to 0F, E3, FE and FF are in no row. That they
--- are outside the table, and stop a run, is our own choice.)
+-- The opcode table: the instruction of each opcode, and the number of words and cycles of each
+-- instruction. (MCS-4 Users Manual, instruction set. The opcodes 01 to 0F, E3, FE and FF are in no
+-- row. That they are outside the table, and stop a run, is our own choice.)
 use Rattle.std.specs.Prelude.{ℕ, ◌/◌, ◌%◌, Bool, true, ◌&&◌, List, [], ◌∷◌, Option, find, ◌==◌}
 use Rattle.std.specs.Option.{option_map}
 use Rattle.mcs_model.specs.declared.op.Op.{Op}
 use Rattle.mcs_model.specs.declared.op.Op.TheVariants.{Nop, Jcn, Fim, Src, Fin, Jin, Jun, Jms, Inc, Isz, Add, Sub, Ld, Xch, Bbl, Ldm, Wrm, Wmp, Wrr, Wr0, Wr1, Wr2, Wr3, Sbm, Rdm, Rdr, Adm, Rd0, Rd1, Rd2, Rd3, Clb, Clc, Iac, Cmc, Cma, Ral, Rar, Tcc, Dac, Tcs, Stc, Daa, Kbp, Dcl}
 
--- the lower nibbles that the codes of a row have
+-- the lower nibbles of the opcodes in a row: all, the even ones, the odd ones, or a single one
 pub data Lower : Type 0 where
   Any : Lower
   Even : Lower
   Odd : Lower
   Only : ℕ → Lower
 
--- a row: the upper nibble of its codes, their lower nibbles, and the instruction that such a code
--- spells with the word after it
+-- a row: the upper nibble of its opcodes, their lower nibbles, and the instruction for such an
+-- opcode and the word after it
 pub record Row : Type 0 where
   pub upper : ℕ
   pub lower : Lower
@@ -23,12 +23,12 @@ pub record Row : Type 0 where
 abbrev pub row : ℕ → Lower → (ℕ → ℕ → Op) → Row
 row upper lower op = record { upper = upper; lower = lower; op = op }
 
--- a row of one code: an instruction without operands
+-- a row with a single opcode, for an instruction without operands
 abbrev pub bare : ℕ → ℕ → Op → Row
 bare upper lower op = row upper (Only lower) (λ _ _. op)
 
--- the operand in the lower nibble of a code: a condition, a register, a page or a value; or a pair,
--- in the upper three bits of that nibble
+-- The operand in the lower nibble of an opcode: a condition, a register, a page or a value. The
+-- next definition is the register pair in the upper three bits of that nibble.
 abbrev pub nibble_in : ℕ → ℕ
 nibble_in code = code % 16
 
@@ -90,19 +90,20 @@ fits Even n = n % 2 == 0
 fits Odd n = n % 2 == 1
 fits (Only k) n = n == k
 
--- true if a code, by its nibbles, is one of a row's
+-- true if the opcode with these two nibbles is in the row
 abbrev pub covers : ℕ → ℕ → Row → Bool
 covers upper lower r = upper == r.upper && fits r.lower lower
 
--- the row of a code, if it is in the table
+-- the row of an opcode, or none if the opcode is outside the table
 unfoldable pub row_of : ℕ → Option Row
 row_of code = find (covers (code / 16) (code % 16)) rows
 
--- the instruction of two words, if the first is in the table
+-- the instruction with these two words, or none if the first word is outside the table
 unfoldable pub instruction_of : ℕ → ℕ → Option Op
 instruction_of first second = option_map (λ (r : Row). r.op first second) (row_of first)
 
--- the number of words of an instruction: its code, and the word after it if `rows` uses that
+-- the number of words of an instruction: 2 if `rows` uses the word after the opcode as an operand,
+-- otherwise 1
 abbrev pub word_count_of : Op → ℕ
 word_count_of (Jcn _ _) = 2
 word_count_of (Fim _ _) = 2
@@ -111,7 +112,7 @@ word_count_of (Jms _ _) = 2
 word_count_of (Isz _ _) = 2
 word_count_of _ = 1
 
--- the number of instruction cycles that it takes: one for each word, but two for FIN
+-- the number of instruction cycles of an instruction: two for FIN, otherwise one for each word
 abbrev pub cycles_of : Op → ℕ
 cycles_of (Fin _) = 2
 cycles_of op = word_count_of op

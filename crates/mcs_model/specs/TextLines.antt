@@ -1,5 +1,5 @@
--- The lines of a text, and the words of a line: of a source text, and of what the shell reads. (Our
--- own choice.)
+-- The lines of a text, and the words of a line, in source texts and in the shell's input. (Our own
+-- choice.)
 use Rattle.std.specs.Prelude.{ℕ, ◌==◌, ◌||◌, Bool, true, false, List, [], ◌∷◌, ◌++◌, filter, length, nat_lt}
 use Rattle.std.specs.List.{flat_map, slice_split}
 use Rattle.std.specs.Str.Lines.{strip_carriage_return}
@@ -11,40 +11,40 @@ line_feed = 10
 abbrev pub is_line_feed : ℕ → Bool
 is_line_feed b = b == line_feed
 
--- bytes, and the line feed that ends their last line
+-- the bytes, followed by a line feed
 abbrev pub as_line : List ℕ → List ℕ
 as_line bytes = bytes ++ line_feed ∷ []
 
--- lines as a text, each ended by its line feed
+-- lines as a text: each line is followed by a line feed
 abbrev pub text_of : List (List ℕ) → List ℕ
 text_of lines = flat_map as_line lines
 
--- the part after the last line feed: a line if the text ends there (`whole`) and it has bytes; else
--- none
+-- the part after the last line feed, as a list of lines: one line if the text ends there (`whole`)
+-- and the part is not empty, otherwise none
 abbrev pub last_line : Bool → List ℕ → List (List ℕ)
 last_line false line = []
 last_line true [] = []
 last_line true (b ∷ line) = strip_carriage_return (b ∷ line) ∷ []
 
--- the lines in the pieces between line feeds
+-- the lines of a text that is already split at its line feeds
 abbrev pub lines_in : Bool → List (List ℕ) → List (List ℕ)
 lines_in whole [] = []
 lines_in whole (last ∷ []) = last_line whole last
 lines_in whole (line ∷ next ∷ pieces) = strip_carriage_return line ∷ lines_in whole (next ∷ pieces)
 
--- The lines of a text, each without its line feed and without one CR that ends it. `whole` means
--- that the text ends there; otherwise it was cut.
+-- The lines of a text, each without its line feed and without one final CR. `whole` means that the
+-- text ends there; otherwise it was cut off.
 unfoldable pub lines : List ℕ → Bool → List (List ℕ)
 lines text whole = lines_in whole (slice_split is_line_feed text)
 
--- the lines of a text that ends
+-- the lines of a complete text
 abbrev pub lines_of : List ℕ → List (List ℕ)
 lines_of text = lines text true
 
--- a space or a tab
+-- true if a byte is a space or a tab
 abbrev pub is_blank : ℕ → Bool
 is_blank b = b == 32 || b == 9
 
--- the words of a line: the parts between spaces and tabs
+-- the words of a line: the nonempty parts between spaces and tabs
 unfoldable pub words_of : List ℕ → List (List ℕ)
 words_of line = filter (λ w. nat_lt 0 (length w)) (slice_split is_blank line)

@@ -1,5 +1,5 @@
--- Valid flat states: the states that a bench can be in. (Our own choice, after what the chips
--- keep.)
+-- Valid flat states: the states that a bench can be in. (Our own choice, based on what the chips
+-- store.)
 use Rattle.std.specs.Prelude.{◌≡◌, ◌<◌, ◌≤◌, ◌/◌, ℕ, List, [], All, MatchOption, length, slice_index, slice_index_or, None}
 use Rattle.std.specs.List.Sorted.{IsStrictlyIncreasing}
 use Rattle.mcs_nibble.specs.Ports.{latch_value}
@@ -10,22 +10,23 @@ use Rattle.mcs_model.specs.Boards.{IsSized, board_fault_of, masks_on, chain_bits
 use Rattle.mcs_model.specs.Bus.{BusState, ram_index, ram_port_index, status_index, chips_of}
 use Rattle.mcs_model.specs.BenchState.{BenchState}
 
--- `count` numbers, each below a limit
+-- holds if the list has `count` numbers, each below `limit`
 pub record AreBelow (count limit : ℕ) (items : List ℕ) : Type 0 where
   pub count_is : length items ≡ count
   pub below : All (λ n. n < limit) items
 
 -- ---- the board
 
--- parts without a fault, of the lengths that their types give
+-- holds if the parts have no errors, and their lists have the lengths that their types imply
 pub record IsValidBoard (b : BoardParts) : Type 0 where
   pub sized : IsSized b
   pub valid : board_fault_of b ≡ None
 
--- ---- what the chips hold
+-- ---- the contents of the chips
 
--- each number is of its kind; there are as many chains, chain bits and keys as the board has, and
--- as many of everything else as a board can have
+-- Holds if each number is in the range of its kind, and each list has the required length. There
+-- are as many chains, chain bits and keys as the board has. All other lists are as long as a full
+-- board needs.
 pub record IsInRange (s : BusState) : Type 0 where
   pub rom : AreBelow 4096 256 s.rom
   pub ram : AreBelow 2048 16 s.ram
@@ -40,8 +41,8 @@ pub record IsInRange (s : BusState) : Type 0 where
   pub keys : AreBelow (key_count s.board) 2 s.keys
   pub test : s.test < 2
 
--- absent parts hold 0: ROMs, RAM chips, the SRC byte of a bank without chips, and the latch bits of
--- input lines
+-- holds if absent ROMs and RAM chips contain 0, and the SRC bytes of banks without chips and the
+-- latch bits of input lines are 0
 pub record IsAbsentZero (s : BusState) : Type 0 where
   pub rom : (at : ℕ) → masks_on s.board (at / 256) ≡ None → slice_index s.rom at ≡ 0
   pub ram : (bank src : ℕ) → src < 256 → chips_of s bank ≤ src / 64 →
@@ -54,7 +55,7 @@ pub record IsAbsentZero (s : BusState) : Type 0 where
       (λ mask. latch_value mask (slice_index s.rom_ports chip) ≡ slice_index s.rom_ports chip)
   pub ram_src : (bank : ℕ) → chips_of s bank ≡ 0 → slice_index s.ram_src bank ≡ 0
 
--- a board, what its chips hold, its keys and the TEST pin
+-- holds if the board, the contents of its chips, its keys and the TEST pin are valid
 pub record IsValidBus (s : BusState) : Type 0 where
   pub board : IsValidBoard s.board
   pub in_range : IsInRange s
@@ -71,15 +72,15 @@ pub record IsValidRegs (s : Regs) : Type 0 where
   pub dcl : s.dcl < 8
   pub owed : s.owed < 2
 
--- ---- the whole
+-- ---- the whole bench
 
--- at most 32 addresses, rising
+-- holds if the list has at most 32 addresses, in strictly ascending order
 pub record AreBreakpoints (items : List ℕ) : Type 0 where
   pub few : length items ≤ BREAKPOINTS
   pub addresses : All (λ a. a < 4096) items
   pub rising : IsStrictlyIncreasing items
 
--- at most 8 indices of RAM characters (`ram_index`), rising
+-- holds if the list has at most 8 indices of RAM nibbles (`ram_index`), in strictly ascending order
 pub record AreWatches (items : List ℕ) : Type 0 where
   pub few : length items ≤ WATCHES
   pub indices : All (λ a. a < 2048) items

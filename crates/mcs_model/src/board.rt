@@ -1,4 +1,4 @@
-//! The parts of a board.
+//! The parts of a board, and the check that they form a valid board.
 
 ghost use Rattle.std.specs.Prelude.{◌≤◌, ◌≡◌, ◌<◌, ◌*◌, ◌||◌, ℕ, List, not, MatchOption, Ok, Err, Some, None, nat_lt, nat_le, length, slice_get, slice_index};
 ghost use Rattle.std.specs.List.{list_any};
@@ -15,14 +15,14 @@ use mcs_nibble::LineMask;
 use std::marker::Model;
 use thiserror::Error;
 
-/// A line of a board. Its numbers can be any: the board says whether it has such a line.
+/// A line of a board. Its numbers can have any values: each board decides whether it has such a line.
 #[derive(Clone, Copy, Debug, PartialEq, Eq)]
 pub enum Line {
-    /// A port line of a ROM: the chip 0 to 15, and the line 0 to 3.
+    /// A port line of a ROM: the chip, 0 to 15, and the line, 0 to 3.
     Rom(u8, u8),
-    /// An output line of a RAM chip: the bank 0 to 7, the chip 0 to 3, and the line 0 to 3.
+    /// An output line of a RAM chip: the bank, 0 to 7, the chip, 0 to 3, and the line, 0 to 3.
     Ram(u8, u8, u8),
-    /// An output of a chain of shift registers: the chain, and the bit.
+    /// An output of a shift-register chain: the chain and the bit.
     Chain(u8, u8),
 }
 
@@ -32,19 +32,19 @@ impl Default for Line {
     }
 }
 
-/// A chain of 4003 shift registers, each of ten bits.
+/// A chain of 4003 shift registers, ten bits each.
 #[derive(Clone, Copy, Debug, Default, PartialEq, Eq)]
 pub struct ChainPart {
     /// The output line that clocks the chain.
     pub clock: Line,
     /// The output line whose level the chain shifts in.
     pub data_in: Line,
-    /// The number of chips.
+    /// The number of 4003 chips in the chain.
     pub chips: u8,
 }
 
 impl ChainPart {
-    /// Returns the number of bits: ten for each chip.
+    /// Returns the number of bits in the chain: ten for each chip.
     pub fn bits(self) -> u16
         ensures { result ≡ 10 * self.chips }
     {
@@ -52,21 +52,21 @@ impl ChainPart {
     }
 }
 
-/// A matrix of keys, between the outputs of a chain and input lines of ROMs.
+/// A key matrix. The outputs of a chain drive its rows, and its columns pull input lines of ROMs.
 #[derive(Debug, Drop)]
 pub struct KeyMatrix {
-    /// The chain that drives the rows.
+    /// The number of the chain that drives the rows.
     pub chain: u8,
-    /// The bit of the chain that drives row 0. Bit `first + r` drives row r.
+    /// The chain bit that drives row 0. Bit `first + r` drives row r.
     pub first: u8,
     /// The number of rows.
     pub rows: u8,
-    /// The line that each column pulls.
+    /// The line that each column pulls, column 0 first.
     pub columns: ArrayVec<Line, KEY_COLUMNS>,
 }
 
 impl KeyMatrix {
-    /// Returns an equal matrix.
+    /// Returns a copy of the matrix.
     pub fn copy(&self) -> KeyMatrix
         ensures { result ≡ self.now }
     {
@@ -79,37 +79,37 @@ impl KeyMatrix {
     }
 }
 
-/// The parts of a board. They can be any parts: `Board::of` decides whether they make a board.
+/// The parts of a board. They can be invalid: `Board::of` checks them.
 #[derive(Debug, Drop)]
 pub struct BoardParts {
-    /// The ROMs by their number, with the mask of each port line, line 0 first.
+    /// The ROMs, indexed by chip number. Each has the mask options of its port lines, line 0 first.
     pub roms: [Option<[LineMask; 4]>; ROMS],
-    /// The number of 4002 chips of each bank.
+    /// The number of 4002 chips in each bank.
     pub banks: [u8; BANKS],
-    /// The chains of shift registers.
+    /// The shift-register chains.
     pub chains: ArrayVec<ChainPart, CHAINS>,
-    /// The keys, if any.
+    /// The key matrix, if any.
     pub keys: Option<KeyMatrix>,
-    /// The lines that the lamps show.
+    /// The line that each lamp shows.
     pub lamps: ArrayVec<Line, LAMPS>,
 }
 
-/// The reason that parts make no board: the first of these that applies.
+/// The reason why parts do not form a board. If several apply, the first in this order is reported.
 #[derive(Clone, Copy, Debug, PartialEq, Eq, Error)]
 pub enum BoardFault {
-    /// A number is out of its range, or a key matrix has no column (no 23).
+    /// A number is out of range, or a key matrix has no columns (no 23).
     #[error("a number is out of its range, or a key matrix has no column")]
     BadValue,
-    /// A line, a chain or a row's bit is not on the board (no 25).
+    /// A line, a chain or the chain bit of a key row is not on the board (no 25).
     #[error("a line, a chain or a row's bit is not on the board")]
     NoSuchLine,
-    /// An input line in a place that needs an output line, or the other way round (no 26).
+    /// An input line is used where an output line is needed, or the other way round (no 26).
     #[error("an input line is used as an output line, or an output line as an input line")]
     WrongDirection,
 }
 
 impl BoardFault {
-    /// Returns the number that the refusal is reported as.
+    /// Returns the refusal number of this error.
     pub fn number(self) -> u8
         ensures { result ≡ board_fault_number self }
     {
@@ -121,7 +121,7 @@ impl BoardFault {
     }
 }
 
-/// Returns whether the numbers of a line are in their ranges.
+/// Returns true if all numbers of a line are in range.
 fn is_in_range(line: Line) -> bool
     ensures { result ≡ in_range line }
 {
@@ -132,28 +132,29 @@ fn is_in_range(line: Line) -> bool
     }
 }
 
-/// Returns whether some line has a number out of its range.
+/// Returns true if any of the lines has a number out of range.
 fn has_line_out_of_range(lines: &[Line]) -> bool
     ensures { result ≡ list_any (λ line. not (in_range line)) lines.now }
 {
     lines.iter().any(|line| !is_in_range(*line))
 }
 
-/// Returns whether the clock or the data line of a chain has a number out of its range.
+/// Returns true if the clock line or the data line of a chain has a number out of range.
 fn has_bad_line(chain: ChainPart) -> bool
     ensures { result ≡ (not (in_range chain.clock) || not (in_range chain.data_in)) }
 {
     !is_in_range(chain.clock) || !is_in_range(chain.data_in)
 }
 
-/// Returns whether a chain has a valid number of chips.
+/// Returns true if a chain has a valid number of chips.
 fn is_sized(chain: ChainPart) -> bool
     ensures { result ≡ is_chain_size chain }
 {
     0 < chain.chips && chain.chips <= CHAIN_CHIPS
 }
 
-/// Proves that four masks are four. An array that is passed as a value has its length.
+/// Proves that an array of four mask options has length 4. The prover knows the length of an array that is passed by
+/// value.
 fn is_four(mask: [LineMask; 4])
     ensures { length mask ≡ 4 }
 {
@@ -169,7 +170,7 @@ fn are_four(masks: Option<[LineMask; 4]>)
 }
 
 impl KeyMatrix {
-    /// Returns whether the numbers of the matrix are in their ranges.
+    /// Returns true if all numbers of the matrix are in range.
     fn is_sized(&self) -> bool
         ensures { result ≡ is_matrix_size self.now }
     {
@@ -184,7 +185,7 @@ impl KeyMatrix {
 }
 
 impl BoardParts {
-    /// Returns the masks of a ROM, if the board has that ROM.
+    /// Returns the mask options of a ROM, or `None` if the board does not have that ROM.
     fn mask(&self, chip: u8) -> Option<[LineMask; 4]>
         ensures { result ≡ masks_on self.now chip }
     {
@@ -192,7 +193,7 @@ impl BoardParts {
         if at < ROMS { self.roms[at] } else { None }
     }
 
-    /// Returns the number of chips in a bank, or 0 for a bank that no board has.
+    /// Returns the number of chips in a bank, or 0 for a bank number above 7.
     fn bank_chips(&self, bank: u8) -> u8
         ensures { result ≡ slice_index self.now.banks bank }
     {
@@ -200,7 +201,7 @@ impl BoardParts {
         if at < BANKS { self.banks[at] } else { 0 }
     }
 
-    /// Returns the number of bits in a chain, or 0 if there is no such chain.
+    /// Returns the number of bits in chain `n`, or 0 if there is no such chain.
     fn chain_bits(&self, n: u8) -> u16
         ensures { result ≡ chain_bits self.now n }
     {
@@ -287,7 +288,7 @@ impl BoardParts {
         has_line_out_of_range(self.lamps.as_slice())
     }
 
-    /// Returns whether a number is out of its range.
+    /// Returns true if any number in the parts is out of range.
     fn has_bad_value(&self) -> bool
         ensures { result ≡ has_bad_value self.now }
     {
@@ -309,7 +310,7 @@ impl BoardParts {
         self.has_bad_lamp()
     }
 
-    /// Returns whether some line is not on the board.
+    /// Returns true if any of the lines is not on the board.
     fn lacks_one_of(&self, lines: &[Line]) -> bool
         ensures { result ≡ list_any (λ line. not (exists_on self.now line)) lines.now }
     {
@@ -358,7 +359,7 @@ impl BoardParts {
         }
     }
 
-    /// Returns whether the parts name a line, or need a row, that the board lacks.
+    /// Returns true if the parts name a line, or need a chain bit for a key row, that the board does not have.
     fn lacks_line(&self) -> bool
         ensures { result ≡ lacks_line self.now }
     {
@@ -374,7 +375,7 @@ impl BoardParts {
         self.lacks_rows()
     }
 
-    /// Returns whether some line is not an input line.
+    /// Returns true if any of the lines is not an input line.
     fn has_other_than_input(&self, lines: &[Line]) -> bool
         ensures { result ≡ list_any (λ line. not (is_input_line self.now line)) lines.now }
     {
@@ -411,7 +412,7 @@ impl BoardParts {
         self.lamps.iter().any(|line| self.has_input_line(*line))
     }
 
-    /// Returns whether a line has the wrong direction for its use.
+    /// Returns true if any line has the wrong direction for its use.
     fn has_wrong_direction(&self) -> bool
         ensures { result ≡ has_wrong_direction self.now }
     {
@@ -424,7 +425,7 @@ impl BoardParts {
         self.has_input_lamp()
     }
 
-    /// Proves that each ROM has four masks. Its type says so, and proofs learn it here.
+    /// Proves that each ROM has four mask options. The types imply this, and the call makes it known to proofs.
     fn have_four_masks(&self)
         ensures { (chip : ℕ) (mask : List LineMask) → masks_on self.now chip ≡ Some mask →
             length mask ≡ 4 }
@@ -434,7 +435,7 @@ impl BoardParts {
         }
     }
 
-    /// Proves that the lists have the lengths that their types say. Proofs learn it here.
+    /// Proves that the lists have the lengths that their types imply. The call makes these lengths known to proofs.
     fn are_sized(&self)
         ensures { IsSized self.now }
     {
@@ -447,7 +448,7 @@ impl BoardParts {
         self.have_four_masks();
     }
 
-    /// Returns what is wrong with the parts, or `None` if nothing is.
+    /// Returns the first error in the parts, or `None` if there is none.
     fn fault(&self) -> Option<BoardFault>
         ensures { result ≡ board_fault_of self.now }
     {
@@ -463,7 +464,7 @@ impl BoardParts {
         None
     }
 
-    /// Returns equal parts.
+    /// Returns a copy of the parts.
     fn copy(&self) -> BoardParts
         ensures { result ≡ self.now }
     {
@@ -481,7 +482,7 @@ impl BoardParts {
     }
 }
 
-/// Returns the same elements.
+/// Returns a copy of the list.
 fn copied<T: Copy + Default + Drop, const CAP: usize>(items: &ArrayVec<T, CAP>) -> ArrayVec<T, CAP>
     ensures { result.items ≡ items.now.items }
 {
@@ -492,7 +493,7 @@ fn copied<T: Copy + Default + Drop, const CAP: usize>(items: &ArrayVec<T, CAP>) 
     copy
 }
 
-/// A board: parts that have no fault. Contracts see it as its parts.
+/// A valid board: parts without errors. Contracts see it as its parts.
 #[derive(Debug, Drop)]
 pub struct Board {
     parts: BoardParts,
@@ -512,7 +513,7 @@ impl Model for Board {
 }
 
 impl Board {
-    /// Returns the board with nothing on it.
+    /// Returns the empty board: no chips, no keys and no lamps.
     pub fn empty() -> Board
         ensures { result ≡ empty_parts }
     {
@@ -527,7 +528,7 @@ impl Board {
         }
     }
 
-    /// Returns the board of these parts, or the fault in them.
+    /// Returns the board with these parts, or the first error in them.
     pub fn of(parts: BoardParts) -> Result<Board, BoardFault>
         ensures { MatchOption (board_fault_of parts) (result ≡ Ok parts)
             (λ fault. result ≡ Err fault) }
@@ -539,7 +540,7 @@ impl Board {
         }
     }
 
-    /// Returns the parts. They have no fault.
+    /// Returns the parts of the board. They have no errors.
     pub fn parts(&self) -> &BoardParts
         ensures same { result.now ≡ self.now }
         ensures valid { board_fault_of self.now ≡ None }
@@ -548,7 +549,7 @@ impl Board {
         &self.parts
     }
 
-    /// Returns an equal board.
+    /// Returns a copy of the board.
     pub fn copy(&self) -> Board
         ensures { result ≡ self.now }
     {
@@ -557,7 +558,8 @@ impl Board {
         }
     }
 
-    /// Returns the masks of the four port lines of a ROM, line 0 first, if the board has that ROM.
+    /// Returns the mask options of a ROM's four port lines, line 0 first, or `None` if the board does not have that
+    /// ROM.
     pub fn mask(&self, chip: u8) -> Option<[LineMask; 4]>
         ensures { result ≡ masks_on self.now chip }
     {
@@ -571,7 +573,7 @@ impl Board {
         self.parts.chains.len()
     }
 
-    /// Returns the number of keys on the board: at most `KEYS`.
+    /// Returns the number of keys on the board, at most `KEYS`.
     pub fn key_count(&self) -> usize
         ensures count { result ≡ key_count self.now }
         ensures few { result ≤ KEYS }
@@ -597,14 +599,14 @@ impl Board {
         self.parts.lamps.get(i).copied()
     }
 
-    /// Returns the number of chips in a bank.
+    /// Returns the number of chips in a bank, or 0 for a bank number above 7.
     pub fn bank_chips(&self, bank: u8) -> u8
         ensures { result ≡ slice_index self.now.banks bank }
     {
         self.parts.bank_chips(bank)
     }
 
-    /// Returns whether line `k`, 0 to 3, of a ROM is an input line of the board.
+    /// Returns true if line `k`, 0 to 3, of a ROM is an input line. Returns false if the board does not have that ROM.
     pub fn is_input(&self, chip: u8, k: u8) -> bool
         requires { k < 4 }
         ensures { result ≡ input_on self.now chip k }
@@ -615,14 +617,14 @@ impl Board {
         }
     }
 
-    /// Returns whether the board has a line.
+    /// Returns true if the line is on the board.
     pub fn has_line(&self, line: Line) -> bool
         ensures { result ≡ exists_on self.now line }
     {
         self.parts.has_line(line)
     }
 
-    /// Returns whether the board has the key of a row and a column.
+    /// Returns true if the board has a key at this row and column.
     pub fn has_key(&self, row: u8, column: u8) -> bool
         ensures { result ≡ has_key self.now row column }
     {

@@ -1,11 +1,11 @@
-//! Commands on a bench, and their replies.
+//! Commands to a bench, and its replies.
 
 use crate::board::Board;
 use crate::image::Image;
 use crate::stop::Stop;
 use mcs_nibble::{Addr, BankNo, Bit, Nibble, RegNo, StatusNo};
 
-/// A place of the machine, with its new value.
+/// A location that `poke` sets, with its new value.
 #[derive(Clone, Copy, Debug)]
 pub enum Place {
     /// The accumulator.
@@ -16,56 +16,57 @@ pub enum Place {
     Pc(Addr),
     /// An index register.
     Register(RegNo, Nibble),
-    /// The command register: the bank that is designated.
+    /// The command register: the number of the designated bank.
     Dcl(BankNo),
-    /// A byte of ROM.
+    /// A ROM byte, by its address.
     Rom(Addr, u8),
-    /// A RAM character: its bank and its SRC byte.
+    /// A RAM nibble: its bank, and the SRC byte that selects it.
     Ram(BankNo, u8, Nibble),
-    /// A status character: its bank, the upper nibble of its SRC byte, and its number.
+    /// A status character: its bank, the upper nibble of the SRC byte that selects its register, and its number.
     Status(BankNo, Nibble, StatusNo, Nibble),
 }
 
-/// A command on a bench.
+/// A command to a bench.
 #[derive(Debug, Drop)]
 pub enum Command {
-    /// Replaces the board. All keys are up, everything that a reset clears is cleared, and the bytes of ROMs that the
-    /// new board lacks become 0.
+    /// Replaces the board. Afterwards all keys are up, and everything that a reset clears is cleared. The bytes of ROMs
+    /// that are not on the new board become 0.
     Wire(Board),
-    /// Puts the bytes of an image into ROM.
+    /// Writes the bytes of an image to ROM.
     Load(Image),
-    /// Presses the key of a row and a column.
+    /// Presses the key at a row and a column.
     Press(u8, u8),
-    /// Releases the key of a row and a column.
+    /// Releases the key at a row and a column.
     Release(u8, u8),
-    /// Runs for the given number of instruction cycles, 1 to 100,000, or up to an earlier reason to stop.
+    /// Runs for a number of instruction cycles, 1 to 100,000, or until an earlier reason to stop.
     Run(u32),
-    /// Does one instruction, or the pending idle cycle.
+    /// Executes one instruction, or only the pending second cycle of the last one.
     Step,
-    /// Puts a value into a place. Nothing else changes, and no chain shifts.
+    /// Sets a location to a value. Nothing else changes, and no chain shifts.
     Poke(Place),
     /// Sets the level of the TEST pin.
     Test(Bit),
-    /// A power cycle: registers, RAM, port latches, SRC bytes and chains become 0. ROM, keys, TEST,
-    /// breakpoints and wiring stay.
+    /// Cycles the power. Registers, RAM, port latches, SRC bytes and chains become 0. ROM, keys, TEST, breakpoints,
+    /// watches and the board stay.
     Reset,
-    /// Makes an address a breakpoint.
+    /// Sets a breakpoint at an address.
     Break(Addr),
-    /// Removes an address from the breakpoints.
+    /// Clears the breakpoint at an address, if there is one.
     Unbreak(Addr),
-    /// Watches the RAM character that an SRC byte selects in a bank. A run stops when its value changes.
+    /// Watches the RAM nibble that an SRC byte selects in a bank. A run stops when the value of a watched RAM nibble
+    /// changes.
     Watch(BankNo, u8),
-    /// Stops watching that character.
+    /// Stops watching the RAM nibble that an SRC byte selects in a bank.
     Unwatch(BankNo, u8),
 }
 
 /// The reply to an accepted command.
 #[derive(Clone, Copy, Debug, PartialEq, Eq)]
 pub enum Reply {
-    /// The command is done, and there is nothing to report.
+    /// The command was executed. There is nothing else to report.
     Done,
     /// The number of bytes that were loaded, 0 to 4,096.
     Loaded(u16),
-    /// The number of instruction cycles that a run or a step did, and the reason that it stopped.
+    /// The number of instruction cycles that a run or a step executed, and the reason why it stopped.
     Ran { cycles: u32, stop: Stop },
 }

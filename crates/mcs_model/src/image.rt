@@ -1,4 +1,4 @@
-//! The bytes that a program puts into ROM.
+//! Program images: the bytes that a program puts into ROM.
 ghost use Rattle.std.specs.Prelude.{◌≡◌, ◌<◌, ◌≤◌, ◌∷◌, ◌++◌, [], All, IfOk, OnOk, OnErr, length};
 ghost use Rattle.mcs_model.specs.Images.{IsImage};
 
@@ -6,7 +6,7 @@ use mcs_nibble::Addr;
 use std::alloc::{AllocError, Global};
 use std::marker::Model;
 
-/// Bytes with their addresses, by rising address. No address occurs twice.
+/// Bytes with their addresses, in ascending order of address. No address occurs twice.
 #[derive(Debug, Drop)]
 pub struct Image {
     pairs: Vec<(Addr, u8)>,
@@ -24,7 +24,7 @@ impl Model for Image {
 }
 
 impl Image {
-    /// Returns an image without bytes, with room for a page of them. Fails if that memory is refused.
+    /// Returns an empty image with capacity for one page of bytes. Fails if the allocation fails.
     pub fn new(alloc: Global) -> Result<Image, AllocError>
         ensures { IfOk result (λ i. i ≡ []) }
     {
@@ -33,7 +33,8 @@ impl Image {
         })
     }
 
-    /// Adds a byte at an address above all others. If memory is refused, the image stays as it was.
+    /// Appends a byte. Its address must be above all addresses in the image. If an allocation fails, the image is
+    /// unchanged.
     pub fn push(&mut self, at: Addr, byte: u8) -> Result<(), AllocError>
         requires { All (λ p. p.0 < at) self.old }
         ensures added { OnOk result (self.new ≡ self.old ++ (at, byte) ∷ []) }
@@ -43,7 +44,7 @@ impl Image {
         Ok(())
     }
 
-    /// Returns the bytes with their addresses, by rising address.
+    /// Returns the bytes with their addresses, in ascending order of address. There are at most 4,096.
     pub fn pairs(&self) -> &[(Addr, u8)]
         ensures pairs { result.now ≡ self.now }
         ensures image { IsImage result.now }

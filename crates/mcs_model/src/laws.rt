@@ -1,25 +1,25 @@
-//! Laws of the definitions, each proved as the contract of a function that does nothing.
+//! Theorems about the definitions. Each is proved as the contract of a function that does nothing.
 ghost use Rattle.std.specs.Prelude.{[], ◌∷◌, ◌≡◌, true};
 ghost use Rattle.mcs_model.specs.declared.limits.TheConstants.{ACCEPTED_COMMANDS, BANKS, BANK_CHIPS, BREAKPOINTS, CHAINS, CHAIN_BITS, CHAIN_CHIPS, CHAIN_SOCKETS, INPUT_BYTES, KEYS, KEY_COLUMNS, KEY_ROWS, LAMPS, LINE_BYTES, LISTING_LINES, NAMES, NAME_BYTES, REPLAY_CYCLES, ROMS, RUN_CYCLES, TEXT_BYTES, WATCHES};
 ghost use Rattle.mcs_model.specs.declared.refusal_numbers.TheConstants.{BAD_COUNT, BAD_NUMBER, BAD_STATEMENT, BAD_TOML, BAD_VALUE, BREAKS_FULL, CLOSED, DAMAGED, DEVICE, DOUBLE_CHIP, DOUBLE_NAME, LINE_TOO_LONG, MISSING_KEY, NOT_ASCII, NOT_A_COMMAND, NOT_A_SESSION, NOT_BLANK, NO_END, NO_KEY, NO_MEMORY, NO_ROM, NO_SUCH_LINE, NO_SUCH_PLACE, OUT_OF_RANGE, OVERLAP, PAST_END, TEXT_TOO_LONG, TOO_MANY_NAMES, TOO_MANY_PARTS, UNKNOWN_KEY, UNKNOWN_NAME, WATCHES_FULL, WORN, WRONG_DIRECTION, WRONG_PAGE};
 ghost use Rattle.mcs_model.specs.Laws.{LeavesOut, RunsCompose, is_unambiguous, outside_codes};
 ghost use Rattle.mcs_model.specs.Table.{rows};
 
-/// Proves that the code table leaves out 18 codes, and has every other code in one row.
+/// Proves that 18 opcodes are in no row of the opcode table, and that each other opcode is in exactly one row.
 #[tactic(none)]
 pub fn codes_are_in_one_row()
     ensures outside { LeavesOut outside_codes }
     ensures at_most_one { is_unambiguous rows ≡ true }
 {}
 
-/// Proves that, if no breakpoint and no watch is set, two consecutive runs reach the state that one run of all their
-/// instruction cycles reaches.
+/// Proves that, without breakpoints and watches, two consecutive runs reach the same state as one run of all their
+/// instruction cycles.
 pub fn runs_compose()
     ensures { RunsCompose }
 {}
 
-/// Proves the numbers that refusals are reported as: of lines and texts, of boards, of programs, of commands, and of
-/// sessions and memory.
+/// Proves the values of the refusal numbers. There is one clause each for lines and texts, for boards, for programs,
+/// for commands, and for sessions and memory.
 pub fn refusal_numbers_are()
     ensures lines { NOT_A_COMMAND ∷ BAD_NUMBER ∷ LINE_TOO_LONG ∷ TEXT_TOO_LONG ∷ NOT_ASCII
         ∷ NO_END ∷ []
@@ -37,7 +37,7 @@ pub fn refusal_numbers_are()
         ≡ 50 ∷ 51 ∷ 53 ∷ 54 ∷ 55 ∷ 90 ∷ [] }
 {}
 
-/// Proves the limits of a board, of debugging, of runs, of a session, and of texts.
+/// Proves the values of the limits on boards, debugging, runs, sessions and texts.
 pub fn limits_are()
     ensures boards { ROMS ∷ BANKS ∷ BANK_CHIPS ∷ CHAINS ∷ CHAIN_CHIPS ∷ CHAIN_BITS ∷ CHAIN_SOCKETS
         ∷ KEY_ROWS ∷ KEY_COLUMNS ∷ KEYS ∷ LAMPS ∷ []

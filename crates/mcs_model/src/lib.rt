@@ -1,5 +1,5 @@
-//! The subject of a bench: its limits, its commands and their refusals, and the definitions in `specs/` that every
-//! crate above is proved against.
+//! The model of a bench: its limits, its commands and the reasons to reject them, and the definitions in `specs/`.
+//! Every crate that depends on this one is proved against these definitions.
 #![tactic(auto)]
 
 pub mod board;

@@ -1,76 +1,76 @@
 //! All limits of a bench and of its session.
 
-/// 4001 chips of a board, one for each page of addresses.
+/// The maximum number of 4001 chips on a board: one for each page of addresses.
 pub const ROMS: usize = 16;
 
-/// Banks of 4002 chips, one for each value of the command register.
+/// The number of RAM banks: one for each value of the command register.
 pub const BANKS: usize = 8;
 
-/// 4002 chips of a bank.
+/// The maximum number of 4002 chips in a bank.
 pub const BANK_CHIPS: u8 = 4;
 
-/// Chains of 4003 chips of a board.
+/// The maximum number of shift-register chains on a board.
 pub const CHAINS: usize = 4;
 
-/// 4003 chips of a chain.
+/// The maximum number of 4003 chips in a chain.
 pub const CHAIN_CHIPS: u8 = 8;
 
-/// Bits of a chain: ten of each chip.
+/// The maximum number of bits in a chain: ten for each chip.
 pub const CHAIN_BITS: u8 = 10 * CHAIN_CHIPS;
 
-/// Sockets for the bits of a chain.
+/// The capacity of a list that holds the bits of a chain: `CHAIN_BITS` as a `usize`.
 pub const CHAIN_SOCKETS: usize = CHAIN_BITS as usize;
 
-/// Rows of a key matrix.
+/// The maximum number of rows in a key matrix.
 pub const KEY_ROWS: u8 = 10;
 
-/// Columns of a key matrix.
+/// The maximum number of columns in a key matrix.
 pub const KEY_COLUMNS: usize = 8;
 
-/// Keys of a matrix.
+/// The maximum number of keys in a key matrix.
 pub const KEYS: usize = KEY_ROWS as usize * KEY_COLUMNS;
 
-/// Lamps of a board.
+/// The maximum number of lamps on a board.
 pub const LAMPS: usize = 64;
 
-/// Breakpoints that are set at one time.
+/// The maximum number of breakpoints that are set at one time.
 pub const BREAKPOINTS: usize = 32;
 
-/// RAM characters that can be watched at one time.
+/// The maximum number of RAM nibbles that are watched at one time.
 pub const WATCHES: usize = 8;
 
-/// Instruction cycles of one run.
+/// The maximum number of instruction cycles in one run.
 pub const RUN_CYCLES: u32 = 100_000;
 
-/// Instruction cycles that replaying a session's log can take.
+/// The maximum number of instruction cycles for replaying the log of a session.
 pub const REPLAY_CYCLES: u32 = 4_000_000;
 
-/// Accepted commands of one session.
+/// The maximum number of commands that one session accepts.
 pub const ACCEPTED_COMMANDS: u32 = 4_294_967_295;
 
-/// Bytes of a line, without its end.
+/// The maximum number of bytes in a line, without its line end.
 pub const LINE_BYTES: usize = 255;
 
-/// Bytes of a text, including its line feeds.
+/// The maximum number of bytes in a text, including its line feeds.
 pub const TEXT_BYTES: usize = 16_384;
 
-/// Lines of one listing.
+/// The maximum number of lines in one listing.
 pub const LISTING_LINES: u32 = 256;
 
-/// Names that one source text defines.
+/// The maximum number of names that one source text defines.
 pub const NAMES: usize = 512;
 
-/// Bytes of a name.
+/// The maximum number of bytes in a name.
 pub const NAME_BYTES: usize = 16;
 
-/// Bytes that one run of the shell reads.
+/// The maximum number of bytes that one run of the shell reads.
 pub const INPUT_BYTES: usize = 16_777_216;
 
-/// Bytes of a session's state in its file: the longest snapshot.
+/// The maximum number of bytes in a snapshot, which stores the state of a session in its file.
 pub const SNAPSHOT_BYTES: usize = 16_380;
 
-/// Bytes of one command in the log of a session's file: the longest record.
+/// The maximum number of bytes in a record, which stores one command in the log of a session file.
 pub const RECORD_BYTES: usize = 8_192;
 
-/// Bytes of the log of a session's file.
+/// The number of bytes in the log of a session file.
 pub const LOG_BYTES: usize = 65_536;

@@ -1,8 +1,8 @@
-//! Numbers as command lines and source texts write them.
+//! Numbers in command lines and source texts.
 ghost use Rattle.std.specs.Prelude.{◌≡◌, ◌⊎◌, min, option_map};
 ghost use Rattle.mcs_model.specs.Numerals.{digits_in, number_written, number_up_to};
 
-/// The least number that `number` does not distinguish from larger ones.
+/// The largest result of `number`: 2^32, which also represents all larger numbers.
 pub const LARGE: u64 = 4_294_967_296;
 
 fn digits(ds: &[u8], base: u32) -> Option<u64>
@@ -20,10 +20,10 @@ fn digits(ds: &[u8], base: u32) -> Option<u64>
     Some(value)
 }
 
-/// Returns the number that a word writes: decimal digits, or `0x` and hexadecimal digits of either case.
+/// Parses a word as a number: decimal digits, or `0x` and hexadecimal digits of either case. Returns `None` if the word
+/// is not a number.
 ///
-/// The word can have any length. For every number from 4,294,967,296 on it returns 4,294,967,296. It returns `None` if
-/// the word is not a number.
+/// The word can have any length. For every number from 4,294,967,296 on, the result is 4,294,967,296.
 pub fn number(word: &[u8]) -> Option<u64>
     ensures { result ≡ option_map (λ n. min n LARGE) (number_written word.now) }
 {
@@ -33,8 +33,8 @@ pub fn number(word: &[u8]) -> Option<u64>
     }
 }
 
-/// Returns the number that a word writes, if it is at most `most`. Returns `None` if the word is not a number, or if
-/// its number is greater.
+/// Parses a word as a number from 0 to `most`. Returns `None` if the word is not a number, or if the number is greater
+/// than `most`.
 pub fn number_within(word: &[u8], most: u32) -> Option<u32>
     ensures { result ≡ number_up_to most word.now }
 {

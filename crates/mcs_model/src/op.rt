@@ -2,31 +2,31 @@
 
 use mcs_nibble::{Nibble, PairNo, RegNo};
 
-/// An instruction with its operands, under the name that Intel's manual gives it.
-/// A byte beside another operand is the second word: a value, or the lower eight bits of an address.
+/// An instruction with its operands, under its name in Intel's manual.
+/// In a variant with two operands, the `u8` is the second word: a value, or the lower eight bits of an address.
 /// Source: Intel MCS-4 Users Manual, instruction set.
 #[derive(Clone, Copy)]
 pub enum Op {
     /// No operation.
     Nop,
-    /// Jump on condition: the condition, and the word to jump to on the page of the next address.
+    /// Jump on condition: the condition, and the target word on the page of the address after the instruction.
     Jcn(Nibble, u8),
-    /// Fetch immediate: the pair, and its value.
+    /// Fetch immediate: the register pair, and its new value.
     Fim(PairNo, u8),
-    /// Send register control: the pair that is sent out.
+    /// Send register control: the register pair that is sent out.
     Src(PairNo),
-    /// Fetch indirect: the pair that is loaded from the program memory.
+    /// Fetch indirect: the register pair that is loaded from program memory.
     Fin(PairNo),
-    /// Jump indirect: the pair that holds the word to jump to.
+    /// Jump indirect: the register pair that holds the target word.
     Jin(PairNo),
-    /// Jump unconditional: the page and the word.
+    /// Jump unconditional: the target page and the target word.
     Jun(Nibble, u8),
-    /// Jump to subroutine: the page and the word.
+    /// Jump to subroutine: the target page and the target word.
     Jms(Nibble, u8),
     /// Increment a register.
     Inc(RegNo),
-    /// Increment a register, and jump if it is not 0: the register, and the word to jump to on the page of the next
-    /// address.
+    /// Increment a register, and jump if it is then not 0: the register, and the target word on the page of the address
+    /// after the instruction.
     Isz(RegNo, u8),
     /// Add a register to the accumulator with carry.
     Add(RegNo),
@@ -36,41 +36,41 @@ pub enum Op {
     Ld(RegNo),
     /// Exchange a register and the accumulator.
     Xch(RegNo),
-    /// Branch back from a subroutine, with that value in the accumulator.
+    /// Branch back from a subroutine, and load a value into the accumulator.
     Bbl(Nibble),
     /// Load a value into the accumulator.
     Ldm(Nibble),
-    /// Write the accumulator into the selected RAM character.
+    /// Write the accumulator to the selected RAM nibble.
     Wrm,
     /// Write the accumulator to the port of the selected RAM chip.
     Wmp,
     /// Write the accumulator to the port of the selected ROM.
     Wrr,
-    /// Write the accumulator into status character 0 of the selected register.
+    /// Write the accumulator to status character 0 of the selected register.
     Wr0,
-    /// Write the accumulator into status character 1 of the selected register.
+    /// Write the accumulator to status character 1 of the selected register.
     Wr1,
-    /// Write the accumulator into status character 2 of the selected register.
+    /// Write the accumulator to status character 2 of the selected register.
     Wr2,
-    /// Write the accumulator into status character 3 of the selected register.
+    /// Write the accumulator to status character 3 of the selected register.
     Wr3,
-    /// Subtract the selected RAM character from the accumulator with borrow.
+    /// Subtract the selected RAM nibble from the accumulator with borrow.
     Sbm,
-    /// Read the selected RAM character.
+    /// Read the selected RAM nibble into the accumulator.
     Rdm,
-    /// Read the port of the selected ROM.
+    /// Read the port of the selected ROM into the accumulator.
     Rdr,
-    /// Add the selected RAM character to the accumulator with carry.
+    /// Add the selected RAM nibble to the accumulator with carry.
     Adm,
-    /// Read status character 0 of the selected register.
+    /// Read status character 0 of the selected register into the accumulator.
     Rd0,
-    /// Read status character 1 of the selected register.
+    /// Read status character 1 of the selected register into the accumulator.
     Rd1,
-    /// Read status character 2 of the selected register.
+    /// Read status character 2 of the selected register into the accumulator.
     Rd2,
-    /// Read status character 3 of the selected register.
+    /// Read status character 3 of the selected register into the accumulator.
     Rd3,
-    /// Clear accumulator and carry.
+    /// Clear the accumulator and the carry.
     Clb,
     /// Clear the carry.
     Clc,
@@ -80,21 +80,21 @@ pub enum Op {
     Cmc,
     /// Complement the accumulator.
     Cma,
-    /// Rotate accumulator and carry left.
+    /// Rotate the accumulator and the carry left.
     Ral,
-    /// Rotate accumulator and carry right.
+    /// Rotate the accumulator and the carry right.
     Rar,
-    /// Transmit the carry to the accumulator, and clear it.
+    /// Transmit carry: move the carry into the accumulator, and clear the carry.
     Tcc,
     /// Decrement the accumulator.
     Dac,
-    /// Transfer carry subtract: 9 or 10 into the accumulator, and clear the carry.
+    /// Transfer carry subtract: load 9 plus the carry into the accumulator, and clear the carry.
     Tcs,
     /// Set the carry.
     Stc,
     /// Decimal adjust the accumulator.
     Daa,
-    /// Keyboard process: from one of four lines to its number.
+    /// Keyboard process: convert the accumulator from one-out-of-four code to the number of the line.
     Kbp,
     /// Designate command line: select the RAM bank.
     Dcl,

@@ -1,22 +1,22 @@
-//! Queries of a bench.
+//! Queries about the state of a bench.
 
 use mcs_nibble::BankNo;
 
-/// A query of the state of a bench. It changes nothing.
+/// A query about the state of a bench. It does not change the state.
 #[derive(Clone, Copy, Debug, PartialEq, Eq)]
 pub enum Query {
-    /// The lamps of the board, in order.
+    /// The state of each lamp, in the order of the board.
     Lamps,
     /// The registers of the processor, and the TEST pin.
     Regs,
-    /// The RAM of a bank.
+    /// The RAM contents of a bank.
     Ram(BankNo),
     /// The breakpoints.
     Breaks,
-    /// The watched RAM characters.
+    /// The watched RAM nibbles.
     Watches,
     /// The number of accepted commands.
     Seq,
-    /// Everything but the board and the contents of ROM and RAM, in one line.
+    /// The whole state in one line, except the board and the contents of ROM and RAM.
     State,
 }

@@ -1,9 +1,9 @@
-//! The numbers that refusals are reported as. Each is in this one place.
+//! The refusal numbers that the shell reports. Each number is defined only here.
 
-/// An unknown first word, a wrong number of words, or a place word of no known form.
+/// An unknown first word, a wrong number of words, or a location of unknown form.
 pub const NOT_A_COMMAND: u8 = 10;
 
-/// A word that must be a number and is not, or a number that is out of its range.
+/// A word that must be a number but is not, or a number that is out of range.
 pub const BAD_NUMBER: u8 = 11;
 
 /// A line of more than 255 bytes.
@@ -12,95 +12,95 @@ pub const LINE_TOO_LONG: u8 = 12;
 /// A text of more than 16,384 bytes.
 pub const TEXT_TOO_LONG: u8 = 13;
 
-/// A byte in a line that is neither a tab nor a printing character of ASCII.
+/// A byte in a line that is neither a tab nor a printable ASCII character.
 pub const NOT_ASCII: u8 = 14;
 
-/// Input that ends inside a text.
+/// Input that ends within a text.
 pub const NO_END: u8 = 15;
 
 /// A board text that is not TOML.
 pub const BAD_TOML: u8 = 20;
 
-/// A board text with a key that no board has.
+/// A board text with an unknown key.
 pub const UNKNOWN_KEY: u8 = 21;
 
-/// A board text that lacks a key.
+/// A board text without a required key.
 pub const MISSING_KEY: u8 = 22;
 
-/// A value of a board that is of another kind, of another form, or out of its range.
+/// A value in a board that has the wrong type or the wrong form, or is out of range.
 pub const BAD_VALUE: u8 = 23;
 
-/// Two ROMs of one number, or two counts of chips for one bank.
+/// Two ROMs with the same number, or two chip counts for the same bank.
 pub const DOUBLE_CHIP: u8 = 24;
 
-/// A line, a chain or a row's bit that the board lacks.
+/// A line, a chain or the chain bit of a key row that is not on the board.
 pub const NO_SUCH_LINE: u8 = 25;
 
-/// A clock or data line that is no output line, a column that is no input line, or a lamp at an input line.
+/// A clock or data line that is not an output line, a column that is not an input line, or a lamp at an input line.
 pub const WRONG_DIRECTION: u8 = 26;
 
 /// More parts of one kind than a board can have.
 pub const TOO_MANY_PARTS: u8 = 27;
 
-/// A line of a source text that has no form.
+/// A line of a source text that is not a statement.
 pub const BAD_STATEMENT: u8 = 30;
 
-/// A name that an earlier line of the source text defines.
+/// A name that an earlier line of the source text already defines.
 pub const DOUBLE_NAME: u8 = 31;
 
 /// A name that no line of the source text defines.
 pub const UNKNOWN_NAME: u8 = 32;
 
-/// A value of a source text that is out of its range.
+/// A value in a source text that is out of range.
 pub const OUT_OF_RANGE: u8 = 33;
 
-/// An address that is off the page that its instruction reaches.
+/// A target address outside the page that the instruction can reach.
 pub const WRONG_PAGE: u8 = 34;
 
-/// An address that an earlier line of the source text spells.
+/// An address that an earlier line of the source text already fills.
 pub const OVERLAP: u8 = 35;
 
-/// A label at 4096, or a byte at 4096 or later.
+/// A label at address 4096, or a byte at address 4096 or above.
 pub const PAST_END: u8 = 36;
 
-/// More names than a source text may define.
+/// More names than a source text can define.
 pub const TOO_MANY_NAMES: u8 = 37;
 
-/// A key that the board lacks.
+/// A key that is not on the board.
 pub const NO_KEY: u8 = 41;
 
-/// An address in a ROM that the board lacks.
+/// An address in a ROM that is not on the board.
 pub const NO_ROM: u8 = 42;
 
-/// A place in a RAM chip that the board lacks.
+/// A location in a RAM chip that is not on the board.
 pub const NO_SUCH_PLACE: u8 = 43;
 
-/// A run of no cycle, or of too many.
+/// A run of 0 cycles, or of more than 100,000 cycles.
 pub const BAD_COUNT: u8 = 44;
 
-/// All breakpoints are set.
+/// A new breakpoint when the maximum number is already set.
 pub const BREAKS_FULL: u8 = 45;
 
-/// A session that has accepted all the commands that it can count.
+/// A session that has accepted the maximum number of commands.
 pub const WORN: u8 = 46;
 
-/// All watches are set.
+/// A new watch when the maximum number is already set.
 pub const WATCHES_FULL: u8 = 47;
 
-/// A file whose size or name is not that of a session.
+/// A file that is not a session file: its size, or the name inside it, is wrong.
 pub const NOT_A_SESSION: u8 = 50;
 
-/// A session file that represents no state.
+/// A damaged session file: it represents no state.
 pub const DAMAGED: u8 = 51;
 
-/// A call of the device failed.
+/// A device call that failed: an I/O error.
 pub const DEVICE: u8 = 53;
 
-/// An earlier call of the device failed, and the session is closed.
+/// A session that is closed because an earlier device call failed.
 pub const CLOSED: u8 = 54;
 
-/// A disk that is not blank, in place of one for a new session.
+/// A disk that is not blank, so no session can be created on it.
 pub const NOT_BLANK: u8 = 55;
 
-/// Memory was refused.
+/// A failed memory allocation.
 pub const NO_MEMORY: u8 = 90;

@@ -1,38 +1,38 @@
-//! The refusals of a bench, and their numbers.
+//! The reasons why a bench rejects commands, and their numbers.
 ghost use Rattle.std.specs.Prelude.{◌≡◌};
 ghost use Rattle.mcs_model.specs.RefusalNumbers.{bench_fault_number};
 
 use crate::refusal_numbers;
 use thiserror::Error;
 
-/// The reason that a bench rejects a command. Nothing has changed then.
+/// The reason why a bench rejects a command. A rejected command changes nothing.
 #[derive(Clone, Copy, Debug, PartialEq, Eq, Error)]
 pub enum BenchFault {
     /// The board has no such key.
     #[error("the board has no such key")]
     NoKey,
-    /// The address is in a ROM that the board lacks.
+    /// The address is in a ROM that is not on the board.
     #[error("the address is in a ROM that the board lacks")]
     NoRom,
-    /// The place is in a RAM chip that the board lacks.
+    /// The location is in a RAM chip that is not on the board.
     #[error("the place is in a RAM chip that the board lacks")]
     NoSuchPlace,
-    /// A run of no cycle, or of too many.
+    /// The run has 0 cycles, or more than 100,000.
     #[error("a run has 1 to 100,000 cycles")]
     BadCount,
-    /// All breakpoints are set.
+    /// The maximum number of breakpoints is already set.
     #[error("all breakpoints are set")]
     BreaksFull,
-    /// The session has accepted all the commands that it can count.
+    /// The session has already accepted the maximum number of commands.
     #[error("the session has accepted its last command")]
     Worn,
-    /// All watches are set.
+    /// The maximum number of watches is already set.
     #[error("all watches are set")]
     WatchesFull,
 }
 
 impl BenchFault {
-    /// Returns the number that the refusal is reported as.
+    /// Returns the refusal number of this error.
     pub fn number(self) -> u8
         ensures { result ≡ bench_fault_number self }
     {

@@ -16,17 +16,17 @@ pub struct Regs {
     pub r: [Nibble; 16],
     /// The program counter.
     pub pc: Addr,
-    /// The three return addresses, the one that BBL takes first. That they are one list is this
+    /// The three return addresses. The first is the address to which BBL returns. That they are one list is this
     /// project's own choice.
     pub ret: [Addr; 3],
-    /// The command register, 0 to 7. That its value names the RAM bank is this project's own choice.
+    /// The command register, 0 to 7. That its value is the number of the RAM bank is this project's own choice.
     pub dcl: u8,
-    /// The number of idle instruction cycles that the last instruction still takes: 0 or 1.
+    /// The number of pending second cycles of the last instruction: 0 or 1.
     pub owed: u8,
 }
 
 impl Regs {
-    /// Returns the registers after power-on: all are 0.
+    /// Returns the power-on state: all registers are 0.
     pub fn new() -> Regs
         ensures { result ≡ new_regs }
     {
@@ -41,21 +41,21 @@ impl Regs {
         }
     }
 
-    /// Returns the value of a register.
+    /// Returns the value of an index register.
     pub fn register(&self, r: RegNo) -> Nibble
         ensures { result ≡ register_of self.now r }
     {
         self.r[usize::from(r.get())]
     }
 
-    /// Sets a register.
+    /// Sets an index register.
     pub fn set_register(&mut self, r: RegNo, n: Nibble)
         ensures { self.new ≡ with_register self.old r n }
     {
         self.r[usize::from(r.get())] = n;
     }
 
-    /// Returns the value of a pair. The even register is the upper nibble.
+    /// Returns the value of a register pair. The even register is the upper nibble.
     pub fn pair(&self, p: PairNo) -> u8
         ensures { result ≡ pair_of self.now p }
     {
@@ -63,7 +63,7 @@ impl Regs {
         self.r[k].get() * 16 + self.r[k + 1].get()
     }
 
-    /// Sets both registers of a pair, the even one to the upper nibble.
+    /// Sets both registers of a pair from a byte. The even register gets the upper nibble.
     pub fn set_pair(&mut self, p: PairNo, byte: u8)
         ensures { self.new ≡ with_pair self.old p byte }
     {

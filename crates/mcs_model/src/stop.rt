@@ -1,14 +1,14 @@
-//! The reasons that a run stops.
+//! The reasons why a run stops.
 
-/// The reason that a run or a step stopped.
+/// The reason why a run or a step stopped.
 #[derive(Clone, Copy, Debug, PartialEq, Eq)]
 pub enum Stop {
-    /// The code at the counter is outside the table.
+    /// The opcode at the program counter is outside the opcode table.
     Outside,
-    /// The counter is a breakpoint.
+    /// The program counter is at a breakpoint.
     Breakpoint,
-    /// A watched RAM character has changed.
+    /// The value of a watched RAM nibble has changed.
     Watched,
-    /// All its instruction cycles are done.
+    /// All instruction cycles of the run or the step are done.
     Ended,
 }

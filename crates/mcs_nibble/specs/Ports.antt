@@ -1,26 +1,26 @@
--- The port of a 4001, line by line: what its latch holds and what the processor reads. (4001 data
--- sheet: the mask makes a line an input or an output; WRR writes the latch, RDR reads the input
--- lines. Our own choice: positive logic, a latch bit of 0 at each input line, and that an output
--- line reads the constant of its mask.)
+-- The port of a 4001, line by line: the contents of its latch, and the value that the processor
+-- reads. (4001 data sheet: the mask makes each line an input or an output. WRR writes the latch,
+-- and RDR reads the input lines. Our own choice: positive logic; the latch bit of an input line is
+-- 0; an output line reads as the constant of its mask.)
 use Rattle.std.specs.Prelude.{ℕ, Bool, true, false, ◌==◌, List, Option, Some, None, slice_index_or, if◌then◌else◌}
 use Rattle.mcs_nibble.specs.Bits.{bit_of, nibble_of}
 use Rattle.mcs_nibble.specs.declared.lines.LineMask.{LineMask}
 use Rattle.mcs_nibble.specs.declared.lines.LineMask.TheVariants.{Input, Zero, One}
 
--- true if a mask makes its line an input
+-- true if the mask makes the line an input
 abbrev pub is_input : LineMask → Bool
 is_input Input = true
 is_input Zero = false
 is_input One = false
 
--- the character of a port line in a board text and in a session file: `i` for an input line, `0`
--- and `1` for an output line that is read as 0 and as 1 (our own choice)
+-- The character for a port line in board texts and session files (our own choice). It is `i` for an
+-- input line, and `0` or `1` for an output line that reads as 0 or 1.
 abbrev pub mask_character : LineMask → ℕ
 mask_character Input = 105
 mask_character Zero = 48
 mask_character One = 49
 
--- the mask that a character stands for
+-- the mask option for a character, or none if the character is not `i`, `0` or `1`
 abbrev pub mask_of : ℕ → Option LineMask
 mask_of c =
     if c == 105 then Some Input
@@ -28,23 +28,23 @@ mask_of c =
     else if c == 49 then Some One
     else None
 
--- the mask of line k, 0 to 3, of a ROM's four masks, line 0 first (board texts and session files
--- write line 3 first)
+-- The mask option of line k, 0 to 3, in a ROM's list of four mask options. The list begins with
+-- line 0; board texts and session files begin with line 3.
 abbrev pub mask_at : List LineMask → ℕ → LineMask
 mask_at mask k = slice_index_or mask k Input
 
--- bit k of the latch after n is written: bit k of n on an output line, 0 on an input line
+-- bit k of the latch after n is written: bit k of n for an output line, 0 for an input line
 abbrev pub latch_bit : List LineMask → ℕ → ℕ → ℕ
 latch_bit mask n k = if is_input (mask_at mask k) then 0 else bit_of n k
 
--- the latch after n is written
+-- the contents of the latch after n is written
 unfoldable pub latch_value : List LineMask → ℕ → ℕ
 latch_value mask n = nibble_of (latch_bit mask n)
 
--- bit k of the value that is read; `inputs` gives the level of each input line
+-- bit k of the value that the processor reads; `inputs` gives the level of each input line
 abbrev pub read_bit : (ℕ → ℕ) → List LineMask → ℕ → ℕ
 read_bit inputs mask k = elim (mask_at mask k) [ Input ↦ inputs k | Zero ↦ 0 | One ↦ 1 ]
 
--- the value that is read at the port
+-- the value that the processor reads at the port; `inputs` gives the level of each input line
 unfoldable pub read_lines : (ℕ → ℕ) → List LineMask → ℕ
 read_lines inputs mask = nibble_of (read_bit inputs mask)

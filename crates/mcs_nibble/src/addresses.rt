@@ -1,11 +1,11 @@
-//! Addresses of the program memory.
+//! Program memory addresses.
 ghost use Rattle.std.specs.Prelude.{◌≡◌, ℕ, ◌+◌, ◌*◌, ◌/◌, ◌%◌, ◌<◌, ◌↔◌, IsSome, IfSome};
 
 use crate::nibbles::Nibble;
 use std::marker::Model;
 
-/// An address of the program memory, 0 to 4095. Its upper four bits are its page, which is also the
-/// number of the ROM; the lower eight select the word.
+/// A program memory address, 0 to 4095. The upper four bits are the page, and also the number of the ROM chip. The
+/// lower eight bits select a word on that page.
 #[derive(Clone, Copy, Debug, Default, PartialEq, Eq, PartialOrd, Ord)]
 pub struct Addr {
     value: u16,
@@ -28,7 +28,7 @@ impl Addr {
     /// The last address, 4095.
     pub const MAX: Addr = Addr { value: 4095 };
 
-    /// Returns the address of a number, or `None` if it is above 4095.
+    /// Returns `value` as an address, or `None` if `value` is above 4095.
     pub fn of(value: u16) -> Option<Addr>
         ensures in_range { IsSome result ↔ (value < 4096) }
         ensures value { IfSome result (λ a. a ≡ value) }
@@ -40,7 +40,7 @@ impl Addr {
         }
     }
 
-    /// Returns the address of word `low` on a page.
+    /// Returns the address of word `low` on page `page`.
     pub fn on_page(page: Nibble, low: u8) -> Addr
         ensures { result ≡ 256 * page + low }
     {
@@ -49,7 +49,7 @@ impl Addr {
         }
     }
 
-    /// Returns the number, 0 to 4095.
+    /// Returns the address as a number, 0 to 4095.
     pub fn get(self) -> u16
         ensures value { result ≡ self }
         ensures in_range { result < 4096 }
@@ -57,7 +57,7 @@ impl Addr {
         self.value
     }
 
-    /// Returns the page, which is the number of the ROM that the address selects.
+    /// Returns the page, 0 to 15. It is also the number of the ROM that the address selects.
     pub fn page(self) -> Nibble
         ensures page { result ≡ self / 256 }
         ensures in_range { self / 256 < 16 }
@@ -65,14 +65,14 @@ impl Addr {
         Nibble::low_of((self.value / 256) as u8)
     }
 
-    /// Returns the word on the page.
+    /// Returns the word on the page: the lower eight bits of the address.
     pub fn low(self) -> u8
         ensures { result ≡ self % 256 }
     {
         (self.value % 256) as u8
     }
 
-    /// Returns the address `n` words later. The first address follows the last one.
+    /// Returns the address `n` words later. Addresses wrap around from 4095 to 0.
     pub fn plus(self, n: u16) -> Addr
         ensures { result ≡ (self + n) % 4096 }
     {

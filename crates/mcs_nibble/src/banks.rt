@@ -1,9 +1,9 @@
-//! The numbers of RAM banks, and of status characters.
+//! RAM bank numbers and status character numbers.
 ghost use Rattle.std.specs.Prelude.{◌≡◌, ℕ, ◌<◌, ◌↔◌, IsSome, IfSome};
 
 use std::marker::Model;
 
-/// The number of a RAM bank, 0 to 7: the code that DCL puts into the command register.
+/// A RAM bank number, 0 to 7: the value that DCL loads into the command register.
 #[derive(Clone, Copy, Debug, Default, PartialEq, Eq)]
 pub struct BankNo {
     value: u8,
@@ -23,7 +23,7 @@ impl BankNo {
     /// Bank 0.
     pub const ZERO: BankNo = BankNo { value: 0 };
 
-    /// Returns the bank of a number, or `None` if it is above 7.
+    /// Returns `value` as a bank number, or `None` if `value` is above 7.
     pub fn of(value: u8) -> Option<BankNo>
         ensures in_range { IsSome result ↔ (value < 8) }
         ensures value { IfSome result (λ n. n ≡ value) }
@@ -35,7 +35,7 @@ impl BankNo {
         }
     }
 
-    /// Returns the number, 0 to 7.
+    /// Returns the bank number, 0 to 7.
     pub fn get(self) -> u8
         ensures value { result ≡ self }
         ensures in_range { result < 8 }
@@ -44,7 +44,7 @@ impl BankNo {
     }
 }
 
-/// The number of a status character of a RAM register, 0 to 3.
+/// The number of a status character within a RAM register, 0 to 3.
 #[derive(Clone, Copy, Debug, Default, PartialEq, Eq)]
 pub struct StatusNo {
     value: u8,
@@ -64,7 +64,7 @@ impl StatusNo {
     /// Status character 0.
     pub const ZERO: StatusNo = StatusNo { value: 0 };
 
-    /// Returns the status character of a number, or `None` if it is above 3.
+    /// Returns `value` as a status character number, or `None` if `value` is above 3.
     pub fn of(value: u8) -> Option<StatusNo>
         ensures in_range { IsSome result ↔ (value < 4) }
         ensures value { IfSome result (λ n. n ≡ value) }
@@ -76,7 +76,7 @@ impl StatusNo {
         }
     }
 
-    /// Returns the number, 0 to 3.
+    /// Returns the status character number, 0 to 3.
     pub fn get(self) -> u8
         ensures value { result ≡ self }
         ensures in_range { result < 4 }

@@ -1,9 +1,9 @@
-//! Bits.
+//! Single bits.
 ghost use Rattle.std.specs.Prelude.{◌≡◌, ℕ, ◌-◌, ◌%◌, ◌<◌, ◌↔◌, IsSome, IfSome, if◌then◌else◌};
 
 use std::marker::Model;
 
-/// One bit, 0 or 1: a carry, or the level of a line.
+/// One bit, 0 or 1: a carry or the level of a line.
 #[derive(Clone, Copy, Debug, Default, PartialEq, Eq)]
 pub struct Bit {
     value: u8,
@@ -26,7 +26,7 @@ impl Bit {
     /// The bit 1.
     pub const ONE: Bit = Bit { value: 1 };
 
-    /// Returns the bit of a number, or `None` if it is above 1.
+    /// Returns `value` as a bit, or `None` if `value` is above 1.
     pub fn of(value: u8) -> Option<Bit>
         ensures in_range { IsSome result ↔ (value < 2) }
         ensures value { IfSome result (λ b. b ≡ value) }
@@ -34,7 +34,7 @@ impl Bit {
         if value < 2 { Some(Bit { value }) } else { None }
     }
 
-    /// Returns 1 if the fact holds, and 0 otherwise.
+    /// Returns 1 if `holds` is true, and 0 otherwise.
     pub fn when(holds: bool) -> Bit
         ensures { result ≡ (if holds then 1 else 0) }
     {
@@ -43,14 +43,14 @@ impl Bit {
         }
     }
 
-    /// Returns the lowest bit of a byte.
+    /// Returns the least significant bit of a byte.
     pub fn low_of(byte: u8) -> Bit
         ensures { result ≡ byte % 2 }
     {
         Bit { value: byte % 2 }
     }
 
-    /// Returns the number, 0 or 1.
+    /// Returns the bit as a number, 0 or 1.
     pub fn get(self) -> u8
         ensures value { result ≡ self }
         ensures in_range { result < 2 }
@@ -58,7 +58,7 @@ impl Bit {
         self.value
     }
 
-    /// Returns the other bit.
+    /// Returns the inverted bit.
     pub fn complement(self) -> Bit
         ensures { result ≡ 1 - self }
     {

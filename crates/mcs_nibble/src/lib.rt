@@ -1,9 +1,9 @@
 //! The bounded numbers of the MCS-4: bits, nibbles, addresses, and the numbers of registers, register pairs, RAM banks
-//! and status characters. The masks of ROM port lines are here too.
+//! and status characters. The mask options of ROM port lines are here too.
 //!
-//! Each type holds a number that cannot leave its range, and contracts see it as that number. Sums and differences are
-//! those of the 4004: modulo 16, with the carry as a bit of its own. Addresses are taken modulo 4096. Source: Intel
-//! MCS-4 Users Manual, the description of the 4004.
+//! Each type holds a number that is always in its range, and contracts see a value of the type as that number. Nibble
+//! addition and subtraction follow the 4004: the result is modulo 16, and the carry is a separate bit. Addresses are
+//! modulo 4096. Source: Intel MCS-4 Users Manual, description of the 4004.
 #![tactic(auto)]
 
 mod addresses;

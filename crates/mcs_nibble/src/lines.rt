@@ -1,24 +1,24 @@
-//! The port lines of a 4001.
+//! The port lines of a 4001 ROM.
 ghost use Rattle.std.specs.Prelude.{◌≡◌};
 ghost use Rattle.mcs_nibble.specs.Ports.{mask_character, mask_of};
 
-/// The kind of a ROM's port line, by the mask that the chip was made with. Source: the 4001 in the Intel MCS-4 Users
-/// Manual, for input and output by the mask. That an output line reads a constant of the mask is this project's own
-/// choice.
+/// The mask option of a ROM port line, fixed when the chip is made. Source: Intel MCS-4 Users Manual, 4001: the mask
+/// makes each line an input or an output. As this project's own choice, the mask also fixes the constant that an output
+/// line reads as.
 #[derive(Clone, Copy, Debug, PartialEq, Eq)]
 pub enum LineMask {
-    /// An input line: its level is read, and nothing is held on it.
+    /// An input line. A read gives its level, and its latch bit is 0.
     Input,
 
-    /// An output line that is read as 0.
+    /// An output line that reads as 0.
     Zero,
 
-    /// An output line that is read as 1.
+    /// An output line that reads as 1.
     One,
 }
 
 impl LineMask {
-    /// Returns the character of the line in a board text and in a session file: `i`, `0` or `1`.
+    /// Returns the character for the line in board texts and session files: `i`, `0` or `1`.
     pub fn character(self) -> u8
         ensures { result ≡ mask_character self }
     {
@@ -29,7 +29,7 @@ impl LineMask {
         }
     }
 
-    /// Returns the mask that a character stands for, or `None` for a character other than `i`, `0` and `1`.
+    /// Returns the mask option for a character, or `None` if the character is not `i`, `0` or `1`.
     pub fn of_character(character: u8) -> Option<LineMask>
         ensures { result ≡ mask_of character }
     {

@@ -1,11 +1,11 @@
-//! Nibbles.
+//! Four-bit numbers, and the 4004's arithmetic on them.
 ghost use Rattle.std.specs.Prelude.{◌≡◌, ℕ, ◌+◌, ◌-◌, ◌*◌, ◌/◌, ◌%◌, ◌<◌, ◌↔◌, IsSome, IfSome};
 ghost use Rattle.mcs_nibble.specs.Bits.{bit_of};
 
 use crate::bits::Bit;
 use std::marker::Model;
 
-/// Four bits, 0 to 15: the contents of the accumulator, a register, a RAM character or a port.
+/// A four-bit number, 0 to 15: the contents of the accumulator, a register, a RAM location or a port.
 #[derive(Clone, Copy, Debug, Default, PartialEq, Eq)]
 pub struct Nibble {
     value: u8,
@@ -28,10 +28,10 @@ impl Nibble {
     /// The nibble 1.
     pub const ONE: Nibble = Nibble { value: 1 };
 
-    /// The greatest nibble, 15.
+    /// The largest nibble, 15.
     pub const MAX: Nibble = Nibble { value: 15 };
 
-    /// Returns the nibble of a number, or `None` if it is above 15.
+    /// Returns `value` as a nibble, or `None` if `value` is above 15.
     pub fn of(value: u8) -> Option<Nibble>
         ensures in_range { IsSome result ↔ (value < 16) }
         ensures value { IfSome result (λ n. n ≡ value) }
@@ -57,7 +57,7 @@ impl Nibble {
         Nibble { value: byte / 16 }
     }
 
-    /// Returns the nibble of four bits, bit 0 first.
+    /// Returns the nibble with these four bits, least significant bit first.
     pub fn of_bits(b0: Bit, b1: Bit, b2: Bit, b3: Bit) -> Nibble
         ensures value { result ≡ b0 + 2 * b1 + 4 * b2 + 8 * b3 }
         ensures bit_0 { bit_of result 0 ≡ b0 }
@@ -70,7 +70,7 @@ impl Nibble {
         }
     }
 
-    /// Returns the number, 0 to 15.
+    /// Returns the nibble as a number, 0 to 15.
     pub fn get(self) -> u8
         ensures value { result ≡ self }
         ensures in_range { result < 16 }
@@ -78,8 +78,7 @@ impl Nibble {
         self.value
     }
 
-    /// Returns the sum with `n` and a carry: the nibble modulo 16, and the carry out of it. Source: Intel MCS-4 Users
-    /// Manual, ADD.
+    /// Adds `n` and the carry `cy`. Returns the sum modulo 16 and the carry out. Source: Intel MCS-4 Users Manual, ADD.
     pub fn add(self, n: Nibble, cy: Bit) -> (Nibble, Bit)
         ensures sum { result.0 ≡ (self + n + cy) % 16 }
         ensures carry { result.1 ≡ (self + n + cy) / 16 }
@@ -88,8 +87,9 @@ impl Nibble {
         (Nibble::low_of(sum), Bit::low_of(sum / 16))
     }
 
-    /// Returns the difference to `n` with a borrow, as the 4004 computes it: the sum with the complements of `n` and of
-    /// the carry. A carry of 1 out of it means that nothing was borrowed. Source: Intel MCS-4 Users Manual, SUB.
+    /// Subtracts `n` with borrow as the 4004 does: adds the complement of `n` and the complement of the carry `cy`.
+    /// Returns the sum modulo 16 and the carry out. A carry out of 1 means no borrow. Source: Intel MCS-4 Users Manual,
+    /// SUB.
     pub fn sub_borrow(self, n: Nibble, cy: Bit) -> (Nibble, Bit)
         ensures sum { result.0 ≡ (self + (15 - n) + (1 - cy)) % 16 }
         ensures carry { result.1 ≡ (self + (15 - n) + (1 - cy)) / 16 }
@@ -107,7 +107,7 @@ impl Nibble {
         }
     }
 
-    /// Returns bit `k`. Bit 0 is the lowest.
+    /// Returns bit `k`, 0 to 3. Bit 0 is the least significant bit.
     pub fn bit(self, k: u8) -> Bit
         requires { k < 4 }
         ensures { result ≡ bit_of self k }

@@ -1,9 +1,9 @@
-//! The numbers of the 4004's register pairs.
+//! Register pair numbers of the 4004.
 ghost use Rattle.std.specs.Prelude.{◌≡◌, ℕ, ◌/◌, ◌%◌, ◌<◌, ◌↔◌, IsSome, IfSome};
 
 use std::marker::Model;
 
-/// The number of a register pair, 0 to 7. Pair k is the registers 2k and 2k + 1.
+/// A register pair number, 0 to 7. Pair k consists of registers 2k and 2k + 1.
 #[derive(Clone, Copy, Debug, Default, PartialEq, Eq)]
 pub struct PairNo {
     value: u8,
@@ -23,7 +23,7 @@ impl PairNo {
     /// Pair 0.
     pub const ZERO: PairNo = PairNo { value: 0 };
 
-    /// Returns the pair of a number, or `None` if it is above 7.
+    /// Returns `value` as a pair number, or `None` if `value` is above 7.
     pub fn of(value: u8) -> Option<PairNo>
         ensures in_range { IsSome result ↔ (value < 8) }
         ensures value { IfSome result (λ n. n ≡ value) }
@@ -35,7 +35,7 @@ impl PairNo {
         }
     }
 
-    /// Returns the pair that bits 1 to 3 of an instruction code name.
+    /// Returns the register pair that bits 1 to 3 of an opcode select.
     pub fn of_code(byte: u8) -> PairNo
         ensures { result ≡ byte % 16 / 2 }
     {
@@ -44,7 +44,7 @@ impl PairNo {
         }
     }
 
-    /// Returns the number, 0 to 7.
+    /// Returns the pair number, 0 to 7.
     pub fn get(self) -> u8
         ensures value { result ≡ self }
         ensures in_range { result < 8 }

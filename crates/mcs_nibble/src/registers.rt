@@ -1,9 +1,9 @@
-//! The numbers of the 4004's registers.
+//! Index register numbers of the 4004.
 ghost use Rattle.std.specs.Prelude.{◌≡◌, ℕ, ◌%◌, ◌<◌, ◌↔◌, IsSome, IfSome};
 
 use std::marker::Model;
 
-/// The number of a register, 0 to 15.
+/// An index register number, 0 to 15.
 #[derive(Clone, Copy, Debug, Default, PartialEq, Eq)]
 pub struct RegNo {
     value: u8,
@@ -23,7 +23,7 @@ impl RegNo {
     /// Register 0.
     pub const ZERO: RegNo = RegNo { value: 0 };
 
-    /// Returns the register of a number, or `None` if it is above 15.
+    /// Returns `value` as a register number, or `None` if `value` is above 15.
     pub fn of(value: u8) -> Option<RegNo>
         ensures in_range { IsSome result ↔ (value < 16) }
         ensures value { IfSome result (λ n. n ≡ value) }
@@ -35,14 +35,14 @@ impl RegNo {
         }
     }
 
-    /// Returns the register that the lower four bits of an instruction code name.
+    /// Returns the index register that the lower four bits of an opcode select.
     pub fn of_code(byte: u8) -> RegNo
         ensures { result ≡ byte % 16 }
     {
         RegNo { value: byte % 16 }
     }
 
-    /// Returns the number, 0 to 15.
+    /// Returns the register number, 0 to 15.
     pub fn get(self) -> u8
         ensures value { result ≡ self }
         ensures in_range { result < 16 }

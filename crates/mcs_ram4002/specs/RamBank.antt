@@ -1,6 +1,6 @@
--- A bank of 4002s as flat lists. Source: MCS-4 Users Manual, 4002: each chip has four registers of
--- 16 main and 4 status characters and an output port; SRC selects chip, register and character.
--- That an absent chip reads 0 is our own choice.
+-- A bank of 4002s as flat lists. Source: MCS-4 Users Manual, 4002: each chip has an output port and
+-- four registers of 16 main nibbles and 4 status characters. SRC selects a chip, a register and a
+-- main nibble. That an absent chip reads as 0 is our own choice.
 use Rattle.std.specs.Prelude.{◌≡◌, ℕ, ◌+◌, ◌*◌, ◌/◌, ◌%◌, ◌^◌, ◌<◌, ◌≤◌, List, [], All, replicate, slice_index, slice_set, length, take, if◌then◌else◌, nat_lt}
 use Rattle.mcs_nibble.specs.Tables.{table_of, flat_rows, column}
 use Rattle.mcs_ram4002.specs.declared.BankWrite.{BankWrite}
@@ -12,50 +12,51 @@ pub record BankState : Type 0 where
   pub wired : ℕ
   -- the last SRC byte
   pub src : ℕ
-  -- the character of each SRC byte, 256
+  -- the main nibbles, indexed by SRC byte; 256
   pub main : List ℕ
-  -- status character k of the register with SRC high nibble h, at h * 4 + k; 64
+  -- the status characters, 64; status character k of the register that the upper SRC nibble h
+  -- selects is at index h * 4 + k
   pub status : List ℕ
-  -- the output ports of chips 0 to 3
+  -- the output port latches of chips 0 to 3
   pub ports : List ℕ
 
--- the index of status character k of the register with SRC high nibble `high`
+-- the index of status character k of the register that the upper SRC nibble `high` selects
 abbrev pub status_cell : ℕ → ℕ → ℕ
 status_cell high k = high * 4 + k
 
--- the chip that an SRC byte selects
+-- the number of the chip that an SRC byte selects
 abbrev pub chip_of : ℕ → ℕ
 chip_of src = src / 64
 
--- a bank of `wired` chips, all 0
+-- a bank whose first `wired` chips are present, with all contents 0
 abbrev pub blank_bank : ℕ → BankState
 blank_bank wired =
     record { wired = wired; src = 0; main = replicate 256 0; status = replicate 64 0; ports = replicate 4 0 }
 
 -- ---- writes
 
--- a write is within a bank
+-- holds if the write is within a bank: its status character is 0 to 3, or its chip is 0 to 3
 abbrev pub IsInBank : BankWrite → Type 0
 IsInBank (Character src n) = Unit {0}
 IsInBank (Status high k n) = k < 4
 IsInBank (Port chip n) = chip < 4
 IsInBank (Src byte) = Unit {0}
 
--- the chip that a write goes to
+-- the number of the chip that a write goes to
 abbrev pub chip_written : BankWrite → ℕ
 chip_written (Character src n) = chip_of src
 chip_written (Status high k n) = high / 4
 chip_written (Port chip n) = chip
 chip_written (Src byte) = 0
 
--- a bank that has this chip, after the write
+-- the bank after a write to a chip that is present
 abbrev pub with_write : BankState → BankWrite → BankState
 with_write b (Character src n) = record b { main = slice_set b.main src n }
 with_write b (Status high k n) = record b { status = slice_set b.status (status_cell high k) n }
 with_write b (Port chip n) = record b { ports = slice_set b.ports chip n }
 with_write b (Src byte) = record b { src = byte }
 
--- a bank after a write, which is lost if its chip is absent
+-- the bank after a write; the write is lost if its chip is absent
 unfoldable pub after_write : BankState → BankWrite → BankState
 after_write b write = if nat_lt (chip_written write) b.wired then with_write b write else b
 
@@ -66,7 +67,8 @@ pub record IsWhole (b : BankState) : Type 0 where
   pub status : length b.status ≡ 64
   pub ports : length b.ports ≡ 4
 
--- each number is in its range, and absent parts are 0
+-- Holds if the lists have their lengths, and each number is in its range. The contents of absent
+-- chips are 0, and so is the SRC byte of a bank without chips.
 pub record IsValidBank (b : BankState) : Type 0 where
   pub whole : IsWhole b
   pub main : All (λ n. n < 16) b.main
@@ -79,39 +81,40 @@ pub record IsValidBank (b : BankState) : Type 0 where
   pub absent_port : (chip : ℕ) → chip < 4 → b.wired ≤ chip → slice_index b.ports chip ≡ 0
   pub absent_src : b.wired ≡ 0 → b.src ≡ 0
 
--- ---- how a bank holds its chips
+-- ---- how a bank stores its chips
 
--- half k of a byte, the lower first
+-- half k of a byte: 0 is the lower half, 1 the upper half
 abbrev pub half_of : ℕ → ℕ → ℕ
 half_of byte k = byte / 16 ^ k % 16
 
--- the characters of bytes that hold two each
+-- the nibbles in bytes that store two nibbles each, lower half first
 unfoldable pub characters_of : List ℕ → List ℕ
 characters_of bytes = table_of (2 * length bytes) (λ k. half_of (slice_index bytes (k / 2)) (k % 2))
 
--- the cells of a chip, each list by index: only this definition says how a chip stores them
+-- The main nibbles of a chip by index. The next definition gives its status characters. Only these
+-- two say how a chip stores them.
 abbrev pub main_cells_of : Chip → List ℕ
 main_cells_of c = characters_of c.main
 
 abbrev pub status_cells_of : Chip → List ℕ
 status_cells_of c = characters_of c.status
 
--- the cells of a chip and its port, each list by index
+-- the main nibbles and the status characters of a chip, each list by index, and its port latch
 pub record ChipState : Type 0 where
-  -- register * 16 + character
+  -- the main nibbles, at index register * 16 + nibble number
   pub main : List ℕ
-  -- register * 4 + character
+  -- the status characters, at index register * 4 + status character number
   pub status : List ℕ
   pub port : ℕ
 
--- the cells and the port of a chip as it stores them
+-- the main nibbles, the status characters and the port latch of a chip
 abbrev pub cells_of : Chip → ChipState
 cells_of c = record { main = main_cells_of c; status = status_cells_of c; port = c.port }
 
 abbrev pub no_chip : Chip
 no_chip = record { main = []; status = []; port = 0 }
 
--- the first `wired` of the chips as a bank
+-- the bank whose chips are the first `wired` of these, with the SRC byte `src`
 abbrev pub bank_of : List Chip → ℕ → ℕ → BankState
 bank_of chips wired src = record {
   wired = wired;
@@ -130,14 +133,14 @@ pub record IsValidChip (c : Chip) : Type 0 where
   pub status : All (λ n. n < 16) (status_cells_of c)
   pub port : c.port < 16
 
--- the cells of a chip after a write to its bank that goes to it
+-- the contents of a chip after a bank write that goes to this chip
 abbrev pub chip_after : ChipState → BankWrite → ChipState
 chip_after c (Character src n) = record c { main = slice_set c.main (src % 64) n }
 chip_after c (Status high k n) = record c { status = slice_set c.status (high % 4 * 4 + k) n }
 chip_after c (Port chip n) = record c { port = n }
 chip_after c (Src byte) = c
 
--- the SRC byte that a bank keeps after a write
+-- the SRC byte that a bank stores after a write
 abbrev pub src_after : BankWrite → ℕ → ℕ
 src_after (Character at n) src = src
 src_after (Status high k n) src = src

@@ -1,8 +1,10 @@
-//! The 4002: RAM chips, and the banks that they form. A chip keeps two characters in a byte.
+//! The 4002: RAM chips, and the banks that they form. Intel calls a nibble of RAM a RAM character. A chip stores two
+//! nibbles in a byte.
 //!
-//! A bank by itself is what a processor sees: `src`, `read`, `write`, `read_status`, `write_status` and `write_port` go
-//! to what the last SRC selects. A rig reads and writes by index instead (`at`, `status_at`, `port`, `store`), as an
-//! observer of a board does. What SRC selects is therefore defined once there, on the state of all banks.
+//! A bank alone behaves as the processor sees it: `src`, `read`, `write`, `read_status`, `write_status` and
+//! `write_port` access the location that the last SRC selected. A rig accesses a bank by index instead (`at`,
+//! `status_at`, `port`, `store`), as an observer of the board does. The rig therefore defines once, on the state of all
+//! banks, which location SRC selects.
 #![tactic(auto)]
 
 ghost use Rattle.std.specs.Prelude.{◌≡◌, ℕ, ◌+◌, ◌-◌, ◌*◌, ◌/◌, ◌%◌, ◌<◌, ◌≤◌, All, replicate, slice_index};
@@ -11,21 +13,22 @@ ghost use Rattle.mcs_ram4002.specs.RamBank.{BankState, half_of, cells_of, main_c
 use mcs_nibble::Nibble;
 use std::marker::Model;
 
-/// One write to a bank: the location, and its new value.
+/// One write to a bank: a location and its new value.
 #[derive(Clone, Copy)]
 pub enum BankWrite {
-    /// The character of an SRC byte.
+    /// The RAM nibble that an SRC byte selects, and its new value.
     Character(u8, Nibble),
-    /// A status character, 0 to 3, of the register that the high nibble of an SRC byte selects.
+    /// A status character of a register: the upper nibble of the SRC byte that selects the register, the number of the
+    /// status character, 0 to 3, and its new value.
     Status(Nibble, u8, Nibble),
-    /// The output port of a chip, 0 to 3.
+    /// The output port of a chip: the chip, 0 to 3, and its new value.
     Port(u8, Nibble),
-    /// The SRC byte that the bank keeps. A bank without chip 0 keeps none.
+    /// The bank's stored SRC byte. The write is lost if the bank does not have chip 0.
     Src(u8),
 }
 
 impl BankWrite {
-    /// Returns the chip that the write goes to.
+    /// Returns the number of the chip that the write goes to. A new SRC byte goes to chip 0.
     fn chip(self) -> u8
         ensures chip { result ≡ chip_written self }
         ensures few { IsInBank self → result < 4 }
@@ -38,7 +41,7 @@ impl BankWrite {
         }
     }
 
-    /// Returns the SRC byte that a bank keeps after the write.
+    /// Returns the bank's stored SRC byte after the write. `src` is the byte before it.
     fn src_after(self, src: u8) -> u8
         ensures { result ≡ src_after self src }
     {
@@ -49,7 +52,8 @@ impl BankWrite {
     }
 }
 
-/// Returns the half of a byte that holds character `at`: the lower for an even one, the upper for an odd one.
+/// Returns the half of a byte that stores nibble `at` of a chip: the lower half if `at` is even, the upper half if it
+/// is odd.
 fn half(byte: u8, at: u8) -> Nibble
     ensures { result ≡ half_of byte (at % 2) }
 {
@@ -60,7 +64,8 @@ fn half(byte: u8, at: u8) -> Nibble
     }
 }
 
-/// Returns a byte with the half that holds character `at` replaced.
+/// Returns the byte with nibble `at` of a chip replaced by `n`: in the lower half if `at` is even, in the upper half if
+/// it is odd.
 fn with_half(byte: u8, at: u8, n: Nibble) -> u8
     ensures set { half_of result (at % 2) ≡ n }
     ensures kept { half_of result (1 - at % 2) ≡ half_of byte (1 - at % 2) }
@@ -72,18 +77,18 @@ fn with_half(byte: u8, at: u8, n: Nibble) -> u8
     }
 }
 
-/// A 4002, by the MCS-4 Users Manual: four registers of 16 main and four status characters, and an output
-/// port of four lines. A bank holds its chips and speaks for them.
+/// A 4002 (MCS-4 Users Manual): four registers of 16 main nibbles and four status characters, and a four-line output
+/// port. All access to a chip is through its bank.
 #[derive(Clone, Copy)]
 pub struct Chip {
-    // Two characters a byte, the lower half first.
+    // Two nibbles in each byte, the first of them in the lower half.
     main: [u8; 32],
     status: [u8; 8],
     port: Nibble,
 }
 
 impl Chip {
-    /// Returns a chip with all 0.
+    /// Returns a chip with all contents 0.
     fn blank() -> Chip
         ensures { result ≡ record { main = replicate 32 0; status = replicate 8 0; port = 0 } }
     {
@@ -94,7 +99,7 @@ impl Chip {
         }
     }
 
-    /// Returns main character `at`, which is register * 16 + character.
+    /// Returns a main nibble. Its index `at` is register * 16 + nibble number.
     fn character(&self, at: u8) -> Nibble
         requires { at < 64 }
         ensures { result ≡ slice_index (main_cells_of self.now) at }
@@ -102,7 +107,7 @@ impl Chip {
         half(self.main[usize::from(at / 2)], at)
     }
 
-    /// Returns status character `at`, which is register * 4 + character.
+    /// Returns a status character. Its index `at` is register * 4 + status character number.
     fn status_character(&self, at: u8) -> Nibble
         requires { at < 16 }
         ensures { result ≡ slice_index (status_cells_of self.now) at }
@@ -116,7 +121,7 @@ impl Chip {
         self.port
     }
 
-    /// Does a write to a bank that goes to this chip.
+    /// Executes a bank write that goes to this chip. A new SRC byte changes nothing in the chip.
     #[inline(always)]
     fn store(&mut self, write: BankWrite)
         requires { IsInBank write }
@@ -139,7 +144,7 @@ impl Chip {
         }
     }
 
-    /// Proves that each character, each status character and the port is a nibble.
+    /// Proves that the port, each main nibble and each status character are in the range 0 to 15.
     fn show_state_is_valid(&self)
         ensures { IsValidChip self.now }
     {
@@ -147,7 +152,7 @@ impl Chip {
     }
 }
 
-/// Proves that each number that a chip holds is a nibble.
+/// Proves that the contents of each chip are in the range 0 to 15.
 fn are_valid(chips: &[Chip])
     ensures { All IsValidChip chips.now }
 {
@@ -156,7 +161,7 @@ fn are_valid(chips: &[Chip])
     }
 }
 
-/// Returns the same chips.
+/// Returns a copy of the chips.
 fn copied<const CHIPS: usize>(chips: &[Chip; CHIPS]) -> [Chip; CHIPS]
     ensures { result ≡ chips.now }
 {
@@ -167,10 +172,10 @@ fn copied<const CHIPS: usize>(chips: &[Chip; CHIPS]) -> [Chip; CHIPS]
     copy
 }
 
-/// A bank of RAM chips. The first ones are present. Absent characters, status characters and ports read 0, and writes
-/// to them are lost. The bank keeps its own last SRC byte.
+/// A bank of RAM chips. The first `wired` chips are present. Main nibbles, status characters and ports of absent chips
+/// read as 0, and writes to them are lost. Each bank stores its own last SRC byte.
 ///
-/// An SRC byte selects the chip by its two upper bits, the register by the next two and the character by its low
+/// The upper two bits of an SRC byte select the chip, the next two bits the register, and the lower four bits the main
 /// nibble.
 #[derive(Drop)]
 pub struct Bank<const CHIPS: usize> {
@@ -191,7 +196,7 @@ impl<const CHIPS: usize> Model for Bank<CHIPS> {
 }
 
 impl<const CHIPS: usize> Bank<CHIPS> {
-    /// Returns a bank whose first `wired` chips are present, with all 0.
+    /// Returns a bank whose first `wired` chips are present. All contents are 0.
     pub fn new(wired: usize) -> Self
         requires { wired ≤ CHIPS }
         ensures { result ≡ blank_bank wired }
@@ -203,7 +208,7 @@ impl<const CHIPS: usize> Bank<CHIPS> {
         }
     }
 
-    /// Returns an equal bank.
+    /// Returns a copy of the bank.
     pub fn copy(&self) -> Self
         ensures { result ≡ self.now }
     {
@@ -214,7 +219,7 @@ impl<const CHIPS: usize> Bank<CHIPS> {
         }
     }
 
-    /// Does a write. It is lost if its chip is absent.
+    /// Executes a write. The write is lost if its chip is absent.
     #[inline(always)]
     pub fn store(&mut self, write: BankWrite)
         requires { IsInBank write }
@@ -230,14 +235,14 @@ impl<const CHIPS: usize> Bank<CHIPS> {
         }
     }
 
-    /// Keeps an SRC byte. A bank without chips stays at 0.
+    /// Stores an SRC byte. In a bank without chips, it stays 0.
     pub fn src(&mut self, byte: u8)
         ensures { self.new ≡ after_write self.old (BankWrite.Src byte) }
     {
         self.store(BankWrite::Src(byte));
     }
 
-    /// Returns the last SRC byte.
+    /// Returns the last stored SRC byte.
     pub fn last_src(&self) -> u8
         ensures { result ≡ self.now.src }
     {
@@ -245,7 +250,7 @@ impl<const CHIPS: usize> Bank<CHIPS> {
         self.src
     }
 
-    /// Returns the character of an SRC byte.
+    /// Returns the main nibble that an SRC byte selects.
     pub fn at(&self, src: u8) -> Nibble
         ensures { result ≡ slice_index self.now.main src }
     {
@@ -257,14 +262,14 @@ impl<const CHIPS: usize> Bank<CHIPS> {
         }
     }
 
-    /// Writes the character of an SRC byte.
+    /// Writes the main nibble that an SRC byte selects.
     pub fn set_at(&mut self, src: u8, n: Nibble)
         ensures { self.new ≡ after_write self.old (BankWrite.Character src n) }
     {
         self.store(BankWrite::Character(src, n));
     }
 
-    /// Returns status character `k`, 0 to 3, of the register that the high nibble of an SRC byte selects.
+    /// Returns status character `k`, 0 to 3, of the register that the upper nibble of an SRC byte selects.
     pub fn status_at(&self, high: Nibble, k: u8) -> Nibble
         requires { k < 4 }
         ensures { result ≡ slice_index self.now.status (status_cell high k) }
@@ -278,7 +283,7 @@ impl<const CHIPS: usize> Bank<CHIPS> {
         }
     }
 
-    /// Writes status character `k`, 0 to 3, of the register that the high nibble of an SRC byte selects.
+    /// Writes status character `k`, 0 to 3, of the register that the upper nibble of an SRC byte selects.
     pub fn set_status_at(&mut self, high: Nibble, k: u8, n: Nibble)
         requires { k < 4 }
         ensures { self.new ≡ after_write self.old (BankWrite.Status high k n) }
@@ -286,7 +291,7 @@ impl<const CHIPS: usize> Bank<CHIPS> {
         self.store(BankWrite::Status(high, k, n));
     }
 
-    /// Returns the output port of a chip, 0 to 3.
+    /// Returns the output port latch of a chip, 0 to 3.
     pub fn port(&self, chip: u8) -> Nibble
         requires { chip < 4 }
         ensures { result ≡ slice_index self.now.ports chip }
@@ -299,14 +304,14 @@ impl<const CHIPS: usize> Bank<CHIPS> {
         }
     }
 
-    /// Returns the character that the last SRC selected.
+    /// Returns the main nibble that the last SRC selected.
     pub fn read(&self) -> Nibble
         ensures { result ≡ slice_index self.now.main self.now.src }
     {
         self.at(self.last_src())
     }
 
-    /// Writes the character that the last SRC selected.
+    /// Writes the main nibble that the last SRC selected.
     pub fn write(&mut self, n: Nibble)
         ensures { self.new ≡ after_write self.old (BankWrite.Character self.old.src n) }
     {
@@ -339,7 +344,7 @@ impl<const CHIPS: usize> Bank<CHIPS> {
         self.store(BankWrite::Port(chip, n));
     }
 
-    /// Sets all characters, status characters, ports and the SRC byte to 0. The chips stay.
+    /// Sets all main nibbles, status characters, port latches and the SRC byte to 0. The set of chips stays the same.
     pub fn clear(&mut self)
         ensures { self.new ≡ blank_bank self.old.wired }
     {
@@ -348,8 +353,8 @@ impl<const CHIPS: usize> Bank<CHIPS> {
         *self = Bank::new(wired);
     }
 
-    /// Proves that the lists have their lengths, that each character, status character and port is a nibble, and that
-    /// absent ones are 0.
+    /// Proves that the state lists have their lengths, and that each main nibble, status character and port is in the
+    /// range 0 to 15. Also proves that absent ones are 0.
     pub fn show_state_is_valid(&self)
         ensures { IsValidBank self.now }
     {

@@ -1,7 +1,7 @@
-//! The 4001: 256 bytes of program memory and a port of four lines.
+//! The 4001: 256 bytes of program memory and a four-line port.
 //!
-//! A `Rom` is a whole chip. A rig keeps the port of each ROM, a `RomPort`. It keeps the bytes of all ROMs in one list
-//! by address, so that a fetch reads one element of it.
+//! A `Rom` is a whole chip. A rig stores only the port of each ROM, as a `RomPort`. The bytes of all ROMs are in one
+//! list, indexed by address. A fetch therefore reads one list element.
 #![tactic(auto)]
 
 ghost use Rattle.std.specs.Prelude.{◌≡◌, ℕ, ◌<◌, All, slice_index, slice_set, replicate, length};
@@ -12,8 +12,8 @@ ghost use Rattle.mcs_nibble.specs.Ports.{latch_value, latch_bit, read_bit, read_
 use mcs_nibble::{Bit, LineMask, Nibble};
 use std::marker::Model;
 
-/// The port of a 4001, by the MCS-4 Users Manual: four lines. The mask of each line makes it an input or an output. The
-/// latch holds a value on the output lines; its bit at an input line is 0.
+/// The port of a 4001 (MCS-4 Users Manual). The mask makes each of its four lines an input or an output. The latch
+/// holds the levels of the output lines; the latch bit of an input line is 0.
 #[derive(Drop)]
 pub struct RomPort {
     mask: [LineMask; 4],
@@ -32,7 +32,7 @@ impl Model for RomPort {
     ghost invariant = { λ r. latch_value r.mask r.port ≡ r.port };
 }
 
-/// Returns what the latch holds on line `k` after `n` is written.
+/// Returns the latch bit of line `k` after `n` is written.
 fn held_line(mask: &[LineMask; 4], n: Nibble, k: u8) -> Bit
     requires { k < 4 }
     ensures { result ≡ latch_bit mask.now n k }
@@ -43,7 +43,8 @@ fn held_line(mask: &[LineMask; 4], n: Nibble, k: u8) -> Bit
     }
 }
 
-/// Returns what the processor reads at line `k`. `inputs` has the levels of the input lines.
+/// Returns the bit that the processor reads from line `k`. Bit `k` of `inputs` is the level of line `k` if it is an
+/// input line.
 fn read_line(mask: &[LineMask; 4], inputs: Nibble, k: u8) -> Bit
     requires { k < 4 }
     ensures { result ≡ read_bit (bit_of inputs) mask.now k }
@@ -55,7 +56,8 @@ fn read_line(mask: &[LineMask; 4], inputs: Nibble, k: u8) -> Bit
     }
 }
 
-/// Returns what the latch of a port with these masks holds after `n` is written: 0 on input lines, `n` on output lines.
+/// Returns the latch contents after `n` is written to a port with these masks: the bits of `n` for output lines, 0 for
+/// input lines.
 #[tactic(auto, unfolding(mcs_nibble::specs::Ports::latch_value))]
 pub fn held_port(mask: &[LineMask; 4], n: Nibble) -> Nibble
     ensures { result ≡ latch_value mask.now n }
@@ -68,8 +70,8 @@ pub fn held_port(mask: &[LineMask; 4], n: Nibble) -> Nibble
     )
 }
 
-/// Returns what the processor reads at a port with these masks: the level on an input line, and the constant of its
-/// mask on an output line. Bit `k` of `inputs` is the level of line `k`.
+/// Returns the value that the processor reads from a port with these masks. An input line reads as its level, and an
+/// output line as the constant of its mask. Bit `k` of `inputs` is the level of line `k`.
 #[tactic(auto, unfolding(mcs_nibble::specs::Ports::read_lines))]
 pub fn read_port_of(mask: &[LineMask; 4], inputs: Nibble) -> Nibble
     ensures { result ≡ read_lines (bit_of inputs) mask.now }
@@ -83,7 +85,7 @@ pub fn read_port_of(mask: &[LineMask; 4], inputs: Nibble) -> Nibble
 }
 
 impl RomPort {
-    /// Returns a port with these masks. Mask `k` is that of line `k`. The latch is 0.
+    /// Returns a port with these masks, line 0 first. Its latch is 0.
     pub fn new(mask: [LineMask; 4]) -> RomPort
         ensures { result ≡ record { mask = mask; port = 0 } }
     {
@@ -93,7 +95,7 @@ impl RomPort {
         }
     }
 
-    /// Returns an equal port.
+    /// Returns a copy of the port.
     pub fn copy(&self) -> RomPort
         ensures { result ≡ self.now }
     {
@@ -103,23 +105,23 @@ impl RomPort {
         }
     }
 
-    /// Holds a value on the output lines until the next such write, as WRR does. Nothing happens on input
-    /// lines.
+    /// Writes `n` to the latch, as WRR does. Output lines hold their bits until the next write. Latch bits of input
+    /// lines stay 0.
     pub fn write_port(&mut self, n: Nibble)
         ensures { self.new ≡ record self.old { port = latch_value self.old.mask n } }
     {
         self.port = held_port(&self.mask, n);
     }
 
-    /// Returns the port as RDR reads it: the level on an input line, and the constant of its mask on an output line.
-    /// Bit `k` of `inputs` is the level of line `k`.
+    /// Returns the value that RDR reads. An input line reads as its level, and an output line as the constant of its
+    /// mask. Bit `k` of `inputs` is the level of line `k`.
     pub fn read_port(&self, inputs: Nibble) -> Nibble
         ensures { result ≡ read_lines (bit_of inputs) self.now.mask }
     {
         read_port_of(&self.mask, inputs)
     }
 
-    /// Returns what the latch holds.
+    /// Returns the latch contents.
     pub fn port(&self) -> Nibble
         ensures { result ≡ self.now.port }
     {
@@ -133,7 +135,7 @@ impl RomPort {
         self.port = Nibble::ZERO;
     }
 
-    /// Proves that the latch holds a nibble, and that its bits at input lines are 0.
+    /// Proves that the latch contents are a nibble, and that the latch bits of input lines are 0.
     pub fn show_state_is_valid(&self)
         ensures { IsValidPort self.now }
     {
@@ -141,7 +143,7 @@ impl RomPort {
     }
 }
 
-/// A 4001: its 256 bytes and its port.
+/// A 4001 chip: its 256 bytes and its port.
 #[derive(Drop)]
 pub struct Rom {
     bytes: [u8; 256],
@@ -156,7 +158,7 @@ impl Model for Rom {
     ghost view = { λ r. record { mask = r.lines.mask; bytes = r.bytes; port = r.lines.port } };
 }
 
-/// Proves that there are 256 numbers, each below 256.
+/// Proves that the array has 256 numbers, each below 256.
 fn are_bytes(bytes: &[u8; 256])
     ensures count { length bytes.now ≡ 256 }
     ensures range { All (λ byte. byte < 256) bytes.now }
@@ -165,7 +167,7 @@ fn are_bytes(bytes: &[u8; 256])
 }
 
 impl Rom {
-    /// Returns a ROM with these masks. Mask `k` is that of line `k`. All bytes and the latch are 0.
+    /// Returns a ROM with these masks, line 0 first. All bytes and the latch are 0.
     pub fn new(mask: [LineMask; 4]) -> Rom
         ensures { result ≡ record { mask = mask; bytes = replicate 256 0; port = 0 } }
     {
@@ -175,14 +177,14 @@ impl Rom {
         }
     }
 
-    /// Returns the byte of word `at`.
+    /// Returns the byte at word `at`.
     pub fn byte(&self, at: u8) -> u8
         ensures { result ≡ slice_index self.now.bytes at }
     {
         self.bytes[usize::from(at)]
     }
 
-    /// Sets the byte of word `at`.
+    /// Sets the byte at word `at`.
     pub fn set_byte(&mut self, at: u8, byte: u8)
         ensures byte { self.new ≡ record self.old { bytes = slice_set self.old.bytes at byte } }
         ensures whole { length self.old.bytes ≡ 256 }
@@ -190,23 +192,23 @@ impl Rom {
         self.bytes[usize::from(at)] = byte;
     }
 
-    /// Holds a value on the output lines until the next such write, as WRR does. Nothing happens on input
-    /// lines.
+    /// Writes `n` to the latch, as WRR does. Output lines hold their bits until the next write. Latch bits of input
+    /// lines stay 0.
     pub fn write_port(&mut self, n: Nibble)
         ensures { self.new ≡ record self.old { port = latch_value self.old.mask n } }
     {
         self.lines.write_port(n);
     }
 
-    /// Returns the port as RDR reads it: the level on an input line, and the constant of its mask on an output line.
-    /// Bit `k` of `inputs` is the level of line `k`.
+    /// Returns the value that RDR reads. An input line reads as its level, and an output line as the constant of its
+    /// mask. Bit `k` of `inputs` is the level of line `k`.
     pub fn read_port(&self, inputs: Nibble) -> Nibble
         ensures { result ≡ read_lines (bit_of inputs) self.now.mask }
     {
         self.lines.read_port(inputs)
     }
 
-    /// Returns what the latch holds on line `k`, 0 to 3, or 0 on an input line.
+    /// Returns the latch bit of line `k`, 0 to 3. It is 0 for an input line.
     pub fn line(&self, k: u8) -> Bit
         requires { k < 4 }
         ensures { result ≡ bit_of self.now.port k }
@@ -214,14 +216,14 @@ impl Rom {
         self.port().bit(k)
     }
 
-    /// Returns what the latch holds.
+    /// Returns the latch contents.
     pub fn port(&self) -> Nibble
         ensures { result ≡ self.now.port }
     {
         self.lines.port()
     }
 
-    /// Sets the latch. Its bits at input lines stay 0.
+    /// Sets the latch. Latch bits of input lines stay 0.
     pub fn set_port(&mut self, n: Nibble)
         ensures { self.new ≡ record self.old { port = latch_value self.old.mask n } }
     {
@@ -235,8 +237,8 @@ impl Rom {
         self.lines.clear_port();
     }
 
-    /// Proves that there are 256 bytes, each below 256, that the latch holds a nibble, and that its bits at input lines
-    /// are 0.
+    /// Proves that the ROM has 256 bytes, each below 256, and that the latch contents are a nibble. Also proves that
+    /// the latch bits of input lines are 0.
     pub fn show_state_is_valid(&self)
         ensures { IsValidRom self.now }
     {

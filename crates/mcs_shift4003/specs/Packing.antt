@@ -1,22 +1,24 @@
--- Words of ten bits that hold a row of bits. (Our own choice.)
+-- A sequence of bits packed into words of ten bits. (Our own choice.)
 use Rattle.std.specs.Prelude.{◌≡◌, ℕ, zero, suc, ◌+◌, ◌/◌, ◌%◌, ◌<◌, ◌≤◌, List, length, slice_index}
 use Rattle.mcs_nibble.specs.Bits.{bit_of}
 use Rattle.mcs_nibble.specs.Tables.{table_of}
 
--- bit i of the words
+-- bit i of the sequence that the words store
 abbrev pub packed_bit : List ℕ → ℕ → ℕ
 packed_bit words i = bit_of (slice_index words (i / 10)) (i % 10)
 
--- the value before bit i: the bit below it, or the level at the row's end
+-- the value that a shift moves into bit i: for bit 0 the level of the data line, otherwise the bit
+-- below
 abbrev pub bit_before : ℕ → List ℕ → ℕ → ℕ
 bit_before level words zero = level
 bit_before level words (suc i) = packed_bit words i
 
--- the first `bits` bits
+-- the first `bits` bits of the words, as a list
 unfoldable pub chain_bits_of : ℕ → List ℕ → List ℕ
 chain_bits_of bits words = table_of bits (packed_bit words)
 
--- words that hold exactly `bits` bits and nothing else
+-- holds if the words store exactly `bits` bits: no word is unused, each word is below 1024, and all
+-- bits past the end are 0
 pub record IsPacked (bits : ℕ) (words : List ℕ) : Type 0 where
   pub used : length words ≡ (bits + 9) / 10
   pub ten : (k : ℕ) → slice_index words k < 1024

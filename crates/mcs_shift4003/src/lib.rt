@@ -1,6 +1,6 @@
-//! The 4003: a chain of 10-bit shift registers, as one row of bits.
+//! The 4003: chains of 10-bit shift registers. A chain is one sequence of bits.
 //!
-//! A chain keeps ten bits in a word, as many as a chip has. A shift therefore goes word by word.
+//! A chain stores ten bits in each word, as many as a chip has, and shifts word by word.
 #![tactic(auto)]
 
 ghost use Rattle.std.specs.Prelude.{◌≡◌, ◌≢◌, ℕ, ◌+◌, ◌*◌, ◌/◌, ◌%◌, ◌<◌, ◌≤◌, All, length, replicate, slice_index, slice_get, slice_set};
@@ -12,15 +12,15 @@ use arrayvec::ArrayVec;
 use mcs_nibble::Bit;
 use std::marker::Model;
 
-/// The number of bits in a word, which equals that in a chip.
+/// The number of bits in a word: the number of bits in a 4003.
 const WORD_BITS: usize = 10;
 
-/// A shift-register chain of 4003s, by the MCS-4 Users Manual: a row of at most `MAX` bits. Bit 0 is the one that was
-/// shifted in last. Its outputs are always enabled.
+/// A shift-register chain of 4003s (MCS-4 Users Manual): a sequence of at most `MAX` bits. Bit 0 is the bit that was
+/// shifted in last. The outputs are always enabled.
 #[derive(Drop)]
 pub struct Chain<const MAX: usize> {
     bits: usize,
-    // Bit i is bit i % 10 of word i / 10. Bits past the end are 0.
+    // Bit i of the chain is bit i % 10 of word i / 10. Word bits past the end of the chain are 0.
     words: ArrayVec<u16, MAX>,
 }
 
@@ -35,7 +35,7 @@ impl<const MAX: usize> Model for Chain<MAX> {
     ghost invariant = { λ c. record { fits : c.bits ≤ MAX; packed : IsPacked c.bits c.words.items } };
 }
 
-/// Returns a word with bit `j` at a level.
+/// Returns the word with bit `j` set to `level`.
 fn with_bit(word: u16, j: usize, level: Bit) -> u16
     requires word { word < 1024 }
     requires j { j < 10 }
@@ -50,7 +50,8 @@ fn with_bit(word: u16, j: usize, level: Bit) -> u16
     }
 }
 
-/// Returns a word with its bits moved up by one and a level as its bit 0, and the bit that it loses.
+/// Shifts a ten-bit word up by one bit, with `level` as the new bit 0. Returns the new word and the bit that was
+/// shifted out.
 fn moved(word: u16, level: u16) -> (u16, u16)
     requires word { word < 1024 }
     requires level { level < 2 }
@@ -60,7 +61,7 @@ fn moved(word: u16, level: u16) -> (u16, u16)
     ((2 * word + level) % 1024, word / 512)
 }
 
-/// Sets bit `i` of words of ten bits to a level.
+/// Sets bit `i` of a sequence of ten-bit words to `level`.
 fn put(words: &mut [u16], i: usize, level: Bit)
     requires there { i / 10 < length words.old }
     requires ten { (k : ℕ) → slice_index words.old k < 1024 }
@@ -73,8 +74,7 @@ fn put(words: &mut [u16], i: usize, level: Bit)
     words[at] = with_bit(words[at], i % WORD_BITS, level);
 }
 
-/// Moves each bit of words of ten bits up by one, word by word. Bit 0 takes the level, and the last bit of the last
-/// word is lost.
+/// Shifts a sequence of ten-bit words up by one bit. `level` becomes bit 0, and the last bit of the last word is lost.
 fn shift_words(words: &mut [u16], level: Bit)
     requires { (k : ℕ) → slice_index words.old k < 1024 }
     ensures len { length words.new ≡ length words.old }
@@ -90,7 +90,7 @@ fn shift_words(words: &mut [u16], level: Bit)
     }
 }
 
-/// Moves each of the first `bits` bits up by one. Bit 0 takes the level, and the last bit is lost.
+/// Shifts the first `bits` bits of the words up by one. `level` becomes bit 0, and the last of these bits is lost.
 fn shift_bits(words: &mut [u16], bits: usize, level: Bit)
     requires { IsPacked bits words.old }
     ensures len { length words.new ≡ length words.old }
@@ -103,7 +103,7 @@ fn shift_bits(words: &mut [u16], bits: usize, level: Bit)
     }
 }
 
-/// Returns the same words.
+/// Returns a copy of the words.
 fn copied<const MAX: usize>(words: &ArrayVec<u16, MAX>) -> ArrayVec<u16, MAX>
     ensures { result.items ≡ words.now.items }
 {
@@ -114,7 +114,7 @@ fn copied<const MAX: usize>(words: &ArrayVec<u16, MAX>) -> ArrayVec<u16, MAX>
     copy
 }
 
-/// Returns word `k`, or 0 beyond the last one.
+/// Returns word `k`, or 0 if `k` is past the end.
 fn word_at(words: &[u16], k: usize) -> u16
     ensures { result ≡ slice_index words.now k }
 {
@@ -137,7 +137,7 @@ impl<const MAX: usize> Chain<MAX> {
         Chain { bits, words }
     }
 
-    /// Returns an equal chain.
+    /// Returns a copy of the chain.
     pub fn copy(&self) -> Self
         ensures { result ≡ self.now }
     {
@@ -147,7 +147,7 @@ impl<const MAX: usize> Chain<MAX> {
         }
     }
 
-    /// Returns the number of bits.
+    /// Returns the number of bits in the chain, at most `MAX`.
     pub fn bits(&self) -> usize
         ensures bits { result ≡ length self.now }
         ensures fits { result ≤ MAX }
@@ -155,7 +155,7 @@ impl<const MAX: usize> Chain<MAX> {
         self.bits
     }
 
-    /// Returns bit `i`, or `None` beyond the last one.
+    /// Returns bit `i`, or `None` if `i` is past the end.
     pub fn bit(&self, i: usize) -> Option<Bit>
         ensures { result ≡ slice_get self.now i }
     {
@@ -167,7 +167,8 @@ impl<const MAX: usize> Chain<MAX> {
         }
     }
 
-    /// Returns the ten bits from bit `first` on as a number. Its bit j is bit `first` + j, or 0 beyond the last one.
+    /// Returns ten bits of the chain, beginning at bit `first`. Bit j of the result is bit `first` + j of the chain, or
+    /// 0 past the end.
     pub fn ten_from(&self, first: usize) -> u16
         ensures bits { (j : ℕ) → j < 10 → bit_of result j ≡ slice_index self.now (first + j) }
         ensures ten { result < 1024 }
@@ -180,7 +181,7 @@ impl<const MAX: usize> Chain<MAX> {
         (from_first % 1024) as u16
     }
 
-    /// Sets bit `i`. Nothing is shifted.
+    /// Sets bit `i` without shifting.
     pub fn set_bit(&mut self, i: usize, bit: Bit)
         requires { i < length self.old }
         ensures { self.new ≡ slice_set self.old i bit }
@@ -188,8 +189,7 @@ impl<const MAX: usize> Chain<MAX> {
         put(&mut self.words, i, bit);
     }
 
-    /// Shifts in the level of the data line: each bit moves up by one, the level becomes bit 0, and the last bit is
-    /// lost.
+    /// Shifts the chain up by one bit. `level`, the level of the data line, becomes bit 0, and the last bit is lost.
     pub fn shift(&mut self, level: Bit)
         ensures { self.new ≡ bits_after_shift level self.old }
     {

@@ -1,4 +1,4 @@
--- Version 1 of the flat state of a bench: a bench without watches.
+-- The flat state of a bench in version 1, which has no watches.
 use Rattle.std.specs.Prelude.{ℕ, List}
 use Rattle.mcs_model.specs.declared.regs.Regs.{Regs}
 use Rattle.mcs_model.specs.Bus.{BusState}
@@ -6,9 +6,9 @@ use Rattle.mcs_model.specs.Bus.{BusState}
 pub record BenchState1 : Type 0 where
   -- the registers of the 4004
   pub processor : Regs
-  -- the board and what its chips hold
+  -- the board, the contents of its chips, its keys and the TEST pin
   pub bus : BusState
-  -- the breakpoints, rising
+  -- the breakpoint addresses, in ascending order
   pub breakpoints : List ℕ
   -- the number of accepted commands
   pub seq : ℕ

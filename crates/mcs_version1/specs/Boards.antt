@@ -1,5 +1,5 @@
--- Version 1 of which parts make a board: fewer and shorter chains. The lines of a board did not
--- change.
+-- The conditions under which parts form a valid board in version 1, which has fewer and shorter
+-- chains. The definitions of lines are those of version 2.
 use Rattle.std.specs.Prelude.{◌≡◌, ◌≤◌, ◌↔◌, Bool, true, false, ◌&&◌, ◌||◌, not, Option, Some, None, length, nat_lt, nat_le, if◌then◌else◌}
 use Rattle.std.specs.List.{list_any}
 use Rattle.mcs_model.specs.declared.board.BoardFault.{BoardFault}
@@ -13,7 +13,7 @@ use Rattle.mcs_model.specs.declared.limits.TheConstants.{ROMS, BANKS, BANK_CHIPS
 use Rattle.mcs_model.specs.Boards.{IsSized, any_line, has_wrong_direction, lacks_line}
 use Rattle.mcs_model.specs.Validity.{IsValidBoard}
 
--- true if the numbers of a line are in their ranges
+-- true if all numbers of a line are in range in version 1
 abbrev pub in_range_1 : Line → Bool
 in_range_1 (Rom chip k) = nat_lt chip ROMS && nat_lt k 4
 in_range_1 (Ram bank chip k) = nat_lt bank BANKS && nat_lt chip BANK_CHIPS && nat_lt k 4
@@ -23,7 +23,7 @@ in_range_1 (Chain n i) = nat_lt n 2 && nat_lt i 40
 abbrev pub is_chain_size_1 : ChainPart → Bool
 is_chain_size_1 c = nat_lt 0 c.chips && nat_le c.chips 4
 
--- true if the numbers of a key matrix are in their ranges
+-- true if the numbers of a key matrix are in range in version 1
 abbrev pub is_matrix_size_1 : KeyMatrix → Bool
 is_matrix_size_1 m =
     nat_lt m.chain 2 && nat_lt m.first 40 && nat_lt 0 m.rows && nat_le m.rows KEY_ROWS
@@ -32,7 +32,7 @@ is_matrix_size_1 m =
 abbrev pub has_bad_matrix_1 : BoardParts → Bool
 has_bad_matrix_1 b = elim b.keys [ Some m ↦ not (is_matrix_size_1 m) | None ↦ false ]
 
--- true if a number is out of its range
+-- true if any number in the parts is out of range in version 1
 abbrev pub has_bad_value_1 : BoardParts → Bool
 has_bad_value_1 b =
     list_any (λ n. nat_lt BANK_CHIPS n) b.banks
@@ -40,7 +40,7 @@ has_bad_value_1 b =
     || has_bad_matrix_1 b
     || any_line (λ line. not (in_range_1 line)) b
 
--- the first fault of the parts, if any
+-- the first error that version 1 finds in the parts, or none
 abbrev pub fault_of_1 : BoardParts → Option BoardFault
 fault_of_1 b =
     if has_bad_value_1 b then Some BadValue
@@ -48,7 +48,8 @@ fault_of_1 b =
     else if has_wrong_direction b then Some WrongDirection
     else None
 
--- parts without a fault, and at most two chains
+-- holds if version 1 finds no errors in the parts, their lists have the lengths that their types
+-- imply, and there are at most two chains
 pub record IsValidBoard1 (b : BoardParts) : Type 0 where
   pub sized : IsSized b
   pub few : length b.chains.items ≤ 2
@@ -60,7 +61,7 @@ is_small b =
     nat_le (length b.chains.items) 2
     && not (list_any (λ chain. nat_lt 4 chain.chips) b.chains.items)
 
--- the boards of version 1 are today's boards that are so small: all its other ranges follow,
--- because lines and rows must exist
+-- Holds if the boards of version 1 are exactly the boards of version 2 that are small. All other
+-- range limits of version 1 then follow, because lines and key rows must exist.
 abbrev pub SmallBoards : Type 0
 SmallBoards = (b : BoardParts) → IsValidBoard1 b ↔ (IsValidBoard b × (is_small b ≡ true))

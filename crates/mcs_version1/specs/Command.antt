@@ -1,5 +1,6 @@
--- Version 1 of the effects of commands. It lacks watching, and boards that are not small. For a
--- command that it lacks (`in_version_1`), nothing else here has a meaning.
+-- The effects of commands in version 1, which has no watches and only small boards. For a command
+-- that version 1 does not have (`in_version_1` is false), the other definitions here have no
+-- meaning.
 use Rattle.std.specs.Prelude.{Bool, true, false, ◌+◌, ◌==◌, ◌&&◌, ◌||◌, length, Option, Some, None, nat_lt, nat_le, slice_set, if◌then◌else◌}
 use Rattle.std.specs.List.{list_any}
 use Rattle.mcs_model.specs.declared.command.Command.{Command}
@@ -23,7 +24,8 @@ use Rattle.mcs_version1.specs.Boards.{is_small}
 use Rattle.mcs_version1.specs.BenchState.{BenchState1}
 use Rattle.mcs_version1.specs.Running.{run_length_1, after_run_1, run_stop_1}
 
--- true for the places of version 1: each is named, so that it cannot get a new one unnoticed
+-- true for the locations that `poke` can set in version 1; each variant is listed, so that version
+-- 1 cannot get a new one unnoticed
 abbrev pub is_place_1 : Place → Bool
 is_place_1 (Acc n) = true
 is_place_1 (Cy bit) = true
@@ -44,7 +46,7 @@ in_version_1 _ = true
 
 -- ---- which commands are accepted
 
--- the reason that a state rejects a command because of the command itself, if any
+-- the reason why a state rejects a command, or none, apart from the limit on the number of commands
 abbrev pub refusal_of_command_1 : BenchState1 → Command → Option BenchFault
 refusal_of_command_1 s (Load image) =
     if list_any (λ p. lacks_rom s.bus.board p.0) image
@@ -60,7 +62,8 @@ refusal_of_command_1 s (Break at) =
     else Some BreaksFull
 refusal_of_command_1 s _ = None
 
--- the reason that a state rejects a command, if any: a worn session rejects each of them
+-- The reason why a state rejects a command, or none. A session that has accepted the maximum number
+-- of commands rejects every command.
 abbrev pub refusal_1 : BenchState1 → Command → Option BenchFault
 refusal_1 s c = if s.seq == ACCEPTED_COMMANDS then Some Worn else refusal_of_command_1 s c
 
@@ -78,7 +81,7 @@ with_processor_1 s p = record s { processor = p }
 abbrev pub with_bus_1 : BenchState1 → BusState → BenchState1
 with_bus_1 s b = record s { bus = b }
 
--- the state with a value put into a place
+-- the state after a location is set to a value
 abbrev pub with_place_1 : BenchState1 → Place → BenchState1
 with_place_1 s (Acc n) = with_processor_1 s (record s.processor { acc = n })
 with_place_1 s (Cy bit) = with_processor_1 s (record s.processor { cy = bit })
@@ -90,7 +93,7 @@ with_place_1 s (Rom at byte) = with_bus_1 s (with_rom_byte s.bus at byte)
 with_place_1 s (Ram bank src n) = with_bus_1 s (with_ram s.bus bank src n)
 with_place_1 s (Status bank high k n) = with_bus_1 s (with_status s.bus bank high k n)
 
--- the effect of a command, except for the count of commands
+-- the state after a command has had its effect; the command is not yet counted
 abbrev pub after_change_1 : BenchState1 → Command → BenchState1
 after_change_1 s (Wire board) = with_machine_1 s (new_regs, after_wire s.bus board)
 after_change_1 s (Load image) = with_bus_1 s (with_rom_bytes s.bus image)
@@ -105,7 +108,7 @@ after_change_1 s (Break at) = record s { breakpoints = with_listed s.breakpoints
 after_change_1 s (Unbreak at) = record s { breakpoints = without_listed s.breakpoints at }
 after_change_1 s _ = s
 
--- the state after an accepted command: each raises the count by one, even if nothing else changes
+-- the state after an accepted command; each one adds 1 to the count, even if nothing else changes
 abbrev pub after_1 : BenchState1 → Command → BenchState1
 after_1 s c = record (after_change_1 s c) { seq = s.seq + 1 }
 

@@ -1,15 +1,16 @@
--- Version 1 of commands in turn.
+-- Sequences of commands in version 1.
 use Rattle.std.specs.Prelude.{◌≡◌, List, [], ◌∷◌, None, IsTrue}
 use Rattle.mcs_model.specs.declared.command.Command.{Command}
 use Rattle.mcs_version1.specs.BenchState.{BenchState1}
 use Rattle.mcs_version1.specs.Command.{refusal_1, after_1, in_version_1}
 
--- the state after these commands
+-- the state after a sequence of commands
 abbrev pub fold_1 : BenchState1 → List Command → BenchState1
 fold_1 s [] = s
 fold_1 s (c ∷ cs) = fold_1 (after_1 s c) cs
 
--- each of these commands is one of version 1 and accepted in its turn
+-- holds if each command of a sequence is a command of version 1, and is accepted in the state that
+-- the commands before it lead to
 abbrev pub AreAccepted1 : BenchState1 → List Command → Type 0
 AreAccepted1 s [] = Unit {0}
 AreAccepted1 s (c ∷ cs) =

@@ -1,4 +1,5 @@
--- A state of version 1 as one of version 2. Commands and queries do not distinguish the two.
+-- Lifting: the conversion of a state of version 1 to a state of version 2. Commands and queries do
+-- not distinguish the two.
 use Rattle.std.specs.Prelude.{◌≡◌, [], IsTrue, List}
 use Rattle.mcs_model.specs.declared.command.Command.{Command}
 use Rattle.mcs_model.specs.declared.query.Query.{Query}
@@ -12,7 +13,7 @@ use Rattle.mcs_version1.specs.BenchState.{BenchState1}
 use Rattle.mcs_version1.specs.Fold.{fold_1, AreAccepted1}
 use Rattle.mcs_version1.specs.QueryText.{Query1, text_of_query_1, Lamps, Regs, Ram, Breaks, Seq}
 
--- the same fields, and nothing is watched; the board and what its chips hold are the same
+-- the state of version 2 with the same fields as a state of version 1, and with no watches
 abbrev pub lift : BenchState1 → BenchState
 lift s =
     record { processor = s.processor; bus = s.bus; breakpoints = s.breakpoints; watches = []; seq = s.seq }
@@ -24,8 +25,8 @@ lift_query (Ram bank) = asked.Ram bank
 lift_query Breaks = asked.Breaks
 lift_query Seq = asked.Seq
 
--- a command of version 1: at the lifted state it is rejected, done and replied to as version 1 did
--- at this state
+-- holds if version 2, in the lifted state, rejects, executes and answers a command as version 1
+-- does
 pub record IsLifted (s : BenchState1) (c : Command) : Type 0 where
   pub refusal : refusal (lift s) c ≡ refusal_1 s c
   pub after : lift (after_1 s c) ≡ after (lift s) c

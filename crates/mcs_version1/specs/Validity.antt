@@ -1,4 +1,4 @@
--- Version 1 of the states that a bench can be in.
+-- The states that a bench can be in, in version 1.
 use Rattle.std.specs.Prelude.{◌≤◌}
 use Rattle.mcs_model.specs.declared.limits.TheConstants.{ACCEPTED_COMMANDS}
 use Rattle.mcs_model.specs.Bus.{BusState}
@@ -6,7 +6,7 @@ use Rattle.mcs_model.specs.Validity.{IsValidRegs, IsInRange, IsAbsentZero, AreBr
 use Rattle.mcs_version1.specs.Boards.{IsValidBoard1}
 use Rattle.mcs_version1.specs.BenchState.{BenchState1}
 
--- a board and what its chips hold
+-- holds if the board, the contents of its chips, its keys and the TEST pin are valid in version 1
 pub record IsValidBus1 (s : BusState) : Type 0 where
   pub board : IsValidBoard1 s.board
   pub in_range : IsInRange s

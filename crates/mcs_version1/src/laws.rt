@@ -1,19 +1,20 @@
-//! Laws of the definitions, each proved as the contract of a function that does nothing.
+//! Theorems about the definitions. Each is proved as the contract of a function that does nothing.
 ghost use Rattle.mcs_version1.specs.Boards.{SmallBoards};
 ghost use Rattle.mcs_version1.specs.Lift.{CommandsLift, FoldsLift, QueriesLift};
 
-/// Proves that version 1 rejects, does and replies to a command as version 2 does at the lifted state.
+/// Proves that version 2, in the lifted state, rejects, executes and answers each command of version 1 as version 1
+/// does. The same sequence of accepted commands leads to the lifted final state.
 pub fn commands_lift()
     ensures each { CommandsLift }
     ensures folds { FoldsLift }
 {}
 
-/// Proves that version 1 answers a query of a state as version 2 does of the lifted state.
+/// Proves that version 2, in the lifted state, answers each query of `Query1` as version 1 does.
 pub fn queries_lift()
     ensures { QueriesLift }
 {}
 
-/// Proves that the boards of version 1 are those with at most two chains of at most four chips.
+/// Proves that the boards of version 1 are the boards of version 2 with at most two chains of at most four chips.
 pub fn boards_are_small()
     ensures { SmallBoards }
 {}

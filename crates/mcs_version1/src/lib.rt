@@ -1,4 +1,4 @@
-//! Version 1 of a bench: its definitions, and laws that version 2 does the same.
+//! Version 1 of a bench: its definitions, and theorems that version 2 behaves in the same way.
 #![tactic(auto)]
 
 pub mod laws;
