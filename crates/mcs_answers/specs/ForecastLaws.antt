@@ -26,8 +26,9 @@ abbrev pub later_lines : List Probe → ℕ → BenchState → ℕ → List (Lis
 later_lines probes m b n =
     flat_map (λ x. trace_line probes (later m x)) (begun_in (stops_of b) n (machine_of b))
 
--- holds if a trace of m + n cycles consists of one of m cycles and, after `run m`, one of n cycles,
--- which counts its cycles from m; the premise is that nothing stops the run of m + n cycles early
+-- Holds if a trace of m + n cycles consists of one of m cycles and, after `run m`, one of n cycles.
+-- The second trace counts its cycles from m. The premise is that nothing stops the run of m + n
+-- cycles early.
 abbrev pub TracesAddUp : Type 0
 TracesAddUp =
     (probes : List Probe) (b : BenchState) (m n : ℕ) →

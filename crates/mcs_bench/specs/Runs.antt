@@ -21,7 +21,7 @@ debug_stop_of broken altered = if broken then Some Breakpoint else if altered th
 abbrev pub debug_stop_at : Stops → ℕ → Machine → Machine → Option Stop
 debug_stop_at stops k s t = debug_stop_of (at_break stops.breaks k t) (has_changed stops.watches s t)
 
--- holds if a run of at most n cycles from s stops at t after k of them, with no earlier reason to
+-- Holds if a run of at most n cycles from s stops at t after k of them, with no earlier reason to
 -- stop. The reason is a breakpoint, a change of a watched RAM character, the end of the run, or
 -- that no cycle can follow.
 pub record RanOn (stops : Stops) (n : ℕ) (s t : Machine) (k : ℕ) (mark : Option Stop) : Type 0 where
@@ -31,8 +31,8 @@ pub record RanOn (stops : Stops) (n : ℕ) (s t : Machine) (k : ℕ) (mark : Opt
   pub found : debug_stop_at stops k (after_cycles (k - 1) s) t ≡ mark
   pub unmarked : mark ≡ None → is_outside t ≡ false → k ≡ n
 
--- holds if a run of at most n cycles from s reaches t after k of them, with no earlier reason to
--- stop, and neither a breakpoint nor a change of a watched RAM character stops it at t
+-- Holds if a run of at most n cycles from s reaches t after k of them, with no earlier reason to
+-- stop. Neither a breakpoint nor a change of a watched RAM character stops it at t.
 pub record GoesOn (stops : Stops) (n k : ℕ) (s t : Machine) : Type 0 where
   pub at : t ≡ after_cycles k s
   pub within : k ≤ n

@@ -22,8 +22,8 @@ fn is_outside(cpu: &Cpu, rig: &BenchRig) -> bool
     cpu.is_outside(rig)
 }
 
-/// Returns the reason to stop a run after a cycle if the program counter is `at`. It is a breakpoint, else a watched
-/// RAM character if `changed` is true, else `None`.
+/// Returns the reason to stop a run after a cycle if the program counter is `at`. It is a breakpoint at `at` if no
+/// second cycle is pending, else a watched RAM character if `changed` is true, else `None`.
 #[inline(always)]
 fn debug_stop_at(cpu: &Cpu, at: Addr, breaks: &Breaks, changed: bool) -> Option<Stop>
     ensures mark { result ≡ debug_stop_of (cpu.now.owed == 0 && is_listed breaks.now at) changed }

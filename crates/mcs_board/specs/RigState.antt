@@ -59,9 +59,9 @@ rig_of p = record {
   test = p.test;
 }
 
--- holds if the rig's chips match its board: each list of sockets has the given length; each ROM has
+-- Holds if a rig's chips match its board. Each list of sockets has the given length. Each ROM has
 -- the board's line masks, each bank the board's number of chips, and each chain the board's number
--- of bits; there is one bit for each key; the bytes of absent ROMs are 0
+-- of bits. There is one bit for each key. The bytes of absent ROMs are 0.
 pub record Fitted (p : RigParts) (rom_sockets bank_sockets chain_sockets : ℕ) : Type 0 where
   pub roms_len : length p.roms ≡ rom_sockets
   pub banks_len : length p.banks ≡ bank_sockets

@@ -76,8 +76,8 @@ early_stop stops s t = stop_at stops 0 1 s t
 abbrev pub later : ℕ → Begun → Begun
 later k b = record b { cycles = k + b.cycles }
 
--- If nothing stops a run of m + n cycles early, it begins the instructions of a run of m cycles,
--- and then those of a run of n cycles from there.
+-- If nothing stops a run of m + n cycles early, it first begins the instructions of a run of m
+-- cycles. Then it begins those of a run of n cycles from there.
 abbrev pub BegunAddUp : Type 0
 BegunAddUp =
     (stops : Stops) (m n : ℕ) (s : Machine) → run_length stops (m + n) s ≡ m + n →
