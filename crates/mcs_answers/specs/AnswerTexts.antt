@@ -16,15 +16,15 @@ use Rattle.mcs_wiring.specs.BoardText.{query_lines}
 abbrev pub session_text : BenchState → List ℕ
 session_text s = codes "session " ++ as_line (decimal s.seq)
 
--- the word for why a run or a step stopped
+-- the word for the reason that a run or a step stopped
 abbrev pub stop_name : Stop → List ℕ
 stop_name Outside = codes "code"
 stop_name Breakpoint = codes "break"
 stop_name Watched = codes "watch"
 stop_name Ended = codes "end"
 
--- The part of an answer after the count of commands: how many bytes were loaded, or how many cycles
--- were run and why no more.
+-- The part of an answer after the number of accepted commands: the number of bytes loaded, or the
+-- number of cycles done and the reason to stop.
 abbrev pub reply_text : Reply → List ℕ
 reply_text Done = []
 reply_text (Loaded bytes) = codes " bytes " ++ decimal bytes

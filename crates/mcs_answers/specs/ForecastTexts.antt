@@ -1,4 +1,5 @@
--- The answers to `count` and `trace`: what a run would do, without doing it. (Our own choice.)
+-- The answers to `count` and `trace`, which report what a run would do without doing it. (Our own
+-- choice.)
 use Rattle.std.specs.Prelude.{ℕ, Bool, true, not, List, [], ◌∷◌, ◌++◌, codes, length, nat_lt, if◌then◌else◌}
 use Rattle.std.specs.Fmt.{decimal}
 use Rattle.std.specs.List.{flat_map, range_with_len}
@@ -13,16 +14,17 @@ use Rattle.mcs_probe.specs.Forecast.{Begun, begun_in, is_branch, jumps_at, runs_
 use Rattle.mcs_probe.specs.Probes.{row}
 use Rattle.mcs_answers.specs.AnswerTexts.{stop_name}
 
--- the head: how many cycles the run would do, why no more, and how many lines follow
+-- the head: the number of cycles that the run would take, the reason that it would stop, and the
+-- number of lines that follow
 abbrev pub ahead_head : List ℕ → BenchState → ℕ → List (List ℕ) → List ℕ
 ahead_head word b n lines =
     word ++ codes " ran " ++ decimal (run_length (stops_of b) n (machine_of b))
     ++ codes " " ++ stop_name (run_stop (stops_of b) n (machine_of b))
     ++ codes " lines " ++ decimal (length lines)
 
--- The lines of `count` for an address: one if the run begins an instruction there, and none
--- otherwise. A line has the address and how often. At JCN and ISZ it also has how often the counter
--- continues elsewhere than after the two words (`jumps_at`).
+-- The lines of `count` for an address: one if the run begins an instruction there, else none. A
+-- line has the address and the number of instructions begun there. For JCN and ISZ, it also has the
+-- number of those after which the program counter is not that address plus 2 (`jumps_at`).
 abbrev pub count_line : List Begun → Machine → ℕ → List (List ℕ)
 count_line begun s at =
     if nat_lt 0 (runs_at begun at)
@@ -34,7 +36,7 @@ count_line begun s at =
 unfoldable pub addresses : ℕ → List ℕ
 addresses n = range_with_len 0 n
 
--- the lines of a run of n cycles, by rising address
+-- the lines of `count` for a run of n cycles, by ascending address
 abbrev pub count_lines : BenchState → ℕ → List (List ℕ)
 count_lines b n =
     flat_map (count_line (begun_in (stops_of b) n (machine_of b)) (machine_of b)) (addresses 4096)
@@ -43,26 +45,26 @@ abbrev pub count_answer : ℕ → BenchState → List ℕ
 count_answer n b =
     as_line (ahead_head (codes "count") b n (count_lines b n)) ++ text_of (count_lines b n)
 
--- True if the row after an instruction gets a line. Without places every row gets one. With
--- places a row gets one if it differs from the row before.
+-- True if an instruction has a line in a trace: always if there are no places, else if the row
+-- after it differs from the row before.
 abbrev pub is_reported : List Probe → List ℕ → List ℕ → Bool
 is_reported [] before after = true
 is_reported probes before after = not (bytes_eq after before)
 
 -- The lines of `trace` for an instruction: one or none. A line has the number of cycles done before
--- it, its address, and the row after it.
+-- the instruction, its address, and the row after it.
 abbrev pub trace_line : List Probe → Begun → List (List ℕ)
 trace_line probes b =
     if is_reported probes (row probes b.before) (row probes b.after)
     then (decimal b.cycles ++ codes " " ++ address_text b.before.0.pc ++ row probes b.after) ∷ []
     else []
 
--- the lines of a run of n cycles, in turn
+-- the lines of `trace` for a run of n cycles, in order
 abbrev pub trace_lines : List Probe → BenchState → ℕ → List (List ℕ)
 trace_lines probes b n =
     flat_map (trace_line probes) (begun_in (stops_of b) n (machine_of b))
 
--- the answer to `trace`, whose head ends with the present row
+-- the answer to `trace`; its head ends with the present row
 abbrev pub trace_answer : List Probe → ℕ → BenchState → List ℕ
 trace_answer probes n b =
     as_line (ahead_head (codes "trace") b n (trace_lines probes b n) ++ row probes (machine_of b))

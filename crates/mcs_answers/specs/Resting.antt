@@ -1,4 +1,4 @@
--- The instructions that cannot change the value of a place.
+-- Instructions that leave the value of a probe unchanged.
 use Rattle.std.specs.Prelude.{◌≡◌, ◌⊎◌, Bool, false, List, Option, Some, None}
 use Rattle.mcs_model.specs.declared.op.Op.{Op}
 use Rattle.mcs_model.specs.declared.op.Op.TheVariants.{Src, Jms, Bbl, Wrm, Wmp, Wrr, Wr0, Wr1, Wr2, Wr3}
@@ -15,34 +15,36 @@ WritesPort op = (op ≡ Wmp) ⊎ (op ≡ Wrr)
 abbrev pub WritesStatus : Op → Type 0
 WritesStatus op = (op ≡ Wr0) ⊎ ((op ≡ Wr1) ⊎ ((op ≡ Wr2) ⊎ (op ≡ Wr3)))
 
--- Holds if a place has the same text before an instruction and after it. The instruction leads from
--- the registers `before` to the registers `after`, on any bus.
+-- holds if an instruction that changes the registers from `before` to `after`, on any bus, leaves
+-- the text of a probe unchanged
 abbrev pub Rests : Op → Regs → Regs → Probe → Type 0
 Rests op before after probe =
     (m : BusState) → probe_text (after, bus_after op before m) probe ≡ probe_text (before, m) probe
 
--- holds if a row has the same text so; never if no instruction was begun
+-- holds if an instruction that changes the registers from `before` to `after`, on any bus, leaves
+-- the text of a row unchanged; never if no instruction was begun
 abbrev pub RowRests : Option Op → Regs → Regs → List Probe → Type 0
 RowRests None before after probes = ⊥
 RowRests (Some op) before after probes =
     (m : BusState) → row probes (after, bus_after op before m) ≡ row probes (before, m)
 
--- holds if a place has the same text before an instruction and after it, whatever the registers and
--- the bus held
+-- holds if an instruction leaves the text of a probe unchanged, whatever the registers and the bus
+-- hold
 abbrev pub Keeps : Op → Probe → Type 0
 Keeps op probe =
     (regs : Regs) (m : BusState) → probe_text (effect op regs m) probe ≡ probe_text (regs, m) probe
 
--- holds if a row has the same text so; never if no instruction was begun
+-- holds if an instruction leaves the text of a row unchanged, whatever the registers and the bus
+-- hold; never if no instruction was begun
 abbrev pub RowKeeps : Option Op → List Probe → Type 0
 RowKeeps None probes = ⊥
 RowKeeps (Some op) probes =
     (regs : Regs) (m : BusState) → row probes (effect op regs m) ≡ row probes (regs, m)
 
--- ---- the kinds of places that a row has
+-- ---- the kinds of probes in a row
 
--- true if an instruction may change a place that the row has outside the registers, or the
--- return addresses
+-- true if an instruction can change the return addresses or a location outside the registers, and
+-- the row has a probe of that kind
 abbrev pub touches : Seen → Op → Bool
 touches seen Wmp = seen.ports
 touches seen Wrr = seen.ports
@@ -56,14 +58,14 @@ touches seen (Jms high low) = seen.returns
 touches seen (Bbl digit) = seen.returns
 touches seen op = false
 
--- holds if `more` covers one place more: that place, and all that `seen` covers
+-- holds if `more` covers a probe in addition to all that `seen` covers
 pub record SeesToo (seen more : Seen) (probe : Probe) : Type 0 where
   pub registers : more.registers ≡ false → seen.registers ≡ false
   pub others : (op : Op) → touches more op ≡ false → touches seen op ≡ false
   pub place : more.registers ≡ false → (op : Op) → touches more op ≡ false → Keeps op probe
 
--- holds if `seen` covers a row: if it has no register, an instruction that touches none of it
--- leaves the row as it is
+-- holds if `seen` covers the probes of a row: if the row has no register but the return addresses,
+-- an instruction that touches none of its probes leaves the row unchanged
 abbrev pub SeesAll : Seen → List Probe → Type 0
 SeesAll seen probes =
     seen.registers ≡ false → (op : Op) → touches seen op ≡ false → (regs : Regs) (m : BusState)

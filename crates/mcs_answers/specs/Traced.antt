@@ -11,17 +11,17 @@ use Rattle.mcs_probe.specs.declared.probe.Probe.{Probe}
 use Rattle.mcs_answers.specs.declared.traces.Traced.{Traced}
 use Rattle.mcs_answers.specs.ForecastTexts.{is_reported, trace_lines}
 
--- one line if the first argument is true, and none otherwise
+-- one line if `report` is true, else none
 abbrev pub line_when : Bool → ℕ → ℕ → List ℕ → List (List ℕ)
 line_when report cycles at row =
     if report then (decimal cycles ++ codes " " ++ address_text at ++ row) ∷ [] else []
 
--- the lines of a cycle: none if a second cycle was pending before it
+-- the lines of a cycle, which has none if it is the second cycle of an instruction
 abbrev pub cycle_lines : List Probe → ℕ → ℕ → ℕ → List ℕ → List ℕ → List (List ℕ)
 cycle_lines probes owed cycles at before after =
     if owed == 0 then line_when (is_reported probes before after) cycles at after else []
 
--- the trace of a run of n cycles, line by line
+-- holds if t and the text are the result and the lines of a trace of n cycles
 pub record IsTraced (probes : List Probe) (n : ℕ) (b : BenchState) (t : Traced) (text : List ℕ) : Type 0 where
   pub cycles : t.cycles ≡ run_length (stops_of b) n (machine_of b)
   pub stop : t.stop ≡ run_stop (stops_of b) n (machine_of b)

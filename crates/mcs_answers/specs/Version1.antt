@@ -1,4 +1,4 @@
--- The answers of version 1 to `list` and `board`. (Our own choice.)
+-- The version 1 answers to `list` and `board`. (Our own choice.)
 use Rattle.std.specs.Prelude.{ℕ, List}
 use Rattle.mcs_version1.specs.BenchState.{BenchState1}
 use Rattle.mcs_source.specs.Text.{listing_text}

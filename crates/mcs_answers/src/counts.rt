@@ -18,7 +18,7 @@ use mcs_nibble::Addr;
 use mcs_trace::count_run;
 use std::alloc::{AllocError, Global};
 
-/// Returns true if there is a JCN or an ISZ at an address.
+/// Returns true if the instruction at an address is JCN or ISZ.
 #[tactic(auto, unfolding(mcs_model::specs::Bus::fetch_of))]
 fn is_branch(bench: &Bench, at: Addr) -> bool
     ensures { result ≡ is_branch (machine_of bench.now) at }
@@ -31,7 +31,7 @@ fn is_branch(bench: &Bench, at: Addr) -> bool
     }
 }
 
-/// Returns the number that a list has for an address.
+/// Returns the count for an address.
 fn number_at(numbers: &Vec<u32>, at: Addr) -> u32
     requires { length numbers.now.items ≡ 4096 }
     ensures { result ≡ slice_index numbers.now.items at }
@@ -39,7 +39,7 @@ fn number_at(numbers: &Vec<u32>, at: Addr) -> u32
     numbers[usize::from(at.get())]
 }
 
-/// Writes the line of an address into an empty buffer.
+/// Writes the line of `count` for an address into an empty buffer.
 fn put_line(line: &mut ArrayVec<u8, ANSWER_BYTES>, bench: &Bench, at: Addr, runs: u32, jumps: u32)
     requires { line.old.items ≡ [] }
     ensures { line.new.items ≡ as_line (address_text at ++ codes " " ++ decimal runs
@@ -53,9 +53,9 @@ fn put_line(line: &mut ArrayVec<u8, ANSWER_BYTES>, bench: &Bench, at: Addr, runs
     put(line, b"\n");
 }
 
-/// Counts how often a run of at most `n` cycles would begin an instruction at each address. It
-/// writes a head into an empty answer and returns the lines after it, which need memory. It fails
-/// if memory runs out; then the head has no meaning.
+/// Counts the instructions that a run of at most `n` cycles would begin at each address. Writes the head into an empty
+/// answer and returns the lines after it in allocated memory. Fails if memory cannot be allocated. The contents of the
+/// head are then unspecified.
 pub fn put_count(
     alloc: Global,
     head: &mut ArrayVec<u8, ANSWER_BYTES>,

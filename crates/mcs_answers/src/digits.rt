@@ -1,4 +1,4 @@
-//! Functions that add bytes, digits and numbers to an answer.
+//! Functions that append bytes, digits and numbers to an answer.
 ghost use Rattle.std.specs.Prelude.{◌≡◌, ◌+◌, ◌++◌, ◌<◌, ◌≤◌, length, map};
 ghost use Rattle.std.specs.Fmt.{decimal};
 ghost use Rattle.arrayvec.specs.ArrayVec.{array_vec_len};
@@ -8,7 +8,7 @@ use crate::size::ANSWER_BYTES;
 use arrayvec::ArrayVec;
 use mcs_nibble::{Addr, Nibble};
 
-/// Adds bytes to an answer.
+/// Appends bytes to an answer.
 pub fn put(answer: &mut ArrayVec<u8, ANSWER_BYTES>, bytes: &[u8])
     requires { array_vec_len answer.old + length bytes.now ≤ ANSWER_BYTES }
     ensures text { answer.new.items ≡ answer.old.items ++ bytes.now }
@@ -17,7 +17,7 @@ pub fn put(answer: &mut ArrayVec<u8, ANSWER_BYTES>, bytes: &[u8])
     answer.try_extend_from_slice(bytes).unwrap();
 }
 
-/// Adds a number in decimal digits.
+/// Appends a number in decimal digits.
 #[tactic(auto, using(std::proofs::lemmas::Fmt::decimal_digit, std::proofs::lemmas::Fmt::decimal_step))]
 pub fn put_decimal(answer: &mut ArrayVec<u8, ANSWER_BYTES>, n: u64)
     requires { array_vec_len answer.old + length (decimal n) ≤ ANSWER_BYTES }
@@ -43,7 +43,7 @@ pub fn hex_digit(nibble: u8) -> u8
     }
 }
 
-/// Adds a word and the digit of a number below 16.
+/// Appends a word, then a number below 16 as one hexadecimal digit.
 pub fn put_digit(answer: &mut ArrayVec<u8, ANSWER_BYTES>, word: &[u8], digit: u8)
     requires digit { digit < 16 }
     requires room { array_vec_len answer.old + length word.now + 1 ≤ ANSWER_BYTES }
@@ -54,7 +54,7 @@ pub fn put_digit(answer: &mut ArrayVec<u8, ANSWER_BYTES>, word: &[u8], digit: u8
     answer.push(hex_digit(digit));
 }
 
-/// Adds a word and the three digits of an address.
+/// Appends a word, then an address as three hexadecimal digits.
 pub fn put_address(answer: &mut ArrayVec<u8, ANSWER_BYTES>, word: &[u8], address: Addr)
     requires { array_vec_len answer.old + length word.now + 3 ≤ ANSWER_BYTES }
     ensures text { answer.new.items ≡ answer.old.items ++ word.now ++ address_text address }
@@ -70,7 +70,7 @@ pub fn put_address(answer: &mut ArrayVec<u8, ANSWER_BYTES>, word: &[u8], address
     put(answer, &digits);
 }
 
-/// Adds a word and the two digits of a byte.
+/// Appends a word, then a byte as two hexadecimal digits.
 pub fn put_byte(answer: &mut ArrayVec<u8, ANSWER_BYTES>, word: &[u8], byte: u8)
     requires { array_vec_len answer.old + length word.now + 2 ≤ ANSWER_BYTES }
     ensures text { answer.new.items ≡ answer.old.items ++ word.now ++ hex_2 byte }
@@ -81,7 +81,7 @@ pub fn put_byte(answer: &mut ArrayVec<u8, ANSWER_BYTES>, word: &[u8], byte: u8)
     put(answer, &digits);
 }
 
-/// Adds the digits of nibbles.
+/// Appends nibbles, each as one hexadecimal digit.
 pub fn put_digits(answer: &mut ArrayVec<u8, ANSWER_BYTES>, nibbles: &[Nibble])
     requires { array_vec_len answer.old + length nibbles.now ≤ ANSWER_BYTES }
     ensures text { answer.new.items ≡ answer.old.items ++ map hex_digit nibbles.now }

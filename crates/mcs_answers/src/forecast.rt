@@ -9,8 +9,8 @@ use crate::size::ANSWER_BYTES;
 use arrayvec::ArrayVec;
 use mcs_model::stop::Stop;
 
-/// Writes a head into an empty answer: a word, how many cycles a run would do, why it would stop,
-/// and how many lines follow.
+/// Writes a head into an empty answer. It consists of a word, the number of cycles that a run would take, the reason
+/// that it would stop, and the number of lines that follow.
 pub(crate) fn put_head(
     head: &mut ArrayVec<u8, ANSWER_BYTES>,
     word: &[u8],

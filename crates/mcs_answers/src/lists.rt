@@ -20,7 +20,7 @@ pub(crate) fn lamp_mark(level: Bit) -> u8
     if level == Bit::ONE { b'*' } else { b'.' }
 }
 
-/// Adds a mark for each lamp of the board, in order.
+/// Appends a mark for each of the board's lamps, in order.
 fn put_marks(answer: &mut ArrayVec<u8, ANSWER_BYTES>, bench: &Bench)
     requires { array_vec_len answer.old + LAMPS ≤ ANSWER_BYTES }
     ensures text { answer.new.items ≡ answer.old.items
@@ -34,7 +34,7 @@ fn put_marks(answer: &mut ArrayVec<u8, ANSWER_BYTES>, bench: &Bench)
     }
 }
 
-/// Adds a mark for each lamp of the board, in order, or a dash if the board has no lamp.
+/// Appends a mark for each of the board's lamps, in order, or a dash if the board has no lamps.
 pub(crate) fn put_lamp_marks(answer: &mut ArrayVec<u8, ANSWER_BYTES>, bench: &Bench)
     requires { array_vec_len answer.old + LAMPS ≤ ANSWER_BYTES }
     ensures text { answer.new.items ≡ answer.old.items
@@ -48,7 +48,7 @@ pub(crate) fn put_lamp_marks(answer: &mut ArrayVec<u8, ANSWER_BYTES>, bench: &Be
     }
 }
 
-/// Adds the levels of the lamps.
+/// Appends the answer to `lamps`, without its line feed.
 pub(crate) fn add_lamps(answer: &mut ArrayVec<u8, ANSWER_BYTES>, bench: &Bench)
     requires { array_vec_len answer.old + LAMP_BYTES ≤ ANSWER_BYTES }
     ensures text { answer.new.items ≡ answer.old.items ++ lamps_text bench.now.bus }
@@ -58,7 +58,7 @@ pub(crate) fn add_lamps(answer: &mut ArrayVec<u8, ANSWER_BYTES>, bench: &Bench)
     put_lamp_marks(answer, bench);
 }
 
-/// Writes the levels of the lamps into an empty answer.
+/// Writes the answer to `lamps` into an empty buffer.
 pub fn put_lamps(answer: &mut ArrayVec<u8, ANSWER_BYTES>, bench: &Bench)
     requires { answer.old.items ≡ [] }
     ensures { answer.new.items ≡ as_line (lamps_text bench.now.bus) }
@@ -67,7 +67,7 @@ pub fn put_lamps(answer: &mut ArrayVec<u8, ANSWER_BYTES>, bench: &Bench)
     put(answer, b"\n");
 }
 
-/// Adds addresses, each after a space.
+/// Appends addresses, each after a space.
 fn put_addresses(answer: &mut ArrayVec<u8, ANSWER_BYTES>, list: &[Addr])
     requires room { array_vec_len answer.old + 4 * length list.now ≤ ANSWER_BYTES }
     ensures text { answer.new.items
@@ -79,7 +79,7 @@ fn put_addresses(answer: &mut ArrayVec<u8, ANSWER_BYTES>, list: &[Addr])
     }
 }
 
-/// Writes the breakpoints into an empty answer.
+/// Writes the answer to `breaks` into an empty buffer.
 pub fn put_breaks(answer: &mut ArrayVec<u8, ANSWER_BYTES>, bench: &Bench)
     requires { answer.old.items ≡ [] }
     ensures { answer.new.items ≡ as_line (breaks_text bench.now.breakpoints) }
@@ -94,7 +94,7 @@ pub fn put_breaks(answer: &mut ArrayVec<u8, ANSWER_BYTES>, bench: &Bench)
     }
 }
 
-/// Adds a word, and the bank and the SRC byte of a watched nibble.
+/// Appends a word, then the bank and the SRC byte of a watched RAM character.
 pub(crate) fn put_watch(answer: &mut ArrayVec<u8, ANSWER_BYTES>, word: &[u8], watch: Addr)
     requires { array_vec_len answer.old + length word.now + 4 ≤ ANSWER_BYTES }
     ensures text { answer.new.items ≡ answer.old.items ++ word.now ++ watch_text watch }
@@ -105,7 +105,7 @@ pub(crate) fn put_watch(answer: &mut ArrayVec<u8, ANSWER_BYTES>, word: &[u8], wa
     put_byte(answer, b".", (index % 256) as u8);
 }
 
-/// Adds watched nibbles, each after a space.
+/// Appends the banks and SRC bytes of watched RAM characters, each pair after a space.
 fn put_watched(answer: &mut ArrayVec<u8, ANSWER_BYTES>, list: &[Addr])
     requires room { array_vec_len answer.old + 5 * length list.now ≤ ANSWER_BYTES }
     ensures text { answer.new.items
@@ -117,7 +117,7 @@ fn put_watched(answer: &mut ArrayVec<u8, ANSWER_BYTES>, list: &[Addr])
     }
 }
 
-/// Writes the watched nibbles into an empty answer.
+/// Writes the answer to `watches` into an empty buffer.
 pub fn put_watches(answer: &mut ArrayVec<u8, ANSWER_BYTES>, bench: &Bench)
     requires { answer.old.items ≡ [] }
     ensures { answer.new.items ≡ as_line (watches_text bench.now.watches) }

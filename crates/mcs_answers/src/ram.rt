@@ -13,7 +13,8 @@ use arrayvec::ArrayVec;
 use mcs_bench::Bench;
 use mcs_nibble::Nibble;
 
-/// Shows that a bench has all nibbles of RAM, and that no bank has more than four chips.
+/// Proves that the lists of RAM and status characters have their full lengths, and that no bank has more than four
+/// chips.
 fn are_whole(bench: &Bench)
     ensures ram { length bench.now.bus.ram ≡ 2048 }
     ensures status { length bench.now.bus.status ≡ 512 }
@@ -22,7 +23,7 @@ fn are_whole(bench: &Bench)
     bench.show_state_is_valid();
 }
 
-/// Adds the 16 main nibbles of register `r` of a RAM chip.
+/// Appends the 16 RAM characters of register `r` of a RAM chip.
 fn put_main(answer: &mut ArrayVec<u8, ANSWER_BYTES>, bench: &Bench, bank: u8, chip: u8, r: u8)
     requires bank { bank < 8 }
     requires chip { chip < 4 }
@@ -39,7 +40,7 @@ fn put_main(answer: &mut ArrayVec<u8, ANSWER_BYTES>, bench: &Bench, bank: u8, ch
     }
 }
 
-/// Adds the 4 status nibbles of register `r` of a RAM chip.
+/// Appends the 4 status characters of register `r` of a RAM chip.
 fn put_status(answer: &mut ArrayVec<u8, ANSWER_BYTES>, bench: &Bench, bank: u8, chip: u8, r: u8)
     requires bank { bank < 8 }
     requires chip { chip < 4 }
@@ -57,7 +58,7 @@ fn put_status(answer: &mut ArrayVec<u8, ANSWER_BYTES>, bench: &Bench, bank: u8, 
     }
 }
 
-/// Adds the line of register `r` of a RAM chip.
+/// Appends the line of register `r` of a RAM chip.
 fn put_register(answer: &mut ArrayVec<u8, ANSWER_BYTES>, bench: &Bench, bank: u8, chip: u8, r: u8)
     requires bank { bank < 8 }
     requires chip { chip < 4 }
@@ -77,7 +78,7 @@ fn put_register(answer: &mut ArrayVec<u8, ANSWER_BYTES>, bench: &Bench, bank: u8
     put(answer, b"\n");
 }
 
-/// Adds the line of the output port of a RAM chip.
+/// Appends the line of a RAM chip's output port.
 fn put_port(answer: &mut ArrayVec<u8, ANSWER_BYTES>, bench: &Bench, bank: u8, chip: u8)
     requires bank { bank < 8 }
     requires chip { chip < 4 }
@@ -92,7 +93,7 @@ fn put_port(answer: &mut ArrayVec<u8, ANSWER_BYTES>, bench: &Bench, bank: u8, ch
     put(answer, b"\n");
 }
 
-/// Adds the lines of a RAM chip.
+/// Appends the lines of a RAM chip.
 fn put_chip(answer: &mut ArrayVec<u8, ANSWER_BYTES>, bench: &Bench, bank: u8, chip: u8)
     requires bank { bank < 8 }
     requires chip { chip < 4 }
@@ -107,7 +108,7 @@ fn put_chip(answer: &mut ArrayVec<u8, ANSWER_BYTES>, bench: &Bench, bank: u8, ch
     put_port(answer, bench, bank, chip);
 }
 
-/// Returns the number of chips of a bank, which is 4 at most.
+/// Returns the number of chips in a bank, at most 4.
 pub(crate) fn chips_of(bench: &Bench, bank: u8) -> u8
     requires { bank < 8 }
     ensures chips { result ≡ chips_of bench.now.bus bank }
@@ -117,7 +118,7 @@ pub(crate) fn chips_of(bench: &Bench, bank: u8) -> u8
     bench.board().bank_chips(bank)
 }
 
-/// Writes how many chips a bank has, and what they hold, into an empty answer.
+/// Writes the answer to `ram` into an empty buffer: the number of chips in a bank and their contents.
 pub fn put_ram(answer: &mut ArrayVec<u8, ANSWER_BYTES>, bench: &Bench, bank: u8)
     requires bank { bank < 8 }
     requires empty { answer.old.items ≡ [] }

@@ -9,7 +9,7 @@ use crate::size::{ANSWER_BYTES, REGISTER_BYTES};
 use arrayvec::ArrayVec;
 use mcs_bench::Bench;
 
-/// Adds the registers except the return addresses, and the TEST pin.
+/// Appends the registers, except the return addresses, and the TEST level.
 pub(crate) fn put_registers(answer: &mut ArrayVec<u8, ANSWER_BYTES>, bench: &Bench)
     requires { array_vec_len answer.old + REGISTER_BYTES ≤ ANSWER_BYTES }
     ensures text { answer.new.items
@@ -27,7 +27,7 @@ pub(crate) fn put_registers(answer: &mut ArrayVec<u8, ANSWER_BYTES>, bench: &Ben
     put_digits(answer, &regs.r);
 }
 
-/// Writes the registers and the TEST pin of a bench into an empty answer.
+/// Writes the answer to `regs` into an empty buffer: the registers and the TEST level.
 pub fn put_regs(answer: &mut ArrayVec<u8, ANSWER_BYTES>, bench: &Bench)
     requires { answer.old.items ≡ [] }
     ensures { answer.new.items ≡ as_line (regs_text bench.now.processor bench.now.bus.test) }

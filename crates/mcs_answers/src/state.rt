@@ -15,7 +15,7 @@ use crate::state_lists::{
 use arrayvec::ArrayVec;
 use mcs_bench::Bench;
 
-/// Writes all state except ROM and RAM into an empty answer, in one line.
+/// Writes the answer to `state` into an empty buffer: one line with all state except the board, ROM and RAM.
 pub fn put_state(answer: &mut ArrayVec<u8, ANSWER_BYTES>, bench: &Bench)
     requires { answer.old.items ≡ [] }
     ensures { answer.new.items ≡ as_line (state_text bench.now) }

@@ -1,5 +1,5 @@
-//! The lists of the answer to `state`, each in one word. Items are added with a comma after each;
-//! then the last comma is removed.
+//! The lists in the answer to `state`, each as one word. Each item is appended with a comma. The last comma is then
+//! removed.
 ghost use Rattle.std.specs.Prelude.{◌≡◌, ℕ, ◌+◌, ◌*◌, ◌++◌, ◌<◌, ◌≤◌, List, true, Some, codes, length, map};
 ghost use Rattle.std.specs.Fmt.{decimal};
 ghost use Rattle.std.specs.List.{flat_map, range_with_len};
@@ -25,7 +25,7 @@ use mcs_model::limits::{
 };
 use mcs_nibble::{Addr, Bit, Nibble};
 
-/// Shows that a bench's board has no more parts than a board can have.
+/// Proves that the parts of a bench's board are within its limits.
 fn are_within_limits(bench: &Bench)
     ensures chains { chain_count bench.now.bus.board ≤ CHAINS }
     ensures chips { (n : ℕ) → (chain_part bench.now.bus.board n).chips ≤ CHAIN_CHIPS }
@@ -36,8 +36,8 @@ fn are_within_limits(bench: &Bench)
     bench.show_state_is_valid();
 }
 
-/// Ends a list whose items, each with a comma after it, begin at `start`: removes the last comma,
-/// or adds a dash if the list is empty.
+/// Ends a list whose items, each followed by a comma, begin at index `start`. Removes the last comma, or appends a dash
+/// if the list is empty.
 fn end_list(answer: &mut ArrayVec<u8, ANSWER_BYTES>, start: usize)
     requires { array_vec_len answer.old + 1 ≤ ANSWER_BYTES }
     ensures text { (before : List ℕ) (items : List (List ℕ)) → length before ≡ start
@@ -52,7 +52,7 @@ fn end_list(answer: &mut ArrayVec<u8, ANSWER_BYTES>, start: usize)
     }
 }
 
-/// Adds addresses, each with a comma after it.
+/// Appends addresses, each followed by a comma.
 fn put_address_items(answer: &mut ArrayVec<u8, ANSWER_BYTES>, list: &[Addr])
     requires { array_vec_len answer.old + 4 * length list.now ≤ ANSWER_BYTES }
     ensures text { answer.new.items
@@ -65,7 +65,7 @@ fn put_address_items(answer: &mut ArrayVec<u8, ANSWER_BYTES>, list: &[Addr])
     }
 }
 
-/// Adds a word and a list of addresses.
+/// Appends a word and a list of addresses.
 pub(crate) fn put_address_list(answer: &mut ArrayVec<u8, ANSWER_BYTES>, word: &[u8], list: &[Addr])
     requires { array_vec_len answer.old + length word.now + 4 * length list.now + 1 ≤ ANSWER_BYTES }
     ensures text { answer.new.items
@@ -79,7 +79,7 @@ pub(crate) fn put_address_list(answer: &mut ArrayVec<u8, ANSWER_BYTES>, word: &[
     end_list(answer, start);
 }
 
-/// Adds watched nibbles, each with a comma after it.
+/// Appends the banks and SRC bytes of watched RAM characters, each pair followed by a comma.
 fn put_watch_items(answer: &mut ArrayVec<u8, ANSWER_BYTES>, list: &[Addr])
     requires { array_vec_len answer.old + 5 * length list.now ≤ ANSWER_BYTES }
     ensures text { answer.new.items
@@ -92,7 +92,7 @@ fn put_watch_items(answer: &mut ArrayVec<u8, ANSWER_BYTES>, list: &[Addr])
     }
 }
 
-/// Adds the list of the watched nibbles.
+/// Appends the list of watched RAM characters.
 pub(crate) fn put_watch_list(answer: &mut ArrayVec<u8, ANSWER_BYTES>, list: &[Addr])
     requires { array_vec_len answer.old + 5 * length list.now + 10 ≤ ANSWER_BYTES }
     ensures text { answer.new.items
@@ -105,7 +105,7 @@ pub(crate) fn put_watch_list(answer: &mut ArrayVec<u8, ANSWER_BYTES>, list: &[Ad
     end_list(answer, start);
 }
 
-/// Adds the SRC byte that a bank keeps, if the bank has chips.
+/// Appends a bank's number and its latched SRC byte, followed by a comma, if the bank has chips.
 fn put_bank_item(answer: &mut ArrayVec<u8, ANSWER_BYTES>, bench: &Bench, bank: u8)
     requires bank { bank < 8 }
     requires room { array_vec_len answer.old + 5 ≤ ANSWER_BYTES }
@@ -120,7 +120,7 @@ fn put_bank_item(answer: &mut ArrayVec<u8, ANSWER_BYTES>, bench: &Bench, bank: u
     }
 }
 
-/// Adds the list of the SRC bytes of the banks.
+/// Appends the list of the SRC bytes latched in the banks.
 pub(crate) fn put_bank_list(answer: &mut ArrayVec<u8, ANSWER_BYTES>, bench: &Bench)
     requires { array_vec_len answer.old + BANK_LIST_BYTES ≤ ANSWER_BYTES }
     ensures text { answer.new.items ≡ answer.old.items ++ codes " banks "
@@ -135,7 +135,7 @@ pub(crate) fn put_bank_list(answer: &mut ArrayVec<u8, ANSWER_BYTES>, bench: &Ben
     end_list(answer, start);
 }
 
-/// Adds a number below 100 in decimal digits.
+/// Appends a number below 100 in decimal digits.
 fn put_small(answer: &mut ArrayVec<u8, ANSWER_BYTES>, n: u8)
     requires small { n < 100 }
     requires room { array_vec_len answer.old + 2 ≤ ANSWER_BYTES }
@@ -145,8 +145,8 @@ fn put_small(answer: &mut ArrayVec<u8, ANSWER_BYTES>, n: u8)
     put_decimal(answer, u64::from(n));
 }
 
-/// Adds the port of a ROM, if the board has this ROM: its latch, and what a program would read
-/// there now.
+/// Appends a ROM's number, its port latch and the value that a program would read at the port now, followed by a comma.
+/// Appends nothing if the board lacks the ROM.
 fn put_rom_item(answer: &mut ArrayVec<u8, ANSWER_BYTES>, bench: &Bench, chip: u8)
     requires chip { chip < 16 }
     requires room { array_vec_len answer.old + 7 ≤ ANSWER_BYTES }
@@ -162,7 +162,7 @@ fn put_rom_item(answer: &mut ArrayVec<u8, ANSWER_BYTES>, bench: &Bench, chip: u8
     }
 }
 
-/// Adds the list of the ports of the ROMs.
+/// Appends the list of the ROM ports.
 pub(crate) fn put_rom_list(answer: &mut ArrayVec<u8, ANSWER_BYTES>, bench: &Bench)
     requires { array_vec_len answer.old + ROM_LIST_BYTES ≤ ANSWER_BYTES }
     ensures text { answer.new.items ≡ answer.old.items ++ codes " roms "
@@ -177,7 +177,7 @@ pub(crate) fn put_rom_list(answer: &mut ArrayVec<u8, ANSWER_BYTES>, bench: &Benc
     end_list(answer, start);
 }
 
-/// Adds the port of a RAM chip, with a comma after it.
+/// Appends the port latch of a RAM chip after its bank and number, followed by a comma.
 fn put_ram_item(answer: &mut ArrayVec<u8, ANSWER_BYTES>, bench: &Bench, bank: u8, chip: u8)
     requires bank { bank < 8 }
     requires chip { chip < 4 }
@@ -192,7 +192,7 @@ fn put_ram_item(answer: &mut ArrayVec<u8, ANSWER_BYTES>, bench: &Bench, bank: u8
     put(answer, b",");
 }
 
-/// Adds the ports of the RAM chips of a bank.
+/// Appends the ports of the RAM chips in a bank, each followed by a comma.
 fn put_ram_items(answer: &mut ArrayVec<u8, ANSWER_BYTES>, bench: &Bench, bank: u8)
     requires bank { bank < 8 }
     requires room { array_vec_len answer.old + 24 ≤ ANSWER_BYTES }
@@ -206,7 +206,7 @@ fn put_ram_items(answer: &mut ArrayVec<u8, ANSWER_BYTES>, bench: &Bench, bank: u
     }
 }
 
-/// Adds the list of the ports of the RAM chips.
+/// Appends the list of the RAM ports.
 pub(crate) fn put_ram_list(answer: &mut ArrayVec<u8, ANSWER_BYTES>, bench: &Bench)
     requires { array_vec_len answer.old + RAM_LIST_BYTES ≤ ANSWER_BYTES }
     ensures text { answer.new.items ≡ answer.old.items ++ codes " rams "
@@ -221,7 +221,7 @@ pub(crate) fn put_ram_list(answer: &mut ArrayVec<u8, ANSWER_BYTES>, bench: &Benc
     end_list(answer, start);
 }
 
-/// Returns the number of bits of a chain.
+/// Returns the number of bits in a chain.
 fn bits_of(bench: &Bench, n: u8) -> u8
     requires { n < chain_count bench.now.bus.board }
     ensures bits { result ≡ chain_bits bench.now.bus.board n }
@@ -231,7 +231,7 @@ fn bits_of(bench: &Bench, n: u8) -> u8
     10 * bench.board().chain(usize::from(n)).chips
 }
 
-/// Adds the bits of a chain, with a comma after them.
+/// Appends the bits of a chain, followed by a comma.
 fn put_chain_item(answer: &mut ArrayVec<u8, ANSWER_BYTES>, bench: &Bench, n: u8)
     requires chain { n < chain_count bench.now.bus.board }
     requires room { array_vec_len answer.old + CHAIN_ITEM_BYTES ≤ ANSWER_BYTES }
@@ -245,7 +245,7 @@ fn put_chain_item(answer: &mut ArrayVec<u8, ANSWER_BYTES>, bench: &Bench, n: u8)
     put(answer, b",");
 }
 
-/// Adds the bits of a chain, or a dash if the board has no such chain.
+/// Appends the bits of a chain, or a dash if the board has no such chain.
 pub(crate) fn put_chain_bits(answer: &mut ArrayVec<u8, ANSWER_BYTES>, bench: &Bench, n: u8)
     requires { array_vec_len answer.old + CHAIN_ITEM_BYTES ≤ ANSWER_BYTES }
     ensures text { answer.new.items ≡ answer.old.items ++ bits_text bench.now.bus n }
@@ -259,7 +259,7 @@ pub(crate) fn put_chain_bits(answer: &mut ArrayVec<u8, ANSWER_BYTES>, bench: &Be
     }
 }
 
-/// Adds the list of the chains.
+/// Appends the list of the chains.
 pub(crate) fn put_chain_list(answer: &mut ArrayVec<u8, ANSWER_BYTES>, bench: &Bench)
     requires { array_vec_len answer.old + CHAIN_LIST_BYTES ≤ ANSWER_BYTES }
     ensures text { answer.new.items ≡ answer.old.items ++ codes " chains "
@@ -277,7 +277,7 @@ pub(crate) fn put_chain_list(answer: &mut ArrayVec<u8, ANSWER_BYTES>, bench: &Be
     end_list(answer, start);
 }
 
-/// Adds the row and the column of a key, if the key is down.
+/// Appends the row and the column of a key, followed by a comma, if the key is down.
 fn put_key_item(answer: &mut ArrayVec<u8, ANSWER_BYTES>, bench: &Bench, row: u8, column: u8)
     requires key { has_key bench.now.bus.board row column ≡ true }
     requires row { row < 16 }
@@ -294,7 +294,7 @@ fn put_key_item(answer: &mut ArrayVec<u8, ANSWER_BYTES>, bench: &Bench, row: u8,
     }
 }
 
-/// Adds the keys of a row that are down.
+/// Appends the keys of a row that are down, each followed by a comma.
 fn put_row_items(answer: &mut ArrayVec<u8, ANSWER_BYTES>, bench: &Bench, columns: u8, row: u8)
     requires keys { (column : ℕ) → column < columns
         → has_key bench.now.bus.board row column ≡ true }
@@ -310,7 +310,7 @@ fn put_row_items(answer: &mut ArrayVec<u8, ANSWER_BYTES>, bench: &Bench, columns
     }
 }
 
-/// Adds the keys that are down in the first rows, row by row.
+/// Appends the keys that are down in the first `rows` rows, row by row, each followed by a comma.
 fn put_rows_items(answer: &mut ArrayVec<u8, ANSWER_BYTES>, bench: &Bench, rows: u8, columns: u8)
     requires keys { (row column : ℕ) → row < rows → column < columns
         → has_key bench.now.bus.board row column ≡ true }
@@ -326,7 +326,7 @@ fn put_rows_items(answer: &mut ArrayVec<u8, ANSWER_BYTES>, bench: &Bench, rows: 
     }
 }
 
-/// Adds the keys that are down, row by row.
+/// Appends the keys that are down, row by row, each followed by a comma.
 fn put_key_items(answer: &mut ArrayVec<u8, ANSWER_BYTES>, bench: &Bench)
     requires { array_vec_len answer.old + 4 * KEYS ≤ ANSWER_BYTES }
     ensures text { answer.new.items ≡ answer.old.items ++ with_commas (key_items bench.now.bus) }
@@ -339,7 +339,7 @@ fn put_key_items(answer: &mut ArrayVec<u8, ANSWER_BYTES>, bench: &Bench)
     }
 }
 
-/// Adds the list of the keys that are down.
+/// Appends the list of the keys that are down.
 pub(crate) fn put_key_list(answer: &mut ArrayVec<u8, ANSWER_BYTES>, bench: &Bench)
     requires { array_vec_len answer.old + KEY_LIST_BYTES ≤ ANSWER_BYTES }
     ensures text { answer.new.items

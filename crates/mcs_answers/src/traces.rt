@@ -31,7 +31,7 @@ use mcs_nibble::Addr;
 use mcs_probe::{PROBES, Probe};
 use std::alloc::{AllocError, Global};
 
-/// Adds the return addresses, after a space.
+/// Appends a space and the three return addresses, separated by commas.
 fn put_returns(answer: &mut ArrayVec<u8, ANSWER_BYTES>, ret: [Addr; 3])
     requires { array_vec_len answer.old + 12 ≤ ANSWER_BYTES }
     ensures text { answer.new.items
@@ -44,7 +44,7 @@ fn put_returns(answer: &mut ArrayVec<u8, ANSWER_BYTES>, ret: [Addr; 3])
     put_address(answer, b",", third);
 }
 
-/// Adds a space and the value of a place.
+/// Appends a space and the value of a probe.
 fn put_probe(answer: &mut ArrayVec<u8, ANSWER_BYTES>, probe: Probe, bench: &Bench)
     requires { array_vec_len answer.old + PROBE_BYTES ≤ ANSWER_BYTES }
     ensures text { answer.new.items
@@ -79,7 +79,7 @@ fn put_probe(answer: &mut ArrayVec<u8, ANSWER_BYTES>, probe: Probe, bench: &Benc
     }
 }
 
-/// Adds a space and the value of each place, in order.
+/// Appends the value of each probe in order, each after a space.
 fn put_row(answer: &mut ArrayVec<u8, ANSWER_BYTES>, probes: &[Probe], bench: &Bench)
     requires { array_vec_len answer.old + PROBE_BYTES * length probes.now ≤ ANSWER_BYTES }
     ensures text { answer.new.items ≡ answer.old.items ++ row probes.now (machine_of bench.now) }
@@ -91,8 +91,7 @@ fn put_row(answer: &mut ArrayVec<u8, ANSWER_BYTES>, probes: &[Probe], bench: &Be
     }
 }
 
-/// Adds the line of an instruction: the cycles done before it, its address, and a row. It
-/// overwrites `start`.
+/// Appends the line of an instruction: the number of cycles done before it, its address, and a row. Overwrites `start`.
 fn add_line(
     text: &mut Vec<u8>,
     start: &mut ArrayVec<u8, ANSWER_BYTES>,
@@ -118,30 +117,29 @@ fn writes_port(op: &Op) -> bool
     matches!(op, Op::Wmp | Op::Wrr)
 }
 
-/// Returns true if an instruction is WRM, the only one that changes main RAM nibbles.
+/// Returns true if an instruction is WRM, the only one that changes RAM characters.
 fn writes_ram(op: &Op) -> bool
     ensures { result ≡ true ↔ op.now ≡ Wrm }
 {
     matches!(op, Op::Wrm)
 }
 
-/// Returns true if an instruction is one of WR0 to WR3, the only ones that change status nibbles.
+/// Returns true if an instruction is one of WR0 to WR3, the only ones that change status characters.
 fn writes_status(op: &Op) -> bool
     ensures { result ≡ true ↔ WritesStatus op.now }
 {
     matches!(op, Op::Wr0 | Op::Wr1 | Op::Wr2 | Op::Wr3)
 }
 
-/// Returns true if an instruction is SRC, the only one that changes the SRC byte that the ROMs
-/// keep.
+/// Returns true if an instruction is SRC, the only one that changes the SRC byte latched in the ROMs.
 fn writes_src(op: &Op) -> bool
     ensures { (k : ℕ) → op.now ≡ Src k → result ≡ true }
 {
     matches!(op, Op::Src(_))
 }
 
-/// Returns true only if an instruction cannot change the value of a place outside the processor. It
-/// returns false for every other place.
+/// Returns true only if an instruction cannot change the value of a probe outside the processor. Returns false for
+/// every other probe.
 #[inline(always)]
 fn keeps_outside(probe: Probe, op: &Op) -> bool
     ensures { result ≡ true → (before after : Regs) → Rests op.now before after probe }
@@ -160,26 +158,25 @@ fn keeps_outside(probe: Probe, op: &Op) -> bool
     }
 }
 
-/// The kinds of places that a row has. Each field is true if an instruction of its kind may change
-/// the row.
+/// The kinds of probes in a row. Each field is true if the row has a probe of that kind.
 #[derive(Clone, Copy)]
 struct Seen {
-    /// Lines, ports, chains or lamps.
+    /// Lines, ports, chains or lamps, which WMP and WRR can change.
     ports: bool,
-    /// Main RAM nibbles.
+    /// RAM characters, which WRM can change.
     ram: bool,
-    /// Status nibbles.
+    /// Status characters, which WR0 to WR3 can change.
     status: bool,
-    /// The SRC byte that the ROMs keep.
+    /// The SRC byte latched in the ROMs, which SRC can change.
     src: bool,
-    /// The return addresses.
+    /// The return addresses, which JMS and BBL can change.
     returns: bool,
-    /// Any other register, which every instruction may change.
+    /// Any other register, which every instruction might change.
     registers: bool,
 }
 
-/// Returns true if an instruction may change a place of the row that is outside the registers, or
-/// the return addresses.
+/// Returns true if an instruction can change the return addresses or a location outside the registers, and the row has
+/// a probe of that kind.
 #[inline(always)]
 fn touches(seen: &Seen, op: &Op) -> bool
     ensures { result ≡ touches seen.now op.now }
@@ -194,7 +191,7 @@ fn touches(seen: &Seen, op: &Op) -> bool
     }
 }
 
-/// Returns the kinds of places after one place more.
+/// Returns the kinds of probes after another probe is added to the row.
 fn visible_too(seen: Seen, probe: Probe) -> Seen
     ensures { SeesToo seen result probe }
 {
@@ -237,7 +234,7 @@ fn visible_too(seen: Seen, probe: Probe) -> Seen
     }
 }
 
-/// Returns the kinds of places that a row has.
+/// Returns the kinds of probes in a row.
 fn seen_of(probes: &[Probe]) -> Seen
     ensures { SeesAll result probes.now }
 {
@@ -255,8 +252,8 @@ fn seen_of(probes: &[Probe]) -> Seen
     seen
 }
 
-/// Returns true only if the instruction, by itself, cannot change the row. It decides by the kinds
-/// of places alone, and returns false if no instruction was begun.
+/// Returns true only if an instruction cannot change the row, whatever the registers hold. Decides by the kinds of
+/// probes alone. Returns false if no instruction was begun.
 #[inline(always)]
 fn all_keep(probes: &[Probe], seen: &Seen, op: Option<Op>) -> bool
     requires { SeesAll seen.now probes.now }
@@ -273,8 +270,8 @@ fn all_keep(probes: &[Probe], seen: &Seen, op: Option<Op>) -> bool
     }
 }
 
-/// Returns true only if an instruction that led from some registers to others leaves the value of a
-/// place as it is. It builds no text.
+/// Returns true only if an instruction that changed the registers from `before` to `after` leaves the value of a probe
+/// unchanged. Builds no text.
 fn rests(probe: Probe, op: &Op, before: &Regs, after: &Regs) -> bool
     ensures { result ≡ true → Rests op.now before.now after.now probe }
 {
@@ -289,8 +286,8 @@ fn rests(probe: Probe, op: &Op, before: &Regs, after: &Regs) -> bool
     }
 }
 
-/// Returns true only if such an instruction leaves the value of each place as it is. It returns
-/// false if no instruction was begun.
+/// Returns true only if an instruction that changed the registers from `before` to `after` leaves the value of each
+/// probe unchanged. Returns false if no instruction was begun.
 fn all_rest(probes: &[Probe], op: Option<Op>, before: &Regs, after: &Regs) -> bool
     ensures { result ≡ true → RowRests op before.now after.now probes.now }
 {
@@ -307,8 +304,8 @@ fn all_rest(probes: &[Probe], op: Option<Op>, before: &Regs, after: &Regs) -> bo
     }
 }
 
-/// Returns true only if an instruction that led from some registers to others leaves a row as it
-/// is. If no place is a register, it looks only at the instruction.
+/// Returns true only if an instruction that changed the registers from `before` to `after` leaves the row unchanged. If
+/// `REGISTERS` is false, decides from the instruction and the kinds of probes alone.
 #[inline(always)]
 fn row_stays<const REGISTERS: bool>(
     probes: &[Probe],
@@ -327,7 +324,7 @@ fn row_stays<const REGISTERS: bool>(
     }
 }
 
-/// The result of a run: its cycles, why it stopped, and how many lines its trace has.
+/// The result of a traced run: its cycles, the reason that it stopped, and the number of lines in its trace.
 #[derive(Drop)]
 struct Traced {
     cycles: u32,
@@ -335,8 +332,7 @@ struct Traced {
     lines: u32,
 }
 
-/// Returns the result of a run that led to this bench. `mark` is the breakpoint or watch that
-/// stopped it, if one did.
+/// Returns the result of a run that led to this bench. `mark` is the breakpoint or watch that stopped the run, if any.
 fn came_to(bench: &Bench, cycles: u32, mark: Option<Stop>, lines: u32) -> Traced
     ensures cycles { result.cycles ≡ cycles }
     ensures stop { result.stop ≡ stop_by (machine_of bench.now) mark }
@@ -356,7 +352,7 @@ struct Rows {
     next: ArrayVec<u8, ANSWER_BYTES>,
 }
 
-/// Returns the row of a bench before the first line, with an empty buffer.
+/// Returns the row of a bench before the first line, with an empty buffer for the next row.
 fn first_row(probes: &[Probe], bench: &Bench) -> Rows
     requires { length probes.now ≤ PROBES }
     ensures { result.last.items ≡ row probes.now (machine_of bench.now) }
@@ -369,8 +365,8 @@ fn first_row(probes: &[Probe], bench: &Bench) -> Rows
     }
 }
 
-/// Adds the line of the instruction that the last cycle began, if it has one, and returns true if
-/// it does. The row after the instruction becomes the last row.
+/// Appends the trace line of an instruction, if it has one, and returns true if so. The row after the instruction
+/// becomes the last row.
 fn add_reported(
     text: &mut Vec<u8>,
     rows: &mut Rows,
@@ -397,9 +393,9 @@ fn add_reported(
     Ok(false)
 }
 
-/// Adds the line of a cycle that began at an address, if it has one, and returns the number of
-/// lines added. A second cycle that was pending has no line. The row after the cycle becomes the
-/// last row. It stays a call because a row is seldom built.
+/// Appends the trace line of a cycle that began at an address, if it has one. Returns the number of lines appended. A
+/// pending second cycle (`owed`) has no line. The row after the cycle becomes the last row. Not inlined, because a row
+/// is seldom built.
 #[inline(never)]
 fn add_began(
     text: &mut Vec<u8>,
@@ -432,9 +428,9 @@ fn add_began(
     Ok(0)
 }
 
-/// Adds the line of an instruction that led from these registers to a bench, if it has one, and
-/// returns the number of lines added. The row after the instruction becomes the last row. If
-/// `rests` is true, the caller knows that the row is still the same.
+/// Appends the trace line of an instruction, if it has one. `regs` are the registers before the instruction. Returns
+/// the number of lines appended. The row after the instruction becomes the last row. `rests` can be true only if the
+/// row is unchanged.
 #[inline(always)]
 fn add_went(
     text: &mut Vec<u8>,
@@ -460,8 +456,8 @@ fn add_went(
     add_began(text, rows, cycles, regs.owed, regs.pc, probes, bench)
 }
 
-/// Adds a line for each instruction of a run of at most `n` cycles that changes the row, or for
-/// every instruction if there are no places. `REGISTERS` is true if a place is a register.
+/// Appends a line for each instruction of a run of at most `n` cycles that changes the row. If there are no probes,
+/// every instruction has a line. `REGISTERS` is true if a probe is a register.
 fn add_lines<const REGISTERS: bool>(
     alloc: Global,
     text: &mut Vec<u8>,
@@ -496,7 +492,7 @@ fn add_lines<const REGISTERS: bool>(
     Ok(came_to(&copy, n, None, lines))
 }
 
-/// Does the same, and picks the loop: without a register among the places, it copies no registers.
+/// Runs the variant of `add_lines` that suits the probes. If no probe is a register, the loop copies no registers.
 fn add_lines_of(
     alloc: Global,
     text: &mut Vec<u8>,
@@ -516,9 +512,9 @@ fn add_lines_of(
     }
 }
 
-/// Traces a run of at most `n` cycles without doing it: writes a head into an empty answer and
-/// returns a line for each instruction that changes the row. Without places every instruction has a
-/// line. The lines need memory. It fails if memory runs out; then the head has no meaning.
+/// Traces a run of at most `n` cycles without doing it. Writes the head into an empty answer and returns the lines in
+/// allocated memory. Each instruction that changes the row has a line, or every instruction if there are no probes.
+/// Fails if memory cannot be allocated. The contents of the head are then unspecified.
 pub fn put_trace(
     alloc: Global,
     head: &mut ArrayVec<u8, ANSWER_BYTES>,

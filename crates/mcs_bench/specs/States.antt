@@ -1,4 +1,4 @@
--- A state as plain numbers, as the flat state that it stands for. (Our own choice.)
+-- The conversion of a state as plain numbers to the flat state. (Our own choice.)
 use Rattle.std.specs.Prelude.{ℕ, List, map}
 use Rattle.arrayvec.specs.ArrayVec.{ArrayVec}
 use Rattle.mcs_model.specs.BenchState.{BenchState}

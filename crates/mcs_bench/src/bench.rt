@@ -1,4 +1,4 @@
-//! The contents of a bench.
+//! The `Bench` type, its creation and copying.
 ghost use Rattle.std.specs.Prelude.{◌≡◌, IfOk};
 ghost use Rattle.mcs_model.specs.BenchState.{new_bench_state};
 
@@ -9,7 +9,8 @@ use mcs_cpu4004::Cpu;
 use std::alloc::{AllocError, Global};
 use std::marker::Model;
 
-/// A processor on a rig, with breakpoints and a count of accepted commands. Contracts see it as the flat state.
+/// A processor on a rig, with breakpoints, watches and the number of accepted commands. Contracts see it as its flat
+/// state.
 #[derive(Drop)]
 pub struct Bench {
     pub(crate) rig: BenchRig,
@@ -28,11 +29,11 @@ impl Model for Bench {
 }
 
 impl Bench {
-    /// Returns a bench on which no command was done: the empty board, all 0, and TEST 1.
+    /// Returns a new bench. It has the empty board, and all state is 0, except the TEST level, which is 1.
     ///
     /// # Errors
     ///
-    /// Fails if memory is refused. No command on a bench takes memory.
+    /// Fails if memory cannot be allocated. Commands on a bench allocate no memory.
     pub fn new(alloc: Global) -> Result<Bench, AllocError>
         ensures { IfOk result (λ bench. bench ≡ new_bench_state) }
     {
@@ -45,11 +46,11 @@ impl Bench {
         })
     }
 
-    /// Returns an equal bench, which is independent of this one.
+    /// Returns an independent copy of the bench.
     ///
     /// # Errors
     ///
-    /// Fails if memory is refused.
+    /// Fails if memory cannot be allocated.
     pub fn copy(&self, alloc: Global) -> Result<Bench, AllocError>
         ensures { IfOk result (λ bench. bench ≡ self.now) }
     {

@@ -1,4 +1,4 @@
-//! Breakpoints.
+//! The breakpoints of a bench.
 ghost use Rattle.std.specs.Prelude.{◌≡◌, ◌<◌, ◌≤◌, ◌||◌, true, [], length, nat_lt};
 ghost use Rattle.std.specs.List.{insert};
 ghost use Rattle.std.specs.List.Sorted.{IsStrictlyIncreasing};
@@ -11,7 +11,8 @@ use mcs_model::limits::BREAKPOINTS;
 use mcs_nibble::Addr;
 use std::marker::Model;
 
-/// The breakpoints by rising address, with a flag for each address. A run looks one up in constant time.
+/// The breakpoints in ascending order, with a flag for each address. The flag lets a run look up an address in constant
+/// time.
 #[derive(Drop)]
 pub(crate) struct Breaks {
     list: ArrayVec<Addr, BREAKPOINTS>,
@@ -29,7 +30,7 @@ impl Model for Breaks {
     ghost invariant = { λ b. IsMarked b.marks b.list.items };
 }
 
-/// Returns the index of the first address above another one, or the end of the list if there is none.
+/// Returns the index of the first address above `at`, or the length of the list if there is none.
 fn index_of(list: &[Addr], at: Addr) -> usize
     ensures index { insert list.now result at ≡ insert_in_order list.now at }
     ensures within { result ≤ length list.now }
@@ -42,7 +43,7 @@ fn index_of(list: &[Addr], at: Addr) -> usize
     list.len()
 }
 
-/// Returns the addresses other than `at`.
+/// Returns the list without the address `at`.
 fn others(list: &ArrayVec<Addr, BREAKPOINTS>, at: Addr) -> ArrayVec<Addr, BREAKPOINTS>
     ensures { result.items ≡ without_listed list.now.items at }
 {
@@ -55,7 +56,7 @@ fn others(list: &ArrayVec<Addr, BREAKPOINTS>, at: Addr) -> ArrayVec<Addr, BREAKP
     kept
 }
 
-/// Returns the same addresses.
+/// Returns a copy of the list.
 fn copied(list: &ArrayVec<Addr, BREAKPOINTS>) -> ArrayVec<Addr, BREAKPOINTS>
     ensures { result.items ≡ list.now.items }
 {
@@ -67,7 +68,7 @@ fn copied(list: &ArrayVec<Addr, BREAKPOINTS>) -> ArrayVec<Addr, BREAKPOINTS>
 }
 
 impl Breaks {
-    /// Returns no breakpoints.
+    /// Returns an empty set of breakpoints.
     pub(crate) fn new() -> Breaks
         ensures { result ≡ [] }
     {
@@ -77,7 +78,7 @@ impl Breaks {
         }
     }
 
-    /// Returns equal breakpoints.
+    /// Returns a copy of the breakpoints.
     pub(crate) fn copy(&self) -> Breaks
         ensures { result ≡ self.now }
     {
@@ -87,7 +88,7 @@ impl Breaks {
         }
     }
 
-    /// Returns the breakpoints, rising.
+    /// Returns the breakpoint addresses in ascending order.
     pub(crate) fn list(&self) -> &[Addr]
         ensures same { result.now ≡ self.now }
         ensures few { length result.now ≤ BREAKPOINTS }
@@ -103,14 +104,14 @@ impl Breaks {
         self.marks[usize::from(at.get())]
     }
 
-    /// Returns whether an address is a breakpoint, or can become one.
+    /// Returns whether an address already is a breakpoint or there is room for another one.
     pub(crate) fn has_room_for(&self, at: Addr) -> bool
         ensures { result ≡ (is_listed self.now at || nat_lt (length self.now) BREAKPOINTS) }
     {
         self.contains(at) || self.list.len() < BREAKPOINTS
     }
 
-    /// Makes an address a breakpoint. Nothing changes if it was one.
+    /// Sets a breakpoint at an address. Nothing changes if one is set there already.
     pub(crate) fn set(&mut self, at: Addr)
         requires { (is_listed self.old at || nat_lt (length self.old) BREAKPOINTS) ≡ true }
         ensures { self.new ≡ with_listed self.old at }
@@ -122,7 +123,7 @@ impl Breaks {
         }
     }
 
-    /// Removes an address from the breakpoints. Nothing changes if it was none.
+    /// Removes the breakpoint at an address. Nothing changes if there is none.
     pub(crate) fn clear(&mut self, at: Addr)
         ensures { self.new ≡ without_listed self.old at }
     {
@@ -130,7 +131,7 @@ impl Breaks {
         self.marks[usize::from(at.get())] = false;
     }
 
-    /// Proves that the breakpoints are at most `BREAKPOINTS`, each an address, rising.
+    /// Proves that there are at most `BREAKPOINTS` breakpoints, and that they are addresses in ascending order.
     pub(crate) fn show_state_is_valid(&self)
         ensures { AreBreakpoints self.now }
     {

@@ -1,4 +1,4 @@
-//! The lists of numbers that the chips of a board hold. Each number is read and set by its index.
+//! Lists of the values in a board's chips. Each value is read and set by its index.
 ghost use Rattle.std.specs.Prelude.{◌≡◌, ℕ, ◌<◌, ◌↔◌, true, IsTrue, length, slice_index};
 ghost use Rattle.mcs_model.specs.Validity.{AreBelow};
 ghost use Rattle.mcs_bench.specs.ChipLists.{count_of, limit_of, is_absent, with_list, with_cell};
@@ -7,23 +7,23 @@ use mcs_board::BenchRig;
 use mcs_model::board::Board;
 use mcs_nibble::{Addr, Nibble};
 
-/// A list of numbers that chips hold, each at an index of its own, or 0 if the chip is absent.
+/// A kind of value in a board's chips. The values of a kind form a list, which has 0 for absent chips.
 #[derive(Clone, Copy)]
 pub enum ChipList {
-    /// The bytes of the ROMs, by address.
+    /// The ROM bytes, indexed by address.
     RomBytes,
-    /// The RAM characters, at bank * 256 + SRC byte.
+    /// The RAM characters, at index bank * 256 + SRC byte.
     Characters,
-    /// The status characters, at (bank * 16 + upper nibble of SRC) * 4 + k.
+    /// The status characters, at index (bank * 16 + upper nibble of SRC byte) * 4 + k.
     StatusCharacters,
-    /// The port latches of the RAM chips, at bank * 4 + chip.
+    /// The port latches of the RAM chips, at index bank * 4 + chip.
     RamPorts,
-    /// The SRC byte that each bank keeps.
+    /// The SRC bytes latched in the banks, indexed by bank.
     BankSrcs,
 }
 
 impl ChipList {
-    /// Returns the number of elements of the list.
+    /// Returns the length of the list.
     pub fn count(self) -> usize
         ensures { result ≡ count_of self }
     {
@@ -37,7 +37,7 @@ impl ChipList {
     }
 }
 
-/// Returns whether the chip that would hold number `i` of a list is absent.
+/// Returns whether the chip of element `i` of a list is absent.
 fn is_absent(board: &Board, list: ChipList, i: usize) -> bool
     requires { i < count_of list }
     ensures { result ≡ is_absent board.now list i }
@@ -51,7 +51,7 @@ fn is_absent(board: &Board, list: ChipList, i: usize) -> bool
     }
 }
 
-/// Returns whether all numbers of absent chips are 0.
+/// Returns whether all elements of absent chips are 0.
 pub(crate) fn is_absent_zero(board: &Board, list: ChipList, numbers: &[u8]) -> bool
     requires { length numbers.now ≡ count_of list }
     ensures { IsTrue result
@@ -66,7 +66,7 @@ pub(crate) fn is_absent_zero(board: &Board, list: ChipList, numbers: &[u8]) -> b
     true
 }
 
-/// Sets number `i` of a list. The write is lost if its chip is absent.
+/// Sets element `i` of a list. The write is lost if its chip is absent.
 fn set(rig: &mut BenchRig, list: ChipList, i: usize, n: u8)
     requires index { i < count_of list }
     requires fits { n < limit_of list }
@@ -88,7 +88,7 @@ fn set(rig: &mut BenchRig, list: ChipList, i: usize, n: u8)
     }
 }
 
-/// Sets all numbers of a list.
+/// Sets all elements of a list.
 pub(crate) fn fill(rig: &mut BenchRig, list: ChipList, numbers: &[u8])
     requires fit { AreBelow (count_of list) (limit_of list) numbers.now }
     requires absent { (i : ℕ) → i < count_of list → is_absent rig.old.board list i ≡ true →

@@ -15,35 +15,35 @@ use mcs_model::limits::{ACCEPTED_COMMANDS, BREAKPOINTS, RUN_CYCLES};
 use mcs_model::refusals::BenchFault;
 use mcs_nibble::{Addr, BankNo};
 
-/// Returns a fault unless all is well.
+/// Returns `None` if `well` is true, else `fault`.
 fn unless(well: bool, fault: BenchFault) -> Option<BenchFault>
     ensures { result ≡ (if well then None else Some fault) }
 {
     if well { None } else { Some(fault) }
 }
 
-/// Returns a fault if something is wrong.
+/// Returns `fault` if `ill` is true, else `None`.
 fn when(ill: bool, fault: BenchFault) -> Option<BenchFault>
     ensures { result ≡ (if ill then Some fault else None) }
 {
     if ill { Some(fault) } else { None }
 }
 
-/// Returns whether the board lacks the ROM of an address.
+/// Returns whether an address is in a ROM that the board lacks.
 fn lacks_rom(board: &Board, at: Addr) -> bool
     ensures { result ≡ lacks_rom board.now at }
 {
     board.mask(at.page().get()).is_none()
 }
 
-/// Returns whether the board lacks the ROM of some byte of an image.
+/// Returns whether an image has a byte for a ROM that the board lacks.
 fn lacks_a_rom(board: &Board, image: &Image) -> bool
     ensures { result ≡ list_any (λ p. lacks_rom board.now p.0) image.now }
 {
     image.pairs().iter().any(|pair| lacks_rom(board, pair.0))
 }
 
-/// Puts the bytes of an image into ROM, and returns their number as the reply.
+/// Loads an image into ROM. The reply contains the number of its bytes.
 fn load(rig: &mut BenchRig, image: &Image) -> Reply
     ensures bytes { rig.new ≡ with_rom_bytes rig.old image.now }
     ensures count { result ≡ Reply.Loaded (length image.now) }
@@ -55,7 +55,7 @@ fn load(rig: &mut BenchRig, image: &Image) -> Reply
 }
 
 impl Bench {
-    /// Returns the reason that a value cannot be put into a place, or `None` if it can.
+    /// Returns the reason that a poke of `place` is rejected, or `None` if it is accepted.
     fn place_refusal(&self, place: Place) -> Option<BenchFault>
         ensures { result ≡ place_refusal self.now.bus place }
     {
@@ -77,7 +77,8 @@ impl Bench {
         }
     }
 
-    /// Returns the reason that the bench rejects a command because of the command itself, or `None` if there is none.
+    /// Returns the reason that the bench rejects a command, or `None` if there is none. The limit on the number of
+    /// accepted commands is not checked here.
     fn refusal_of_command(&self, command: &Command) -> Option<BenchFault>
         ensures { result ≡ refusal_of_command self.now command.now }
     {
@@ -105,14 +106,17 @@ impl Bench {
         }
     }
 
-    /// Checks whether a command is accepted. Nothing changes.
+    /// Checks whether the bench accepts a command. Does not change the bench.
     ///
     /// # Errors
     ///
-    /// `Worn` if the bench has accepted as many commands as it can count. Otherwise: `NoKey` for a key that the board
-    /// lacks; `NoRom` for an address in a ROM that it lacks; `NoSuchPlace` for a RAM chip that it lacks; `BadCount` for
-    /// a run of no cycle or of more than 100,000; `BreaksFull` for one breakpoint more than 32; `WatchesFull` for one
-    /// watch more than 8.
+    /// Returns `Worn` if the bench has accepted as many commands as it can count. Otherwise returns:
+    /// - `NoKey` if the board has no such key
+    /// - `NoRom` if an address is in a ROM that the board lacks
+    /// - `NoSuchPlace` if the RAM chip is absent
+    /// - `BadCount` for a run of 0 cycles or of more than 100,000
+    /// - `BreaksFull` if a 33rd breakpoint would be set
+    /// - `WatchesFull` if a ninth RAM character would be watched
     pub fn check(&self, command: &Command) -> Result<(), BenchFault>
         ensures { MatchOption (refusal self.now command.now) (IsOk result)
             (λ fault. result ≡ Err fault) }
@@ -126,7 +130,7 @@ impl Bench {
         }
     }
 
-    /// Puts the processor and the rig on another board.
+    /// Wires the rig to another board and resets the processor.
     fn wire(&mut self, board: &Board)
         ensures { self.new ≡ after_change self.old (Command.Wire board.now) }
     {
@@ -142,7 +146,7 @@ impl Bench {
         self.cpu.set_dcl(bank.get());
     }
 
-    /// Puts a value into a place. The write is lost if the place is absent.
+    /// Writes a value to a location. The write is lost if its chip is absent.
     fn put(&mut self, place: Place)
         ensures { self.new ≡ with_place self.old place }
     {
@@ -160,7 +164,7 @@ impl Bench {
         }
     }
 
-    /// Turns the power off and on.
+    /// Performs a power cycle.
     fn reset(&mut self)
         ensures { self.new ≡ after_change self.old Command.Reset }
     {
@@ -168,7 +172,7 @@ impl Bench {
         self.rig.reset();
     }
 
-    /// Runs up to `n` cycles.
+    /// Runs for at most `n` cycles.
     fn run(&mut self, n: u32) -> Reply
         ensures state { self.new ≡ after_change self.old (Command.Run n) }
         ensures reply { result ≡ reply self.old (Command.Run n) }
@@ -177,7 +181,7 @@ impl Bench {
         Reply::Ran { cycles, stop }
     }
 
-    /// Does one instruction, or the pending idle cycle of one.
+    /// Executes one instruction, or the pending second cycle of one.
     fn step(&mut self) -> Reply
         ensures state { self.new ≡ after_change self.old Command.Step }
         ensures reply { result ≡ reply self.old Command.Step }
@@ -186,7 +190,7 @@ impl Bench {
         Reply::Ran { cycles, stop }
     }
 
-    /// Does a command, except for the count of commands.
+    /// Executes a command without counting it.
     fn change(&mut self, command: &Command) -> Reply
         requires { refusal_of_command self.old command.now ≡ None }
         ensures state { self.new ≡ after_change self.old command.now }
@@ -210,7 +214,7 @@ impl Bench {
         Reply::Done
     }
 
-    /// Does an accepted command, and returns its reply. It takes no memory.
+    /// Executes an accepted command and returns its reply. Allocates no memory.
     pub fn apply(&mut self, command: &Command) -> Reply
         requires accepted { refusal self.old command.now ≡ None }
         ensures state { self.new ≡ after self.old command.now }

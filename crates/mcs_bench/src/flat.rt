@@ -1,4 +1,4 @@
-//! The state of a bench as plain numbers.
+//! A bench's state as plain numbers, which need not be valid.
 ghost use Rattle.std.specs.Prelude.{◌≡◌, ◌<◌, ℕ, IfOk, length, replicate, slice_index, slice_set};
 ghost use Rattle.mcs_model.specs.BenchState.{new_bench_state};
 ghost use Rattle.mcs_bench.specs.States.{state_of};
@@ -9,7 +9,7 @@ use mcs_model::limits::{BREAKPOINTS, CHAIN_SOCKETS, CHAINS, KEYS, WATCHES};
 use std::alloc::{AllocError, Global};
 use std::marker::Model;
 
-/// A list of bytes whose length is fixed. Contracts see it as the list.
+/// A byte list of fixed length. Contracts see it as a list of numbers.
 #[derive(Drop)]
 pub struct Cells {
     bytes: Vec<u8>,
@@ -24,7 +24,7 @@ impl Model for Cells {
 }
 
 impl Cells {
-    /// Returns `count` bytes, all 0. Fails if memory is refused.
+    /// Returns `count` zero bytes. Fails if memory cannot be allocated.
     fn zeros(alloc: Global, count: usize) -> Result<Cells, AllocError>
         ensures { IfOk result (λ cells. cells ≡ replicate count 0) }
     {
@@ -64,60 +64,60 @@ impl Cells {
     }
 }
 
-/// The state of a bench as plain numbers. They can be any numbers: `check` returns whether a bench can be in that
-/// state.
+/// A bench's state as plain numbers, which need not be valid. `check` returns whether a bench can be in that state.
 #[derive(Drop)]
 pub struct Flat {
     /// The number of accepted commands.
     pub seq: u32,
     /// The board.
     pub board: Board,
-    /// The bytes of the ROMs, by address: 4,096, those of absent ROMs 0.
+    /// The ROM bytes, indexed by address: 4,096 bytes, 0 for absent ROMs.
     pub rom: Cells,
-    /// The RAM characters, at bank * 256 + SRC byte: 2,048 nibbles, absent ones 0.
+    /// The RAM characters, at index bank * 256 + SRC byte: 2,048 nibbles, 0 for absent chips.
     pub ram: Cells,
-    /// The status characters, at (bank * 16 + upper nibble of SRC) * 4 + k: 512 nibbles, absent ones 0.
+    /// The status characters, at index (bank * 16 + upper nibble of SRC byte) * 4 + k: 512 nibbles, 0 for absent chips.
     pub status: Cells,
-    /// The port latches of the RAM chips, at bank * 4 + chip: 32 nibbles, absent ones 0.
+    /// The port latches of the RAM chips, at index bank * 4 + chip: 32 nibbles, 0 for absent chips.
     pub ram_ports: Cells,
-    /// The port latches of the ROMs: 16 nibbles, absent ones and the bits of input lines 0.
+    /// The port latches of the ROMs: 16 nibbles, 0 for absent ROMs, with 0 in the bits of input lines.
     pub rom_ports: Cells,
     /// The accumulator, a nibble.
     pub acc: u8,
     /// The carry, a bit.
     pub cy: u8,
-    /// The index registers, nibbles.
+    /// The index registers, each a nibble.
     pub r: [u8; 16],
-    /// The program counter, an address.
+    /// The program counter, 0 to 4095.
     pub pc: u16,
-    /// The return addresses, the one that BBL takes first.
+    /// The return addresses. BBL takes the first one.
     pub ret: [u16; 3],
     /// The command register, 0 to 7.
     pub dcl: u8,
-    /// The SRC byte that the ROMs keep.
+    /// The SRC byte latched in the ROMs.
     pub rom_src: u8,
-    /// The SRC byte that each bank keeps, 0 in a bank without chips.
+    /// The SRC bytes latched in the banks, 0 in a bank without chips.
     pub ram_src: [u8; 8],
-    /// The number of pending idle cycles, 0 or 1.
+    /// 1 if the second cycle of an instruction is pending, else 0.
     pub owed: u8,
-    /// The bits of each chain of the board, bit 0 first.
+    /// The bits of each of the board's chains, bit 0 first.
     pub chains: ArrayVec<ArrayVec<u8, CHAIN_SOCKETS>, CHAINS>,
-    /// The keys of the board, row by row: 1 for a key that is down.
+    /// The states of the board's keys, row by row: 1 for a key that is down, else 0.
     pub keys: ArrayVec<u8, KEYS>,
-    /// The level of the TEST pin, a bit.
+    /// The level of the TEST pin, 0 or 1.
     pub test: u8,
-    /// The breakpoints, addresses, rising.
+    /// The breakpoint addresses in ascending order.
     pub breakpoints: ArrayVec<u16, BREAKPOINTS>,
-    /// The watched RAM characters, each as bank * 256 + SRC byte, rising.
+    /// The indices of the watched RAM characters, bank * 256 + SRC byte, in ascending order.
     pub watches: ArrayVec<u16, WATCHES>,
 }
 
 impl Flat {
-    /// Returns the state of a new bench: the empty board, all 0, and TEST 1.
+    /// Returns the state of a new bench. It has the empty board, and all numbers are 0, except the TEST level, which is
+    /// 1.
     ///
     /// # Errors
     ///
-    /// Fails if memory is refused.
+    /// Fails if memory cannot be allocated.
     pub fn new(alloc: Global) -> Result<Flat, AllocError>
         ensures { IfOk result (λ flat. state_of flat ≡ new_bench_state) }
     {

@@ -1,4 +1,4 @@
-//! Laws of a bench, each proved as the contract of a function that changes nothing.
+//! Laws of a bench. Each is proved as the contract of a function that changes nothing.
 ghost use Rattle.std.specs.Prelude.{◌<◌, All};
 ghost use Rattle.mcs_model.specs.Validity.{IsValid, IsValidRegs};
 ghost use Rattle.mcs_bench.specs.Runs.{RunsAddUp};
@@ -7,15 +7,15 @@ use crate::bench::Bench;
 use mcs_model::regs::Regs;
 use mcs_nibble::{Addr, Nibble};
 
-/// Proves that, if no breakpoint is set and no character watched, two runs reach the state that one run of all their
-/// cycles reaches, except for the count of commands.
+/// Proves that two runs reach the same state as one run of their total cycles, if no breakpoint is set and no RAM
+/// character is watched. The number of accepted commands is not part of the comparison.
 pub fn runs_add_up()
     ensures { RunsAddUp }
 {
     mcs_model::laws::runs_compose();
 }
 
-/// Proves that each number of a list of nibbles is below 16.
+/// Proves that each nibble in a list is below 16.
 fn are_nibbles(list: &[Nibble])
     ensures { All (λ n. n < 16) list.now }
 {
@@ -24,7 +24,7 @@ fn are_nibbles(list: &[Nibble])
     }
 }
 
-/// Proves that each number of a list of addresses is below 4096.
+/// Proves that each address in a list is below 4096.
 pub(crate) fn are_addresses(list: &[Addr])
     ensures { All (λ a. a < 4096) list.now }
 {
@@ -33,7 +33,7 @@ pub(crate) fn are_addresses(list: &[Addr])
     }
 }
 
-/// Proves that each register holds a number of its kind.
+/// Proves that each register's value is in its range, if those of `dcl` and `owed` are.
 fn registers_are_valid(regs: Regs)
     requires dcl { regs.dcl < 8 }
     requires owed { regs.owed < 2 }

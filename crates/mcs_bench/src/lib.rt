@@ -1,7 +1,8 @@
-//! The bench: a processor on a rig, with breakpoints and a count of the commands that it accepted.
+//! The bench: a processor on a rig, with breakpoints, watches and the number of accepted commands.
 //!
-//! `Bench` does commands; contracts see it as the flat state of `mcs_model`. `Flat` is such a state as plain numbers,
-//! which can be any: `Flat::check` returns whether a bench can be in it, and `Bench::restore` makes that bench.
+//! `Bench` executes commands. Contracts see it as the flat state of `mcs_model`. `Flat` is a state as plain numbers,
+//! which need not be valid. `Flat::check` returns whether a bench can be in that state, and `Bench::restore` creates a
+//! bench in a valid one.
 #![tactic(auto)]
 
 mod bench;

@@ -1,4 +1,4 @@
-//! Readers of a bench's state.
+//! Getters for a bench's state.
 ghost use Rattle.std.specs.Prelude.{◌≡◌, ◌+◌, ◌*◌, ◌<◌, ◌≤◌, true, IfOk, length, option_map, slice_get, slice_index, if◌then◌else◌};
 ghost use Rattle.std.specs.List.Sorted.{IsStrictlyIncreasing};
 ghost use Rattle.mcs_model.specs.Boards.{exists_on, has_key, key_index};
@@ -62,11 +62,11 @@ impl Bench {
         self.rig.rom_byte(at)
     }
 
-    /// Returns the 4,096 bytes of the ROMs, by address. The bytes of absent ROMs are 0.
+    /// Returns the 4,096 ROM bytes, indexed by address. The bytes of absent ROMs are 0.
     ///
     /// # Errors
     ///
-    /// Fails if memory is refused.
+    /// Fails if memory cannot be allocated.
     pub fn rom(&self, alloc: Global) -> Result<Vec<u8>, AllocError>
         ensures bytes { IfOk result (λ rom. rom.items ≡ self.now.bus.rom) }
         ensures whole { IfOk result (λ rom. length rom.items ≡ 4096) }
@@ -79,7 +79,7 @@ impl Bench {
         Ok(rom)
     }
 
-    /// Returns the RAM character of a bank, 0 to 7, and an SRC byte, or 0 if the chip is absent.
+    /// Returns the RAM character that an SRC byte selects in a bank, 0 to 7, or 0 if the chip is absent.
     pub fn ram(&self, bank: u8, src: u8) -> Nibble
         requires { bank < 8 }
         ensures { result ≡ slice_index self.now.bus.ram (ram_index bank src) }
@@ -87,8 +87,8 @@ impl Bench {
         self.rig.ram(bank, src)
     }
 
-    /// Returns status character `k`, 0 to 3, of a bank, 0 to 7, or 0 if the chip is absent. The high nibble of an SRC
-    /// byte, `high`, selects the register.
+    /// Returns status character `k`, 0 to 3, of a bank, 0 to 7, or 0 if the chip is absent. `high`, the upper nibble of
+    /// an SRC byte, selects the chip and its register.
     pub fn status(&self, bank: u8, high: Nibble, k: u8) -> Nibble
         requires bank { bank < 8 }
         requires k { k < 4 }
@@ -97,7 +97,7 @@ impl Bench {
         self.rig.status(bank, high, k)
     }
 
-    /// Returns the port latch of a RAM chip, of bank 0 to 7 and chip 0 to 3, or 0 if the chip is absent.
+    /// Returns the port latch of a RAM chip, 0 to 3, in a bank, 0 to 7. It is 0 if the chip is absent.
     pub fn ram_port(&self, bank: u8, chip: u8) -> Nibble
         requires bank { bank < 8 }
         requires chip { chip < 4 }
@@ -106,7 +106,7 @@ impl Bench {
         self.rig.ram_latch(bank, chip)
     }
 
-    /// Returns the port latch of a ROM, 0 to 15. It is 0 on input lines, and if the ROM is absent.
+    /// Returns the port latch of a ROM, 0 to 15. Its bits for input lines are 0. It is 0 if the ROM is absent.
     pub fn rom_port(&self, chip: u8) -> Nibble
         requires { chip < 16 }
         ensures { result ≡ slice_index self.now.bus.rom_ports chip }
@@ -114,21 +114,21 @@ impl Bench {
         self.rig.rom_latch(chip)
     }
 
-    /// Returns what is read at the port of a ROM now, or 0 if it is absent.
+    /// Returns the value that a read of a ROM's port would give now, or 0 if the ROM is absent.
     pub fn read_port(&self, chip: Nibble) -> Nibble
         ensures { result ≡ port_at self.now.bus chip }
     {
         self.rig.read_port(chip)
     }
 
-    /// Returns the SRC byte that the ROMs keep.
+    /// Returns the SRC byte latched in the ROMs.
     pub fn rom_src(&self) -> u8
         ensures { result ≡ self.now.bus.rom_src }
     {
         self.rig.rom_src()
     }
 
-    /// Returns the SRC byte that a bank, 0 to 7, keeps, or 0 for a bank without chips.
+    /// Returns the SRC byte latched in a bank, 0 to 7, or 0 if the bank has no chips.
     pub fn ram_src(&self, bank: u8) -> u8
         requires { bank < 8 }
         ensures { result ≡ slice_index self.now.bus.ram_src bank }
@@ -136,7 +136,7 @@ impl Bench {
         self.rig.ram_src(bank)
     }
 
-    /// Returns number `i` of a list that the chips hold, or 0 if the chip is absent.
+    /// Returns element `i` of a list of chip values, or 0 if its chip is absent.
     pub fn chip_number(&self, list: ChipList, i: usize) -> u8
         requires { i < count_of list }
         ensures { result ≡ slice_index (list_of self.now.bus list) i }
@@ -153,14 +153,14 @@ impl Bench {
         }
     }
 
-    /// Returns bit `i` of a chain, both counted from 0, or 0 if the board has no such bit.
+    /// Returns bit `i` of chain `chain`, or 0 if the board has no such bit. Both numbers start at 0.
     pub fn chain_bit(&self, chain: u8, i: u8) -> Bit
         ensures { result ≡ chain_bit self.now.bus chain i }
     {
         self.rig.chain_bit(chain, i)
     }
 
-    /// Returns the key of a row and a column of the board: 1 if it is down.
+    /// Returns the state of the key at a row and a column of the board: 1 if it is down, 0 if it is up.
     pub fn key(&self, row: u8, column: u8) -> Bit
         requires { has_key self.now.bus.board row column ≡ true }
         ensures { result ≡ slice_index self.now.bus.keys (key_index self.now.bus.board row column) }
@@ -186,7 +186,8 @@ impl Bench {
         }
     }
 
-    /// Returns the level of the line of lamp `i`, counted from 0, or `None` beyond the board's lamps.
+    /// Returns the level of the line that drives lamp `i`, counted from 0. Returns `None` if the board has no such
+    /// lamp.
     pub fn lamp(&self, i: usize) -> Option<Bit>
         ensures { result ≡ option_map (level self.now.bus)
             (slice_get self.now.bus.board.lamps.items i) }
@@ -194,7 +195,7 @@ impl Bench {
         self.rig.lamp(i)
     }
 
-    /// Returns the breakpoints, by rising address.
+    /// Returns the breakpoint addresses in ascending order.
     pub fn breaks(&self) -> &[Addr]
         ensures same { result.now ≡ self.now.breakpoints }
         ensures few { length result.now ≤ BREAKPOINTS }
@@ -203,7 +204,7 @@ impl Bench {
         self.breaks.list()
     }
 
-    /// Returns the watched RAM characters, each as bank * 256 + SRC byte, rising.
+    /// Returns the indices of the watched RAM characters, bank * 256 + SRC byte, in ascending order.
     pub fn watches(&self) -> &[Addr]
         ensures same { result.now ≡ self.now.watches }
         ensures valid { AreWatches result.now }

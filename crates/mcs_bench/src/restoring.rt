@@ -1,4 +1,4 @@
-//! Creation of a bench from a state.
+//! Creation of a bench from a flat state.
 ghost use Rattle.std.specs.Prelude.{◌≡◌, ◌<◌, ◌≤◌, ℕ, All, IfOk, MatchOption, length, slice_index, slice_index_or, slice_set, []};
 ghost use Rattle.mcs_nibble.specs.Ports.{latch_value};
 ghost use Rattle.mcs_model.specs.Boards.{masks_on, chain_count, chain_bits, key_count};
@@ -19,7 +19,7 @@ use mcs_model::limits::{CHAIN_SOCKETS, KEYS};
 use mcs_nibble::{Addr, Bit, Nibble};
 use std::alloc::{AllocError, Global};
 
-/// Returns the nibbles of these numbers.
+/// Converts 16 numbers below 16 to nibbles.
 fn nibbles(numbers: &[u8; 16]) -> [Nibble; 16]
     requires { All (λ n. n < 16) numbers.now }
     ensures { result ≡ numbers.now }
@@ -31,7 +31,7 @@ fn nibbles(numbers: &[u8; 16]) -> [Nibble; 16]
     nibbles
 }
 
-/// Returns the addresses of these numbers.
+/// Converts three numbers below 4096 to addresses.
 fn addresses(numbers: &[u16; 3]) -> [Addr; 3]
     requires { All (λ a. a < 4096) numbers.now }
     ensures { result ≡ numbers.now }
@@ -43,7 +43,7 @@ fn addresses(numbers: &[u16; 3]) -> [Addr; 3]
     ]
 }
 
-/// Returns the processor with these registers.
+/// Returns a processor with the registers of a flat state.
 fn processor(flat: &Flat) -> Cpu
     requires { IsValidRegs (state_of flat.now).processor }
     ensures { result ≡ (state_of flat.now).processor }
@@ -98,7 +98,8 @@ fn fill_chains(rig: &mut BenchRig, chains: &[ArrayVec<u8, CHAIN_SOCKETS>])
     }
 }
 
-/// Returns the number of key columns of a board. It gives the row and the column of each key.
+/// Returns the number of columns in a board's key matrix, or 1 if it has no keys. Dividing a key's index by it gives
+/// the key's row as the quotient and its column as the remainder.
 fn columns_of(board: &Board) -> usize
     ensures { (i : ℕ) → i < key_count board.now → IsKeyAt board.now result i }
 {
@@ -108,7 +109,7 @@ fn columns_of(board: &Board) -> usize
     }
 }
 
-/// Sets all keys.
+/// Sets the states of all keys.
 fn fill_keys(rig: &mut BenchRig, keys: &[u8])
     requires few { length keys.now ≤ KEYS }
     requires fit { AreBelow (key_count rig.old.board) 2 keys.now }
@@ -125,7 +126,7 @@ fn fill_keys(rig: &mut BenchRig, keys: &[u8])
     }
 }
 
-/// Returns the breakpoints of a list.
+/// Converts a list of addresses to breakpoints.
 fn breakpoints(list: &[u16]) -> Breaks
     requires { AreBreakpoints list.now }
     ensures { result ≡ list.now }
@@ -137,7 +138,7 @@ fn breakpoints(list: &[u16]) -> Breaks
     breaks
 }
 
-/// Returns the watches of a list.
+/// Converts a list of RAM character indices to watches.
 fn watches(list: &[u16]) -> Watches
     requires { AreWatches list.now }
     ensures { result ≡ list.now }
@@ -149,7 +150,7 @@ fn watches(list: &[u16]) -> Watches
     watches
 }
 
-/// Puts a rig on the board of a state, and sets everything that its chips hold.
+/// Wires a rig to the board of a flat state, then sets all values in its chips, its keys and the TEST level.
 fn restore_rig(rig: &mut BenchRig, flat: &Flat)
     requires { IsValidBus (state_of flat.now).bus }
     ensures { rig.new ≡ (state_of flat.now).bus }
@@ -169,11 +170,11 @@ fn restore_rig(rig: &mut BenchRig, flat: &Flat)
 }
 
 impl Bench {
-    /// Returns the bench that is in a state.
+    /// Creates a bench in the given state.
     ///
     /// # Errors
     ///
-    /// Fails if memory is refused.
+    /// Fails if memory cannot be allocated.
     pub fn restore(alloc: Global, flat: &Flat) -> Result<Bench, AllocError>
         requires { IsValid (state_of flat.now) }
         ensures { IfOk result (λ bench. bench ≡ state_of flat.now) }

@@ -1,4 +1,4 @@
-//! Runs and steps of a processor over a rig of the bench's size.
+//! Runs and single steps of a processor on the bench's rig.
 ghost use Rattle.std.specs.Prelude.{◌≡◌, ◌<◌, ◌*◌, ◌+◌, ◌&&◌, ◌==◌, not, unwrap_or, true, false, [], Some, None, MatchOption, ◌↔◌};
 ghost use Rattle.mcs_model.specs.Effect.{cycle_of, instruction_at};
 ghost use Rattle.mcs_model.specs.Running.{is_outside};
@@ -14,15 +14,16 @@ use mcs_model::op::Op;
 use mcs_model::stop::Stop;
 use mcs_nibble::Addr;
 
-/// Returns whether no cycle can follow.
+/// Returns whether no cycle can follow: none is pending, and the opcode at the program counter is not in the
+/// instruction table.
 fn is_outside(cpu: &Cpu, rig: &BenchRig) -> bool
     ensures { result ≡ is_outside (cpu.now, rig.now) }
 {
     cpu.is_outside(rig)
 }
 
-/// Returns the mark of a run after a cycle, with the processor's counter at an address: a breakpoint, or a changed
-/// watched character, if either stops the run.
+/// Returns the reason to stop a run after a cycle if the program counter is `at`. It is a breakpoint at `at` if no
+/// second cycle is pending, else a watched RAM character if `changed` is true, else `None`.
 #[inline(always)]
 fn debug_stop_at(cpu: &Cpu, at: Addr, breaks: &Breaks, changed: bool) -> Option<Stop>
     ensures mark { result ≡ debug_stop_of (cpu.now.owed == 0 && is_listed breaks.now at) changed }
@@ -38,7 +39,7 @@ fn debug_stop_at(cpu: &Cpu, at: Addr, breaks: &Breaks, changed: bool) -> Option<
     }
 }
 
-/// Returns whether an instruction is WRM, the one that writes a RAM character.
+/// Returns whether an instruction is WRM, the only one that writes a RAM character.
 #[inline(always)]
 fn is_wrm(op: &Op) -> bool
     ensures { result ≡ true ↔ op.now ≡ Wrm }
@@ -46,7 +47,7 @@ fn is_wrm(op: &Op) -> bool
     matches!(op, Op::Wrm)
 }
 
-/// Returns whether the instruction at an address will give a watched character another value.
+/// Returns whether the instruction at an address will change the value of a watched RAM character.
 #[inline(always)]
 fn will_change(cpu: &Cpu, rig: &BenchRig, watches: &Watches, op: &Op, at: Addr) -> bool
     requires { instruction_at (record cpu.now { pc = at }) rig.now ≡ Some op.now }
@@ -68,7 +69,8 @@ fn will_change(cpu: &Cpu, rig: &BenchRig, watches: &Watches, op: &Op, at: Addr) 
     src / 64 < rig.board().bank_chips(bank)
 }
 
-/// Returns the same, without reading anything if no character is watched.
+/// Returns whether the instruction at an address will change the value of a watched RAM character. If `WATCHED` is
+/// false, none is watched, and nothing is read.
 #[inline(always)]
 fn foresees_change<const WATCHED: bool>(
     cpu: &Cpu,
@@ -87,7 +89,8 @@ fn foresees_change<const WATCHED: bool>(
     will_change(cpu, rig, watches, op, at)
 }
 
-/// Returns the same, and tests whether any character is watched.
+/// Returns whether the instruction at an address will change the value of a watched RAM character. First checks whether
+/// any is watched.
 #[inline(always)]
 fn foresees(cpu: &Cpu, rig: &BenchRig, watches: &Watches, op: &Op, at: Addr) -> bool
     requires { instruction_at (record cpu.now { pc = at }) rig.now ≡ Some op.now }
@@ -99,7 +102,7 @@ fn foresees(cpu: &Cpu, rig: &BenchRig, watches: &Watches, op: &Op, at: Addr) -> 
     will_change(cpu, rig, watches, op, at)
 }
 
-/// Returns the reason that a run stops: a code outside the table, else `mark`, else its end.
+/// Returns the reason that a run stops: an opcode outside the instruction table, else `mark`, else the end of the run.
 pub(crate) fn stop_by(cpu: &Cpu, rig: &BenchRig, mark: Option<Stop>) -> Stop
     ensures { result ≡ stop_by (cpu.now, rig.now) mark }
 {
@@ -112,18 +115,18 @@ pub(crate) fn stop_by(cpu: &Cpu, rig: &BenchRig, mark: Option<Stop>) -> Stop
     }
 }
 
-/// The result of an instruction of a run, or of the second cycle of one.
+/// The result of one instruction of a run, or of the pending second cycle of one.
 #[derive(Clone, Copy)]
 pub struct Went {
-    /// The number of cycles done: at least one.
+    /// The number of cycles done, at least 1.
     pub cycles: u32,
-    /// The breakpoint or the changed watched character that stops the run after them, if either does.
+    /// The reason to stop the run after these cycles, if any: a breakpoint or a change of a watched RAM character.
     pub mark: Option<Stop>,
-    /// The instruction, or `None` if it was begun before.
+    /// The instruction, or `None` if only a pending second cycle was done.
     pub op: Option<Op>,
 }
 
-/// Does the second cycle of an instruction that was begun.
+/// Executes the pending second cycle of an instruction.
 fn finish(cpu: &mut Cpu, breaks: &Breaks) -> Went
     requires { cpu.old.owed ≡ 1 }
     ensures state { cpu.new ≡ record cpu.old { owed = 0 } }
@@ -140,8 +143,8 @@ fn finish(cpu: &mut Cpu, breaks: &Breaks) -> Went
     }
 }
 
-/// Does the instruction at the counter, or the second cycle of one that was begun, for at most `left` cycles. A cycle
-/// can follow before it.
+/// Executes the instruction at the program counter, or the pending second cycle of one, for at most `left` cycles.
+/// Returns `None` and changes nothing if no cycle can follow.
 #[inline(always)]
 pub(crate) fn go_on(
     cpu: &mut Cpu,
@@ -176,9 +179,9 @@ pub(crate) fn go_on(
     }
 }
 
-/// Begins a run of at most `n` cycles, and continues up to a breakpoint, or up to an instruction that can end it
-/// otherwise. Returns the number of cycles done, the address reached, and whether the breakpoint stops the run. The
-/// counter itself stays as it is.
+/// Runs for at most `n` cycles, up to a breakpoint, or to just before an instruction that can end the run for another
+/// reason. Returns the number of cycles done, the address reached, and the breakpoint stop, if any. The program counter
+/// itself does not change.
 #[inline(always)]
 fn fast_loop<const WATCHED: bool>(
     cpu: &mut Cpu,
@@ -193,7 +196,7 @@ fn fast_loop<const WATCHED: bool>(
 {
     let mut at = cpu.regs().pc;
     let mut left = n;
-    // From here on, no cycle is pending before the last one.
+    // From here on, no second cycle is pending when the loop body starts.
     if n > 0 && cpu.regs().owed == 1 {
         left = n - 1;
         if let Some(why) = finish(cpu, breaks).mark {
@@ -219,7 +222,8 @@ fn fast_loop<const WATCHED: bool>(
     (n - left, at, None)
 }
 
-/// Does the same, and sets the counter. If no character is watched, it uses the loop that reads none.
+/// Runs `fast_loop` and then sets the program counter. If no RAM character is watched, uses the variant that checks
+/// none.
 fn run_fast(
     cpu: &mut Cpu,
     rig: &mut BenchRig,
@@ -230,7 +234,7 @@ fn run_fast(
     ensures { CameTo (record { breaks = breaks.now; watches = watches.now }) n (cpu.old, rig.old)
         (cpu.new, rig.new) result.0 result.1 }
 {
-    // A copy that nothing else can reach: its registers need not go through memory at each cycle.
+    // Nothing else refers to this copy, so its registers need not go through memory at each cycle.
     let mut copy = *cpu;
     let (done, at, mark) = if watches.is_empty() {
         fast_loop::<false>(&mut copy, rig, breaks, watches, n)
@@ -242,7 +246,7 @@ fn run_fast(
     (done, mark)
 }
 
-/// Runs for at most `n` cycles. Returns the number of cycles done, and the reason that the run stopped.
+/// Runs for at most `n` cycles. Returns the number of cycles done and the reason that the run stopped.
 pub(crate) fn run(
     cpu: &mut Cpu,
     rig: &mut BenchRig,
@@ -254,8 +258,8 @@ pub(crate) fn run(
         (cpu.new, rig.new) result.0 result.1 }
 {
     let (mut done, mut mark) = run_fast(cpu, rig, breaks, watches, n);
-    // An instruction that can end the run is left: the last one, one that changes a watched character, or a code
-    // outside the table.
+    // The next instruction can end the run: it is the last one, it changes a watched RAM character, or its opcode is
+    // not in the instruction table.
     while done < n && mark.is_none() {
         match go_on(cpu, rig, breaks, watches, n - done) {
             None => return (done, Stop::Outside),
@@ -268,7 +272,7 @@ pub(crate) fn run(
     (done, stop_by(cpu, rig, mark))
 }
 
-/// Does one cycle, if one can follow. Returns whether one could.
+/// Executes one instruction cycle, if one can follow. Returns whether one could.
 #[inline(never)]
 fn advance(cpu: &mut Cpu, rig: &mut BenchRig) -> bool
     ensures went { result ≡ not (is_outside (cpu.old, rig.old)) }
@@ -280,7 +284,8 @@ fn advance(cpu: &mut Cpu, rig: &mut BenchRig) -> bool
     }
 }
 
-/// Does one instruction, or its idle cycle. Returns the number of cycles done, and the reason that the step stopped.
+/// Executes one instruction, or the pending second cycle of one. Returns the number of cycles done and the reason that
+/// the step stopped.
 pub(crate) fn step(cpu: &mut Cpu, rig: &mut BenchRig) -> (u32, Stop)
     ensures { SteppedTo (cpu.old, rig.old) (cpu.new, rig.new) result.0 result.1 }
 {

@@ -1,4 +1,4 @@
-//! The check that a bench can be in a state.
+//! Validation of a flat state: the check that a bench can be in it.
 ghost use Rattle.std.specs.Prelude.{◌≡◌, ◌<◌, ◌≤◌, ◌↔◌, ℕ, All, IsTrue, MatchOption, None, length, slice_index, slice_index_or, []};
 ghost use Rattle.std.specs.List.Sorted.{IsStrictlyIncreasing};
 ghost use Rattle.mcs_nibble.specs.Ports.{latch_value};
@@ -15,7 +15,7 @@ use mcs_model::limits::CHAIN_SOCKETS;
 use mcs_nibble::Nibble;
 use mcs_rom4001::held_port;
 
-/// Returns whether there are `count` numbers, each below a limit.
+/// Returns whether a list has `count` numbers, each below `limit`.
 fn are_below(numbers: &[u8], count: usize, limit: u8) -> bool
     ensures { IsTrue result ↔ AreBelow count limit numbers.now }
 {
@@ -30,21 +30,22 @@ fn are_below(numbers: &[u8], count: usize, limit: u8) -> bool
     true
 }
 
-/// Returns whether there are `count` bytes.
+/// Returns whether a list has `count` bytes.
 fn are_bytes(numbers: &[u8], count: usize) -> bool
     ensures { IsTrue result ↔ AreBelow count 256 numbers.now }
 {
     numbers.len() == count
 }
 
-/// Proves that eight bytes are eight, each below 256. Their type says so, and proofs learn it here.
+/// Proves that an array of eight bytes has eight elements, each below 256. The type says so, but proofs need the fact
+/// stated.
 fn are_eight(numbers: &[u8; 8])
     ensures { AreBelow 8 256 numbers.now }
 {
     let _numbers = numbers.as_slice();
 }
 
-/// Returns whether all numbers are below a limit.
+/// Returns whether all numbers are below `limit`.
 fn are_numbers_below(numbers: &[u16], limit: u16) -> bool
     ensures { IsTrue result ↔ All (λ a. a < limit) numbers.now }
 {
@@ -56,7 +57,7 @@ fn are_numbers_below(numbers: &[u16], limit: u16) -> bool
     true
 }
 
-/// Returns whether each number is above the one before it.
+/// Returns whether the numbers are strictly increasing.
 fn is_rising(numbers: &[u16]) -> bool
     requires { length numbers.now ≤ 32 }
     ensures { IsTrue result ↔ IsStrictlyIncreasing numbers.now }
@@ -69,7 +70,7 @@ fn is_rising(numbers: &[u16]) -> bool
     true
 }
 
-/// Returns whether each chain of a board has its number of bits.
+/// Returns whether the chains match the board: their number, the number of bits in each, and each bit 0 or 1.
 fn are_chains(board: &Board, chains: &[ArrayVec<u8, CHAIN_SOCKETS>]) -> bool
     ensures { IsTrue result
         ↔ ((length chains.now ≡ chain_count board.now) ×
@@ -87,7 +88,8 @@ fn are_chains(board: &Board, chains: &[ArrayVec<u8, CHAIN_SOCKETS>]) -> bool
     true
 }
 
-/// Returns whether the port latch of a ROM, 0 to 15, can hold a nibble.
+/// Returns whether the port latch of a ROM, 0 to 15, can hold the nibble `n`. Bits of input lines must be 0, and so
+/// must the whole latch of an absent ROM.
 fn can_hold(board: &Board, chip: u8, n: u8) -> bool
     requires { n < 16 }
     ensures { IsTrue result
@@ -99,7 +101,7 @@ fn can_hold(board: &Board, chip: u8, n: u8) -> bool
     }
 }
 
-/// Returns whether the port latches of the ROMs can hold these nibbles.
+/// Returns whether the port latch of each ROM can hold the nibble given for it.
 fn can_all_hold(board: &Board, ports: &[u8]) -> bool
     requires { AreBelow 16 16 ports.now }
     ensures { IsTrue result
@@ -116,7 +118,7 @@ fn can_all_hold(board: &Board, ports: &[u8]) -> bool
 }
 
 impl Flat {
-    /// Returns whether each register holds a number of its kind.
+    /// Returns whether each register's value is in its range.
     fn has_valid_registers(&self) -> bool
         ensures { IsTrue result ↔ IsValidRegs (state_of self.now).processor }
     {
@@ -132,7 +134,8 @@ impl Flat {
         are_numbers_below(&self.ret, 4096)
     }
 
-    /// Returns whether the lists of the chips have their lengths, and numbers of their kinds.
+    /// Returns whether the lists of ROM bytes, RAM characters, status characters and port latches have their fixed
+    /// lengths, with each value in its range.
     fn has_valid_cells(&self) -> bool
         ensures { IsTrue result
             ↔ (AreBelow 4096 256 self.now.rom × AreBelow 2048 16 self.now.ram ×
@@ -154,7 +157,8 @@ impl Flat {
         are_below(self.rom_ports.bytes(), 16, 16)
     }
 
-    /// Returns whether each chip value is in its range, and the lists are as long as the board says.
+    /// Returns whether each value outside the processor is in its range, and each list has the length that the board
+    /// requires.
     fn is_in_range(&self) -> bool
         ensures { IsTrue result ↔ IsInRange (state_of self.now).bus }
     {
@@ -172,7 +176,7 @@ impl Flat {
         are_below(self.keys.as_slice(), self.board.key_count(), 2)
     }
 
-    /// Returns whether the numbers of absent chips in a list are 0.
+    /// Returns whether the elements of absent chips in a list are 0.
     fn is_zero_where_absent(&self, list: ChipList) -> bool
         requires { IsInRange (state_of self.now).bus }
         ensures { IsTrue result ↔ IsZeroWhereAbsent (state_of self.now).bus list }
@@ -187,7 +191,7 @@ impl Flat {
         }
     }
 
-    /// Returns whether absent locations hold 0.
+    /// Returns whether the values of absent chips and the latch bits of input lines are 0.
     fn is_absent_zero(&self) -> bool
         requires { IsInRange (state_of self.now).bus }
         ensures { IsTrue result ↔ IsAbsentZero (state_of self.now).bus }
@@ -210,7 +214,7 @@ impl Flat {
         can_all_hold(&self.board, self.rom_ports.bytes())
     }
 
-    /// Returns whether the board and what its chips hold are valid.
+    /// Returns whether the board and the values of its chips are valid.
     fn has_valid_bus(&self) -> bool
         ensures { IsTrue result ↔ IsValidBus (state_of self.now).bus }
     {
@@ -221,7 +225,7 @@ impl Flat {
         self.is_absent_zero()
     }
 
-    /// Returns whether the breakpoints are addresses, rising.
+    /// Returns whether the breakpoints are addresses in ascending order.
     fn has_valid_breakpoints(&self) -> bool
         ensures { IsTrue result ↔ AreBreakpoints self.now.breakpoints.items }
     {
@@ -232,7 +236,7 @@ impl Flat {
         is_rising(breakpoints)
     }
 
-    /// Returns whether the watches are indices of RAM characters, rising.
+    /// Returns whether the watches are indices of RAM characters in ascending order.
     fn has_valid_watches(&self) -> bool
         ensures { IsTrue result ↔ AreWatches self.now.watches.items }
     {

@@ -1,4 +1,4 @@
-//! A bench that continues as a run does, instruction by instruction.
+//! Execution of a run on a bench, one instruction at a time.
 ghost use Rattle.std.specs.Prelude.{◌≡◌, ◌<◌, true, MatchOption};
 ghost use Rattle.mcs_model.specs.Command.{machine_of, stops_of, with_machine};
 ghost use Rattle.mcs_model.specs.Running.{is_outside};
@@ -9,8 +9,8 @@ use crate::running::{Went, go_on, stop_by};
 use mcs_model::stop::Stop;
 
 impl Bench {
-    /// Does the instruction at the counter, or the second cycle of one that was begun, for at most `left` cycles.
-    /// Returns `None` if no cycle can follow; nothing changes then. It is not a command, and takes no memory.
+    /// Executes the instruction at the program counter, or the pending second cycle of one, for at most `left` cycles.
+    /// Returns `None` and changes nothing if no cycle can follow. This is not a command, and it allocates no memory.
     #[inline(always)]
     pub fn go_on(&mut self, left: u32) -> Option<Went>
         requires { 0 < left }
@@ -28,7 +28,8 @@ impl Bench {
         )
     }
 
-    /// Returns the reason that a run stops here: a code outside the table, else `mark`, else its end.
+    /// Returns the reason that a run stops here: an opcode outside the instruction table, else `mark`, else the end of
+    /// the run.
     pub fn stop_by(&self, mark: Option<Stop>) -> Stop
         ensures { result ≡ stop_by (machine_of self.now) mark }
     {

@@ -1,4 +1,4 @@
-//! Watched RAM characters.
+//! The watched RAM characters of a bench.
 ghost use Rattle.std.specs.Prelude.{◌≡◌, ◌<◌, ◌+◌, ◌*◌, ◌||◌, true, [], length, nat_lt};
 ghost use Rattle.mcs_model.specs.Listed.{is_listed, with_listed, without_listed};
 ghost use Rattle.mcs_model.specs.Bus.{ram_index};
@@ -9,8 +9,8 @@ use mcs_model::limits::WATCHES;
 use mcs_nibble::Addr;
 use std::marker::Model;
 
-/// The indices of the watched characters, each at bank * 256 + SRC byte, rising, with a flag for each. A run looks one
-/// up in constant time.
+/// The indices of the watched RAM characters, bank * 256 + SRC byte, in ascending order. A flag for each index lets a
+/// run look up a RAM character in constant time.
 #[derive(Drop)]
 pub(crate) struct Watches {
     indices: Breaks,
@@ -27,7 +27,7 @@ impl Model for Watches {
     ghost invariant = { λ w. AreFew w.indices };
 }
 
-/// Returns the index of the character of a bank and an SRC byte.
+/// Returns the index of the RAM character that an SRC byte selects in a bank.
 #[inline(always)]
 fn index_of(bank: u8, src: u8) -> Addr
     requires { bank < 8 }
@@ -37,7 +37,7 @@ fn index_of(bank: u8, src: u8) -> Addr
 }
 
 impl Watches {
-    /// Returns watches without a character.
+    /// Returns an empty set of watches.
     pub(crate) fn new() -> Watches
         ensures { result ≡ [] }
     {
@@ -46,7 +46,7 @@ impl Watches {
         }
     }
 
-    /// Returns equal watches.
+    /// Returns a copy of the watches.
     pub(crate) fn copy(&self) -> Watches
         ensures { result ≡ self.now }
     {
@@ -55,7 +55,7 @@ impl Watches {
         }
     }
 
-    /// Returns the indices, rising.
+    /// Returns the indices of the watched RAM characters in ascending order.
     pub(crate) fn list(&self) -> &[Addr]
         ensures same { result.now ≡ self.now }
         ensures valid { AreWatches result.now }
@@ -63,14 +63,14 @@ impl Watches {
         self.indices.list()
     }
 
-    /// Returns whether no character is watched.
+    /// Returns whether no RAM character is watched.
     pub(crate) fn is_empty(&self) -> bool
         ensures { result ≡ true → self.now ≡ [] }
     {
         self.indices.list().is_empty()
     }
 
-    /// Returns whether a character is watched.
+    /// Returns whether a RAM character is watched.
     #[inline(always)]
     pub(crate) fn contains(&self, bank: u8, src: u8) -> bool
         requires { bank < 8 }
@@ -79,7 +79,7 @@ impl Watches {
         self.indices.contains(index_of(bank, src))
     }
 
-    /// Returns whether a character is watched, or can be.
+    /// Returns whether a RAM character already is watched or there is room for another one.
     pub(crate) fn has_room_for(&self, bank: u8, src: u8) -> bool
         requires { bank < 8 }
         ensures { result ≡ (is_listed self.now (ram_index bank src)
@@ -88,7 +88,7 @@ impl Watches {
         self.contains(bank, src) || self.indices.list().len() < WATCHES
     }
 
-    /// Watches a character.
+    /// Watches a RAM character. Nothing changes if it is watched already.
     pub(crate) fn set(&mut self, bank: u8, src: u8)
         requires bank { bank < 8 }
         requires src { src < 256 }
@@ -99,7 +99,7 @@ impl Watches {
         self.indices.set(index_of(bank, src));
     }
 
-    /// Stops watching a character.
+    /// Stops watching a RAM character. Nothing changes if it is not watched.
     pub(crate) fn clear(&mut self, bank: u8, src: u8)
         requires { bank < 8 }
         ensures { self.new ≡ without_listed self.old (ram_index bank src) }
@@ -107,7 +107,7 @@ impl Watches {
         self.indices.clear(index_of(bank, src));
     }
 
-    /// Proves that the indices are at most `WATCHES`, each an index of a character, rising.
+    /// Proves that there are at most `WATCHES` indices, each of a RAM character, in ascending order.
     pub(crate) fn show_state_is_valid(&self)
         ensures { AreWatches self.now }
     {

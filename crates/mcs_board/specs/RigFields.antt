@@ -1,4 +1,4 @@
--- The fields of a rig as its contents.
+-- The contents of a rig, as a record of its fields.
 use Rattle.std.specs.Prelude.{ℕ}
 use Rattle.mcs_board.specs.declared.rig.Rig.TheInside.{Inside}
 use Rattle.mcs_board.specs.RigState.{RigParts}

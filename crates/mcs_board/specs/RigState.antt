@@ -1,6 +1,6 @@
--- The chips of a rig as the bus's part of the flat state.
--- Source: our own choice. A ROM's page is its number, and a bank's number is the command register's
--- value.
+-- The bus part of the flat state, from a rig's chips.
+-- Source: our own choice. A ROM's number is its page, and a bank's number is the value of the
+-- command register that selects it.
 use Rattle.std.specs.Prelude.{◌≡◌, ℕ, ◌/◌, ◌<◌, ◌≤◌, List, [], Option, Some, None, slice_index, slice_index_or, length}
 use Rattle.mcs_nibble.specs.Tables.{table_of, column, flat_rows}
 use Rattle.mcs_nibble.specs.declared.lines.LineMask.{LineMask}
@@ -13,27 +13,29 @@ use Rattle.mcs_model.specs.Boards.{masks_on, chain_count, chain_bits, key_count}
 use Rattle.mcs_model.specs.Bus.{BusState, with_ram, with_status}
 use Rattle.mcs_model.specs.ChipWrites.{with_ram_latch, with_ram_src}
 
--- the value that is read if a bank, or a ROM, is absent: nothing but 0
+-- an absent bank: every value in it reads as 0
 abbrev pub no_bank : BankState
 no_bank = record { wired = 0; src = 0; main = []; status = []; ports = [] }
 
+-- the port latch of a ROM; 0 if the ROM is absent
 abbrev pub port_of_rom : Option PortState → ℕ
 port_of_rom (Some r) = r.port
 port_of_rom None = 0
 
+-- the line masks of a ROM, if it is present
 abbrev pub masks_of_rom : Option PortState → Option (List LineMask)
 masks_of_rom (Some r) = Some r.mask
 masks_of_rom None = None
 
--- the chains that the board has, among those that a rig keeps
+-- the bits of the board's chains, from the rig's chain sockets
 abbrev pub wired_chains : BoardParts → List (List ℕ) → List (List ℕ)
 wired_chains b chains = table_of (chain_count b) (λ i. slice_index_or chains i [])
 
--- the contents of a rig: a board, and a socket for each chip that can be on it
+-- the contents of a rig: a board, and the sockets for its chips
 pub record RigParts : Type 0 where
   pub board : BoardParts
   pub roms : List (Option PortState)
-  -- the bytes of the ROMs by address
+  -- the ROM bytes, indexed by address
   pub program : List ℕ
   pub banks : List BankState
   pub chains : List (List ℕ)
@@ -41,7 +43,7 @@ pub record RigParts : Type 0 where
   pub rom_src : ℕ
   pub test : ℕ
 
--- the state that the chips of a rig are in
+-- the flat state that a rig's contents represent
 abbrev pub rig_of : RigParts → BusState
 rig_of p = record {
   board = p.board;
@@ -57,9 +59,9 @@ rig_of p = record {
   test = p.test;
 }
 
--- the chips are those of the board: these numbers of sockets for each kind of chip, the board's
--- ROMs with their masks, and in each bank its number of chips; each of the board's chains with its
--- bits, and a bit for each key; an absent ROM's bytes are 0
+-- Holds if a rig's chips match its board. Each list of sockets has the given length. Each ROM has
+-- the board's line masks, each bank the board's number of chips, and each chain the board's number
+-- of bits. There is one bit for each key. The bytes of absent ROMs are 0.
 pub record Fitted (p : RigParts) (rom_sockets bank_sockets chain_sockets : ℕ) : Type 0 where
   pub roms_len : length p.roms ≡ rom_sockets
   pub banks_len : length p.banks ≡ bank_sockets
@@ -73,7 +75,7 @@ pub record Fitted (p : RigParts) (rom_sockets bank_sockets chain_sockets : ℕ) 
   pub bits : (i : ℕ) → i < chain_count p.board → length (slice_index_or p.chains i []) ≡ chain_bits p.board i
   pub src : p.rom_src < 256
 
--- a write to a bank, in the flat state
+-- the flat state after a write to a bank
 abbrev pub after_bank_write : BusState → ℕ → BankWrite → BusState
 after_bank_write s bank (Character src n) = with_ram s bank src n
 after_bank_write s bank (Status high k n) = with_status s bank high k n

@@ -1,5 +1,5 @@
-//! The RAM banks of a rig: placed on a board and cleared, and a reader and a setter of each value. A setter changes its
-//! location alone and clocks nothing.
+//! A rig's RAM banks: wiring them to a board, clearing them, and a getter and a setter for each value. A setter changes
+//! only its own location and clocks no shift register.
 ghost use Rattle.std.specs.Prelude.{◌≡◌, ℕ, ◌+◌, ◌*◌, ◌<◌, ◌≤◌, ◌↔◌, IsTrue, length, replicate, IfOk, slice_index, slice_index_or};
 ghost use Rattle.mcs_ram4002.specs.RamBank.{IsInBank, IsValidBank, blank_bank};
 ghost use Rattle.mcs_model.specs.Bus.{ram_index, ram_port_index, status_index, with_ram, with_status};
@@ -13,7 +13,7 @@ use mcs_nibble::Nibble;
 use mcs_ram4002::{Bank, BankWrite};
 use std::alloc::{AllocError, Global};
 
-/// Returns `count` banks without chips. Fails if memory is refused.
+/// Returns `count` banks without chips. Fails if memory cannot be allocated.
 pub(crate) fn no_banks(alloc: Global, count: usize) -> Result<Vec<Bank<4>>, AllocError>
     ensures { IfOk result (λ banks. banks.items ≡ replicate count (blank_bank 0)) }
 {
@@ -24,7 +24,7 @@ pub(crate) fn no_banks(alloc: Global, count: usize) -> Result<Vec<Bank<4>>, Allo
     Ok(banks)
 }
 
-/// Returns the number of chips in bank `i`, or 0 for a bank that no board has.
+/// Returns the number of chips in bank `i`, or 0 if `i` is 8 or more.
 fn chips_of(board: &Board, i: usize) -> usize
     ensures chips { result ≡ slice_index board.now.banks i }
     ensures few { result ≤ 4 }
@@ -37,7 +37,7 @@ fn chips_of(board: &Board, i: usize) -> usize
     }
 }
 
-/// Returns whether the board has no chips in banks beyond the first `sockets`.
+/// Returns whether all of the board's RAM chips are in its first `sockets` banks.
 pub(crate) fn banks_fit(board: &Board, sockets: usize) -> bool
     ensures { IsTrue result ↔ ((k : ℕ) → sockets ≤ k → slice_index board.now.banks k ≡ 0) }
 {
@@ -50,7 +50,7 @@ pub(crate) fn banks_fit(board: &Board, sockets: usize) -> bool
     true
 }
 
-/// Replaces the banks by those of a new board, with all 0.
+/// Replaces the banks with those of a new board. All their values are 0.
 pub(crate) fn rewire_banks(banks: &mut Vec<Bank<4>>, board: &Board)
     ensures count { length banks.new.items ≡ length banks.old.items }
     ensures banks { (k : ℕ) → k < length banks.old.items → slice_index_or banks.new.items k no_bank
@@ -61,7 +61,7 @@ pub(crate) fn rewire_banks(banks: &mut Vec<Bank<4>>, board: &Board)
     }
 }
 
-/// Sets everything that the banks hold to 0.
+/// Clears the banks: RAM characters, status characters, port latches and SRC bytes become 0.
 pub(crate) fn clear_banks(banks: &mut Vec<Bank<4>>)
     ensures count { length banks.new.items ≡ length banks.old.items }
     ensures banks { (k : ℕ) → k < length banks.old.items → slice_index_or banks.new.items k no_bank
@@ -72,7 +72,7 @@ pub(crate) fn clear_banks(banks: &mut Vec<Bank<4>>)
     }
 }
 
-/// Returns equal banks. Fails if memory is refused.
+/// Returns a copy of the banks. Fails if memory cannot be allocated.
 pub(crate) fn copied_banks(alloc: Global, banks: &Vec<Bank<4>>) -> Result<Vec<Bank<4>>, AllocError>
     ensures { IfOk result (λ copy. copy.items ≡ banks.now.items) }
 {
@@ -99,7 +99,7 @@ impl<const ROMS: usize, const BANKS: usize, const CHAINS: usize, const MAX: usiz
     CHAINS,
     MAX,
 > {
-    /// Does a write to a bank, 0 to 7. It is lost if its chip is absent.
+    /// Writes to a bank, 0 to 7. The write is lost if the chip is absent.
     #[inline(always)]
     fn store(&mut self, bank: u8, write: BankWrite)
         requires bank { bank < 8 }
@@ -112,7 +112,7 @@ impl<const ROMS: usize, const BANKS: usize, const CHAINS: usize, const MAX: usiz
         }
     }
 
-    /// Returns the RAM character of a bank, 0 to 7, and an SRC byte, or 0 if the chip is absent.
+    /// Returns the RAM character that an SRC byte selects in a bank, 0 to 7, or 0 if the chip is absent.
     pub fn ram(&self, bank: u8, src: u8) -> Nibble
         requires { bank < 8 }
         ensures { result ≡ slice_index self.now.ram (ram_index bank src) }
@@ -125,7 +125,7 @@ impl<const ROMS: usize, const BANKS: usize, const CHAINS: usize, const MAX: usiz
         }
     }
 
-    /// Sets the RAM character of a bank, 0 to 7, and an SRC byte. The write is lost if the chip is absent.
+    /// Sets the RAM character that an SRC byte selects in a bank, 0 to 7. The write is lost if the chip is absent.
     pub fn set_ram(&mut self, bank: u8, src: u8, n: Nibble)
         requires { bank < 8 }
         ensures { self.new ≡ with_ram self.old bank src n }
@@ -133,8 +133,8 @@ impl<const ROMS: usize, const BANKS: usize, const CHAINS: usize, const MAX: usiz
         self.store(bank, BankWrite::Character(src, n));
     }
 
-    /// Returns status character `k`, 0 to 3, of a bank, 0 to 7, or 0 if the chip is absent. The high nibble of an SRC
-    /// byte, `high`, selects the register.
+    /// Returns status character `k`, 0 to 3, of a bank, 0 to 7, or 0 if the chip is absent. `high`, the upper nibble of
+    /// an SRC byte, selects the chip and its register.
     pub fn status(&self, bank: u8, high: Nibble, k: u8) -> Nibble
         requires bank { bank < 8 }
         requires k { k < 4 }
@@ -148,8 +148,8 @@ impl<const ROMS: usize, const BANKS: usize, const CHAINS: usize, const MAX: usiz
         }
     }
 
-    /// Sets status character `k`, 0 to 3, of a bank, 0 to 7. The high nibble of an SRC byte, `high`, selects the
-    /// register. The write is lost if the chip is absent.
+    /// Sets status character `k`, 0 to 3, of a bank, 0 to 7. `high`, the upper nibble of an SRC byte, selects the chip
+    /// and its register. The write is lost if the chip is absent.
     pub fn set_status(&mut self, bank: u8, high: Nibble, k: u8, n: Nibble)
         requires bank { bank < 8 }
         requires k { k < 4 }
@@ -158,7 +158,7 @@ impl<const ROMS: usize, const BANKS: usize, const CHAINS: usize, const MAX: usiz
         self.store(bank, BankWrite::Status(high, k, n));
     }
 
-    /// Returns the port latch of a RAM chip, of bank 0 to 7 and chip 0 to 3, or 0 if the chip is absent.
+    /// Returns the port latch of a RAM chip, 0 to 3, in a bank, 0 to 7. It is 0 if the chip is absent.
     pub fn ram_latch(&self, bank: u8, chip: u8) -> Nibble
         requires bank { bank < 8 }
         requires chip { chip < 4 }
@@ -172,8 +172,8 @@ impl<const ROMS: usize, const BANKS: usize, const CHAINS: usize, const MAX: usiz
         }
     }
 
-    /// Sets the port latch of a RAM chip, of bank 0 to 7 and chip 0 to 3. The write is lost if the chip is absent. No
-    /// chain is clocked.
+    /// Sets the port latch of a RAM chip, 0 to 3, in a bank, 0 to 7. The write is lost if the chip is absent. No
+    /// shift-register chain is clocked.
     pub fn set_ram_latch(&mut self, bank: u8, chip: u8, n: Nibble)
         requires bank { bank < 8 }
         requires chip { chip < 4 }
@@ -182,7 +182,7 @@ impl<const ROMS: usize, const BANKS: usize, const CHAINS: usize, const MAX: usiz
         self.store(bank, BankWrite::Port(chip, n));
     }
 
-    /// Returns the SRC byte that a bank, 0 to 7, keeps, or 0 for a bank without chips.
+    /// Returns the SRC byte latched in a bank, 0 to 7, or 0 if the bank has no chips.
     pub fn ram_src(&self, bank: u8) -> u8
         requires { bank < 8 }
         ensures { result ≡ slice_index self.now.ram_src bank }
@@ -195,7 +195,7 @@ impl<const ROMS: usize, const BANKS: usize, const CHAINS: usize, const MAX: usiz
         }
     }
 
-    /// Sets the SRC byte that a bank, 0 to 7, keeps. A bank without chips stays at 0.
+    /// Sets the SRC byte latched in a bank, 0 to 7. It stays 0 in a bank without chips.
     pub fn set_ram_src(&mut self, bank: u8, byte: u8)
         requires { bank < 8 }
         ensures { self.new ≡ with_ram_src self.old bank byte }

@@ -1,4 +1,4 @@
-//! The bench's rig, which every board fits, and the processor over it.
+//! The bench's rig, which is large enough for every board, and the execution of instructions on it.
 ghost use Rattle.std.specs.Prelude.{◌≡◌, ◌≢◌, ◌<◌, ◌↔◌, IsNone, Some, unwrap_or};
 ghost use Rattle.mcs_model.specs.Effect.{cycle_of, instruction_at};
 ghost use Rattle.mcs_cpu4004.specs.InstructionRan.{InstructionRan};
@@ -11,7 +11,7 @@ use mcs_model::limits::{BANKS, CHAIN_SOCKETS, CHAINS, ROMS};
 use mcs_model::op::Op;
 use mcs_nibble::Addr;
 
-/// A rig that every board fits.
+/// A rig that is large enough for every board.
 pub type BenchRig = Rig<ROMS, BANKS, CHAINS, CHAIN_SOCKETS>;
 
 /// Proves that every board fits the bench's rig.
@@ -21,7 +21,7 @@ pub fn every_board_fits_the_bench(board: &Board)
     let _parts = board.parts();
 }
 
-/// Does one instruction cycle of a processor over a rig, which is the cycle on their flat states.
+/// Executes one instruction cycle of a processor on a rig. The effect is that of `cycle_of` on their flat states.
 #[inline(always)]
 pub fn cycle(cpu: &mut Cpu, rig: &mut BenchRig) -> Cycle
     ensures outside { (result ≡ Cycle.Outside) ↔ IsNone (cycle_of cpu.old rig.old) }
@@ -31,7 +31,7 @@ pub fn cycle(cpu: &mut Cpu, rig: &mut BenchRig) -> Cycle
     cpu.cycle(rig)
 }
 
-/// Returns the instruction at an address, if its code is in the table.
+/// Decodes the instruction at an address. Returns `None` if its opcode is not in the instruction table.
 #[inline(always)]
 pub fn instruction(cpu: &Cpu, rig: &BenchRig, at: Addr) -> Option<Op>
     ensures { result ≡ instruction_at (record cpu.now { pc = at }) rig.now }
@@ -39,9 +39,9 @@ pub fn instruction(cpu: &Cpu, rig: &BenchRig, at: Addr) -> Option<Op>
     cpu.instruction(rig, at)
 }
 
-/// Does the cycles of the instruction at an address, at most `left` of them, on a processor over a rig. No cycle is
-/// pending before it. Returns the address where the processor continues, and the number of cycles done. The counter
-/// itself stays as it is.
+/// Executes the instruction `op` at an address for at most `left` cycles. Requires that no second cycle is pending.
+/// Returns the address at which execution continues and the number of cycles done. The program counter itself does not
+/// change.
 #[inline(always)]
 pub fn run_instruction(
     cpu: &mut Cpu,

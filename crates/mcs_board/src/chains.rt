@@ -1,4 +1,4 @@
-//! The shift-register chains of a rig: placed on a board and cleared, and a reader and a setter of their bits. The
+//! A rig's shift-register chains: wiring them to a board, clearing them, and a getter and a setter for their bits. The
 //! setter shifts nothing.
 ghost use Rattle.std.specs.Prelude.{◌≡◌, ℕ, ◌<◌, ◌≤◌, ◌↔◌, All, IsTrue, length, replicate, [], IfOk, slice_index_or};
 ghost use Rattle.mcs_model.specs.Boards.{chain_bits, chain_count};
@@ -11,7 +11,7 @@ use mcs_nibble::Bit;
 use mcs_shift4003::Chain;
 use std::alloc::{AllocError, Global};
 
-/// Returns `count` chains without bits. Fails if memory is refused.
+/// Returns `count` chains without bits. Fails if memory cannot be allocated.
 pub(crate) fn no_chains<const MAX: usize>(
     alloc: Global,
     count: usize,
@@ -48,7 +48,7 @@ pub(crate) fn chains_fit(board: &Board, size: usize) -> bool
     true
 }
 
-/// Replaces the chains by those of a new board, with all bits 0.
+/// Replaces the chains with those of a new board. All bits are 0.
 pub(crate) fn rewire_chains<const MAX: usize>(chains: &mut Vec<Chain<MAX>>, board: &Board)
     requires { (k : ℕ) → chain_bits board.now k ≤ MAX }
     ensures count { length chains.new.items ≡ length chains.old.items }
@@ -71,7 +71,7 @@ pub(crate) fn clear_chains<const MAX: usize>(chains: &mut Vec<Chain<MAX>>)
     }
 }
 
-/// Returns equal chains. Fails if memory is refused.
+/// Returns a copy of the chains. Fails if memory cannot be allocated.
 pub(crate) fn copied_chains<const MAX: usize>(
     alloc: Global,
     chains: &Vec<Chain<MAX>>,
@@ -101,7 +101,7 @@ impl<const ROMS: usize, const BANKS: usize, const CHAINS: usize, const MAX: usiz
         self.parts().chains.len()
     }
 
-    /// Returns bit `i` of chain `n`, or 0 beyond its end.
+    /// Returns bit `i` of chain `n`, or 0 if the chain has no bit `i`.
     pub(crate) fn bit_of_chain(&self, n: usize, i: usize) -> Bit
         requires { n < chain_count self.now.board }
         ensures { result ≡ chain_bit self.now n i }
@@ -113,7 +113,7 @@ impl<const ROMS: usize, const BANKS: usize, const CHAINS: usize, const MAX: usiz
         }
     }
 
-    /// Returns bit `i` of a chain, both counted from 0, or 0 if the board has no such bit.
+    /// Returns bit `i` of chain `chain`, or 0 if the board has no such bit. Both numbers start at 0.
     pub fn chain_bit(&self, chain: u8, i: u8) -> Bit
         ensures { result ≡ chain_bit self.now chain i }
     {
@@ -124,8 +124,8 @@ impl<const ROMS: usize, const BANKS: usize, const CHAINS: usize, const MAX: usiz
         self.bit_of_chain(n, usize::from(i))
     }
 
-    /// Sets bit `i` of a chain, both counted from 0. The write is lost if the board has no such bit. Nothing is
-    /// shifted.
+    /// Sets bit `i` of chain `chain`. Both numbers start at 0. The write is lost if the board has no such bit. Nothing
+    /// is shifted.
     pub fn set_chain_bit(&mut self, chain: u8, i: u8, bit: Bit)
         ensures { self.new ≡ with_chain_bit self.old chain i bit }
     {
@@ -133,7 +133,7 @@ impl<const ROMS: usize, const BANKS: usize, const CHAINS: usize, const MAX: usiz
         if n >= self.chain_count() {
             return;
         }
-        // Memory holds all sockets, which bounds the size of one; `set_bit` requires it.
+        // The chain sockets fit in memory, which bounds the size of one. `set_bit` requires that bound.
         let chains = self.chains.as_slice();
         let _sockets = chains.len();
         let index = usize::from(i);

@@ -1,7 +1,7 @@
-//! The rig: the chips on a board, as the processor's bus.
+//! The rig: a board with its chips, as the processor's bus.
 //!
 //! A `Rig` holds the ROMs, RAM banks, shift-register chains and keys of a board. Contracts see it as one flat state.
-//! The counts of its sockets are its parameters; every board that fits them can be wired to it. Source: Intel MCS-4
+//! Its parameters are the numbers of its sockets. It can be wired to every board that fits them. Source: Intel MCS-4
 //! Users Manual, the chips. The definitions in `mcs_model` say what the manual leaves open.
 #![tactic(auto)]
 

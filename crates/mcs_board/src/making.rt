@@ -18,11 +18,11 @@ use mcs_model::board::Board;
 use mcs_nibble::Bit;
 use std::alloc::{AllocError, Global};
 
-/// The most bits of a chain. A chain has room for a word of two bytes for each bit, so a longer one would be larger
-/// than any memory.
+/// The maximum number of bits in a chain. A chain reserves a two-byte word for each bit. A longer chain would not fit
+/// in any memory.
 const MOST_BITS: usize = isize::MAX as usize / 4;
 
-/// The number of addresses of the ROMs.
+/// The number of ROM addresses.
 const ADDRESSES: usize = 4096;
 
 impl<const ROMS: usize, const BANKS: usize, const CHAINS: usize, const MAX: usize> Rig<
@@ -31,12 +31,12 @@ impl<const ROMS: usize, const BANKS: usize, const CHAINS: usize, const MAX: usiz
     CHAINS,
     MAX,
 > {
-    /// Returns a rig with the empty board. All state is 0, except TEST, which is 1.
+    /// Returns a rig with the empty board. All state is 0, except the TEST level, which is 1.
     ///
     /// # Errors
     ///
-    /// Fails if memory for the sockets of its chips and for their program is refused, or if one chain would not fit any
-    /// memory. No other call of a rig takes memory.
+    /// Fails if memory for the chip sockets and the ROM bytes cannot be allocated. Also fails if a chain of `MAX` bits
+    /// would not fit in any memory. Only this function and `copy` allocate memory.
     pub fn new(alloc: Global) -> Result<Self, AllocError>
         ensures { IfOk result (λ rig. rig ≡ record zero_bus { test = 1 }) }
     {
@@ -54,12 +54,12 @@ impl<const ROMS: usize, const BANKS: usize, const CHAINS: usize, const MAX: usiz
         })
     }
 
-    /// Returns an equal rig.
+    /// Returns a copy of the rig.
     ///
     /// # Errors
     ///
-    /// Fails if memory for the sockets of its chips and for their program is refused, or if one chain would not fit any
-    /// memory. No rig has such a chain.
+    /// Fails if memory for the chip sockets and the ROM bytes cannot be allocated. Also fails if a chain of `MAX` bits
+    /// would not fit in any memory, but no rig with such a `MAX` exists.
     pub fn copy(&self, alloc: Global) -> Result<Self, AllocError>
         ensures { IfOk result (λ rig. rig ≡ self.now) }
     {
@@ -77,8 +77,8 @@ impl<const ROMS: usize, const BANKS: usize, const CHAINS: usize, const MAX: usiz
         })
     }
 
-    /// Puts the rig on another board, which must fit its counts. All keys are up, everything that a reset clears is
-    /// cleared, and the bytes of ROMs that the board lacks become 0. The other bytes and TEST stay.
+    /// Wires the rig to another board, which must fit its sockets. All keys are up, and everything that a reset clears
+    /// is cleared. The bytes of ROMs that the board lacks become 0. The other ROM bytes and the TEST level stay.
     pub fn wire(&mut self, board: &Board)
         requires { FitsCounts board.now ROMS BANKS CHAINS MAX }
         ensures { self.new ≡ after_wire self.old board.now }
@@ -88,29 +88,29 @@ impl<const ROMS: usize, const BANKS: usize, const CHAINS: usize, const MAX: usiz
         rewire_banks(&mut self.banks, board);
         self.keys = KeyPad::of(board.copy());
         self.rom_src = 0;
-        // A rig without a socket for a chain has no chain to put on the board.
+        // A rig without chain sockets has no chain to wire.
         if self.chains.as_slice().is_empty() {
             return;
         }
         rewire_chains(&mut self.chains, board);
     }
 
-    /// Does a power cycle: RAM, port latches, the kept SRC bytes and the chains become 0, and nothing is shifted. ROM,
-    /// keys, TEST and the board stay.
+    /// Performs a power cycle. RAM, port latches, latched SRC bytes and chains become 0, and nothing is shifted. ROM,
+    /// keys, the TEST level and the board stay.
     pub fn reset(&mut self)
         ensures { self.new ≡ after_reset self.old }
     {
         clear_ports(&mut self.roms);
         clear_banks(&mut self.banks);
         self.rom_src = 0;
-        // A rig without a socket for a chain has no chain to clear.
+        // A rig without chain sockets has no chain to clear.
         if self.chains.as_slice().is_empty() {
             return;
         }
         clear_chains(&mut self.chains);
     }
 
-    /// Returns whether a board fits the counts of the rig, so that the rig can be wired to it.
+    /// Returns whether a board fits the rig's sockets, as `wire` requires.
     pub fn fits(board: &Board) -> bool
         ensures { IsTrue result ↔ FitsCounts board.now ROMS BANKS CHAINS MAX }
     {
@@ -123,8 +123,8 @@ impl<const ROMS: usize, const BANKS: usize, const CHAINS: usize, const MAX: usiz
         board.chain_count() <= CHAINS && chains_fit(board, MAX)
     }
 
-    /// Proves that the board is valid, that each chip value is in its range, that the lists are as long as the board
-    /// says, and that absent locations hold 0.
+    /// Proves that the rig's state is valid. The board is valid and each value is in its range. Each list has the
+    /// length that the board requires. Values of absent chips are 0.
     pub fn show_state_is_valid(&self)
         ensures { IsValidBus self.now }
     {

@@ -1,4 +1,4 @@
-//! The contents of a rig: the chips, which have a module for each kind, the board and the level of TEST.
+//! The `Rig` type: a board, its chips and the level of the TEST pin. Each kind of chip has its own module.
 ghost use Rattle.std.specs.Prelude.{◌≡◌, None};
 ghost use Rattle.mcs_model.specs.Boards.{board_fault_of, IsSized};
 
@@ -15,11 +15,11 @@ use std::marker::Model;
 #[derive(Drop)]
 pub struct Rig<const ROMS: usize, const BANKS: usize, const CHAINS: usize, const MAX: usize> {
     pub(crate) roms: Vec<Option<RomPort>>,
-    // The bytes of the ROMs, by address: a fetch reads one element.
+    // The ROM bytes, indexed by address: a fetch reads one element.
     pub(crate) program: Vec<u8>,
     pub(crate) banks: Vec<Bank<4>>,
     pub(crate) chains: Vec<Chain<MAX>>,
-    // The board, with its keys.
+    // The board and the state of its keys.
     pub(crate) keys: KeyPad,
     pub(crate) rom_src: u8,
     pub(crate) test: Bit,
@@ -45,7 +45,7 @@ impl<const ROMS: usize, const BANKS: usize, const CHAINS: usize, const MAX: usiz
     CHAINS,
     MAX,
 > {
-    /// Returns the parts of the board. They have no fault.
+    /// Returns the board's parts. They form a valid board.
     pub(crate) fn parts(&self) -> &BoardParts
         ensures same { result.now ≡ self.now.board }
         ensures valid { board_fault_of self.now.board ≡ None }

@@ -1,5 +1,5 @@
-//! The ROMs of a rig: placed on a board and cleared, and a reader and a setter of each value. A setter changes its
-//! location alone and clocks nothing.
+//! A rig's ROMs: wiring them to a board, clearing them, and a getter and a setter for each value. A setter changes only
+//! its own location and clocks no shift register.
 ghost use Rattle.std.specs.Prelude.{◌≡◌, ℕ, ◌<◌, ◌≤◌, ◌↔◌, IsTrue, All, length, replicate, None, IfOk, IfSome, slice_index, slice_index_or};
 ghost use Rattle.mcs_rom4001.specs.Roms.{IsValidPort};
 ghost use Rattle.mcs_model.specs.Boards.{masks_on};
@@ -14,7 +14,7 @@ use mcs_nibble::{Addr, LineMask, Nibble};
 use mcs_rom4001::RomPort;
 use std::alloc::{AllocError, Global};
 
-/// Returns `count` sockets for ROMs, all empty. Fails if memory is refused.
+/// Returns `count` empty ROM sockets. Fails if memory cannot be allocated.
 pub(crate) fn no_roms(alloc: Global, count: usize) -> Result<Vec<Option<RomPort>>, AllocError>
     ensures { IfOk result (λ roms. roms.items ≡ replicate count None) }
 {
@@ -25,7 +25,7 @@ pub(crate) fn no_roms(alloc: Global, count: usize) -> Result<Vec<Option<RomPort>
     Ok(roms)
 }
 
-/// Returns `count` bytes, all 0. Fails if memory is refused.
+/// Returns `count` zero bytes. Fails if memory cannot be allocated.
 pub(crate) fn no_program(alloc: Global, count: usize) -> Result<Vec<u8>, AllocError>
     ensures { IfOk result (λ program. program.items ≡ replicate count 0) }
 {
@@ -36,7 +36,7 @@ pub(crate) fn no_program(alloc: Global, count: usize) -> Result<Vec<u8>, AllocEr
     Ok(program)
 }
 
-/// Returns the masks of ROM `i`, if the board has it.
+/// Returns the line masks of ROM `i`, or `None` if the board has no such ROM.
 fn mask_of(board: &Board, i: usize) -> Option<[LineMask; 4]>
     ensures { result ≡ masks_on board.now i }
 {
@@ -48,7 +48,7 @@ fn mask_of(board: &Board, i: usize) -> Option<[LineMask; 4]>
     }
 }
 
-/// Returns whether the board has no ROM beyond the first `sockets`.
+/// Returns whether all of the board's ROMs are among its first `sockets`.
 pub(crate) fn roms_fit(board: &Board, sockets: usize) -> bool
     ensures { IsTrue result ↔ ((k : ℕ) → sockets ≤ k → masks_on board.now k ≡ None) }
 {
@@ -61,7 +61,7 @@ pub(crate) fn roms_fit(board: &Board, sockets: usize) -> bool
     true
 }
 
-/// Returns the port of a ROM with these masks, if the ROM is present. The latch is 0.
+/// Returns a ROM port with the given line masks and a latch of 0, or `None` if the ROM is absent.
 fn port_with(mask: Option<[LineMask; 4]>) -> Option<RomPort>
     ensures { result ≡ port_on mask }
 {
@@ -71,7 +71,7 @@ fn port_with(mask: Option<[LineMask; 4]>) -> Option<RomPort>
     }
 }
 
-/// Puts the ports of the ROMs on a new board.
+/// Replaces the ROM ports with those of a new board. All latches are 0.
 pub(crate) fn rewire_roms(roms: &mut Vec<Option<RomPort>>, board: &Board)
     ensures count { length roms.new.items ≡ length roms.old.items }
     ensures roms { (k : ℕ) → k < length roms.old.items → slice_index_or roms.new.items k None
@@ -82,7 +82,7 @@ pub(crate) fn rewire_roms(roms: &mut Vec<Option<RomPort>>, board: &Board)
     }
 }
 
-/// Sets the bytes of the ROMs that a board lacks to 0.
+/// Sets the bytes of ROMs that a board lacks to 0.
 pub(crate) fn clear_absent(program: &mut Vec<u8>, board: &Board)
     requires { length program.old.items ≡ 4096 }
     ensures { program.new.items ≡ kept_rom board.now program.old.items }
@@ -95,7 +95,7 @@ pub(crate) fn clear_absent(program: &mut Vec<u8>, board: &Board)
     }
 }
 
-/// Sets the latch of a ROM to 0, if the ROM is present.
+/// Sets a ROM's port latch to 0, if the ROM is present.
 fn clear_port(rom: &mut Option<RomPort>)
     ensures { rom.new ≡ port_after_reset rom.old }
 {
@@ -104,7 +104,7 @@ fn clear_port(rom: &mut Option<RomPort>)
     }
 }
 
-/// Sets the latches of the ROMs to 0.
+/// Sets the port latches of all ROMs to 0.
 pub(crate) fn clear_ports(roms: &mut Vec<Option<RomPort>>)
     ensures count { length roms.new.items ≡ length roms.old.items }
     ensures roms { (k : ℕ) → k < length roms.old.items → slice_index_or roms.new.items k None
@@ -115,7 +115,7 @@ pub(crate) fn clear_ports(roms: &mut Vec<Option<RomPort>>)
     }
 }
 
-/// Returns an equal socket of a ROM.
+/// Returns a copy of a ROM socket.
 fn copied_rom(rom: &Option<RomPort>) -> Option<RomPort>
     ensures { result ≡ rom.now }
 {
@@ -125,7 +125,7 @@ fn copied_rom(rom: &Option<RomPort>) -> Option<RomPort>
     }
 }
 
-/// Returns equal sockets of the ROMs. Fails if memory is refused.
+/// Returns a copy of the ROM sockets. Fails if memory cannot be allocated.
 pub(crate) fn copied_roms(
     alloc: Global,
     roms: &Vec<Option<RomPort>>,
@@ -139,7 +139,7 @@ pub(crate) fn copied_roms(
     Ok(copy)
 }
 
-/// Proves that a ROM's socket is empty, or that its ROM is valid.
+/// Proves that a ROM socket is empty or holds a valid ROM port.
 fn rom_is_valid(rom: &Option<RomPort>)
     ensures { IfSome rom.now IsValidPort }
 {
@@ -148,7 +148,7 @@ fn rom_is_valid(rom: &Option<RomPort>)
     }
 }
 
-/// Proves that each ROM that is present is valid.
+/// Proves that each ROM socket is empty or holds a valid ROM port.
 pub(crate) fn roms_are_valid(roms: &Vec<Option<RomPort>>)
     ensures { (k : ℕ) → k < length roms.now.items →
         IfSome (slice_index_or roms.now.items k None) IsValidPort }
@@ -165,7 +165,7 @@ pub(crate) fn are_bytes(program: &Vec<u8>)
     let _bytes = program.as_slice();
 }
 
-/// Returns the latch of a ROM, if the ROM is present.
+/// Returns a ROM's port latch, or 0 if the ROM is absent.
 fn latch_in(rom: &Option<RomPort>) -> Nibble
     ensures { result ≡ port_of_rom rom.now }
 {
@@ -181,14 +181,14 @@ impl<const ROMS: usize, const BANKS: usize, const CHAINS: usize, const MAX: usiz
     CHAINS,
     MAX,
 > {
-    /// Returns the byte at an address, or 0 if the ROM is absent.
+    /// Returns the ROM byte at an address, or 0 if the ROM is absent.
     pub fn rom_byte(&self, at: Addr) -> u8
         ensures { result ≡ slice_index self.now.rom at }
     {
         self.program[usize::from(at.get())]
     }
 
-    /// Sets the byte at an address. The write is lost if the ROM is absent.
+    /// Sets the ROM byte at an address. The write is lost if the ROM is absent.
     pub fn set_rom_byte(&mut self, at: Addr, byte: u8)
         ensures { self.new ≡ with_rom_byte self.old at byte }
     {
@@ -197,7 +197,7 @@ impl<const ROMS: usize, const BANKS: usize, const CHAINS: usize, const MAX: usiz
         }
     }
 
-    /// Returns the port latch of a ROM, 0 to 15. It is 0 on input lines, and if the ROM is absent.
+    /// Returns the port latch of a ROM, 0 to 15. Its bits for input lines are 0. It is 0 if the ROM is absent.
     pub fn rom_latch(&self, chip: u8) -> Nibble
         requires { chip < 16 }
         ensures { result ≡ slice_index self.now.rom_ports chip }
@@ -210,8 +210,8 @@ impl<const ROMS: usize, const BANKS: usize, const CHAINS: usize, const MAX: usiz
         }
     }
 
-    /// Sets the port latch of a ROM, 0 to 15. Its bits at input lines stay 0. The write is lost if the ROM is absent.
-    /// No chain is clocked.
+    /// Sets the port latch of a ROM, 0 to 15. Its bits for input lines stay 0. The write is lost if the ROM is absent.
+    /// No shift-register chain is clocked.
     pub fn set_rom_latch(&mut self, chip: u8, n: Nibble)
         requires { chip < 16 }
         ensures { self.new ≡ with_rom_latch self.old chip n }
@@ -225,14 +225,14 @@ impl<const ROMS: usize, const BANKS: usize, const CHAINS: usize, const MAX: usiz
         }
     }
 
-    /// Returns the SRC byte that the ROMs keep.
+    /// Returns the SRC byte latched in the ROMs.
     pub fn rom_src(&self) -> u8
         ensures { result ≡ self.now.rom_src }
     {
         self.rom_src
     }
 
-    /// Sets the SRC byte that the ROMs keep.
+    /// Sets the SRC byte latched in the ROMs.
     pub fn set_rom_src(&mut self, byte: u8)
         ensures { self.new ≡ record self.old { rom_src = byte } }
     {

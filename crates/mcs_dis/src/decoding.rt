@@ -1,4 +1,4 @@
-//! The piece at the front of some bytes: an instruction, or a byte that is none.
+//! Decoding of the piece at the start of some bytes: a complete instruction, or else a single byte.
 ghost use Rattle.std.specs.Prelude.{◌≡◌, ◌<◌, ◌≤◌, [], length, drop};
 ghost use Rattle.std.specs.Option.{option_to_list};
 ghost use Rattle.mcs_source.specs.Text.{op_at, piece_size, second_of};
@@ -6,7 +6,8 @@ ghost use Rattle.mcs_dis.specs.Front.{op_in_front};
 
 use mcs_code::{Op, decode, word_count, words};
 
-/// Returns the instruction of one word that a code spells.
+/// Decodes a one-word instruction from its opcode. Returns `None` if the opcode needs a second word or is not in the
+/// instruction table.
 #[tactic(auto, using(crate::proofs::Loops::one_is, crate::proofs::Loops::two_is), unfolding(mcs_source::specs::Text::op_at))]
 fn one_word_op(code: u8) -> Option<Op>
     ensures { result ≡ op_at code [] }
@@ -18,8 +19,8 @@ fn one_word_op(code: u8) -> Option<Op>
     }
 }
 
-/// Returns the instruction of a first word and a second. Returns `None` if it is outside the table, or lacks its second
-/// word.
+/// Decodes an instruction from its first word and the word after it. Returns `None` if the opcode is not in the
+/// instruction table or a second word is missing.
 #[tactic(auto, using(crate::proofs::Loops::both_is), unfolding(mcs_source::specs::Text::op_at))]
 pub fn op_of(first: u8, second: Option<u8>) -> Option<Op>
     ensures { result ≡ op_at first (option_to_list second) }
@@ -30,7 +31,7 @@ pub fn op_of(first: u8, second: Option<u8>) -> Option<Op>
     }
 }
 
-/// Returns the instruction at the front of some bytes, if it is complete in them.
+/// Decodes the instruction at the start of some bytes. Returns `None` if they do not start with a complete instruction.
 #[tactic(auto, using(crate::proofs::Loops::two_front, crate::proofs::Loops::one_front))]
 pub fn op_in_front(bytes: &[u8]) -> Option<Op>
     requires { 0 < length bytes.now }
@@ -43,7 +44,7 @@ pub fn op_in_front(bytes: &[u8]) -> Option<Op>
     }
 }
 
-/// Returns the number of bytes of a piece.
+/// Returns the number of bytes in a piece, which is 1 for a byte that is not an instruction (`None`).
 pub fn piece_size(piece: &Option<Op>) -> usize
     ensures { result ≡ piece_size piece.now }
 {
@@ -53,7 +54,7 @@ pub fn piece_size(piece: &Option<Op>) -> usize
     }
 }
 
-/// Returns the second word of the piece in front of some bytes, if it has one.
+/// Returns the second word of the piece at the start of some bytes, if it has one.
 pub fn second(bytes: &[u8], piece: &Option<Op>) -> Option<u8>
     requires { piece_size piece.now ≤ length bytes.now }
     ensures { result ≡ second_of piece.now (drop 1 bytes.now) }

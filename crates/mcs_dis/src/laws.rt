@@ -1,4 +1,4 @@
-//! The laws of the texts: they hold for each ROM, and the functions do nothing.
+//! Laws of the disassembler, for every ROM. Each is proved as the contract of an empty function.
 ghost use Rattle.std.specs.Prelude.{◌≡◌, ℕ, ◌<◌, ◌≤◌, List, length};
 ghost use Rattle.std.specs.List.{AllByRecursion};
 ghost use Rattle.mcs_dis.specs.Again.{AreItsPairs, ReadsAs};
@@ -6,13 +6,13 @@ ghost use Rattle.mcs_source.specs.Spelled.{IsOp};
 ghost use Rattle.mcs_source.specs.SourceText.{SpellsItself};
 ghost use Rattle.mcs_model.specs.declared.op.Op.{Op};
 
-/// Proves that the text of an instruction reads as the statement that spells it.
+/// Proves that the assembler parses the text of an instruction to the statement for that instruction.
 pub fn reads_back()
     ensures { (at : ℕ) (o : Op) → IsOp o → ReadsAs at o }
 {}
 
-/// Proves that the source of a range of a ROM assembles, without an error, to exactly the bytes of the range, each at
-/// its address.
+/// Proves that the source of a ROM range assembles, without an error, to exactly the bytes of the range, each at its
+/// address.
 pub fn source_law()
     ensures spelled { (rom : List ℕ) (from to : ℕ) → length rom ≡ 4096
         → AllByRecursion (λ b. b < 256) rom → from < to → to ≤ 4096 → SpellsItself rom from to }

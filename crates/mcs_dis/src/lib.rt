@@ -1,4 +1,4 @@
-//! The disassembler: texts of instructions, listings of a ROM, and sources that assemble to it
+//! The disassembler: the text of an instruction, ROM listings, and source text that assembles to the same ROM bytes
 //! again.
 #![tactic(auto)]
 

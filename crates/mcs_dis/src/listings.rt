@@ -1,4 +1,4 @@
-//! The text of one instruction, the listing of a ROM, and the source of a range of it.
+//! The text of one instruction, the listing of a ROM, and the source of a ROM range.
 ghost use Rattle.std.specs.Prelude.{◌≡◌, ◌<◌, ◌≤◌, ◌++◌, length, slice_index, drop, string_bytes, IfOk};
 ghost use Rattle.mcs_source.specs.Text.{listing_line, listing_text, piece_size, piece_text};
 ghost use Rattle.mcs_source.specs.SourceText.{line_text, source_text};
@@ -10,8 +10,9 @@ use crate::texts::{push_columns, push_origin, push_piece};
 use mcs_nibble::Addr;
 use std::alloc::{AllocError, Global};
 
-/// Returns the text of the instruction at an address, by its words. A code outside the table, and a first word whose
-/// second word is past the end (`None`), is `DB 0xHH`. A second word after an instruction of one word is ignored.
+/// Returns the text of the instruction at an address, from its words. The text is `DB 0xHH` if the opcode is not in the
+/// instruction table, or if its second word is past the end (`None`). A second word after a one-word instruction is
+/// ignored.
 pub fn line_of(alloc: Global, at: Addr, first: u8, second: Option<u8>) -> Result<String, AllocError>
     ensures { IfOk result (λ s. string_bytes s ≡ line_text at first second) }
 {
@@ -20,7 +21,7 @@ pub fn line_of(alloc: Global, at: Addr, first: u8, second: Option<u8>) -> Result
     Ok(out)
 }
 
-/// Writes the line of the piece at the front, and returns its number of bytes.
+/// Writes the source line of the piece at the start of some bytes. Returns the number of bytes in the piece.
 #[tactic(auto, using(crate::proofs::Loops::front_fits, crate::proofs::Loops::front_some))]
 fn push_source_line(out: &mut String, at: Addr, bytes: &[u8]) -> Result<usize, AllocError>
     requires { 0 < length bytes.now }
@@ -36,7 +37,7 @@ fn push_source_line(out: &mut String, at: Addr, bytes: &[u8]) -> Result<usize, A
     Ok(size)
 }
 
-/// Writes the listing line of the piece at the front, and returns its number of bytes.
+/// Writes the listing line of the piece at the start of some bytes. Returns the number of bytes in the piece.
 #[tactic(auto, using(crate::proofs::Loops::front_fits, crate::proofs::Loops::front_some))]
 fn push_listing_line(out: &mut String, at: Addr, bytes: &[u8]) -> Result<usize, AllocError>
     requires { 0 < length bytes.now }
@@ -54,8 +55,8 @@ fn push_listing_line(out: &mut String, at: Addr, bytes: &[u8]) -> Result<usize, 
     Ok(size)
 }
 
-/// Returns the listing of a ROM from an address on: `lines` lines `AAA BB BB TEXT`, each ended by LF, or fewer if the
-/// last address comes first. An instruction of one word has two spaces in place of the second word.
+/// Returns the listing of a ROM from the address `from`. It has `lines` lines `AAA BB BB TEXT`, each ended by LF, or
+/// fewer if the ROM ends first. A one-word instruction has two spaces in place of the second word.
 pub fn listing(alloc: Global, rom: &[u8], from: Addr, lines: usize) -> Result<String, AllocError>
     requires { length rom.now ≡ 4096 }
     ensures { IfOk result (λ s. string_bytes s ≡ listing_text rom.now from lines) }
@@ -74,8 +75,8 @@ pub fn listing(alloc: Global, rom: &[u8], from: Addr, lines: usize) -> Result<St
     Ok(out)
 }
 
-/// Returns the source of the addresses from `from` to below `to`: the line `ORG 0xHHH`, and a line for each
-/// instruction, each ended by LF. It assembles to exactly the bytes of these addresses.
+/// Returns source text for the addresses from `from` up to, but not including, `to`. It consists of the line `ORG
+/// 0xHHH` and a line for each instruction, each ended by LF. It assembles to exactly the bytes at these addresses.
 pub fn source(alloc: Global, rom: &[u8], from: Addr, to: u16) -> Result<String, AllocError>
     requires rom { length rom.now ≡ 4096 }
     requires some { from < to }

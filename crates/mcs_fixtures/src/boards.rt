@@ -1,16 +1,17 @@
-//! Boards, part by part.
+//! Example boards for tests, and functions that build boards from parts.
 use arrayvec::ArrayVec;
 use mcs_model::board::{Board, BoardFault, BoardParts, ChainPart, KeyMatrix, Line};
 use mcs_model::limits::{BANKS, CHAINS, KEY_COLUMNS, ROMS};
 use mcs_nibble::LineMask;
 
-/// Four output lines that are read as 0.
+/// Line masks of four output lines that read as 0.
 pub const OUTPUTS: [LineMask; 4] = [LineMask::Zero; 4];
 
-/// Four input lines.
+/// Line masks of four input lines.
 pub const INPUTS: [LineMask; 4] = [LineMask::Input; 4];
 
-/// Lines 0 and 2 are inputs, line 1 an output read as 0, line 3 an output read as 1: `1i0i`.
+/// Line masks `1i0i`. Lines 0 and 2 are inputs. Line 1 is an output that reads as 0, and line 3 is an output that reads
+/// as 1.
 pub const MIXED: [LineMask; 4] = [
     LineMask::Input,
     LineMask::Zero,
@@ -18,7 +19,7 @@ pub const MIXED: [LineMask; 4] = [
     LineMask::One,
 ];
 
-/// The columns of the worked board's keys: the lines of ROM 1, and of ROM 2.
+/// The key columns of the example board: the lines of ROM 1, then those of ROM 2.
 const COLUMNS: [Line; KEY_COLUMNS] = [
     Line::Rom(1, 0),
     Line::Rom(1, 1),
@@ -30,7 +31,7 @@ const COLUMNS: [Line; KEY_COLUMNS] = [
     Line::Rom(2, 3),
 ];
 
-/// Returns these lines, as far as there is room for them.
+/// Returns the given lines as a list. Lines beyond its capacity are dropped.
 pub fn lines<const CAP: usize>(of: &[Line]) -> ArrayVec<Line, CAP> {
     let mut list = ArrayVec::new();
     for line in of {
@@ -39,8 +40,8 @@ pub fn lines<const CAP: usize>(of: &[Line]) -> ArrayVec<Line, CAP> {
     list
 }
 
-/// Returns `count` chains of `chips` chips, as far as a board has room for them. The first line clocks each, and the
-/// second is its data.
+/// Returns `count` chains of `chips` chips each, but no more than a board can have. All use the same clock line and
+/// data line.
 pub fn chains(count: u8, chips: u8, (clock, data_in): (Line, Line)) -> ArrayVec<ChainPart, CHAINS> {
     let mut list = ArrayVec::new();
     for _ in 0..count {
@@ -53,10 +54,10 @@ pub fn chains(count: u8, chips: u8, (clock, data_in): (Line, Line)) -> ArrayVec<
     list
 }
 
-/// The lines of ROM 0 that are the clock and the data of the worked boards' chain.
+/// The clock line and the data line of the example boards' chain, both on ROM 0.
 pub const CLOCK_AND_DATA: (Line, Line) = (Line::Rom(0, 0), Line::Rom(0, 1));
 
-/// Returns a board with one ROM, 0, which has this port, with these banks, chains and lamps, and no keys.
+/// Returns a board whose only ROM is ROM 0 with the given port. It has the given banks, chains and lamps, and no keys.
 pub fn on_one_rom(
     port: [LineMask; 4],
     banks: [u8; BANKS],
@@ -74,8 +75,8 @@ pub fn on_one_rom(
     })
 }
 
-/// Returns the worked board: three ROMs, a RAM chip in each of banks 0 and 1, a chain of ten bits, ten rows of eight
-/// keys, and three lamps.
+/// Returns the example board. It has three ROMs, one RAM chip in each of banks 0 and 1, a chain of ten bits, ten rows
+/// of eight keys, and three lamps.
 pub fn worked() -> Result<Board, BoardFault> {
     let mut roms = [None; ROMS];
     roms[0] = Some(OUTPUTS);

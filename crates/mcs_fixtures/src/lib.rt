@@ -1,6 +1,6 @@
-//! Fixtures that the tests of several crates share: boards, part by part and as text, files, readers that fail or do
-//! not end, writers that fail, and a generator of numbers. The program uses none of them. Its functions are proved safe
-//! only: no contract says what they return.
+//! Fixtures shared by the tests of several crates: boards as parts and as text, file contents, readers that fail or
+//! never end, writers that fail, and a pseudo-random number generator. The program uses none of them. Their functions
+//! are proved safe only: no contract says what they return.
 #![tactic(auto)]
 
 pub mod boards;

@@ -1,14 +1,14 @@
-//! Numbers of a seeded generator.
+//! Pseudo-random numbers from a seed.
 ghost use Rattle.std.specs.Prelude.{◌<◌};
 
-/// A generator of numbers (Knuth's MMIX linear congruential generator).
+/// A pseudo-random number generator (Knuth's MMIX linear congruential generator).
 #[derive(Drop)]
 pub struct Numbers {
     state: u64,
 }
 
 impl Numbers {
-    /// Returns the generator that begins with this seed.
+    /// Returns a generator with the given seed.
     pub fn new(seed: u64) -> Numbers {
         Numbers { state: seed }
     }
@@ -21,7 +21,7 @@ impl Numbers {
         self.state >> 33
     }
 
-    /// Returns a number below `n`.
+    /// Returns a pseudo-random number below `n`.
     pub fn below(&mut self, n: u8) -> u8
         requires { 0 < n }
         ensures { result < n }

@@ -1,10 +1,11 @@
-//! Readers and writers that stop, fail or do not end, and concatenated bytes.
+//! Readers and writers that fail, a reader that never ends, and concatenation of bytes.
 ghost use Rattle.std.specs.Prelude.{None, Some};
 
 use std::alloc::{AllocError, Global};
 use std::io::{self, Read, Write};
 
-/// A reader of some bytes. After the first `left` bytes, `failures` reads fail.
+/// A reader that fails for a while. After the first `left` of its bytes, `failures` reads return an error. Later reads
+/// return the other bytes.
 #[derive(Drop)]
 pub struct CutReader<'a> {
     bytes: &'a [u8],
@@ -13,7 +14,7 @@ pub struct CutReader<'a> {
 }
 
 impl<'a> CutReader<'a> {
-    /// Returns a reader of which `failures` reads fail after the first `left` of the bytes.
+    /// Returns a reader of `bytes`. After the first `left` of them, `failures` reads return an error.
     pub fn new(bytes: &'a [u8], left: usize, failures: usize) -> CutReader<'a> {
         CutReader {
             bytes,
@@ -42,7 +43,7 @@ impl Read for CutReader<'_> {
     }
 }
 
-/// A reader that gives one byte again and again, without an end, and counts the bytes.
+/// A reader that repeats one byte without end and counts the bytes that it has returned.
 #[derive(Drop)]
 pub struct EndlessReader {
     byte: u8,
@@ -50,12 +51,12 @@ pub struct EndlessReader {
 }
 
 impl EndlessReader {
-    /// Returns a reader that gives this byte.
+    /// Returns a reader that repeats the given byte.
     pub fn new(byte: u8) -> EndlessReader {
         EndlessReader { byte, given: 0 }
     }
 
-    /// Returns the number of bytes given.
+    /// Returns the number of bytes that were read.
     pub fn given(&self) -> u64 {
         self.given
     }
@@ -71,7 +72,8 @@ impl Read for EndlessReader {
     }
 }
 
-/// A writer that accepts bytes. After the first `left` bytes, `failures` writes fail.
+/// A writer that fails for a while and keeps the bytes that it accepts. After the first `left` bytes, `failures` writes
+/// return an error.
 #[derive(Drop)]
 pub struct CutWriter {
     held: Vec<u8>,
@@ -80,7 +82,7 @@ pub struct CutWriter {
 }
 
 impl CutWriter {
-    /// Returns a writer of which `failures` writes fail after `left` bytes are accepted.
+    /// Returns a writer that accepts `left` bytes, then fails `failures` writes.
     pub fn new(alloc: Global, left: usize, failures: usize) -> CutWriter {
         CutWriter {
             held: Vec::new(alloc),
@@ -118,7 +120,7 @@ impl Write for CutWriter {
     }
 }
 
-/// Returns the pieces, one after the other.
+/// Returns the concatenation of the pieces.
 pub fn joined(alloc: Global, pieces: &[&[u8]]) -> Result<Vec<u8>, AllocError> {
     let mut bytes = Vec::new(alloc);
     for piece in pieces {

@@ -1,4 +1,4 @@
--- The request of a line.
+-- The request that a line makes.
 use Rattle.std.specs.Prelude.{ℕ, List, [], ◌∷◌, codes, length, nat_lt, Option, Some, None, Result, Ok, Err, if◌then◌else◌}
 use Rattle.std.specs.List.{list_all}
 use Rattle.std.specs.Str.{bytes_eq}
@@ -14,25 +14,26 @@ use Rattle.mcs_lines.specs.Requests.{cycles_asked, request_of_word}
 use Rattle.mcs_lines.specs.Words.{is_plain_byte}
 use Rattle.mcs_model.specs.TextLines.{words_of}
 
--- a number of cycles, if it is one, and places
+-- the request of `trace` from its parsed arguments; an error in the places takes precedence over a
+-- bad number of cycles
 abbrev pub trace_of : Option ℕ → Result (List Probe) LineFault → Request
 trace_of n (Err fault) = Refused fault
 trace_of None (Ok probes) = Refused BadNumber
 trace_of (Some n) (Ok probes) = Trace n (record { items = probes })
 
--- the request of `trace`, by the words after it
+-- the request of `trace`, from the words after it
 abbrev pub trace_request : List (List ℕ) → Request
 trace_request [] = Refused NotACommand
 trace_request (n ∷ places) = trace_of (cycles_asked n) (probes_within PROBES places)
 
--- the request of a line, by its words
+-- the request of a line, from its words
 abbrev pub request_of_words : List (List ℕ) → Request
 request_of_words [] = Nothing
 request_of_words (word ∷ words) =
     if bytes_eq word (codes "trace") then trace_request words else request_of_word word words
 
--- The request of a line. Too long (12) is judged first, then a byte that no line may have (14).
--- Only then is the line read.
+-- The request of a line. A line that is too long is rejected first (12), then a line with a byte
+-- that is not allowed (14). Only then are its words parsed.
 unfoldable pub request_of : List ℕ → Request
 request_of line =
     if nat_lt LINE_BYTES (length line) then Refused LineTooLong

@@ -15,7 +15,7 @@ use Rattle.mcs_lines.specs.declared.requests.LineFault.TheVariants.{NotACommand,
 use Rattle.mcs_lines.specs.Requests.{asked, is_number, poke_of}
 use Rattle.mcs_lines.specs.Words.{parts_of_word}
 
--- the probe of a place, without the value of the place
+-- the probe of a place; the value in the place is ignored
 abbrev pub probe_at : Place → Probe
 probe_at (place.Acc n) = Acc
 probe_at (place.Cy bit) = Cy
@@ -26,35 +26,37 @@ probe_at (place.Rom at byte) = Rom at
 probe_at (place.Ram bank src n) = Ram bank src
 probe_at (place.Status bank high k n) = Status bank high k
 
--- the place that a `poke` fills, or the reason why it is refused
+-- the probe of the place that a `poke` command writes; any other command is rejected
 abbrev pub probe_of_command : Command → Result Probe LineFault
 probe_of_command (Poke place) = Ok (probe_at place)
 probe_of_command _ = Err NotACommand
 
+-- the probe of the place that a request pokes; any other request is rejected
 abbrev pub probe_of_request : Request → Result Probe LineFault
 probe_of_request (Change command) = probe_of_command command
 probe_of_request (Refused fault) = Err fault
 probe_of_request _ = Err NotACommand
 
--- a place of `poke`, as `poke` with the value 0 names it: 0 can be in each of them
+-- the probe of a place of `poke`, from `poke` with that place and the value 0, which is in range
+-- for each place
 abbrev pub probe_of_poke : List ℕ → Result Probe LineFault
 probe_of_poke word = probe_of_request (poke_of word (codes "0"))
 
--- the probe that was read, or the refusal of a number that is out of its range
+-- the probe, or the error `BadNumber` if there is none
 abbrev pub or_bad_probe : Option Probe → Result Probe LineFault
 or_bad_probe None = Err BadNumber
 or_bad_probe (Some p) = Ok p
 
 -- ---- the lines of a board, by their numbers
 
--- `romC.K`
+-- `romC.K`, a line of a ROM
 abbrev pub rom_line_probe : List ℕ → List ℕ → Option Probe
 rom_line_probe c k = elim (number_up_to 15 c) [
   | None ↦ None
   | Some c ↦ elim (number_up_to 3 k) [ None ↦ None | Some k ↦ Some (Level (line.Rom c k)) ]
 ]
 
--- `ramB.C.K`
+-- `ramB.C.K`, a line of a RAM chip
 abbrev pub ram_line_probe : List ℕ → List ℕ → List ℕ → Option Probe
 ram_line_probe b c k = elim (number_up_to 7 b) [
   | None ↦ None
@@ -64,52 +66,52 @@ ram_line_probe b c k = elim (number_up_to 7 b) [
   ]
 ]
 
--- `chainN.I`
+-- `chainN.I`, a bit of a chain
 abbrev pub chain_line_probe : List ℕ → List ℕ → Option Probe
 chain_line_probe n i = elim (number_up_to 3 n) [
   | None ↦ None
   | Some n ↦ elim (number_up_to 79 i) [ None ↦ None | Some i ↦ Some (Level (line.Chain n i)) ]
 ]
 
--- ---- its ports and chains
+-- ---- the ports and chains of a board
 
--- `romC`
+-- `romC`, the port of a ROM
 abbrev pub rom_port_probe : List ℕ → Option Probe
 rom_port_probe c = elim (number_up_to 15 c) [ None ↦ None | Some c ↦ Some (RomPort c) ]
 
--- `ramB.C`
+-- `ramB.C`, the port of a RAM chip
 abbrev pub ram_port_probe : List ℕ → List ℕ → Option Probe
 ram_port_probe b c = elim (number_up_to 7 b) [
   | None ↦ None
   | Some b ↦ elim (number_up_to 3 c) [ None ↦ None | Some c ↦ Some (RamPort b c) ]
 ]
 
--- `chainN`
+-- `chainN`, all bits of a chain
 abbrev pub chain_probe : List ℕ → Option Probe
 chain_probe n = elim (number_up_to 3 n) [ None ↦ None | Some n ↦ Some (Chain n) ]
 
 -- ---- the parts of a word
 
--- the bytes after the beginning of a word, if the word begins so
+-- the bytes after a prefix of a word, if the word has that prefix
 abbrev pub after_word : List ℕ → List ℕ → Option (List ℕ)
 after_word [] bytes = Some bytes
 after_word (p ∷ ps) [] = None
 after_word (p ∷ ps) (b ∷ bytes) = if b == p then after_word ps bytes else None
 
--- the number that follows a beginning
+-- the number after a prefix of a word, if the word is that prefix followed by a number
 abbrev pub number_after : List ℕ → List ℕ → Option (List ℕ)
 number_after start name = elim (after_word start name) [
   | None ↦ None
   | Some n ↦ if is_number n then Some n else None
 ]
 
--- that number, if k, another part of the word, is a number too
+-- the number after a prefix, if k, another part of the word, is a number too
 abbrev pub number_before : List ℕ → List ℕ → List ℕ → Option (List ℕ)
 number_before start name k = if is_number k then number_after start name else None
 
 -- ---- a word, by its parts between dots
 
--- `romC`, `chainN`, and the places of `poke`
+-- the probe of `romC`, `chainN` or a place of `poke`
 abbrev pub probe_named : List ℕ → Result Probe LineFault
 probe_named word = elim (number_after (codes "rom") word) [
   | Some c ↦ or_bad_probe (rom_port_probe c)
@@ -119,7 +121,7 @@ probe_named word = elim (number_after (codes "rom") word) [
   ]
 ]
 
--- the places with a name of their own that `poke` does not have
+-- the named places of `trace` that `poke` does not have
 abbrev pub probe_names : List (List ℕ × Probe)
 probe_names = (codes "lamps", Lamps) ∷ (codes "ret", Returns) ∷ (codes "src", Src) ∷ []
 
@@ -127,7 +129,7 @@ probe_names = (codes "lamps", Lamps) ∷ (codes "ret", Returns) ∷ (codes "src"
 abbrev pub probe_whole : List ℕ → Result Probe LineFault
 probe_whole word = elim (asked word probe_names) [ None ↦ probe_named word | Some p ↦ Ok p ]
 
--- `ramB.C`, and the places of `poke`
+-- the probe of `ramB.C` or a place of `poke`
 abbrev pub probe_in_bank : List ℕ → List ℕ → List ℕ → Result Probe LineFault
 probe_in_bank word name c = elim (number_before (codes "ram") name c) [
   | Some b ↦ or_bad_probe (ram_port_probe b c)
@@ -160,25 +162,26 @@ probe_parts word parts = probe_whole word
 abbrev pub probe_of : List ℕ → Result Probe LineFault
 probe_of word = probe_parts word (parts_of_word word)
 
--- ---- places in turn
+-- ---- lists of places
 
+-- true if the error is `BadNumber`
 abbrev pub is_bad_number : LineFault → Bool
 is_bad_number BadNumber = true
 is_bad_number fault = false
 
--- the refusal of two words that are refused: a bad number gives way to the other
+-- the error to report for two rejected words: the first one's, unless it is a bad number
 abbrev pub first_fault : LineFault → LineFault → LineFault
 first_fault fault other = if is_bad_number fault then other else fault
 
--- a place before others
+-- a place in front of a list of places, or the error to report
 abbrev pub with_probe : Result Probe LineFault → Result (List Probe) LineFault → Result (List Probe) LineFault
 with_probe (Ok p) (Ok ps) = Ok (p ∷ ps)
 with_probe (Ok p) (Err fault) = Err fault
 with_probe (Err fault) (Ok ps) = Err fault
 with_probe (Err fault) (Err other) = Err (first_fault fault other)
 
--- The places that words name, at most `room` places. Words that name none, or are too many, are
--- refused before bad numbers.
+-- The places that words name, at most `room` of them. A word that is not a place, or a word too
+-- many, takes precedence over a bad number.
 abbrev pub probes_within : ℕ → List (List ℕ) → Result (List Probe) LineFault
 probes_within room [] = Ok []
 probes_within zero (word ∷ words) = Err NotACommand

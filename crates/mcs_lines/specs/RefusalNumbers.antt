@@ -1,4 +1,4 @@
--- The numbers of refused lines.
+-- The refusal numbers of rejected lines.
 use Rattle.std.specs.Prelude.{ℕ}
 use Rattle.mcs_model.specs.declared.refusal_numbers.TheConstants.{BAD_NUMBER, LINE_TOO_LONG, NOT_ASCII, NOT_A_COMMAND}
 use Rattle.mcs_lines.specs.declared.requests.LineFault.{LineFault}

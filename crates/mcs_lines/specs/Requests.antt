@@ -1,4 +1,4 @@
--- The request of a line: the table of lines. (Our own choice.)
+-- The request that a line makes, in tables of commands. (Our own choice.)
 use Rattle.std.specs.Prelude.{◌==◌, ◌&&◌, Bool, ℕ, List, [], ◌∷◌, codes, nat_lt, is_some, if◌then◌else◌, Option, Some, None}
 use Rattle.std.specs.Str.{bytes_eq}
 use Rattle.mcs_model.specs.WordTables.{beside}
@@ -14,51 +14,52 @@ use Rattle.mcs_lines.specs.declared.requests.TextKind.TheVariants.{Wire, Asm, Ma
 use Rattle.mcs_lines.specs.declared.requests.LineFault.TheVariants.{NotACommand, BadNumber}
 use Rattle.mcs_lines.specs.Words.{parts_of_word}
 
--- the value beside a word in one of the tables below
+-- the entry for a word in one of the tables below, if any
 abbrev pub asked : {A : Type 0} → List ℕ → List (List ℕ × A) → Option A
 asked word table = beside (bytes_eq word) table
 
 abbrev pub is_number : List ℕ → Bool
 is_number word = is_some (number_written word)
 
--- the request of a word's number; 11 if the word is not a number, or its number is above `most`
+-- the request for the number that a word spells; refusal 11 if the word is not a number or is above
+-- `most`
 abbrev pub with_number : ℕ → List ℕ → (ℕ → Request) → Request
 with_number most word ask =
     elim (number_up_to most word) [ None ↦ Refused BadNumber | Some n ↦ ask n ]
 
--- ---- places, and the values that are put into them
+-- ---- places, and the values that `poke` writes to them
 
--- a value up to `most` is put into a place
+-- the request to poke a value into a place; the value is at most `most`
 abbrev pub poke_value : ℕ → List ℕ → (ℕ → Place) → Request
 poke_value most value place = with_number most value (λ v. Change (Poke (place v)))
 
--- `rK`
+-- `poke rK`
 abbrev pub poke_register : List ℕ → List ℕ → Request
 poke_register k value = with_number 15 k (λ k. poke_value 15 value (λ n. Register k n))
 
--- `rom.A`
+-- `poke rom.A`
 abbrev pub poke_rom : List ℕ → List ℕ → Request
 poke_rom a value = with_number 4095 a (λ at. poke_value 255 value (λ byte. Rom at byte))
 
--- `ram.B.S`
+-- `poke ram.B.S`
 abbrev pub poke_ram : List ℕ → List ℕ → List ℕ → Request
 poke_ram b s value =
     with_number 7 b (λ bank. with_number 255 s (λ src. poke_value 15 value (λ n. Ram bank src n)))
 
--- `st.B.H.K`
+-- `poke st.B.H.K`
 abbrev pub poke_status : List ℕ → List ℕ → List ℕ → List ℕ → Request
 poke_status b h k value =
     with_number 7 b (λ bank.
     with_number 15 h (λ high.
     with_number 3 k (λ k. poke_value 15 value (λ n. Status bank high k n))))
 
--- `rK`; any other name is no place
+-- `poke rK`; any other name is not a place
 abbrev pub poke_numbered : List ℕ → List ℕ → Request
 poke_numbered [] value = Refused NotACommand
 poke_numbered (b ∷ k) value =
     if (b == 114) && is_number k then poke_register k value else Refused NotACommand
 
--- the requests of `poke` for the value that is put into a place with a name of its own
+-- the named places of `poke`, each with the request for a value
 abbrev pub poke_names : List (List ℕ × (List ℕ → Request))
 poke_names =
     (codes "acc", λ value. poke_value 15 value (λ n. Acc n))
@@ -67,13 +68,13 @@ poke_names =
     ∷ (codes "dcl", λ value. poke_value 7 value (λ bank. Dcl bank))
     ∷ []
 
--- a place without dots
+-- `poke` with a place without dots
 abbrev pub poke_named : List ℕ → List ℕ → Request
 poke_named name value =
     elim (asked name poke_names) [ None ↦ poke_numbered name value | Some poke ↦ poke value ]
 
--- the request of `poke` by the number of parts between dots: the form of the place (10) is judged
--- before any range (11)
+-- the request of `poke`, from the parts of its place; a place of the wrong form (10) is rejected
+-- before a number out of range (11)
 abbrev pub poke_parts : List (List ℕ) → List ℕ → Request
 poke_parts (name ∷ []) value = poke_named name value
 poke_parts (name ∷ a ∷ []) value =
@@ -91,7 +92,7 @@ poke_of place value = poke_parts (parts_of_word place) value
 
 -- ---- lines
 
--- the request of a line of one word
+-- the commands of one word, each with its request
 abbrev pub alone : List (List ℕ × Request)
 alone =
     (codes "step", Change Step)
@@ -110,19 +111,19 @@ alone =
     ∷ (codes "errors", Begin Errors)
     ∷ []
 
--- The cycles of `count` and `trace`, 1 to RUN_CYCLES. `run` takes any number of 32 bits here. The
--- bench refuses a number of these that is out of range (44).
+-- The number of cycles of `count` and `trace`, 1 to RUN_CYCLES. For `run`, the parser accepts any
+-- 32-bit number. The bench rejects one that is out of range (44).
 abbrev pub cycles_asked : List ℕ → Option ℕ
 cycles_asked word = elim (number_up_to RUN_CYCLES word) [
   | None ↦ None
   | Some n ↦ if nat_lt 0 n then Some n else None
 ]
 
--- `count`
+-- `count`, with its number of cycles
 abbrev pub count_request : List ℕ → Request
 count_request n = elim (cycles_asked n) [ None ↦ Refused BadNumber | Some n ↦ Count n ]
 
--- the request of a word and the one after it
+-- the commands with one argument, each with the request for that argument
 abbrev pub with_one : List (List ℕ × (List ℕ → Request))
 with_one =
     (codes "run", λ a. with_number 4294967295 a (λ n. Change (Run n)))
@@ -133,15 +134,16 @@ with_one =
     ∷ (codes "count", count_request)
     ∷ []
 
--- a listing has at least one line
+-- `list`, with an address and a number of lines; a listing has at least one line
 abbrev pub listing : ℕ → ℕ → Request
 listing at lines = if nat_lt 0 lines then Listing at lines else Refused BadNumber
 
--- two numbers, each in its range
+-- the request for two numbers, each at most its limit
 abbrev pub with_numbers : ℕ → List ℕ → ℕ → List ℕ → (ℕ → ℕ → Request) → Request
 with_numbers most a most' b ask = with_number most a (λ n. with_number most' b (λ m. ask n m))
 
--- the request of a word and the two after it (the bench says which rows and columns there are: 41)
+-- the commands with two arguments, each with the request for them; the bench rejects rows and
+-- columns that the board lacks (41)
 abbrev pub with_two : List (List ℕ × (List ℕ → List ℕ → Request))
 with_two =
     (codes "poke", poke_of)
@@ -152,7 +154,7 @@ with_two =
     ∷ (codes "list", λ a b. with_numbers 4095 a LISTING_LINES b listing)
     ∷ []
 
--- the request of a word and the words after it, by their number, except for `trace`
+-- the request of a line, from its first word and the words after it, except for `trace`
 abbrev pub request_of_word : List ℕ → List (List ℕ) → Request
 request_of_word word [] = elim (asked word alone) [ None ↦ Refused NotACommand | Some r ↦ r ]
 request_of_word word (a ∷ []) =

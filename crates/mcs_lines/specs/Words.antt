@@ -1,8 +1,8 @@
--- The bytes that a line may have, and the parts of a word. (Our own choice.)
+-- The bytes that a line can have, and the parts of a word. (Our own choice.)
 use Rattle.std.specs.Prelude.{◌==◌, ◌&&◌, ◌||◌, Bool, ℕ, List, nat_lt}
 use Rattle.std.specs.List.{slice_split}
 
--- a tab, or a character of ASCII that prints
+-- true if a byte is a tab or a printable ASCII character
 abbrev pub is_plain_byte : ℕ → Bool
 is_plain_byte b = (b == 9) || (nat_lt 31 b && nat_lt b 127)
 

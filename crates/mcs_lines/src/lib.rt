@@ -1,4 +1,4 @@
-//! The request of a command line.
+//! The parser of command lines.
 #![tactic(auto)]
 
 pub mod numbers;

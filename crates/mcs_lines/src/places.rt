@@ -1,4 +1,4 @@
-//! The request of `poke` with a place and a value.
+//! Parsing of `poke` with a place and a value.
 ghost use Rattle.std.specs.Prelude.{◌≡◌, ◌∷◌, [], Some};
 ghost use Rattle.mcs_model.specs.declared.command.Command.TheVariants.{Poke};
 ghost use Rattle.mcs_lines.specs.declared.requests.Request.TheVariants.{Change};
@@ -10,46 +10,43 @@ use crate::requests::{LineFault, Request, or_bad_number};
 use crate::words::{equals, next_part};
 use mcs_model::command::{Command, Place};
 
-/// Returns the request to put a value into a place.
+/// Returns the request to poke a value into a place.
 fn poke(place: Place) -> Option<Request>
     ensures { result ≡ Some (Change (Poke place)) }
 {
     Some(Request::Change(Command::Poke(place)))
 }
 
-/// Returns the request of `poke rK` with a value; `None` if one of them is no number, or out of
-/// its range.
+/// Parses `poke rK` with a value. Returns `None` if `K` or the value is not a number or is out of range.
 fn read_register(k: &[u8], value: &[u8]) -> Option<Request>
     ensures { or_bad_number result ≡ poke_register k.now value.now }
 {
     poke(Place::Register(register(k)?, nibble(value)?))
 }
 
-/// Returns the request of `poke rom.A` with a value; `None` if one of them is no number, or out of
-/// its range.
+/// Parses `poke rom.A` with a value. Returns `None` if `A` or the value is not a number or is out of range.
 fn read_rom(a: &[u8], value: &[u8]) -> Option<Request>
     ensures { or_bad_number result ≡ poke_rom a.now value.now }
 {
     poke(Place::Rom(address(a)?, byte(value)?))
 }
 
-/// Returns the request of `poke ram.B.S` with a value; `None` if one of them is no number, or out
-/// of its range.
+/// Parses `poke ram.B.S` with a value. Returns `None` if `B`, `S` or the value is not a number or is out of range.
 fn read_ram(b: &[u8], s: &[u8], value: &[u8]) -> Option<Request>
     ensures { or_bad_number result ≡ poke_ram b.now s.now value.now }
 {
     poke(Place::Ram(bank(b)?, byte(s)?, nibble(value)?))
 }
 
-/// Returns the request of `poke st.B.H.K` with a value; `None` if one of them is no number, or out
-/// of its range.
+/// Parses `poke st.B.H.K` with a value. Returns `None` if `B`, `H`, `K` or the value is not a number or is out of
+/// range.
 fn read_status(b: &[u8], h: &[u8], k: &[u8], value: &[u8]) -> Option<Request>
     ensures { or_bad_number result ≡ poke_status b.now h.now k.now value.now }
 {
     poke(Place::Status(bank(b)?, nibble(h)?, status(k)?, nibble(value)?))
 }
 
-/// Returns the request of `poke` with a place of one part that has no name of its own.
+/// Parses `poke rK` with a value. Rejects any other name as not a command.
 fn read_numbered(name: &[u8], value: &[u8]) -> Request
     ensures { result ≡ poke_numbered name.now value.now }
 {
@@ -59,8 +56,7 @@ fn read_numbered(name: &[u8], value: &[u8]) -> Request
     }
 }
 
-/// Returns the request of `poke` with a place of one part; `None` if its value is no number, or
-/// out of its range.
+/// Parses `poke` with a place without dots. Returns `None` if the value is not a number or is out of range.
 fn read_named(name: &[u8], value: &[u8]) -> Option<Request>
     ensures { or_bad_number result ≡ poke_named name.now value.now }
 {
@@ -77,7 +73,7 @@ fn read_named(name: &[u8], value: &[u8]) -> Option<Request>
     }
 }
 
-/// Returns the request of `poke` with a place of two parts.
+/// Parses `poke` with a place of two parts, which must be `rom.A`.
 fn read_two_parts(name: &[u8], a: &[u8], value: &[u8]) -> Request
     ensures { result ≡ poke_parts (name.now ∷ a.now ∷ []) value.now }
 {
@@ -88,7 +84,7 @@ fn read_two_parts(name: &[u8], a: &[u8], value: &[u8]) -> Request
     }
 }
 
-/// Returns the request of `poke` with a place of three parts.
+/// Parses `poke` with a place of three parts, which must be `ram.B.S`.
 fn read_three_parts(name: &[u8], b: &[u8], s: &[u8], value: &[u8]) -> Request
     ensures { result ≡ poke_parts (name.now ∷ b.now ∷ s.now ∷ []) value.now }
 {
@@ -99,7 +95,7 @@ fn read_three_parts(name: &[u8], b: &[u8], s: &[u8], value: &[u8]) -> Request
     }
 }
 
-/// Returns the request of `poke` with a place of four parts.
+/// Parses `poke` with a place of four parts, which must be `st.B.H.K`.
 fn read_four_parts(name: &[u8], b: &[u8], h: &[u8], k: &[u8], value: &[u8]) -> Request
     ensures { result ≡ poke_parts (name.now ∷ b.now ∷ h.now ∷ k.now ∷ []) value.now }
 {
@@ -110,7 +106,7 @@ fn read_four_parts(name: &[u8], b: &[u8], h: &[u8], k: &[u8], value: &[u8]) -> R
     }
 }
 
-/// Returns the request of `poke` with a place and a value.
+/// Parses the arguments of `poke`: a place and a value.
 pub fn read_poke(place: &[u8], value: &[u8]) -> Request
     ensures { result ≡ poke_of place.now value.now }
 {

@@ -1,4 +1,4 @@
-//! The places that `trace` names.
+//! Parsing of the places that `trace` names.
 ghost use Rattle.std.specs.Prelude.{◌≡◌, Ok, Err, None, Some, MatchOption, MatchResult};
 ghost use Rattle.mcs_lines.specs.ProbeWords.{after_word, chain_probe, chain_line_probe, is_bad_number, number_after, number_before, or_bad_probe, probe_at, probe_in_bank, probe_named, probe_of, probe_of_command, probe_of_poke, probe_three, probe_two, probe_whole, probes_within, ram_line_probe, ram_port_probe, rom_line_probe, rom_port_probe};
 ghost use Rattle.mcs_model.specs.TextLines.{words_of};
@@ -13,7 +13,7 @@ use mcs_model::command::{Command, Place};
 use mcs_model::numeral::number_within;
 use mcs_probe::{PROBES, Probe};
 
-/// Returns the probe of a place, without the value of the place.
+/// Returns the probe of a place. The value in `place` is ignored.
 fn probe_at(place: Place) -> Probe
     ensures { result ≡ probe_at place }
 {
@@ -29,7 +29,7 @@ fn probe_at(place: Place) -> Probe
     }
 }
 
-/// Returns the place that a `poke` fills.
+/// Returns the probe of the place that a `poke` command writes. Rejects any other command.
 fn probe_of_command(command: &Command) -> Result<Probe, LineFault>
     ensures { result ≡ probe_of_command command.now }
 {
@@ -39,7 +39,7 @@ fn probe_of_command(command: &Command) -> Result<Probe, LineFault>
     }
 }
 
-/// Reads a place of `poke`, as `poke` with the value 0 names it.
+/// Parses a place of `poke`, by parsing `poke` with that place and the value 0.
 fn read_place(word: &[u8]) -> Result<Probe, LineFault>
     ensures { result ≡ probe_of_poke word.now }
 {
@@ -50,7 +50,7 @@ fn read_place(word: &[u8]) -> Result<Probe, LineFault>
     }
 }
 
-/// Returns the probe that was read, or the refusal of a number.
+/// Returns the probe, or the error `BadNumber` if there is none.
 fn or_bad_number(probe: Option<Probe>) -> Result<Probe, LineFault>
     ensures { result ≡ or_bad_probe probe }
 {
@@ -60,14 +60,14 @@ fn or_bad_number(probe: Option<Probe>) -> Result<Probe, LineFault>
     }
 }
 
-/// Reads a line of a ROM.
+/// Parses `romC.K`, a line of a ROM. Returns `None` if `C` or `K` is not a number or is out of range.
 fn rom_line_probe(c: &[u8], k: &[u8]) -> Option<Probe>
     ensures { result ≡ rom_line_probe c.now k.now }
 {
     Some(Probe::Level(Line::Rom(nibble(c)?.get(), status(k)?.get())))
 }
 
-/// Reads a line of a RAM chip.
+/// Parses `ramB.C.K`, a line of a RAM chip. Returns `None` if `B`, `C` or `K` is not a number or is out of range.
 fn ram_line_probe(b: &[u8], c: &[u8], k: &[u8]) -> Option<Probe>
     ensures { result ≡ ram_line_probe b.now c.now k.now }
 {
@@ -75,7 +75,7 @@ fn ram_line_probe(b: &[u8], c: &[u8], k: &[u8]) -> Option<Probe>
     Some(Probe::Level(Line::Ram(bank, status(c)?.get(), status(k)?.get())))
 }
 
-/// Reads a bit of a chain.
+/// Parses `chainN.I`, a bit of a chain. Returns `None` if `N` or `I` is not a number or is out of range.
 fn chain_line_probe(n: &[u8], i: &[u8]) -> Option<Probe>
     ensures { result ≡ chain_line_probe n.now i.now }
 {
@@ -83,28 +83,28 @@ fn chain_line_probe(n: &[u8], i: &[u8]) -> Option<Probe>
     Some(Probe::Level(Line::Chain(n, number_within(i, 79)? as u8)))
 }
 
-/// Reads the port of a ROM.
+/// Parses `romC`, the port of a ROM. Returns `None` if `C` is not a number or is out of range.
 fn rom_port_probe(c: &[u8]) -> Option<Probe>
     ensures { result ≡ rom_port_probe c.now }
 {
     Some(Probe::RomPort(nibble(c)?.get()))
 }
 
-/// Reads the port of a RAM chip.
+/// Parses `ramB.C`, the port of a RAM chip. Returns `None` if `B` or `C` is not a number or is out of range.
 fn ram_port_probe(b: &[u8], c: &[u8]) -> Option<Probe>
     ensures { result ≡ ram_port_probe b.now c.now }
 {
     Some(Probe::RamPort(bank(b)?.get(), status(c)?.get()))
 }
 
-/// Reads the bits of a chain.
+/// Parses `chainN`, all bits of a chain. Returns `None` if `N` is not a number or is out of range.
 fn chain_probe(n: &[u8]) -> Option<Probe>
     ensures { result ≡ chain_probe n.now }
 {
     Some(Probe::Chain(status(n)?.get()))
 }
 
-/// Returns the bytes after the beginning of a word, if the word begins so.
+/// Returns the bytes of `name` after the prefix `start`, or `None` if `name` does not have that prefix.
 fn after_word<'a>(start: &[u8], name: &'a [u8]) -> Option<&'a [u8]>
     ensures { MatchOption result (after_word start.now name.now ≡ None)
         (λ rest. after_word start.now name.now ≡ Some rest.now) }
@@ -122,7 +122,7 @@ fn after_word<'a>(start: &[u8], name: &'a [u8]) -> Option<&'a [u8]>
     }
 }
 
-/// Returns the number after a beginning.
+/// Returns the number after the prefix `start`. Returns `None` if `name` is not that prefix followed by a number.
 fn number_after<'a>(start: &[u8], name: &'a [u8]) -> Option<&'a [u8]>
     ensures { MatchOption result (number_after start.now name.now ≡ None)
         (λ n. number_after start.now name.now ≡ Some n.now) }
@@ -131,7 +131,7 @@ fn number_after<'a>(start: &[u8], name: &'a [u8]) -> Option<&'a [u8]>
     if is_number(n) { Some(n) } else { None }
 }
 
-/// Returns that number, if the part after the next dot is a number too.
+/// Returns the number after the prefix `start`, if `k`, another part of the word, is a number too.
 fn number_before<'a>(start: &[u8], name: &'a [u8], k: &[u8]) -> Option<&'a [u8]>
     ensures { MatchOption result (number_before start.now name.now k.now ≡ None)
         (λ n. number_before start.now name.now k.now ≡ Some n.now) }
@@ -143,7 +143,7 @@ fn number_before<'a>(start: &[u8], name: &'a [u8], k: &[u8]) -> Option<&'a [u8]>
     }
 }
 
-/// Reads a whole port or chain of the board, or a place of `poke`.
+/// Parses `romC`, `chainN` or a place of `poke`.
 fn read_named(word: &[u8]) -> Result<Probe, LineFault>
     ensures { result ≡ probe_named word.now }
 {
@@ -156,7 +156,7 @@ fn read_named(word: &[u8]) -> Result<Probe, LineFault>
     read_place(word)
 }
 
-/// Reads a place whose word has one part, or more than three.
+/// Parses a word of one part, or of more than three, as a place.
 fn read_whole(word: &[u8]) -> Result<Probe, LineFault>
     ensures { result ≡ probe_whole word.now }
 {
@@ -171,7 +171,7 @@ fn read_whole(word: &[u8]) -> Result<Probe, LineFault>
     }
 }
 
-/// Reads the port of a RAM chip, or a place of `poke` whose word has two parts.
+/// Parses `ramB.C` or a place of `poke`, a word of two parts.
 fn read_in_bank(word: &[u8], name: &[u8], c: &[u8]) -> Result<Probe, LineFault>
     ensures { result ≡ probe_in_bank word.now name.now c.now }
 {
@@ -181,7 +181,7 @@ fn read_in_bank(word: &[u8], name: &[u8], c: &[u8]) -> Result<Probe, LineFault>
     read_place(word)
 }
 
-/// Reads a place whose word has two parts.
+/// Parses a word of two parts as a place.
 fn read_two(word: &[u8], name: &[u8], k: &[u8]) -> Result<Probe, LineFault>
     ensures { result ≡ probe_two word.now name.now k.now }
 {
@@ -194,7 +194,7 @@ fn read_two(word: &[u8], name: &[u8], k: &[u8]) -> Result<Probe, LineFault>
     read_in_bank(word, name, k)
 }
 
-/// Reads a place whose word has three parts.
+/// Parses a word of three parts as a place.
 fn read_three(word: &[u8], name: &[u8], c: &[u8], k: &[u8]) -> Result<Probe, LineFault>
     ensures { result ≡ probe_three word.now name.now c.now k.now }
 {
@@ -206,7 +206,7 @@ fn read_three(word: &[u8], name: &[u8], c: &[u8], k: &[u8]) -> Result<Probe, Lin
     read_place(word)
 }
 
-/// Reads the place that a word names.
+/// Parses a word as a place.
 fn read_probe(word: &[u8]) -> Result<Probe, LineFault>
     ensures { result ≡ probe_of word.now }
 {
@@ -225,7 +225,7 @@ fn read_probe(word: &[u8]) -> Result<Probe, LineFault>
     }
 }
 
-/// Returns true if a refusal gives way to others.
+/// Returns true if an error is `BadNumber`. Other errors take precedence over it.
 fn is_bad_number(fault: LineFault) -> bool
     ensures { result ≡ is_bad_number fault }
 {
@@ -235,8 +235,8 @@ fn is_bad_number(fault: LineFault) -> bool
     }
 }
 
-/// Reads the places that the words of a line name, at most [`PROBES`]. Words that name none, or
-/// are too many, are refused before bad numbers.
+/// Parses the words of a line as places, at most [`PROBES`]. A word that is not a place, or a word too many, takes
+/// precedence over a bad number.
 pub(crate) fn read_probes(line: &[u8]) -> Result<ArrayVec<Probe, PROBES>, LineFault>
     ensures { MatchResult result
         (λ probes. probes_within PROBES (words_of line.now) ≡ Ok probes.items)

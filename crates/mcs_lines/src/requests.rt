@@ -1,4 +1,4 @@
-//! The request of a command line.
+//! Parsing of command lines.
 ghost use Rattle.std.specs.Prelude.{[], ◌∷◌, ◌≡◌};
 ghost use Rattle.std.specs.List.{list_all};
 ghost use Rattle.mcs_lines.specs.RefusalNumbers.{line_fault_number};
@@ -22,25 +22,25 @@ use mcs_nibble::Addr;
 use mcs_probe::{PROBES, Probe};
 use thiserror::Error;
 
-/// The reason why a line is refused.
+/// The reason that a line is rejected.
 #[derive(Clone, Copy, Debug, Error)]
 pub enum LineFault {
-    /// Its words are no command.
+    /// The words are not a command.
     #[error("the words are not a command")]
     NotACommand,
-    /// A word is no number, or its number is out of range.
+    /// A word is not a number, or the number is out of range.
     #[error("a word is not a number, or its number is out of its range")]
     BadNumber,
-    /// It has too many bytes.
+    /// The line has too many bytes.
     #[error("the line has too many bytes")]
     LineTooLong,
-    /// It has a byte that is neither a tab nor a printing character of ASCII.
+    /// A byte is neither a tab nor a printable ASCII character.
     #[error("a byte is neither a tab nor a printing character of ASCII")]
     NotAscii,
 }
 
 impl LineFault {
-    /// Returns the number of the refusal.
+    /// Returns the refusal number.
     pub fn number(self) -> u8
         ensures { result ≡ line_fault_number self }
     {
@@ -53,47 +53,47 @@ impl LineFault {
     }
 }
 
-/// The kind of a text, by what the text describes.
+/// The kind of a text that follows a command line.
 #[derive(Clone, Copy, Debug)]
 pub enum TextKind {
-    /// A board.
+    /// A board to wire.
     Wire,
-    /// A program, whose bytes are loaded.
+    /// A program to assemble and load.
     Asm,
-    /// A program, whose lines and names are reported.
+    /// A program whose lines and names are reported.
     Map,
-    /// A board, whose first error is reported with its line.
+    /// A board whose first error is reported with its line.
     Wiring,
-    /// A program, whose errors are reported.
+    /// A program whose errors are reported.
     Errors,
 }
 
-/// The request of a command line.
+/// A parsed command line.
 #[derive(Debug, Drop)]
 pub enum Request {
-    /// Nothing: the line has no word.
+    /// The line has no words.
     Nothing,
-    /// Nothing: the line is refused.
+    /// The line is rejected.
     Refused(LineFault),
-    /// A query of the state of the bench. Asking changes nothing.
+    /// A query of the bench's state. It changes nothing.
     Ask(Query),
-    /// A listing of the ROM: from an address on, of 1 to [`LISTING_LINES`] lines.
+    /// A ROM listing of 1 to [`LISTING_LINES`] lines, from an address.
     Listing(Addr, u16),
-    /// The wiring of the board.
+    /// A query of the board's wiring.
     Board,
-    /// The count of instructions that a run of 1 to [`RUN_CYCLES`] cycles would begin at each
-    /// address. Asking changes nothing.
+    /// A count of the instructions that a run of 1 to [`RUN_CYCLES`] cycles would begin at each address. It changes
+    /// nothing.
     Count(u32),
-    /// The changes at places that a run of 1 to [`RUN_CYCLES`] cycles would make, or those of each
-    /// instruction if there are no places. Asking changes nothing.
+    /// A trace of a run of 1 to [`RUN_CYCLES`] cycles. It reports each instruction that would change one of the places,
+    /// or every instruction if there are no places. It changes nothing.
     Trace(u32, ArrayVec<Probe, PROBES>),
     /// A command on the bench.
     Change(Command),
-    /// A text, which the next lines are.
+    /// The start of a text. The next lines are that text.
     Begin(TextKind),
 }
 
-/// Returns the request of a line of one word.
+/// Parses a line of one word.
 fn read_alone(word: &[u8]) -> Request
     ensures { result ≡ request_of_word word.now [] }
 {
@@ -130,7 +130,7 @@ fn read_alone(word: &[u8]) -> Request
     }
 }
 
-/// Returns the request that was read, or the refusal of a number.
+/// Returns the request, or the refusal `BadNumber` if there is none.
 pub(crate) fn or_bad_number(request: Option<Request>) -> Request
     ensures { result ≡ or_bad_number request }
 {
@@ -140,7 +140,7 @@ pub(crate) fn or_bad_number(request: Option<Request>) -> Request
     }
 }
 
-/// Reads a number of cycles, 1 to [`RUN_CYCLES`].
+/// Parses a number of cycles, 1 to [`RUN_CYCLES`].
 fn cycles(word: &[u8]) -> Option<u32>
     ensures { result ≡ cycles_asked word.now }
 {
@@ -148,7 +148,7 @@ fn cycles(word: &[u8]) -> Option<u32>
     if n == 0 { None } else { Some(n) }
 }
 
-/// Returns the request of `trace` with the words after it.
+/// Parses the arguments of `trace`: a number of cycles and the places.
 fn read_trace(line: &[u8]) -> Request
     ensures { result ≡ trace_request (words_of line.now) }
 {
@@ -164,7 +164,7 @@ fn read_trace(line: &[u8]) -> Request
     }
 }
 
-/// Returns the request of a line of two words; `None` if its number is none, or out of its range.
+/// Parses a line of two words. Returns `None` if the argument is not a number or is out of range.
 fn read_with_one(word: &[u8], a: &[u8]) -> Option<Request>
     ensures { or_bad_number result ≡ request_of_word word.now (a.now ∷ []) }
 {
@@ -186,8 +186,8 @@ fn read_with_one(word: &[u8], a: &[u8]) -> Option<Request>
     Some(request)
 }
 
-/// Returns the request of `list` with an address and a number of lines; `None` if one is no
-/// number, or out of its range.
+/// Parses the arguments of `list`: an address and a number of lines. Returns `None` if one of them is not a number or
+/// is out of range.
 fn read_list(a: &[u8], n: &[u8]) -> Option<Request>
     ensures { or_bad_number result ≡ with_numbers 4095 a.now LISTING_LINES n.now listing }
 {
@@ -199,7 +199,7 @@ fn read_list(a: &[u8], n: &[u8]) -> Option<Request>
     Some(Request::Listing(at, lines as u16))
 }
 
-/// Returns the request of a line of three words; `None` if a number is none, or out of its range.
+/// Parses a line of three words. Returns `None` if an argument is not a number or is out of range.
 fn read_with_two(word: &[u8], a: &[u8], b: &[u8]) -> Option<Request>
     ensures { or_bad_number result ≡ request_of_word word.now (a.now ∷ b.now ∷ []) }
 {
@@ -221,7 +221,7 @@ fn read_with_two(word: &[u8], a: &[u8], b: &[u8]) -> Option<Request>
     Some(request)
 }
 
-/// Returns the request of a word and those after it, except for `trace`.
+/// Parses a line from its first word and the bytes after it. Does not know `trace`.
 fn read_word(word: &[u8], rest: &[u8]) -> Request
     ensures { result ≡ request_of_word word.now (words_of rest.now) }
 {
@@ -237,7 +237,7 @@ fn read_word(word: &[u8], rest: &[u8]) -> Request
     }
 }
 
-/// Returns the request of the words of a line.
+/// Parses a line from its words.
 fn read_words(line: &[u8]) -> Request
     ensures { result ≡ request_of_words (words_of line.now) }
 {
@@ -251,14 +251,14 @@ fn read_words(line: &[u8]) -> Request
     }
 }
 
-/// Returns true if a line has no byte that a line may not have.
+/// Returns true if a line consists of tabs and printable ASCII characters.
 fn is_plain(line: &[u8]) -> bool
     ensures { result ≡ list_all is_plain_byte line.now }
 {
     line.iter().all(|b| is_plain_byte(*b))
 }
 
-/// Returns the request of a line, which is given without its end.
+/// Parses a command line, which is given without its line end.
 #[tactic(auto, unfolding(crate::specs::LineRequests::request_of))]
 pub fn read_request(line: &[u8]) -> Request
     ensures { result ≡ request_of line.now }

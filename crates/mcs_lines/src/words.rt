@@ -7,21 +7,21 @@ ghost use Rattle.mcs_model.specs.TextLines.{is_blank, words_of};
 
 use mcs_model::text_lines::is_blank;
 
-/// Returns true if a byte is a tab, or a character of ASCII that prints.
+/// Returns true if a byte is a tab or a printable ASCII character.
 pub fn is_plain_byte(byte: u8) -> bool
     ensures { result ≡ is_plain_byte byte }
 {
     byte == b'\t' || (31 < byte && byte < 127)
 }
 
-/// Returns true if a word is this name.
+/// Returns true if a word equals a name.
 pub fn equals(word: &[u8], name: &[u8]) -> bool
     ensures { result ≡ bytes_eq word.now name.now }
 {
     word == name
 }
 
-/// Returns the line without the blanks that it begins with.
+/// Returns the line without its leading blanks.
 fn without_blanks(line: &[u8]) -> &[u8]
     ensures words { words_of result.now ≡ words_of line.now }
     ensures begins { BeginsWord result.now }
@@ -34,7 +34,7 @@ fn without_blanks(line: &[u8]) -> &[u8]
     &[]
 }
 
-/// Returns the count of bytes of the word that a line begins with.
+/// Returns the number of bytes before the first blank in a line, or in the whole line if it has none.
 fn word_at_front(line: &[u8]) -> usize
     ensures within { result ≤ length line.now }
     ensures word { EndsPiece is_blank (take result line.now) (drop result line.now) }
@@ -47,7 +47,7 @@ fn word_at_front(line: &[u8]) -> usize
     line.len()
 }
 
-/// Returns the first word of a line, and the bytes after it; or `None` if the line is blank.
+/// Returns the first word of a line and the bytes after it, or `None` if the line is blank.
 pub fn next_word(line: &[u8]) -> Option<(&[u8], &[u8])>
     ensures { MatchOption result (words_of line.now ≡ [])
         (λ found. words_of line.now ≡ found.0.now ∷ words_of found.1.now) }
@@ -60,7 +60,7 @@ pub fn next_word(line: &[u8]) -> Option<(&[u8], &[u8])>
     Some((&line[..end], &line[end..]))
 }
 
-/// Returns the count of bytes of the part that a word begins with.
+/// Returns the number of bytes before the first dot in a word, or in the whole word if it has none.
 fn part_at_front(word: &[u8]) -> usize
     ensures within { result ≤ length word.now }
     ensures part { EndsPiece is_dot (take result word.now) (drop result word.now) }
@@ -73,7 +73,8 @@ fn part_at_front(word: &[u8]) -> usize
     word.len()
 }
 
-/// Returns the first part of a word, and the bytes after its dot, if there is one.
+/// Returns the part of a word before its first dot, and the bytes after that dot. The second value is `None` if the
+/// word has no dot.
 pub fn next_part(word: &[u8]) -> (&[u8], Option<&[u8]>)
     ensures { MatchOption result.1 (parts_of_word word.now ≡ result.0.now ∷ [])
         (λ rest. parts_of_word word.now ≡ result.0.now ∷ parts_of_word rest.now) }

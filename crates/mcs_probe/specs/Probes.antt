@@ -1,4 +1,4 @@
--- The reports of the places that are probed. (Our own choice.)
+-- The values of probes, as text. (Our own choice.)
 use Rattle.std.specs.Prelude.{ℕ, ◌+◌, ◌*◌, List, ◌++◌, codes, map, nat_lt, slice_index, if◌then◌else◌}
 use Rattle.std.specs.List.{flat_map}
 use Rattle.mcs_model.specs.Running.{Machine}
@@ -15,7 +15,7 @@ use Rattle.mcs_probe.specs.declared.probe.Probe.TheVariants.{Acc, Cy, Pc, Regist
 abbrev pub level_on : BusState → Line → ℕ
 level_on s line = if exists_on s.board line then level s line else 0
 
--- the levels of the four lines of a port as one number, that of line k as bit k
+-- the levels of the four lines of a port as one number, with line k at bit k
 abbrev pub levels_on : BusState → (ℕ → Line) → ℕ
 levels_on s line =
     level_on s (line 0) + 2 * level_on s (line 1) + 4 * level_on s (line 2) + 8 * level_on s (line 3)
@@ -24,7 +24,7 @@ levels_on s line =
 abbrev pub bits_text : BusState → ℕ → List ℕ
 bits_text s n = if nat_lt n (chain_count s.board) then chain_item s n else codes "-"
 
--- the value of a place, in one word
+-- the value of a probe, as one word
 abbrev pub probe_text : Machine → Probe → List ℕ
 probe_text t Acc = digit_text t.0.acc
 probe_text t Cy = digit_text t.0.cy
@@ -42,6 +42,6 @@ probe_text t Src = hex_2 t.1.rom_src
 probe_text t Lamps = or_dash (map (λ line. lamp_mark (level t.1 line)) t.1.board.lamps.items)
 probe_text t Returns = one_word (map address_text t.0.ret)
 
--- a row: the values of the places, in turn, each after a space
+-- a row: the values of the probes, in order, each after a space
 abbrev pub row : List Probe → Machine → List ℕ
 row probes t = flat_map (λ p. codes " " ++ probe_text t p) probes

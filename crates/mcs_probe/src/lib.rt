@@ -1,5 +1,5 @@
-//! Queries about the cycles to come: the places to read. `specs/` defines which instructions a run would begin, and
-//! what is reported of them.
+//! Probes: the locations whose values a trace of a run reports. `specs/` defines which instructions a run would begin
+//! and what is reported about them.
 #![tactic(auto)]
 
 mod laws;

@@ -1,19 +1,19 @@
--- The counts of a run that is not done.
+-- The counts of a run that is forecast but not done.
 use Rattle.std.specs.Prelude.{◌≡◌, ◌<◌, ◌+◌, ℕ, List, Bool, length, slice_index, slice_set, if◌then◌else◌}
 use Rattle.mcs_model.specs.Running.{Machine, Stops, run_length, run_stop}
 use Rattle.mcs_probe.specs.Forecast.{begun_in, runs_at, jumps_at}
 use Rattle.mcs_trace.specs.declared.counting.Counts.{Counts}
 
--- one more at an index, if `counts` says so
+-- the list with the element at an index incremented, if `counts` is true
 abbrev pub one_more : List ℕ → Bool → ℕ → List ℕ
 one_more xs counts at = if counts then slice_set xs at (slice_index xs at + 1) else xs
 
--- for each address its count
+-- holds if the list has the given count for each of the 4,096 addresses
 pub record IsTally (xs : List ℕ) (count : ℕ → ℕ) : Type 0 where
   pub len : length xs ≡ 4096
   pub each : (at : ℕ) → at < 4096 → slice_index xs at ≡ count at
 
--- the counts of a run
+-- holds if c has the length, the reason to stop and the counts of a run of n cycles from s
 pub record IsCounted (stops : Stops) (n : ℕ) (s : Machine) (c : Counts) : Type 0 where
   pub cycles : c.cycles ≡ run_length stops n s
   pub stop : c.stop ≡ run_stop stops n s

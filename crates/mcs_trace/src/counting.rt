@@ -1,4 +1,4 @@
-//! The number of times that an instruction begins at each address.
+//! Counts of the instructions that a run would begin at each address.
 ghost use Rattle.std.specs.Prelude.{◌≡◌, ◌<◌, ◌+◌, ◌%◌, ◌==◌, ◌&&◌, not, IfOk, length, slice_index, slice_set, replicate};
 ghost use Rattle.mcs_model.specs.Command.{machine_of, stops_of};
 ghost use Rattle.mcs_bench.specs.Runs.{stop_by};
@@ -10,8 +10,8 @@ use mcs_model::stop::Stop;
 use mcs_nibble::Addr;
 use std::alloc::{AllocError, Global};
 
-/// The length of a run, the reason that it stops, and two counts for each address: of the instructions begun there, and
-/// of the times the counter continues elsewhere than after two words.
+/// The length of a run, the reason that it stops, and two counts for each address. `runs` counts the instructions begun
+/// at the address. `jumps` counts those after which the program counter is not that address plus 2.
 #[derive(Drop)]
 pub struct Counts {
     pub cycles: u32,
@@ -20,14 +20,14 @@ pub struct Counts {
     pub jumps: Vec<u32>,
 }
 
-/// Returns a 0 for each address. Fails if memory is refused.
+/// Returns a zero count for each of the 4,096 addresses. Fails if memory cannot be allocated.
 fn zeros(alloc: Global) -> Result<Vec<u32>, AllocError>
     ensures { IfOk result (λ numbers. numbers.items ≡ replicate 4096 0) }
 {
     vec![in alloc; 0u32; 4096]
 }
 
-/// Adds one to the count of an address.
+/// Increments the count of an address.
 fn add_one(numbers: &mut Vec<u32>, at: Addr)
     requires len { length numbers.old.items ≡ 4096 }
     requires few { slice_index numbers.old.items at < u32.MAX }
@@ -38,7 +38,7 @@ fn add_one(numbers: &mut Vec<u32>, at: Addr)
     numbers[i] += 1;
 }
 
-/// Counts the cycle that led from the registers `before` to `after`, if it begins an instruction.
+/// Counts a cycle that changed the registers from `before` to `after`, if it began an instruction.
 fn note(runs: &mut Vec<u32>, jumps: &mut Vec<u32>, before: &Regs, after: &Regs)
     requires runs { length runs.old.items ≡ 4096 }
     requires few_runs { slice_index runs.old.items before.now.pc < u32.MAX }
@@ -59,8 +59,8 @@ fn note(runs: &mut Vec<u32>, jumps: &mut Vec<u32>, before: &Regs, after: &Regs)
     }
 }
 
-/// Returns the counts of a run that reached the state of a bench. The reason to stop is a code outside the table, else
-/// `mark`, else the end of the run.
+/// Returns the counts of a run that ended in the bench's present state. The reason to stop is an opcode outside the
+/// instruction table, else `mark`, else the end of the run.
 fn counts_of(
     bench: &Bench,
     cycles: u32,
@@ -81,7 +81,8 @@ fn counts_of(
     }
 }
 
-/// Counts what a run of at most `n` cycles would begin. Fails if memory is refused.
+/// Counts the instructions that a run of at most `n` cycles would begin at each address. Fails if memory cannot be
+/// allocated.
 pub fn count_run(alloc: Global, n: u32, bench: &Bench) -> Result<Counts, AllocError>
     ensures { IfOk result (λ counts. IsCounted (stops_of bench.now) n (machine_of bench.now) counts) }
 {
@@ -91,7 +92,7 @@ pub fn count_run(alloc: Global, n: u32, bench: &Bench) -> Result<Counts, AllocEr
     let mut done = 0;
     while done < n {
         let before = copy.regs();
-        // (its range is a fact once it is read)
+        // Reading the address makes its range known to the prover.
         let _at = before.pc.get();
         match copy.go_on(n - done) {
             None => return Ok(counts_of(&copy, done, None, runs, jumps)),

@@ -1,8 +1,8 @@
-//! Laws of what would happen, each as the contract of a function that does nothing.
+//! A law of forecasts, proved as the contract of an empty function.
 ghost use Rattle.mcs_probe.specs.Forecast.{BegunAddUp};
 
-/// Proves that two consecutive runs, of m and of n cycles, begin what one run of m + n cycles begins, if nothing stops
-/// that one.
+/// Proves that two consecutive runs, of m and n cycles, begin the same instructions as one run of m + n cycles. The
+/// premise is that nothing stops the longer run early.
 pub fn begun_add_up()
     ensures { BegunAddUp }
 {}

@@ -1,4 +1,4 @@
-//! Forecast of a run: a copy of a bench continues in its place, instruction by instruction.
+//! Forecast of a run. The run is executed on a copy of the bench, one instruction at a time.
 #![tactic(auto)]
 
 mod counting;
