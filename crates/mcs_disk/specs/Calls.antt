@@ -14,10 +14,10 @@ pub data DiskCall : Type 0 where
   -- a write of these bytes at this offset that returned Ok
   Wrote : ℕ → List ℕ → DiskCall
   -- `Failed at tried seen`: a write of the bytes `tried` at offset `at` that failed, or that a
-  -- close, a kill or a power cut interrupted (`IsCutInWrite` of mcs_host). A power cut can leave
-  -- any bytes in its range. From then on, a read of the range returns the bytes `seen`, truncated
-  -- to the length of `tried`. At offsets beyond the end of `seen`, a read returns the same bytes as
-  -- before.
+  -- close, a process kill or a power cut interrupted (`IsCutInWrite` of mcs_host). A power cut can
+  -- leave any bytes in its range. From then on, a read of the range returns the bytes `seen`,
+  -- truncated to the length of `tried`. At offsets beyond the end of `seen`, a read returns the
+  -- same bytes as before.
   Failed : ℕ → List ℕ → List ℕ → DiskCall
   -- a sync that returned Ok: it made all bytes of the disk stable
   Synced : DiskCall

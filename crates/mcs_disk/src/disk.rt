@@ -15,8 +15,8 @@ pub struct DiskFault;
 ///
 /// Every disk has a size, a fault count and a list of the calls on it. On an honest disk, a read
 /// returns the bytes that the list implies. The list also implies which bytes a power cut can
-/// leave. Between two syncs, these are any bytes in a written range. After a successful sync, they
-/// are the current bytes.
+/// leave. Between two syncs, a cut can leave any bytes in a written range. After a successful sync,
+/// it leaves the current bytes.
 pub trait Disk {
     /// The disk as contracts see it.
     ghost state: { Self → DiskState };

@@ -16,7 +16,8 @@ as_disk file = host_disk file.on
 abbrev pub as_host_file : FileDisk → HostState
 as_host_file file = system_state file.on.file
 
--- the bytes that are found when the file is next opened, after a close, a kill or a power cut
+-- the bytes that are found when the file is next opened, after a close, a process kill or a power
+-- cut
 abbrev pub found_in : FileDisk → List ℕ
 found_in file = file.on.end.start
 

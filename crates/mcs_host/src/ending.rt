@@ -3,7 +3,7 @@ ghost use Rattle.std.specs.Prelude.{◌≡◌};
 
 use mcs_disk::{Call, Record};
 
-/// The end of an open file, by a close, a kill or a power cut. It is for contracts only: it
+/// The end of an open file, by a close, a process kill or a power cut. It is for contracts only: it
 /// occupies no memory, no code can read it, and no proof knows its value. Its `start` is the bytes
 /// that are found in the file after the end. Its `notes` are the calls by the end; a write that was
 /// in progress then is noted as failed.

@@ -58,8 +58,8 @@ pub trait Host {
     type File: HostFile + Drop;
 
     /// Returns the standard streams that are the file of this name. The file must be regular or
-    /// missing. It fails for any other file, and if the host does not say which files the streams
-    /// are.
+    /// missing. The call fails for any other file, and if the host does not say which files the
+    /// streams are.
     fn streams_that_are(&self, name: &str) -> Result<Streams, FileFault>;
 
     /// Checks that a file created under this name can be removed again. If the name is a link, the

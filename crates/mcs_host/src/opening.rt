@@ -17,7 +17,7 @@ use std::path::Path;
 /// so that the size of a longer file shows that it is not a session file.
 pub(crate) const MOST_BYTES: usize = FILE_SIZE + 1;
 
-/// The number of standard error, the highest of a standard stream.
+/// The descriptor number of standard error, the highest of the three standard streams.
 const STANDARD_ERROR: i32 = 2;
 
 /// Opens a file for reading and writing, locks it, and reads it into `bytes`, which must be zeros.
@@ -188,8 +188,8 @@ fn are_zeros(bytes: &[u8]) -> bool
     bytes.iter().all(|byte| *byte == 0)
 }
 
-// Returns the reason why a file's name was not made stable. Lack of memory is one, because the name
-// that a link leads to is allocated.
+// Returns the reason why a file's name was not made stable. The reason can be lack of memory,
+// because the name that a link leads to is allocated.
 fn name_fault(error: io::Error) -> FileFault
     ensures { IsNameFault error result }
 {
